@@ -1,6 +1,6 @@
-/** Bytes that are no text in UTF-8, by the name of what they are. */
+/** Encodings and formats of files other than text in UTF-8, by their first bytes. */
 
-// The first bytes of what people give for a list, and its name. UTF-32 comes before UTF-16, whose mark begins
+// The first bytes of encodings and formats, and their names. UTF-32 comes before UTF-16, whose mark begins
 // that of UTF-32.
 const MARKS = /** @type {[number[], string][]} */ ([
   [[0xff, 0xfe, 0, 0], "UTF-32 text"],
@@ -30,7 +30,7 @@ export function isGzip(/** @type {Uint8Array} */ begin) {
 }
 
 /**
- * What bytes are that begin so; null where they may be UTF-8.
+ * The name of the encoding or format that begins so; null for bytes that may be UTF-8.
  * @param {Uint8Array} begin
  * @returns {string | null}
  */
@@ -47,8 +47,7 @@ export function encodingOf(begin) {
   return 3 * zeros > 2 * first.length ? "UTF-32 text" : "UTF-16 text";
 }
 
-/** That a list is no text in UTF-8, and what would do. */
+/** The sentence for a list that is no text in UTF-8, with advice. */
 export function encodingWords(/** @type {string} */ encoding) {
-  const advice = encoding.endsWith(" text") ? "Convert it to UTF-8" : "Give the text of the list";
-  return `The list is ${encoding}, which the page doesn’t read. ${advice}; gzip alone is unpacked.`;
+  return `The list is ${encoding}, which the page doesn’t read. Give it as text in UTF-8.`;
 }

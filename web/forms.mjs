@@ -9,7 +9,7 @@ import { isVerdictLine, readingOf } from "./reading.mjs";
 
 // So many lines that aren't passed over settle the form of a list.
 const FIRST_LINES = 100;
-const OF_MACHINES = /^[\p{L}\p{N}_\-.\s]*$/u;
+const OF_MACHINES = /^[A-Za-z0-9_\-.\\\s]*$/;
 
 /**
  * The form that the first lines of a list have; null where there are none.

@@ -51,8 +51,8 @@ async function begin(isOfLink = false) {
     }
     source.keep();
     lines.begin();
-    const { mode, form } = given;
-    work.begin(given.blob, given.first, { mode, form, clean: source.clean.checked, plan });
+    const { blob, first, isText, mode, form } = given;
+    work.begin(blob, first, { mode, form, clean: source.clean.checked, plan }, isText);
   }
 }
 

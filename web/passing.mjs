@@ -1,9 +1,9 @@
-/** Lines that are passed over: comments, and what stands about the machines of Markdown and of tables. */
+/** Lines that are passed over: comments, code fences, and the rules and headers of tables. */
 import { isLoneEntry, partsOf } from "./words.mjs";
 
-const FENCE = /^(?:`{3,}|~{3,})[\w+#.{}= -]*$/;
-// What is between the rows of a table: `|-`, `|---|---|`, `---|---`, `+---+`, and `{|`, `|}` about it.
-const RULE = /^(?:[|+][-|+:=\s]*|:?-[-:\s]*\|[-|:\s]*|\|\}|\{\|.*)$/;
+const FENCE = /^(?:`{3,}|~{3,})[A-Za-z0-9_+#.{}= -]*$/;
+// Lines between the rows of a table: `|-`, `|---|---|`, `---|---`, `+---+`, and `{|`, `|}` about it.
+const RULE = /^(?:[|+][-|+:=\s]*|:?-[-:\s]*\|[-|:\s]*|\|\}|\{\|[^\n]*)$/;
 const CELLS = /[|\t,;]|!!/;
 // So many characters the name of a column has at most.
 const LONGEST_NAME = 40;
@@ -13,7 +13,7 @@ const SEPARATORS = ["\t", ",", ";", "|"];
 
 /** The name of a column in small letters, without signs and spaces. */
 function plainName(/** @type {string} */ text) {
-  return text.toLowerCase().replace(/[^\p{L}\p{N}]/gu, "");
+  return text.toLowerCase().replace(/[^a-z0-9]/g, "");
 }
 
 /** Whether a name is that of a column of machines. */

@@ -54,6 +54,11 @@ export function firstLines(/** @type {Uint8Array} */ bytes) {
   return bytes.length >= BEGIN_BYTES && lines.length > 1 ? lines.slice(0, -1) : lines;
 }
 
+/** Whether the first bytes of a list are text in UTF-8, but for a character that is cut at their end. */
+export function isUtf8(/** @type {Uint8Array} */ bytes) {
+  return !/\ufffd[^]/.test(decoder.decode(bytes.subarray(0, BEGIN_BYTES)));
+}
+
 /** A list that is given as it stands. @returns {Prepared} */
 export function asGiven(/** @type {Uint8Array} */ bytes) {
   return { bytes, numbers: null, places: null, left: 0 };
@@ -133,10 +138,10 @@ function claimIn(/** @type {Uint8Array} */ line) {
     return line;
   }
   const text = decoder.decode(line).replace(/^\ufeff/, "").trim();
-  if (isPassedOver(text)) {
-    return null;
+  if (VERDICT.test(text)) {
+    return encoder.encode(text.split("\t")[0]);
   }
-  return VERDICT.test(text) ? encoder.encode(text.split("\t")[0]) : line;
+  return isPassedOver(text) ? null : line;
 }
 
 /** Where the line ends that begins there, without its newline. */

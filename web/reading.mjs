@@ -12,6 +12,7 @@
  * @typedef {Machine | Refusal | {kind: "nothing"}} Reading
  * @typedef {import("./forms.mjs").Form} Form
  */
+import { firstHidden, nameOf } from "./hidden.mjs";
 import { LONGEST_LINE } from "./lengths.mjs";
 import { isCommentOfMachine, isPassedOver } from "./passing.mjs";
 import { REWRITINGS, cut, isMachine, readArrays, readEntries, readWords, reasonOf } from "./texts.mjs";
@@ -24,10 +25,10 @@ const VERDICT = new RegExp(`^(?:${NUMBERS}|undecided (?:steps|cells))$`);
 const REFUSED = new RegExp("^refused [1-9][0-9]*(?:\\t.*)?$");
 // The letter of a state that stands alone before a group; a small one only where the line begins, before
 // small letters.
-const STATE = /(?:(?:^|[^\p{L}\p{N}_'\u2019-])([A-Y])|^\s*([a-y]))[\s:|=).,;>*`"'\]-]*$/u;
+const STATE = /(?:(?:^|[^A-Za-z0-9_'\u2019-])([A-Y])|^\s*([a-y]))[\s:|=).,;>*`"'\]-]*$/;
 const DASHES = /^-*$/;
-// What stands in machines beside letters and digits, in any spelling.
-const OF_MACHINES = /^[\p{L}\p{N}_\-.\\\s]*$/u;
+// The characters of machines, in any spelling.
+const OF_MACHINES = /^[A-Za-z0-9_\-.\\\s]*$/;
 const QUOTES = ["``", '""', "''", "\u201c\u201d", "\u2018\u2019", "\u00ab\u00bb"];
 const PAIRS = [...QUOTES, "()", "[]", "{}", "<>", "**", "~~"];
 const BESIDE = /^[\s,;]+|[\s,;]+$/g;
@@ -228,7 +229,13 @@ function noText(/** @type {string} */ line, /** @type {import("./words.mjs").Wor
     const what = rule.text.includes("-") ? "dashes" : "dots";
     return reasonOf("rule", `a row of ${what} is a rule here, no machine`, rule.begin + 1);
   }
-  return reasonOf("none", "no machine in this line", line.length - line.trimStart().length + 1);
+  const bare = line.trim();
+  const [first] = bare;
+  const isHidden = [...bare].every((character) => firstHidden(character) === 0);
+  const sentence = isHidden
+    ? `${nameOf(first)} in this line, a character that doesn't show`
+    : "no machine in this line";
+  return reasonOf(isHidden ? "hidden" : "none", sentence, line.indexOf(bare) + 1);
 }
 
 /**
@@ -296,7 +303,7 @@ function oneOf(found) {
     ([text, outcome]) => !("machine" in outcome) && !(read.length > 0 && isSetApart && isLoneEntry(text)),
   );
   if (read.length === 0) {
-    const length = (/** @type {Read} */ one) => written(one[0]).length;
+    const length = (/** @type {Read} */ one) => [...written(one[0])].length;
     const longest = others.reduce((best, one) => (length(one) > length(best) ? one : best));
     return /** @type {Reason} */ (longest[1]);
   }

@@ -4,7 +4,7 @@ import { formOf } from "./forms.mjs";
 import { counted } from "./machine.mjs";
 import { part, setAside } from "./parts.mjs";
 import { FIRST_BYTES } from "./pieces.mjs";
-import { BEGIN_BYTES, firstLines, hasVerdicts } from "./prepare.mjs";
+import { BEGIN_BYTES, firstLines, hasVerdicts, isUtf8 } from "./prepare.mjs";
 import { keep } from "./session.mjs";
 import { requireUtf8, unpacked } from "./unpacking.mjs";
 
@@ -68,7 +68,8 @@ export class Source {
   }
 
   /**
-   * What is to be answered, its first bytes, and whether it is decided or checked; the button says so.
+   * What is to be answered, its first bytes, whether it is decided or checked, which the button says, the
+   * form of its lines, and whether it begins as text in UTF-8.
    * @param {number} [bytes] how many first ones
    */
   async given(bytes = FIRST_BYTES) {
@@ -81,7 +82,7 @@ export class Source {
     if (file === this.file) {
       nameRun(mode);
     }
-    return { blob, first, mode, form: this.formOf(start) };
+    return { blob, first, mode, form: this.formOf(start), isText: isUtf8(start) };
   }
 
   /**

@@ -2,9 +2,9 @@
  * How far a list is, in words.
  *
  * @typedef {{mode: "decide" | "check", plan: Record<string, any>, form: import("./forms.mjs").Form | null,
- *   size: number, begun: number, taken: number}} Run a list that is worked on: the form by which its lines
- *   are read, null where they aren't; its bytes, the milliseconds at which the work began, and those that it
- *   took; 0 while it is under way
+ *   isText: boolean, size: number, begun: number, taken: number}} Run a list that is worked on: the form by
+ *   which its lines are read, null where they aren't; whether it begins as text in UTF-8; its bytes, the
+ *   milliseconds at which the work began, and those that it took; 0 while it is under way
  */
 import { LONGEST_QUOTED } from "./lengths.mjs";
 import { ANSWERS, KINDS, counted, shown } from "./machine.mjs";
@@ -56,6 +56,9 @@ export function statusOf(how, share, run, results) {
   parts.push(`${what}: ${answered || "nothing to confirm"}`);
   if (run.form !== null && run.mode === "decide") {
     parts.push(`Read as ${FORMS[run.form]}`);
+  }
+  if (!run.isText) {
+    parts.push("Some bytes are no UTF-8; convert the list");
   }
   return `${parts.join(". ")}.`;
 }

@@ -63,7 +63,7 @@ export class Work {
     this.pool = null;
     this.results = new Results({});
     /** @type {import("./status.mjs").Run} */
-    this.run = { mode: "decide", plan: {}, form: null, size: 0, begun: 0, taken: 0 };
+    this.run = { mode: "decide", plan: {}, form: null, isText: true, size: 0, begun: 0, taken: 0 };
     // The limits that were last asked for.
     this.plan = {};
     this.how = "Done";
@@ -82,12 +82,12 @@ export class Work {
   /**
    * Has workers answer a list.
    * @param {Blob} blob @param {ArrayBuffer} first its first bytes, as `Pieces` takes them
-   * @param {Asked} asked
+   * @param {Asked} asked @param {boolean} isText whether it begins as text in UTF-8
    */
-  begin(blob, first, asked) {
+  begin(blob, first, asked, isText) {
     const { mode, plan, clean } = asked;
     const form = clean ? asked.form : null;
-    this.run = { mode, plan, form, size: blob.size, begun: performance.now(), taken: 0 };
+    this.run = { mode, plan, form, isText, size: blob.size, begun: performance.now(), taken: 0 };
     this.saidAt = this.run.begun;
     this.plan = plan;
     this.results = new Results(plan);

@@ -2,6 +2,7 @@
 
 from __future__ import annotations
 
+import io
 import json
 import os
 import pathlib
@@ -9,11 +10,14 @@ import random
 import tempfile
 import unittest
 from typing import Iterable, List, Optional, Tuple
+from unittest import mock
 
 import budlarem
 from budlarem import WORDS, Columns, Form, Halt, Judgement, Limits, Said, Word
 from budlarem.claims import said_by
+from budlarem.judging import sources
 from budlarem.numbers import number_of, numbers_in
+from budlarem.reading.files import Source
 from budlarem.same import form_of
 from budlarem.translation import read_words
 
@@ -182,6 +186,12 @@ class JudgingTest(unittest.TestCase):
             lines = ["verdict\tmachine", "%s\t%s" % (word, machine)]
             self.assertEqual(judged(lines), [judgement], (word, machine))
 
+    def test_numbers_beside_never_halting_are_named(self) -> None:
+        lines = ["machine,verdict,steps", "1RA1RA,nonhalt,1000"]
+        (found,) = budlarem.judge(lines, limits=SMALL)
+        self.assertEqual(str(found.judgement), "confirmed")
+        self.assertEqual(found.reason, "never halts, as ours says; not judged: 1000")
+
     def test_a_translation_is_counted(self) -> None:
         lines = ["machine,status", "1RA1RA,halt", "1RA1RA,Halt", "1RA1RA,loop", "x,halt", "1RA1RA,no"]
         translation = budlarem.judge(lines, limits=SMALL).theirs.translation
@@ -256,6 +266,28 @@ class JudgingTest(unittest.TestCase):
             with open(path, "rb") as stream:
                 self.assertEqual([str(one.judgement) for one in budlarem.judge(stream)], ["confirmed"])
             self.assertRaises(FileNotFoundError, budlarem.judge, path + "x")
+
+
+class TwiceTest(unittest.TestCase):
+    """A list that is read twice: kept, read again from its file, or copied."""
+
+    def test_each_reading_has_the_same_lines(self) -> None:
+        lines = ["", CHAMPION + " halt 6 4", "", "# \u00e9", "1RA1RA undecided steps"] * 40
+        content = "\n".join(lines).encode()
+        right = [(number, line) for number, line in enumerate(lines, 1) if line]
+        with tempfile.TemporaryDirectory() as folder:
+            path = os.path.join(folder, "theirs.txt")
+            with open(path, "wb") as file:
+                file.write(content)
+            for kept in (10**6, 100, 0):
+                given: Tuple[Source, ...] = (path, io.BytesIO(content), iter(lines))
+                for source in given:
+                    with mock.patch.object(sources, "_KEPT", kept):
+                        twice = sources.Twice(source)
+                        self.assertEqual([list(twice.lines()), list(twice.lines())], [right, right])
+                        self.assertEqual((list(twice.once()), twice.empty), (right, 80))
+            once = sources.Twice(path)
+            self.assertEqual((list(once.once()), once.empty), (right, 80))
 
 
 class SameTest(unittest.TestCase):

@@ -319,7 +319,9 @@ class CommandTest(unittest.TestCase):
         with open("/dev/full", "wb") as full:
             ended = subprocess.run(command, input=b"1RZ---\n", stdout=full, stderr=subprocess.PIPE)
         self.assertEqual(ended.returncode, 3)
-        self.assertRegex(ended.stderr.decode(), "^budlarem: standard output: .*No space left on device\n$")
+        self.assertRegex(
+            ended.stderr.decode(), "(?m)^budlarem: standard output: .*No space left on device\n$"
+        )
 
     def test_files_and_statuses(self) -> None:
         with tempfile.TemporaryDirectory() as folder:

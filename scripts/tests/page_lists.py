@@ -6,13 +6,20 @@ import os
 import random
 import re
 import subprocess
+import sys
 import time
 from typing import Any, Dict, List, Tuple
 
 from machines import mixed
 from page_held import Held
 from program import SWITCHES
+from runs import SOURCE
 from tally import TOP, Tally
+
+sys.path.insert(0, SOURCE)
+
+from budlarem.reading import Form  # noqa: E402
+from budlarem.reading.lines import read_line  # noqa: E402
 
 FORMS = os.path.join(TOP, "scripts", "tests", "forms.json")
 READER = os.path.join(TOP, "scripts", "tests", "reader.mjs")
@@ -29,7 +36,7 @@ def answers(asked: List[Any]) -> List[Any]:
     """The answers of the page's reader, the first of which are its sentences."""
     given = "".join(json.dumps(one) + "\n" for one in asked)
     done = subprocess.run(["node", READER], input=given, stdout=subprocess.PIPE, text=True, check=True)
-    return [json.loads(line) for line in done.stdout.splitlines()]
+    return [json.loads(line) for line in done.stdout.split("\n") if line]
 
 
 def wanted_of(form: Dict[str, Any]) -> Dict[str, Any]:
@@ -59,6 +66,45 @@ def hold_forms(tally: Tally) -> None:
         tally.hold("%s has the form %s" % (entry["lines"], form), form == entry["form"])
     for entry, encoding in zip(forms["encodings"], found[len(lines) + len(forms["lists"]) :]):
         tally.hold("%s is %s" % (entry["bytes"], encoding), encoding == entry["encoding"])
+
+
+def changed(line: str, source: random.Random) -> str:
+    """A line with some characters more or less."""
+    for _ in range(source.choice((0, 1, 1, 2, 3, 6))):
+        at = source.randrange(len(line) + 1)
+        more = source.choice(
+            (*" \t_-.,;:|#*~`'\"[](){}<>!?\\/01LRABZHabr=\u200b\xa0\x1b\u00e9\u2013", "---", "1RB")
+        )
+        line = line[:at] + (more if source.random() < 0.6 else "") + line[at + source.randrange(2) :]
+    return line
+
+
+def hold_alike(tally: Tally, count: int, seed: int) -> None:
+    """The package and the page read changed lines alike, in each form."""
+    if not tally.has("the reader, beside the package's", "node"):
+        return
+    source = random.Random(seed)
+    with open(FORMS, encoding="utf-8") as file:
+        lines = [form["line"] for form in json.load(file)["forms"] if "\n" not in form["line"]]
+    asked = [
+        [changed(source.choice(lines), source), source.choice(("text", "text", "machines", "verdicts"))]
+        for _ in range(count)
+    ]
+    _, *found = answers(asked)
+    wrong = [(one, other) for one, other in zip(asked, found) if other != reading_of(*one)]
+    tally.hold("%d lines are read alike: %s" % (count, wrong[:3]), not wrong)
+
+
+def reading_of(line: str, form: str) -> Dict[str, Any]:
+    """The package's reading of a line, as the page's reader gives it."""
+    reading = read_line(1, line, Form(form))
+    if reading is None:
+        return {"kind": "nothing"}
+    if reading.reason is not None:
+        kind, text, place = reading.reason.kind, reading.reason.text, reading.reason.place
+        return {"kind": "refusal", "refusal": kind, "reason": text, "place": place}
+    texts = {"machine": reading.machine, "before": reading.before, "behind": reading.behind}
+    return {"kind": "machine", "rewritten": list(map(str, reading.rewritten)), **texts}
 
 
 def disguised(machine: str, source: random.Random) -> str:
@@ -146,8 +192,8 @@ def hold_found_forms(held: Held) -> None:
 
 
 def hold_packed(held: Held) -> None:
-    """A list that gzip compressed is unpacked. Of one that is cut, in another encoding or compressed otherwise
-    the page says what it is, and decides nothing."""
+    """A list that gzip compressed is unpacked. Of one that is cut, in another encoding or compressed
+    otherwise the page says what it is, and decides nothing."""
     page = held.page
     page.plan({}, "auto", True)
     lines = b"1RB1LB_1LA1RZ\n1RA1RA\n" * 40_000
@@ -164,6 +210,12 @@ def hold_packed(held: Held) -> None:
         page.file(content)
         page.ended()
         held.hold("%r: %s" % (content[:8], page.text("error")), words in page.text("error"))
+    page.file("1RA1RA \u00e9\n1RA1RA \u00fc\n".encode("latin-1"))
+    page.ended()
+    held.hold("other bytes are named once", page.text("status").count("no UTF-8") == 1)
+    page.file("1RA1RA \u00e9\n".encode())
+    page.ended()
+    held.hold("UTF-8: " + page.text("status"), "UTF-8" not in page.text("status"))
     page.open_list("1RA1RA\n")
     held.hold("the next list is decided", page.text("error") == "")
 
@@ -352,6 +404,7 @@ def hold_session(held: Held) -> None:
 def hold_lists(held: Held, quick: bool, seed: int) -> None:
     hold_forms(held.tally)
     hold_disguised(held.tally, 1_000 if quick else 20_000, seed)
+    hold_alike(held.tally, 5_000 if quick else 50_000, seed)
     hold_list_of_forms(held)
     hold_found_forms(held)
     hold_packed(held)

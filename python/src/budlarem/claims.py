@@ -47,14 +47,15 @@ WORDS: Dict[str, Word] = {
 }
 # The word of a verdict of ours, and how many numbers it may have.
 _KINDS = {"halt": (2,), "cycler": (2,), "backward": (2,), "translated": (2, 4)}
-# What may stand about a verdict beside a machine: no sign that denies or compares.
+# Signs that may stand about a verdict beside a machine: none that denies or compares.
 _MARKS = SPACES + ",;:|()[]`*\"'\u2013\u2014-"
 
 
 @dataclasses.dataclass(frozen=True)
 class Said:
-    """A line and what it says: a verdict whole in `claim`, or a `word` with the numbers that a table has
-    beside it, or neither. `trouble` is why nothing is judged. A refusal has its verdict, and no machine."""
+    """A line and its claim: a verdict in `claim`, or the `word` of a record with the numbers beside it, or
+    neither. `trouble` is the reason why nothing is judged, `unjudged` the cells of numbers that mean nothing
+    beside the word. A refusal has its verdict, and no machine."""
 
     reading: Reading
     claim: Optional[Verdict] = None
@@ -62,11 +63,12 @@ class Said:
     trouble: Optional[str] = None
     steps: Optional[int] = None
     score: Optional[int] = None
+    unjudged: Tuple[str, ...] = ()
 
 
 class Sayings(Iterator[Said]):
-    """What each line of a list says that isn't passed over. `passed` counts the others by their kinds. `words`
-    is the translation of the words of a table."""
+    """The claims of the lines of a list. `passed` counts the lines that are passed over, by their kinds.
+    `words` is the translation of the words of a table."""
 
     def __init__(
         self, lines: Iterator[Numbered], form: ListForm, words: Optional[Dict[str, Word]] = None
@@ -91,12 +93,12 @@ class Sayings(Iterator[Said]):
 
 
 def said_by(number: int, line: str) -> Optional[Said]:
-    """What a line of a text says; None where it is passed over."""
+    """The claim of a line of a text; None for a line that is passed over."""
     return _said_of(number, line, ListForm(Form.TEXT), WORDS)
 
 
 def _said_of(number: int, line: str, form: ListForm, words: Dict[str, Word]) -> Optional[Said]:
-    """What a line says; None where it is passed over."""
+    """The claim of a line; None for a line that is passed over."""
     if form.form in (Form.VERDICTS, Form.TEXT):
         said = _of_verdict_line(number, line)
         is_rule = form.form is Form.TEXT and not line.partition(" ")[0].strip("-")
@@ -113,7 +115,7 @@ def _said_of(number: int, line: str, form: ListForm, words: Dict[str, Word]) -> 
 
 
 def _of_verdict_line(number: int, line: str) -> Optional[Said]:
-    """What a verdict line says, which may have fields behind a tab; None of another line."""
+    """The claim of a verdict line, which may have fields behind a tab; None for another line."""
     bare, _, fields = line.rstrip("\r").partition("\t")
     try:
         verdict = parse(bare)
@@ -141,7 +143,7 @@ def _word_of(claim: Verdict) -> Word:
 
 
 def _of_text(reading: Reading) -> Said:
-    """What a line of a text says: the rest of it, where that is one verdict."""
+    """The claim of a line of a text: the rest of the line, if that is one verdict."""
     assert reading.machine is not None
     parts = [part.strip(_MARKS) for part in (reading.before, reading.behind)]
     rest = [part for part in parts if part]
@@ -171,7 +173,7 @@ def _verdict_in(machine: str, text: str) -> Verdict:
 
 
 def _of_row(reading: Reading, layout: Layout, words: Dict[str, Word]) -> Said:
-    """What a record of a table says of its machine."""
+    """The claim of a record of a table."""
     assert reading.machine is not None and reading.row is not None
     cells = {role: reading.row[place] for role, place in layout.columns.items()}
     cell = cells.get("verdict", "")
@@ -184,6 +186,9 @@ def _of_row(reading: Reading, layout: Layout, words: Dict[str, Word]) -> Said:
         claim = None
     if claim is not None and not isinstance(claim, Halt):
         return Said(reading, claim)
+    numbers = tuple(cells[role] for role in ("steps", "score") if cells.get(role))
+    if word is Word.NEVER_HALTS:
+        return Said(reading, word=word, unjudged=numbers)
     if claim is None and word is not Word.HALTS:
         return Said(reading, word=word, trouble=None if word is not None else "%s says neither" % shown(cell))
     try:
@@ -194,7 +199,7 @@ def _of_row(reading: Reading, layout: Layout, words: Dict[str, Word]) -> Said:
 
 
 def _of_halt(reading: Reading, claim: Optional[Halt], steps: Optional[int], score: Optional[int]) -> Said:
-    """What a record says that has these numbers beside a word for halting, or beside a halt. Raises
+    """The claim of a record with these numbers beside a word for halting, or beside a halt. Raises
     ValueError."""
     assert reading.machine is not None
     if claim is None and steps is not None and score is not None:
@@ -208,5 +213,5 @@ def _of_halt(reading: Reading, claim: Optional[Halt], steps: Optional[int], scor
 
 
 def plain_word(text: str) -> str:
-    """A word in small letters, without what people write into it."""
+    """A word in small letters, without spaces, hyphens and marks."""
     return re.sub(r"[\s_-]", "", text.lower()).rstrip(".!")

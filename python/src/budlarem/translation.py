@@ -1,4 +1,4 @@
-"""The translation of the words in a table's column: which stand for halting, for never halting, for nothing."""
+"""The translation of a table's words: which stand for halting, for never halting, for nothing."""
 
 from __future__ import annotations
 

@@ -113,7 +113,7 @@ def hold_printed(tally: Tally) -> None:
     """Each command that reads a list prints its form, what was passed over and the encoding, and no control
     character of it."""
     lines = ["", "# c", "#17 1RA1RA", "\x1b[31mx", "1RB\x1b1LB_1LA1RZ", "1RA1RA\x1b[0m\x07, \x1b]0;x\x9b",
-             "| Machine | x |", "1RB1LB_1LA1RZ, halt 6 4"]  # fmt: skip
+             "| Machine | x |", "1RA1RA, \x1b[31mred\x9b", "1RB1LB_1LA1RZ, halt 6 4"]  # fmt: skip
     with folder() as top:
         given, wide, page = top / "list.txt", top / "wide.txt", str(top / "page.html")
         given.write_bytes(as_lines(lines))
@@ -133,9 +133,54 @@ def hold_printed(tally: Tally) -> None:
             status, _, error = command(name, str(wide), *(more if name != "compare" else [str(wide)]))
             once = error.count(b"UTF-16") == 2 and error.count(b"\n") == 1
             tally.hold("%s names UTF-16 once: %r" % (name, error[:300]), once and status == 2)
+        latin = "1RA1RA \u00e9\n1RA1RA \u00fc\n1RA1RA x\n".encode("latin-1")
+        for name in ("read", "judge"):
+            error = command(name, "-", given=latin).error
+            once = error.count(b"UTF-8") == 1 and b"2 lines with bytes that are no UTF-8" in error
+            tally.hold("%s names other bytes once: %r" % (name, error), once)
         printed = command("judge", "-", "--list", str(given), given=b"1RA1RA\n").error.decode()
         says = "list.txt: 3 lines passed over" in printed and "list.txt:3: refused: a machine in" in printed
         tally.hold("judge prints what isn't read of its list: " + printed, says)
+
+
+def hold_translation(tally: Tally) -> None:
+    """The translation of a table's words comes first, with counts, and a file changes it; numbers with groups
+    are one number to all three commands that read claims."""
+    champion = "1RB1LC_1RC1RB_1RD0LE_1LA1LD_1RZ0LA"
+    table = [
+        "machine,halts,steps,score",
+        '%s,Yes,"47,176,870","4,098"' % champion,
+        "1RA1RA,no,,",
+        "1RA1RA,?,,",
+    ]
+    with folder() as top:
+        path, plain, word_file = top / "table.csv", top / "plain.txt", top / "words.txt"
+        path.write_bytes(as_lines(table))
+        plain.write_bytes(as_lines([champion + " halt 47'176'870 4098"]))
+        word_file.write_text("halting: yes\nnever halting: no\n", encoding="utf-8")
+        given = ["--words", str(word_file)]
+        others: Dict[str, List[str]] = {
+            "judge": [],
+            "compare": [str(plain)],
+            "report": ["--out", str(top / "page.html")],
+        }
+        for name, more in others.items():
+            lines = command(name, str(path), *more, *given).error.decode().splitlines()
+            shown = [line.partition(": ")[2] for line in lines if line.startswith(str(path) + ": ")]
+            right = ["halting: Yes 1", "never halting: no 1", "nothing: ? 1"]
+            tally.hold("%s prints the words first: %s" % (name, lines), shown[1:4] == right)
+        for name, more in {**others, "compare": [str(path)]}.items():
+            error = command(name, str(plain), *more, *given).error.decode()
+            tally.hold(
+                "%s says that words aren't used: %s" % (name, error), "plain.txt: --words is for" in error
+            )
+        output = command("judge", str(path), *given).output.decode()
+        kinds = [line.partition("\t")[0] for line in output.splitlines()]
+        tally.hold("it is judged by them: " + output, kinds == ["confirmed", "confirmed", "not-judged"])
+        error = command("compare", str(path), str(plain), *given).error.decode()
+        tally.hold("one number: " + error, "agree 1\n" in error and "contradict 0\n" in error)
+        kinds = [line.partition("\t")[0] for line in command("judge", str(path)).output.decode().splitlines()]
+        tally.hold("without the file: %s" % kinds, kinds == ["not-judged"] * 3)
 
 
 def hold_empty_lines(tally: Tally) -> None:
@@ -418,6 +463,7 @@ def main() -> int:
     hold_forms(tally, asked.program)
     hold_lists(tally)
     hold_printed(tally)
+    hold_translation(tally)
     hold_empty_lines(tally)
     lines = hold_random_forms(tally, 2_000 if asked.quick else 20_000, asked.seed)
     hold_read(tally, asked.program, lines)

@@ -18,10 +18,10 @@ from ..translation import read_words, translation_of
 from ..verdicts import Verdict
 from .shared import ListReader, add_claims_form, add_command, add_file, add_limits, columns_of, form_of
 
-_CLAIMS = """A list has one of the forms of `budlarem help read`: verdict lines; a table of which a column has
-verdicts, or words for halting with columns of steps and scores, by a translation that is printed first; a text
-of which a line counts where the rest of it is one verdict. A line with no verdict goes to standard error with
-file and line; status 1 then."""
+_CLAIMS = """A list has one of the forms of `budlarem help read`: verdict lines; a table of which a column
+has verdicts, or words for halting with columns of steps and scores, by a translation that is printed first;
+a text of which a line counts where the rest of it is one verdict. A line with no verdict goes to standard
+error with file and line; status 1 then."""
 _COMPARE = (
     """Compares two lists of verdicts by machine, in any order. Each machine on which they don't agree gets
 a line; standard error counts. Status 1 where two verdicts contradict each other.
@@ -39,17 +39,19 @@ undecided machines.
 
 
 class VerdictReader(ListReader):
-    """Reads a list of verdicts, and prints on standard error its form, the translation of a table's words, and
-    what was rewritten, refused or passed over."""
+    """Reads a list of verdicts, and prints on standard error its form, the translation of a table's words,
+    and what was rewritten, refused or passed over."""
 
     def __init__(self, path: Optional[str], asked: argparse.Namespace) -> None:
         super().__init__(path, None, form_of(asked), columns_of(asked))
         self.words: Dict[str, Word] = WORDS if asked.words is None else read_words(asked.words)
+        self._word_file: Optional[str] = asked.words
 
     def verdicts(self) -> Iterator[Verdict]:
         """The verdict of each line that has one. Raises OSError, ValueError."""
         source = Twice(self.source, self.form, self.columns)
         self.print_form(source.form)
+        self.print_unused_words(source.form, self._word_file)
         self._print_translation(source)
         sayings = Sayings(source.once(), source.form, self.words)
         for said in sayings:

@@ -28,21 +28,21 @@ _HELP = """Judges a list of what others claim, by the form of the list (`budlare
 line claims its verdict. table: the words of a column say whether a machine halts, by a translation that is
 printed first and that --words changes, and for one that halts the columns of steps and score are judged too.
 text: a line claims something where the rest of it is one verdict. Nothing else is judged. Each machine is
-decided; what our verdict doesn't settle is checked. Standard error gets the form, the counts, and what of
-THEIRS was rewritten or passed over. Status 1 where a line is contradicted.
+decided; a claim that our verdict doesn't settle is checked. Standard error gets the form, the counts, and the
+lines of THEIRS that were rewritten or passed over. Status 1 where a line is contradicted.
 
 confirmed: the checker confirms the claim, or our verdict says what the word does. contradicted: the checker
-refutes the claim, or our verdict says the other. not-judged: undecided here too, over the checker's limits, or
-the line claims nothing by the form of the list. unreadable: no one machine.
+refutes the claim, or our verdict says the other. not-judged: undecided here too, over the checker's limits,
+or the line claims nothing by the form of the list. unreadable: no one machine.
 
 Numbers may have groups of three digits, as 47,176,870.
 
 Where each halt of theirs at a --- is true of the machine with 1RZ there, and there is one, they are taken to
 count a step for ---, and standard error says so. --undefined-steps says it beforehand.
 
-With --list, what isn't read of LIST is printed as `budlarem read` does, and lines come at the end: no-line, for a machine of LIST that has none; not-listed, for a machine of
-THEIRS that isn't in LIST. Machines are the same there up to the names of states and symbols, and left and
-right."""
+With --list, the lines of LIST that aren't read are printed as by `budlarem read`, and lines come at the end:
+no-line, for a machine of LIST that has none; not-listed, for a machine of THEIRS that isn't in LIST. Machines
+are the same there up to the names of states and symbols, and left and right."""
 
 
 def counts_text(counts: Counter[Judgement]) -> str:
@@ -73,6 +73,7 @@ def do_judge(asked: argparse.Namespace) -> int:
         words=None if asked.words is None else read_words(asked.words),
     )
     _print_form(reader, judging)
+    reader.print_unused_words(judging.theirs.form, asked.words)
     counts: Counter[Judgement] = collections.Counter()
     for judged in judging:
         counts[judged.judgement] += 1

@@ -22,15 +22,16 @@ nothing else. verdicts: verdict lines. table: CSV or TSV with a column of machin
 alone, beside other fields, in backticks or in a link. The form is found out from the first hundred lines and
 printed on standard error; --form settles it.
 
-A machine is taken only where one reading of its line is possible. What was rewritten or refused goes to
-standard error with file and line, and a count of the lines that were passed over: empty lines, comments, which
-begin with # or // and have no machine, code fences, rules and headers of tables. Gzip is known by its first
-bytes."""
+A machine is taken only where one reading of its line is possible. Standard error gets each rewritten or
+refused line with file and number, and a count of the lines that were passed over: empty lines, comments
+(which begin with # or // and have no machine), code fences, rules and headers of tables. Gzip is known by its
+first bytes."""
+# The columns of a table: for each the option that names it, and what it holds.
 _ROLES = {
-    "machine": "the column of machines",
-    "verdict": "the column of verdicts, or of words such as halt and nonhalt",
-    "steps": "the column of the steps of a halt",
-    "score": "the column of the scores",
+    "machine": ("--machine", "the column of machines"),
+    "verdict": ("--verdict", "the column of verdicts, or of words such as halt and nonhalt"),
+    "steps": ("--steps-column", "the column of the steps of a halt"),
+    "score": ("--score", "the column of the scores"),
 }
 
 
@@ -40,8 +41,8 @@ def source_of(path: Optional[str]) -> Union[str, BinaryIO]:
 
 
 class ListReader:
-    """Reads a list, and prints on standard error its form, what was rewritten or refused, and how many lines
-    were passed over. Counts what was rewritten or refused."""
+    """Reads a list. Prints on standard error its form, the rewritten and refused lines, which it counts, and
+    how many lines were passed over."""
 
     def __init__(
         self,
@@ -61,7 +62,7 @@ class ListReader:
         return _PrintedReadings(self)
 
     def print_reading(self, reading: Reading) -> None:
-        """Prints what was rewritten, or why the line is refused, and counts it."""
+        """Prints a rewritten or refused line, and counts it."""
         if reading.machine is None:
             self.refuse(reading.number, str(reading))
         else:
@@ -83,6 +84,11 @@ class ListReader:
         if form.is_found:
             is_given = self.form is not None or self.columns != Columns()
             self.print_line(str(form) if is_given else "%s; --form settles it" % form)
+
+    def print_unused_words(self, form: ListForm, words: Optional[str]) -> None:
+        """Prints that the words which `--words` names aren't used, where the list is no table."""
+        if words is not None and form.layout is None:
+            self.print_line("--words is for tables; nothing is translated in the form %s" % form.form)
 
     def print_passed(self, passed: Mapping[Passed, int], undecoded: int) -> None:
         """Prints how many lines were passed over, and how many have bytes that are no UTF-8, where there are
@@ -119,8 +125,8 @@ class ListReader:
 
 
 class _PrintedReadings(Readings):
-    """The readings of a list, each printed by the reader of the list as it comes, with the form before and the
-    counts behind them."""
+    """The readings of a list, each printed by the reader of the list as it comes, with the form before and
+    the counts behind them."""
 
     def __init__(self, reader: ListReader) -> None:
         super().__init__(reader.source, reader.form, reader.columns)
@@ -150,8 +156,8 @@ def add_form(parser: argparse.ArgumentParser, roles: Iterable[str] = ("machine",
     forms = [str(form) for form in Form]
     parser.add_argument("--form", choices=forms, help="the list's form (default: by its first lines)")
     for role in roles:
-        name = "--steps-column" if role == "steps" else "--" + role
-        help = "%s in a table, by its name or number" % _ROLES[role]
+        name, holds = _ROLES[role]
+        help = "%s in a table, by its name or number" % holds
         parser.add_argument(name, dest="column_" + role, metavar="COLUMN", help=help)
 
 

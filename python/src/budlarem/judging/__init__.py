@@ -1,4 +1,4 @@
-"""Judging what others publish: their claims beside the checker's answers and our verdicts."""
+"""Judging the claims of others, beside the checker's answers and our verdicts."""
 
 from __future__ import annotations
 
@@ -12,6 +12,7 @@ from ..limits import Limits, Plan
 from ..lists import Agreement, agreement
 from ..reading import Columns, Form, ListForm, Passed, Readings, read
 from ..reading.files import Source
+from ..reading.texts import shown
 from ..translation import Translation, translation_of
 from ..verdicts import Answer, Halt, Refused, Undecided, Verdict
 from .answers import answers_of
@@ -46,9 +47,9 @@ def judge(
 ) -> Judging:
     """Judges what each line of a list claims of its machine, by the form of the list.
 
-    A line of the form `verdicts` claims its verdict, and a record of a table what its columns have: a word,
-    by the translation `words` (`WORDS` where not given), and for halting the numbers in the columns of steps
-    and score. A line of a text claims something where the rest of it is one verdict. Else it is not judged.
+    A verdict line claims its verdict. A record of a table claims what its columns have: a word, by the
+    translation `words` (`WORDS` where not given), and for halting the numbers of steps and score. A line of
+    a text claims something where the rest of it is one verdict. Nothing else is judged.
 
     Each machine is decided within `limits` by `plan`, and each claim that our verdict doesn't settle is
     checked within `checker`. `undefined_steps` says whether they count a step for an undefined entry. Where
@@ -56,10 +57,10 @@ def judge(
     machine with `1RZ` there, and one is. With `listed`, a list of machines, `missing` and `foreign` tell
     which of them have no line, and which lines are of none.
 
-    Both lists are what `read` takes, and `listed` may be what it gives. Their list is read twice, so what isn't a path to a file is copied to
-    the disk first, where it is long. `tell` is called with what is done beside judging, and with how many
-    lines it was done. Raises what `read` and `decide` do, and ValueError for a table of which two columns may
-    have the verdicts, the steps or the scores.
+    Both lists are what `read` takes, and `listed` may be what it gives. Their list is read twice. A long one
+    that isn't a regular file is copied to the disk first. `tell` is called with what is done beside judging,
+    and with how many lines it was done. Raises what `read` and `decide` do, and ValueError for a table of
+    which two columns may have the verdicts, the steps or the scores.
 
     >>> lines = ["1RB1LB_1LA1RZ halt 6 4", "1LB1RB_1RA1LZ halt 7 4", "1RA1RA undecided steps"]
     >>> for judged in judge(lines):
@@ -69,14 +70,8 @@ def judge(
     not-judged 1RA1RA translated R 1 2 1 1
     """
     source = Twice(theirs, form, columns)
-    layout = source.form.layout
     words = WORDS if words is None else words
-    if layout is not None and layout.doubts:
-        raise ValueError("%s: say which" % layout.doubts[0])
-    translation = None
-    if layout is not None and "verdict" in layout.columns:
-        sayings = counted(Sayings(source.lines(), source.form, words), "looked at for their words", tell)
-        translation = translation_of(sayings, layout, words)
+    translation = _translation(source, words, tell)
     if undefined_steps is None:
         sayings = counted(Sayings(source.lines(), source.form, words), "looked at for steps at ---", tell)
         undefined_steps = counts_undefined_steps(sayings, limits, checker, threads)
@@ -85,6 +80,18 @@ def judge(
     said = Sayings(source.once(), source.form, words)
     decided = _decided(said, limits, plan, threads)
     return Judging(decided, lists, checker, undefined_steps, threads, TheirList(source, said, translation))
+
+
+def _translation(source: Twice, words: Dict[str, Word], tell: Tell) -> Optional[Translation]:
+    """The translation of a table's words; None where the list has none. Raises ValueError where two columns
+    may have the verdicts or their numbers."""
+    layout = source.form.layout
+    if layout is not None and layout.doubts:
+        raise ValueError("%s: say which" % layout.doubts[0])
+    if layout is None or "verdict" not in layout.columns:
+        return None
+    sayings = counted(Sayings(source.lines(), source.form, words), "looked at for their words", tell)
+    return translation_of(sayings, layout, words)
 
 
 class TheirList:
@@ -130,8 +137,8 @@ def _decided(
 
 class Judging(Iterator[Judged]):
     """The lines, judged one after another. `undefined_steps` says whether a step was taken to be counted for
-    an undefined entry, `theirs` describes the list. Once all lines are judged, `missing` and `foreign` compare
-    it with the list that was given."""
+    an undefined entry; `theirs` describes the list. Once all lines are judged, `missing` and `foreign`
+    compare it with the list that was given."""
 
     def __init__(
         self,
@@ -206,7 +213,7 @@ class Judging(Iterator[Judged]):
         return None
 
     def _by_word(self, said: Said, ours: Verdict) -> Judged:
-        """What is said of a line that has a word and no claim."""
+        """The judgement of a line that has a word and no claim."""
         word = Word.UNDECIDED if said.claim is not None else said.word
         if word not in (Word.HALTS, Word.NEVER_HALTS):
             sentence = "no word says whether it halts" if word is None else "%s says neither" % word
@@ -216,7 +223,8 @@ class Judging(Iterator[Judged]):
         if isinstance(ours, Halt) != (word is Word.HALTS):
             return Judged(Judgement.CONTRADICTED, said, ours, _other(said, ours))
         if said.steps is None and said.score is None:
-            return Judged(Judgement.CONFIRMED, said, ours, "%s, as ours says" % word)
+            more = "; not judged: %s" % shown(", ".join(said.unjudged)) if said.unjudged else ""
+            return Judged(Judgement.CONFIRMED, said, ours, "%s, as ours says%s" % (word, more))
         assert isinstance(ours, Halt)
         stepped = stepped_halt(ours) if self.undefined_steps else ours
         is_so = said.steps in (None, stepped.steps) and said.score in (None, stepped.score)

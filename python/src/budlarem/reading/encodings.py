@@ -1,4 +1,4 @@
-"""Bytes that are no text in UTF-8, by the name of what they are."""
+"""Encodings and formats of files other than text in UTF-8, by their first bytes."""
 
 from __future__ import annotations
 
@@ -6,7 +6,7 @@ from typing import Optional
 
 from .._lengths import LONGEST_UNENDED
 
-# The first bytes of what people give for a list, and its name. UTF-32 comes before UTF-16, whose mark begins
+# The first bytes of encodings and formats, and their names. UTF-32 comes before UTF-16, whose mark begins
 # that of UTF-32.
 _MARKS = (
     (b"\xff\xfe\x00\x00", "UTF-32 text"),
@@ -25,7 +25,7 @@ _LOOKED_AT = 256
 
 
 class EncodingError(ValueError):
-    """A list's bytes are no text in UTF-8. `encoding` names what they are."""
+    """A list's bytes are no text in UTF-8. `encoding` names their encoding or format."""
 
     def __init__(self, name: object, encoding: str) -> None:
         super().__init__("%s is %s: %s" % (name, encoding, _advice(encoding)))
@@ -44,14 +44,14 @@ class EndlessLineError(ValueError):
 
 
 def _advice(encoding: str) -> str:
-    """What would do."""
+    """The advice for a person."""
     if encoding.endswith(" text"):
         return "convert it by iconv -f %s -t UTF-8" % encoding.partition(" ")[0]
     return "give the text of the list; gzip alone is unpacked"
 
 
 def find_encoding(begin: bytes) -> Optional[str]:
-    """What bytes are that begin so; None where they may be UTF-8."""
+    """The name of the encoding or format that begins so; None for bytes that may be UTF-8."""
     for mark, name in _MARKS:
         if begin.startswith(mark):
             return name

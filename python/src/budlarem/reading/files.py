@@ -37,9 +37,12 @@ class _Raw(io.RawIOBase):
 
 class Lines(Iterator[Numbered]):
     """The lines of a list that aren't empty, as texts without newlines, each with its number from 1 on.
-    `empty` counts the others so far, `undecoded` those with bytes that are no UTF-8. Raises OSError where a
-    path can't be opened or read, EncodingError where the bytes are no UTF-8 text, EndlessLineError, TypeError where the source is no list, ValueError where it is the text of
-    one."""
+    `empty` counts the others so far, `undecoded` those with bytes that are no UTF-8.
+
+    Raises OSError where a path can't be opened or read, EncodingError where the bytes are UTF-16 or no text,
+    EndlessLineError where a line never ends, TypeError where the source is no list, ValueError
+    where it is the text of one.
+    """
 
     def __init__(self, source: Source) -> None:
         if isinstance(source, (bytes, bytearray, memoryview)):
@@ -114,7 +117,7 @@ class Lines(Iterator[Numbered]):
 
 
 def _name_of(file: Any) -> Any:
-    """What an open file is called."""
+    """The name of an open file."""
     name = getattr(file, "name", "the file")
     return "standard input" if name in ("<stdin>", 0) else name
 

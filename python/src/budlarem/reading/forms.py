@@ -9,7 +9,7 @@ from typing import Counter, Iterator, List, Optional
 
 from ..verdicts import is_machine
 from .files import Lines, Numbered, Source
-from .lines import read_line, verdict_in
+from .lines import OF_MACHINES, read_line, verdict_in
 from .passing import passed_over
 from .tables import Columns, Layout, find_header, find_layout, read_row
 from .values import Form, Passed, Reading
@@ -17,7 +17,6 @@ from .words import SPACES
 
 # So many lines that aren't passed over settle the form of a list.
 FIRST_LINES = 100
-_OF_MACHINES = "_-." + SPACES
 
 
 @dataclasses.dataclass(frozen=True)
@@ -63,7 +62,7 @@ def _is_alone(number: int, bare: str) -> bool:
     """Whether a line is a machine in any spelling, and nothing else."""
     if is_machine(bare):
         return True
-    if not all(character.isalnum() or character in _OF_MACHINES for character in bare):
+    if not OF_MACHINES.issuperset(bare):
         return False
     reading = read_line(number, bare, Form.MACHINES)
     return reading is not None and reading.machine is not None

@@ -3,10 +3,12 @@
 from __future__ import annotations
 
 import re
+import string
 from typing import List, Optional, Sequence, Tuple
 
 from .._lengths import LONGEST_LINE
 from ..verdicts import Refused, Verdict, is_machine, parse
+from .hidden import is_hidden, name_of
 from .passing import is_comment_of_machine, passed_over
 from .texts import Found, Outcome, Word, read_arrays, read_entries, read_words, shown
 from .values import Form, Reading, Reason, Rewriting
@@ -18,9 +20,12 @@ _PAIRS = (
 _BESIDE = SPACES + ",;"
 # The letter of a state that stands alone before a group; a small one only where the line begins, before
 # small letters.
-_STATE = re.compile(r"""(?:(?:^|[^\w'\u2019-])([A-Y])|^\s*([a-y]))[\s:|=).,;>*`"'\]-]*$""")
-# What stands in machines beside letters and digits, in any spelling.
-_OF_MACHINES = "_-.\\" + SPACES
+_BEHIND_STATE = re.escape(SPACES + ":|=).,;>*`\"'-]")
+_STATE = re.compile(
+    "(?:(?:^|[^A-Za-z0-9_'\u2019-])([A-Y])|^[%s]*([a-y]))[%s]*$" % (re.escape(SPACES), _BEHIND_STATE)
+)
+# The characters of machines, in any spelling.
+OF_MACHINES = frozenset(string.ascii_letters + string.digits + "_-.\\" + SPACES)
 # A text of the line, and what it was read as.
 Read = Tuple[Text, Outcome]
 
@@ -84,7 +89,7 @@ def _alone(reading: Reading, bare: str) -> Reading:
 
 def _has_more(bare: str) -> bool:
     """Whether signs stand about the words of entries, as those of a link."""
-    return not all(character.isalnum() or character in _OF_MACHINES for character in bare)
+    return not OF_MACHINES.issuperset(bare)
 
 
 def _read_plain(number: int, line: str) -> Reading:
@@ -161,7 +166,10 @@ def _no_text(line: str, parts: Parts) -> Reason:
         if len(row.text) >= 6 or row.text == line.strip(SPACES):
             what = "dashes" if "-" in row.text else "dots"
             return Reason("rule", "a row of %s is a rule here, no machine" % what, row.begin + 1)
-    place = len(line) - len(line.lstrip(SPACES)) + 1
+    bare = line.strip(SPACES)
+    place = line.index(bare) + 1
+    if all(map(is_hidden, bare)):
+        return Reason("hidden", "%s in this line, a character that doesn't show" % name_of(bare[0]), place)
     return Reason("none", "no machine in this line", place)
 
 

@@ -1,4 +1,4 @@
-"""Lines that are passed over: comments, and what stands about the machines of Markdown and of tables."""
+"""Lines that are passed over: comments, code fences, and the rules and headers of tables."""
 
 from __future__ import annotations
 
@@ -6,12 +6,13 @@ import re
 from typing import Optional
 
 from .values import Passed
-from .words import parts_of
+from .words import SPACES, parts_of
 
 _COMMENT = ("#", "//")
-_FENCE = re.compile(r"(?:`{3,}|~{3,})[\w+#.{}= -]*")
-# What is between the rows of a table: `|-`, `|---|---|`, `---|---`, `+---+`, and `{|`, `|}` about it.
-_RULE = re.compile(r"[|+][-|+:=\s]*|:?-[-:\s]*\|[-|:\s]*|\|\}|\{\|.*")
+_SPACE = "[%s]" % re.escape(SPACES)
+_FENCE = re.compile(r"(?:`{3,}|~{3,})[A-Za-z0-9_+#.{}= -]*")
+# Lines between the rows of a table: `|-`, `|---|---|`, `---|---`, `+---+`, and `{|`, `|}` about it.
+_RULE = re.compile(r"[|+](?:[-|+:=]|{0})*|:?-(?:[-:]|{0})*\|(?:[-|:]|{0})*|\|\}}|\{{\|.*".format(_SPACE))
 _CELLS = re.compile(r"[|\t,;]|!!")
 # So many characters the name of a column has at most.
 _LONGEST_NAME = 40
@@ -21,7 +22,7 @@ MACHINE_NAMES = frozenset(("machine", "machines", "tm", "turingmachine", "turing
 
 def plain_name(text: str) -> str:
     """The name of a column in small letters, without signs and spaces."""
-    return re.sub(r"[\W_]", "", text.lower())
+    return re.sub("[^a-z0-9]", "", text.lower())
 
 
 def passed_over(bare: str) -> Optional[Passed]:

@@ -15,7 +15,7 @@ from .texts import counted, shown
 from .values import Form, Passed, Reading, Reason
 from .words import SPACES
 
-# What may separate cells; a space only where nothing else does.
+# The separators of cells; a space only where nothing else separates.
 SEPARATORS = ("\t", ",", ";", "|")
 _NAMES: Dict[str, FrozenSet[str]] = {
     "machine": MACHINE_NAMES,

@@ -17,8 +17,8 @@ _QUOTES = "`\"'\u2018\u2019\u201a\u201c\u201d\u201e\u00ab\u00bb"
 _ENDS = SPACES + ",;|()[]{}<>*" + _QUOTES
 _SEPARATORS = _ENDS + ":=#~"
 _TOKEN = re.compile(
-    r"(?P<address>(?:[A-Za-z][A-Za-z0-9+.-]*://|[A-Za-z][A-Za-z0-9-]*(?:\.[A-Za-z0-9-]+)+/)(?:(?!~~)[^%s])*)|[^%s]+"
-    % (re.escape(_ENDS), re.escape(_SEPARATORS))
+    r"(?P<address>(?:[A-Za-z][A-Za-z0-9+.-]*://|[A-Za-z][A-Za-z0-9-]*(?:\.[A-Za-z0-9-]+)+/)"
+    r"(?:(?!~~)[^%s])*)|[^%s]+" % (re.escape(_ENDS), re.escape(_SEPARATORS))
 )
 _ENTRIES = re.compile(r"(?:[0-9][LRlr][A-Za-z]|---|\.\.\.|_)*(?:[0-9][LRlr][A-Za-z]|---|\.\.\.)_*")
 _ROW = re.compile(r"[-.]+")
@@ -26,8 +26,10 @@ _ROW = re.compile(r"[-.]+")
 _NUMBER = re.compile(r"[0-9]+\.(?=[0-9-])")
 # Groups as arrays of quoted entries, as JSON and Python write them.
 _ENTRY = r"""["'](?:[0-9][LRlr][A-Za-z]|---|\.\.\.)["']"""
-_GROUP = r"\[\s*%s(?:\s*,\s*%s)*\s*\]" % (_ENTRY, _ENTRY)
-_ARRAYS = re.compile(r"\[\s*%s(?:\s*,\s*%s)*\s*\]" % (_GROUP, _GROUP))
+_SPACE = "[%s]*" % re.escape(SPACES)
+_ARRAY = r"\[{0}%s(?:{0},{0}%s)*{0}\]".format(_SPACE)
+_GROUP = _ARRAY % (_ENTRY, _ENTRY)
+_ARRAYS = re.compile(_ARRAY % (_GROUP, _GROUP))
 # What nothing but a machine has in it, whole or not.
 _PIECES = re.compile(r"[0-9][LR](?:[A-Z_.-]|$)|[0-9][lr][a-z](?=[0-9_])|(?<=[a-z_])[0-9][lr][a-z]")
 # A word that looks like an entry.
