@@ -9,7 +9,10 @@ import { Asker } from "./asker.mjs";
 const WORDS = "Decide again with larger limits";
 
 export class Again {
-  /** @param {(about: About) => void} done what happens with the new verdict */
+  /**
+   * @param {(about: About, by: import("./worker.mjs").Part) => boolean} done shows the new verdict, and puts
+   *   its line into the list, if it can
+   */
   constructor(done) {
     this.done = done;
     this.asker = new Asker();
@@ -24,7 +27,7 @@ export class Again {
     this.stop();
     this.about = about;
     Object.assign(part("again-text"), { textContent: "", hidden: true });
-    part("again").hidden = about.verdict.kind !== "undecided";
+    part("again").hidden = about.verdict.kind !== "undecided" || about.isWaiting === true;
   }
 
   ask() {
@@ -45,9 +48,9 @@ export class Again {
       }
       const { verdict } = readLine(answer.line);
       this.about = { machine: about.machine, verdict, answer: answer.answer, plan };
-      this.tell(`With ${limits}: ${verdict.text}. The list keeps what it has.`);
+      const isIn = this.done(this.about, answer.part);
+      this.tell(`With ${limits}: ${verdict.text}. ${isIn ? "Its row has it, marked." : "The list stays."}`);
       setAside("again", "hidden", verdict.kind !== "undecided", "copy-text");
-      this.done(this.about);
     });
   }
 

@@ -10,18 +10,24 @@ const UNDECIDED = KINDS.indexOf("undecided");
 
 /**
  * @typedef {import("./results.mjs").Results} Results
- * @typedef {{results: Results, plan: Record<string, any>, form: import("./forms.mjs").Form | null,
- *   isUnderWay: boolean}} Answered the answers to a list by now, at which limits, by which form its lines
- *   were read, null where they weren't, and whether more come
+ * @typedef {{results: Results, form: import("./forms.mjs").Form | null, isUnderWay: boolean}} Answered the
+ *   answers to a list by now, by which form its lines were read, null where they weren't, and whether more
+ *   come
  */
 
 export class Lines {
   /**
    * @param {import("./view.mjs").View} view shows the line that is opened
    * @param {() => Answered} answered what is known by now
+   * @param {() => void} changed what happens where a line was decided again
    */
-  constructor(view, answered) {
+  constructor(view, answered, changed) {
     this.view = view;
+    view.replace = (by, plan) => {
+      const isIn = this.replaceOpen(by, plan);
+      isIn && changed();
+      return isIn;
+    };
     this.answered = answered;
     this.rows = new Rows((row) => this.open(row, true));
     this.sorter = new Asker();
@@ -31,6 +37,12 @@ export class Lines {
     this.order = /** @type {HTMLSelectElement} */ (part("order"));
     // Whether a line of the list was opened.
     this.isOpen = false;
+    /**
+     * The line that is open, and its verdict.
+     * @type {import("./results.mjs").Place | null}
+     */
+    this.openLine = null;
+    this.openText = "";
     // How often rows were shown, so that what comes late isn't.
     this.turn = 0;
     this.order.addEventListener("change", () => this.showRows());
@@ -50,6 +62,7 @@ export class Lines {
   begin() {
     this.rows.begin();
     this.isOpen = false;
+    this.openLine = null;
     this.view.closeSoon();
   }
 
@@ -58,12 +71,37 @@ export class Lines {
     this.showKinds();
     this.showRows();
     const { results, isUnderWay } = this.answered();
-    if (!this.isOpen && results.lines > 0 && (results.hasFirst || !isUnderWay)) {
+    this.refreshOpen(results);
+    if (!this.isOpen && results.lines > 0 && (results.hasFirst ? !results.isWaiting(0) : !isUnderWay)) {
       this.rows.choose(0, false);
       this.open(this.rows.rows[0] ?? 0, false);
       if (performance.getEntriesByName(FIRST_VERDICT).length === 0) {
         performance.mark(FIRST_VERDICT);
       }
+    }
+  }
+
+  /**
+   * Puts a line that was decided again into the row that is open; gives whether it has one. A claim that was
+   * checked stays.
+   * @param {import("./worker.mjs").Part} by @param {Record<string, any>} plan its limits
+   */
+  replaceOpen(by, plan) {
+    const { openLine } = this;
+    const { results } = this.answered();
+    const row = openLine?.part.lines === null ? results.rowOf(openLine) : -1;
+    if (row >= 0) {
+      results.replace(Uint32Array.of(row), by, results.planNumber(plan));
+      this.openText = results.row(row).verdict.text;
+    }
+    return row >= 0;
+  }
+
+  /** Shows the open line anew, where the second pass has decided it otherwise than the first. */
+  refreshOpen(/** @type {Results} */ results) {
+    const row = this.openLine === null ? -1 : results.rowOf(this.openLine);
+    if (row >= 0 && !results.isWaiting(row) && this.openText !== results.row(row).verdict.text) {
+      this.open(row, false);
     }
   }
 
@@ -123,10 +161,13 @@ export class Lines {
   }
 
   open(/** @type {number} */ row, /** @type {boolean} */ moves) {
-    const { results, plan, form } = this.answered();
-    const { machine, verdict, answer, given, number } = results.row(row);
+    const { results, form } = this.answered();
+    const { machine, verdict, answer, given, number, plan } = results.row(row);
+    const isWaiting = results.isWaiting(row);
     this.isOpen = true;
-    this.view.open({ machine, verdict, answer, plan }, moves, { text: given, number, form });
+    this.openLine = results.place(row);
+    this.openText = isWaiting ? "" : verdict.text;
+    this.view.open({ machine, verdict, answer, plan, isWaiting }, moves, { text: given, number, form });
   }
 
   /** Opens the next or the previous row that is shown, of any kind or an undecided one. */

@@ -5,9 +5,11 @@
 
 A page that is opened from a disk may load no other files, so the modules stand in it as three scripts: that
 of the page, that of the worker, and what both begin with. Each module stands there once, after those that it
-imports, as a function that gives what it exports. A content security policy names these scripts by their
+imports, as a function that gives what it exports. The names of exports are those of the script, so that no
+module imports them; of a module that shares one with another the exports are fields of an object. A content security policy names these scripts by their
 hashes, so that the browser runs no other one and connects to nothing. Comments, types, indentation, and
-spaces beside signs are left out; the modules in the repository have them. The engine stands there in base85.
+spaces beside signs are left out, and `const` is written `let`; the modules in the repository have them. The
+engine stands there as text: two characters of 91 are 13 bits.
 """
 
 import base64
@@ -17,7 +19,8 @@ import os
 import re
 import shlex
 import sys
-from typing import Any, Dict, Iterator, List
+from collections import Counter
+from typing import Any, Dict, Iterable, Iterator, List, Set
 
 WEB = os.path.dirname(os.path.abspath(__file__))
 EXAMPLES = os.path.join(os.path.dirname(WEB), "examples")
@@ -39,7 +42,9 @@ TEXT = r"\"(?:[^\"\\\n]|\\.)*\"|`(?:[^`\\\n$]|\$\{(?:[^`{}\"'\n]|\"[^\"\\\n]*\")
 # Lines that have nothing else with quotes or slashes but those of divisions; beside these signs no space
 # counts there, but in texts.
 PLAIN = re.compile(r"^(?:[^\"'`/\n]| / |%s)+$" % TEXT, re.MULTILINE)
-SPACED = re.compile(r"(%s)| ?([=(){}\[\],;:?<>&|*!]) ?|(?<=[\w)\]]) ([+/%%-]) (?=[\w(\[])" % TEXT)
+SPACED = re.compile(
+    r"(%s)| ?([=(){}\[\],;:?<>&|*!]) ?|(?<=[\w)\]]) ([+/%%-]) (?=[\w(\[])|\b(const)\b(?= ?[{\[ ])" % TEXT
+)
 # Newlines that end nothing: behind these signs, or before those; and the semicolon before a closing brace.
 JOINED = re.compile(r";\n(?=\})|(?<=[;{,(\[=?:&|>}])\n|\n(?=[})\].?:&|+,])")
 # Spaces of a style that separate nothing.
@@ -60,20 +65,42 @@ def in_order(name: str, done: List[str]) -> List[str]:
     return done
 
 
-def wrapped(name: str) -> str:
-    """A module as a function that gives what it exports, called at once."""
-    text = read(WEB, name + ".mjs")
-    exported = [found for _, found in EXPORT.findall(text)]
-    exported += [found.strip() for names in REEXPORT.findall(text) for found in names.split(",")]
-    text = IMPORT.sub(r"const \1 = of_\2;", REEXPORT.sub("", text))
+def exports(name: str) -> List[str]:
+    """The names of its own that a module exports."""
+    return [found for _, found in EXPORT.findall(read(WEB, name + ".mjs"))]
+
+
+def with_shared_names(modules: Iterable[str]) -> Set[str]:
+    """The modules that export a name which another one exports too."""
+    exported = {module: exports(module) for module in modules}
+    counts = Counter(name for names in exported.values() for name in names)
+    return {module for module, names in exported.items() if any(counts[name] > 1 for name in names)}
+
+
+def wrapped(name: str, apart: Set[str]) -> str:
+    """A module as a function that gives what it exports, called at once. The exports of the modules `apart`
+    are fields of an object."""
+
+    def imported(found: "re.Match[str]") -> str:
+        return "const %s = of_%s;" % found.groups() if found[2] in apart else ""
+
+    text = IMPORT.sub(imported, REEXPORT.sub("", read(WEB, name + ".mjs")))
     text = INDENT.sub("", TYPE.sub("", COMMENT.sub("", EXPORT.sub(r"\1", text))))
-    script = "const of_%s = (() => {\n%s\nreturn { %s };\n})();\n" % (name, text, ", ".join(exported))
-    return JOINED.sub("", PLAIN.sub(lambda line: SPACED.sub(r"\1\2\3", line[0]), script))
+    given = ", ".join(exports(name))
+    script = "const %s = (() => {\n%s\nreturn { %s };\n})();\n"
+    script %= ("of_" + name if name in apart else "{ %s }" % given, text, given)
+    return JOINED.sub("", PLAIN.sub(lambda line: SPACED.sub(packed, line[0]), script))
 
 
-def joined(modules: List[str]) -> str:
+def packed(found: "re.Match[str]") -> str:
+    """What is written for a text, a sign with its spaces, or `const`."""
+    text, sign, division, const = found.groups()
+    return "let" if const else text or sign or division
+
+
+def joined(modules: List[str], apart: Set[str]) -> str:
     """Modules as one script."""
-    script = "".join(map(wrapped, modules))
+    script = "".join(wrapped(module, apart) for module in modules)
     if "</script" in script or "<!--" in script:
         sys.exit("pack: a script of %s can't stand in a page" % ", ".join(modules))
     return script
@@ -98,6 +125,16 @@ def examples() -> Iterator[Dict[str, Any]]:
                 yield {"name": name.replace("_", " "), "call": call, "plan": plan_of(words), "lines": lines}
 
 
+def as_text(given: bytes) -> str:
+    """Bytes as characters from # to }, with ~ for <. Each pair of them has 13 bits, the first ones before."""
+    size = -(-len(given) * 8 // 13)
+    bits = int.from_bytes(given, "big") << (13 * size - 8 * len(given))
+    digits = format(bits, "0%db" % (13 * size))
+    numbers = (int(digits[at : at + 13], 2) for at in range(0, len(digits), 13))
+    text = "".join(chr(35 + digit) for number in numbers for digit in divmod(number, 91))
+    return text.replace("<", "~")
+
+
 def source_of(text: str) -> str:
     """A script or style as a policy names it: by its hash."""
     return "'sha256-%s'" % base64.b64encode(hashlib.sha256(text.encode()).digest()).decode()
@@ -119,21 +156,20 @@ def policy(style: str, *scripts: str) -> str:
 
 
 def main() -> None:
-    module, page = sys.argv[1:]
-    with open(module, "rb") as file:
-        engine = base64.b85encode(file.read()).decode()
-    if "<!--" in engine:
-        sys.exit("pack: the engine's text can't stand in a page")
+    path, page = sys.argv[1:]
+    with open(path, "rb") as file:
+        module = file.read()
     data = json.dumps(list(examples())).replace("<", "\\u003c")
     page_modules, worker_modules = in_order("page", []), in_order("worker", [])
-    shared = [module for module in worker_modules if module in page_modules]
-    both = "\n" + joined(shared)
-    own = "\n" + joined([module for module in page_modules if module not in shared])
-    worker = "\n" + joined([module for module in worker_modules if module not in shared])
+    shared = [name for name in worker_modules if name in page_modules]
+    apart = with_shared_names({*page_modules, *worker_modules})
+    both = "\n" + joined(shared, apart)
+    own = "\n" + joined([name for name in page_modules if name not in shared], apart)
+    worker = "\n" + joined([name for name in worker_modules if name not in shared], apart)
     style = STYLE_SPACED.sub(r"\1", COMMENT.sub("", read(WEB, "page.css"))).strip()
     scripts = [
         '<script type="application/json" id="examples-data">%s</script>' % data,
-        '<script type="text/plain" id="module">%s</script>' % engine,
+        '<script type="text/plain" id="module" data-length="%d">%s</script>' % (len(module), as_text(module)),
         '<script type="text/plain" id="worker">%s</script>' % worker,
         '<script id="shared">%s</script>' % both,
         '<script type="module">%s</script>' % own,

@@ -1,8 +1,7 @@
 /** The page: reads what is asked, has workers answer it, and shows what comes. */
-import { larger, makeFields, planOf, readLink, refuse, setPlan } from "./fields.mjs";
+import { makeFields, planOf, readLink, refuse, setPlan } from "./fields.mjs";
 import { listenToFiles } from "./files.mjs";
 import { Lines } from "./lines.mjs";
-import { KINDS, counted } from "./machine.mjs";
 import { isSupported } from "./memory.mjs";
 import { copy, made, part, save } from "./parts.mjs";
 import { kept } from "./session.mjs";
@@ -18,10 +17,14 @@ const source = new Source();
 /** @type {Work} */
 const work = new Work(() => lines.show());
 /** @type {Lines} */
-const lines = new Lines(new View(), () => {
-  const { results, run, isUnderWay } = work;
-  return { results, plan: run.plan, form: run.mode === "decide" ? run.form : null, isUnderWay };
-});
+const lines = new Lines(
+  new View(),
+  () => {
+    const { results, run, isUnderWay } = work;
+    return { results, form: run.mode === "decide" ? run.form : null, isUnderWay };
+  },
+  () => work.refreshed(),
+);
 
 // How often a list was given.
 let begun = 0;
@@ -71,48 +74,50 @@ function planOrRefused() {
   }
 }
 
-/**
- * Takes a file in place of the text; none takes it away again.
- * @param {File | null} file @param {boolean} [isOwn] whether the page made it
- */
-function take(file, isOwn = false) {
+/** Takes a file in place of the text; none takes it away again. */
+function take(/** @type {File | null} */ file) {
   if (file !== null) {
     source.forgetExample();
   }
-  source.hold(file, isOwn);
+  source.hold(file);
   if (file !== null) {
     begin();
   }
 }
 
-/**
- * Decides again what is left, with larger limits; the text that stands there stays. Where another list is
- * given meanwhile, only that is answered.
- */
-async function decideLeft() {
-  const { results, run } = work;
-  const mine = begun;
-  const blob = await results.undecided();
-  if (mine !== begun) {
-    return;
+// The lists of the examples, and the one that a click has selected.
+const samples = new Set([FIRST_LIST]);
+let selected = "";
+
+/** Selects an example at the first click into it, so that what is typed or pasted replaces it. */
+function selectExample() {
+  const { list } = source;
+  if (samples.has(list.value) && selected !== list.value && list.selectionStart === list.selectionEnd) {
+    list.select();
+    selected = list.value;
   }
-  const name = `${counted(results.counts[KINDS.indexOf("undecided")], "undecided machine")}.txt`;
-  setPlan(larger(run.plan));
+}
+
+/** Empties the list, and takes a file away. */
+function clear() {
+  source.forgetExample();
   source.leaveExample();
-  source.mode.value = "decide";
-  take(new File([blob], name), true);
+  source.fill("");
+  source.list.focus();
 }
 
 /** The examples, which stand in the page. */
 function makeExamples() {
   const menu = /** @type {HTMLSelectElement} */ (part("examples"));
   const examples = JSON.parse(part("examples-data").textContent ?? "[]");
-  for (const [k, { name }] of examples.entries()) {
+  for (const [k, { name, lines: list }] of examples.entries()) {
     menu.append(made("option", { value: String(k) }, name));
+    samples.add(list);
   }
   menu.addEventListener("change", () => {
     const example = examples[Number(menu.value || -1)];
     if (example) {
+      selected = "";
       source.isExample = true;
       source.set(example.plan, false, example.call);
       source.fill(example.lines);
@@ -181,8 +186,10 @@ function listen() {
     event.preventDefault();
     begin();
   });
+  on("clear", clear);
+  on("list", selectExample);
   on("stop", () => work.stop());
-  on("left", decideLeft);
+  on("left", () => work.decideAgain());
   const name = () => (work.run.mode === "check" ? "answers.txt" : "verdicts.txt");
   on("save", () => save(work.results.blob(), name()));
   on("save-shown", async () => save(await work.results.blobOf(lines.kindsShown), name()));

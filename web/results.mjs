@@ -8,14 +8,29 @@ import { BYTES_KEPT, LONGEST_SHOWN } from "./lengths.mjs";
 import { ANSWERS, KINDS, readLine, unreadLine } from "./machine.mjs";
 import { lineAt } from "./prepare.mjs";
 import { startsOf, stepsIn } from "./replies.mjs";
+import { replaceLines } from "./replacing.mjs";
 
-// Rows that are read before the page rests, and how long other work takes before it does.
-const RESTS = 2_000;
+// How long work takes before the page rests.
 const BUSY_MILLISECONDS = 20;
+const SPACE = 32;
 const decoder = new TextDecoder();
+const [UNDECIDED, BACKWARD] = [KINDS.indexOf("undecided"), KINDS.indexOf("backward")];
+/** The number of the limits of a list's first pass. */
+export const FIRST_PASS = 1;
+/** The number of the first limits that are larger than the list's. */
+export const LARGER = 2;
+const MOST_PLANS = 255;
 
 export class Results {
-  constructor() {
+  /** @param {Record<string, any>} plan the limits of the list */
+  constructor(plan) {
+    // Limits by their numbers.
+    this.plans = [plan, plan];
+    // How many lines only the first pass has answered, and how many of these it left undecided.
+    this.open = 0;
+    this.waiting = 0;
+    // How many lines were decided again with larger limits.
+    this.again = 0;
     /** @type {Part[][]} */
     this.jobs = [];
     this.counts = KINDS.map(() => 0);
@@ -39,6 +54,67 @@ export class Results {
     this.read += read;
     part.kindCounts.forEach((count, kind) => (this.counts[kind] += count));
     part.answerCounts.forEach((count, answer) => (this.answers[answer] += count));
+  }
+
+  /**
+   * Takes in a part of the first pass: of what it left undecided, and of backward reasoning, which comes last,
+   * the limits of the list may find another verdict.
+   */
+  addFirst(/** @type {Part} */ part, /** @type {number} */ read) {
+    const { kinds } = part;
+    part.plans = kinds.map((kind) => (kind === UNDECIDED || kind === BACKWARD ? FIRST_PASS : 0));
+    this.open += part.kindCounts[UNDECIDED] + part.kindCounts[BACKWARD];
+    this.waiting += part.kindCounts[UNDECIDED];
+    this.add(part, read);
+  }
+
+  /** The number of limits; those that are new get one. */
+  planNumber(/** @type {Record<string, any>} */ plan) {
+    const { plans } = this;
+    const isSame = (/** @type {any} */ one) => one.steps === plan.steps && one.cells === plan.cells;
+    const at = plans.findIndex((one, k) => k >= LARGER && isSame(one));
+    return at >= 0 ? at : Math.min(MOST_PLANS, plans.push(plan) - 1);
+  }
+
+  /**
+   * Puts the lines of a part in the place of rows, of which it has the machines in this order.
+   * @param {Uint32Array} rows in order @param {Part} by @param {number} plan the number of its limits
+   */
+  replace(rows, by, plan) {
+    for (let first = 0; first < rows.length; ) {
+      const { part, line } = this.place(rows[first]);
+      const begin = rows[first] - line;
+      const beyond = rows.findIndex((row) => row >= begin + part.kinds.length);
+      const end = beyond < 0 ? rows.length : beyond;
+      const lines = rows.subarray(first, end).map((row) => row - begin);
+      lines.forEach((one) => this.count(part, one, -1));
+      replaceLines(part, lines, by, first, plan);
+      lines.forEach((one) => this.count(part, one, 1));
+      first = end;
+    }
+  }
+
+  /** Counts a line, or takes it out of the counts. */
+  count(/** @type {Part} */ { kinds, answers, plans }, /** @type {number} */ line, /** @type {1 | -1} */ by) {
+    const plan = plans?.[line] ?? 0;
+    this.counts[kinds[line]] += by;
+    this.answers[answers[line]] += by;
+    this.open += plan === FIRST_PASS ? by : 0;
+    this.waiting += plan === FIRST_PASS && kinds[line] === UNDECIDED ? by : 0;
+    this.again += plan >= LARGER ? by : 0;
+  }
+
+  /** The rows that only the first pass has answered. */
+  openRows() {
+    const isOpen = Uint8Array.from([0, 1]);
+    return this.rowsBy((part) => part.plans ?? new Uint8Array(part.kinds.length), isOpen);
+  }
+
+  /** The machine of a row that was decided. */
+  machineAt(/** @type {number} */ row) {
+    const { part, line } = this.place(row);
+    const from = part.starts[line];
+    return decoder.decode(part.bytes.subarray(from, part.bytes.indexOf(SPACE, from)));
   }
 
   /** The parts in order, with the number of the first line of each in `begins`. */
@@ -76,6 +152,12 @@ export class Results {
     return part.kinds[line];
   }
 
+  /** Whether a row is undecided by the first pass, and waits for the second one. */
+  isWaiting(/** @type {number} */ row) {
+    const { part, line } = this.place(row);
+    return part.plans?.[line] === FIRST_PASS && part.kinds[line] === UNDECIDED;
+  }
+
   /** Whether the first line of the list has come: no piece before it has one that comes later. */
   get hasFirst() {
     for (const parts of this.jobs) {
@@ -100,10 +182,12 @@ export class Results {
     const number = part.first + (part.numbers === null ? line : part.numbers[line]);
     const { source, places } = part;
     const given = source === null || places === null ? null : lineAt(source, places[line], BYTES_KEPT);
-    return { ...read, answer, kind: KINDS[part.kinds[line]], number, given };
+    const pass = part.plans?.[line] ?? 0;
+    return { ...read, answer, kind: KINDS[part.kinds[line]], number, given, pass, plan: this.plans[pass] };
   }
 
-  /** The lines of these kinds, as the program would write them; the page rests between parts. */
+  /** The lines of these kinds, as the program would write them; the page rests between parts. Lines that only
+   * the first pass has answered are left out. */
   async blobOf(/** @type {Set<number>} */ kinds) {
     const parts = [];
     for (const part of this.parts()) {
@@ -111,19 +195,6 @@ export class Results {
       await rest();
     }
     return new Blob(parts, { type: "text/plain" });
-  }
-
-  /** The machines that are undecided, one a line; the page rests between parts. */
-  async undecided() {
-    const rows = this.rows(new Set([KINDS.indexOf("undecided")]));
-    const texts = [];
-    for (const [k, row] of rows.entries()) {
-      texts.push(`${this.row(row).machine}\n`);
-      if (k % RESTS === RESTS - 1) {
-        await rest();
-      }
-    }
-    return new Blob(texts, { type: "text/plain" });
   }
 
   /** All rows, in order, in a list that is kept. */
@@ -139,11 +210,19 @@ export class Results {
     if (this.counts.every((count, kind) => count === 0 || kinds.has(kind))) {
       return this.allRows();
     }
-    const isShown = Uint8Array.from(KINDS, (_, kind) => (kinds.has(kind) ? 1 : 0));
+    return this.rowsBy((part) => part.kinds, Uint8Array.from(KINDS, (_, kind) => (kinds.has(kind) ? 1 : 0)));
+  }
+
+  /**
+   * The rows whose numbers are among those that are shown, in order.
+   * @param {(part: Part) => Uint8Array} numbers of each line of a part
+   * @param {Uint8Array} isShown for each number 1 or 0
+   */
+  rowsBy(numbers, isShown) {
     const rows = new Uint32Array(this.lines);
     let [count, begin] = [0, 0];
     for (const part of this.parts()) {
-      count = addRows(rows, count, part.kinds, begin, isShown);
+      count = addRows(rows, count, numbers(part), begin, isShown);
       begin += part.kinds.length;
     }
     return rows.subarray(0, count);
@@ -171,9 +250,11 @@ export class Results {
     return taken(all, rows);
   }
 
-  /** All that the program would write. */
+  /** All that the program would write, without lines that only the first pass has answered. */
   blob() {
-    return new Blob(this.parts().map((part) => part.bytes), { type: "text/plain" });
+    const all = new Set(KINDS.keys());
+    const bytes = (/** @type {Part} */ part) => (part.plans ? linesOf(part, all) : [part.bytes]);
+    return new Blob(this.parts().flatMap(bytes), { type: "text/plain" });
   }
 }
 
@@ -205,7 +286,7 @@ function addRows(rows, count, kinds, begin, isShown) {
   let end = count;
   for (let k = 0; k < kinds.length; k += 1) {
     rows[end] = begin + k;
-    end += isShown[kinds[k]];
+    end += isShown[kinds[k]] ?? 0;
   }
   return end;
 }
@@ -217,11 +298,12 @@ function rest() {
 
 /** The lines of a part whose kinds are among these, as bytes; those that stand together are one. */
 function linesOf(/** @type {Part} */ part, /** @type {Set<number>} */ kinds) {
+  const { plans } = part;
   const starts = part.lines === null ? part.starts : startsOf(part.bytes).slice();
   const found = [];
   let begin = -1;
   for (let k = 0; k <= part.kinds.length; k += 1) {
-    const isIn = k < part.kinds.length && kinds.has(part.kinds[k]);
+    const isIn = k < part.kinds.length && kinds.has(part.kinds[k]) && plans?.[k] !== FIRST_PASS;
     if (!isIn && begin >= 0) {
       found.push(part.bytes.subarray(starts[begin], starts[k]));
     }

@@ -2,13 +2,15 @@
  * The table of lines: only the rows that are seen stand in the page, so a list of millions scrolls.
  *
  * @typedef {import("./results.mjs").Results} Results
- * @typedef {{element: HTMLElement, of: import("./worker.mjs").Part, line: number, isChosen: boolean}} Drawn a
- *   row that stands in the page, and of which line of which part it is
+ * @typedef {{element: HTMLElement, of: import("./worker.mjs").Part, line: number, bytes: Uint8Array,
+ *   isChosen: boolean}} Drawn a row that stands in the page, and of which line of which part it is, with the
+ *   bytes that the part had
  */
 import { LONGEST_SHOWN } from "./lengths.mjs";
 import { made, part } from "./parts.mjs";
 import { shown } from "./machine.mjs";
 import { readingOf } from "./reading.mjs";
+import { FIRST_PASS, LARGER } from "./results.mjs";
 
 // A row's height; on a phone it has two lines.
 const ROW_PIXELS = 28;
@@ -173,16 +175,18 @@ export class Rows {
   drawnAt(place) {
     const { part: of, line } = /** @type {Results} */ (this.results).place(this.rows[place]);
     const isChosen = place === this.chosen;
+    const { bytes } = of;
     const before = this.drawn.get(place);
-    if (before !== undefined && before.of === of && before.line === line && before.isChosen === isChosen) {
+    const isSame = before?.of === of && before.line === line && before.bytes === bytes;
+    if (before !== undefined && isSame && before.isChosen === isChosen) {
       return before;
     }
-    return { element: this.row(place), of, line, isChosen };
+    return { element: this.row(place), of, line, bytes, isChosen };
   }
 
   row(/** @type {number} */ place) {
     const results = /** @type {Results} */ (this.results);
-    const { machine, verdict, answer, kind, number, given } = results.row(this.rows[place]);
+    const { machine, verdict, answer, kind, number, given, pass, plan } = results.row(this.rows[place]);
     const cell = (/** @type {string} */ text, name = "") =>
       made("span", { role: "gridcell", class: name, title: text }, text);
     const isRefused = kind === "refused";
@@ -194,7 +198,14 @@ export class Rows {
       text.append(made("span", { class: "from" }, ` ← ${given?.trim()}`));
       text.title = `${machine} ← ${given?.trim()}`;
     }
-    const cells = [text, cell(verdict.text), hasNone ? cell("–", "none") : cell(answer, answer)];
+    const says = cell(verdict.text);
+    const steps = shown(Number(plan.steps));
+    const mark = pass === FIRST_PASS ? "first pass" : pass >= LARGER ? `again, ${steps} steps` : "";
+    if (mark !== "") {
+      says.append(made("span", { class: "from" }, ` ${mark}`));
+      says.title = `${verdict.text} (${mark})`;
+    }
+    const cells = [text, says, hasNone ? cell("–", "none") : cell(answer, answer)];
     const line = cell(shown(number + 1), "number");
     const about = { role: "row", class: "row", id: `row-${place}`, "aria-rowindex": place + 2 };
     const chosen = { "aria-selected": place === this.chosen, "data-place": place };

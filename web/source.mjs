@@ -103,17 +103,11 @@ export class Source {
     this.hold(null);
   }
 
-  /**
-   * Takes a file in place of the text, which is named when it is run; null takes it away again. One that the
-   * page made stands for the list that was there before.
-   * @param {File | null} file @param {boolean} [isOwn]
-   */
-  hold(file, isOwn = false) {
+  /** Takes a file in place of the text, which is named when it is run; null takes it away again. */
+  hold(/** @type {File | null} */ file) {
     this.file = file;
     this.bytes = null;
-    if (!isOwn) {
-      this.gone = file === null ? "" : `The file ${file.name}`;
-    }
+    this.gone = file === null ? "" : `The file ${file.name}`;
     part("file-shown").hidden = file === null;
     part("list-gone").hidden = true;
     setAside("list", "hidden", file !== null, "file-remove");

@@ -10,6 +10,7 @@ import { LONGEST_QUOTED } from "./lengths.mjs";
 import { ANSWERS, KINDS, counted, shown } from "./machine.mjs";
 
 const [UNDECIDED, REFUSED] = [KINDS.indexOf("undecided"), KINDS.indexOf("refused")];
+const [BAD, OVER] = [ANSWERS.indexOf("bad"), ANSWERS.indexOf("over")];
 const LEFT_OUT = "empty lines, comments, code fences, rules and headers of tables";
 /** The forms of lists, as they are printed. */
 const FORMS = {
@@ -29,19 +30,26 @@ const NAMED_MILLISECONDS = 500;
  */
 export function statusOf(how, share, run, results) {
   const seconds = (run.taken || performance.now() - run.begun) / 1000;
-  const { counts, lines, left } = results;
+  const { counts, lines, left, waiting, open, again } = results;
   const parts = [`${how}, ${seconds.toFixed(1)} s`];
   if (how !== "Done") {
     parts[0] += `, ${Math.floor(100 * share)} % done`;
   }
-  const decided = lines - counts[UNDECIDED] - counts[REFUSED];
+  const doubted = results.answers[BAD] + results.answers[OVER];
+  const decided = lines - counts[UNDECIDED] - counts[REFUSED] - doubted;
   const numbers = [
     `${shown(decided)} decided`,
-    `${shown(counts[UNDECIDED])} undecided`,
+    `${shown(counts[UNDECIDED] - waiting)} undecided`,
     `${shown(counts[REFUSED])} refused`,
     ...(left > 0 ? [`${shown(left)} left out (${LEFT_OUT})`] : []),
+    ...(doubted > 0 ? [`${shown(doubted)} not confirmed`] : []),
+    ...(waiting > 0 ? [`${shown(waiting)} left for the second pass`] : []),
+    ...(again > 0 ? [`${shown(again)} decided again with larger limits`] : []),
   ];
   parts.push(numbers.join(", "));
+  if (open > 0 && (how === "Stopped" || how === "Ended")) {
+    parts.push(`Save and Copy leave out ${counted(open, "line")} of the first pass`);
+  }
   const answers = ANSWERS.map((answer, k) => `${shown(results.answers[k])} ${answer}`);
   const answered = answers.filter((_, k) => results.answers[k] > 0 && ANSWERS[k] !== "open").join(", ");
   const what = run.mode === "check" ? `These are ${counted(lines, "verdict line")}, checked` : "The checker";

@@ -26,15 +26,21 @@ const DOUBTS = {
 
 /**
  * @typedef {import("./machine.mjs").Verdict} Verdict
- * @typedef {{machine: string, verdict: Verdict, answer: string, plan: Record<string, any>}} About a machine,
- *   its verdict at these limits, and the checker's answer
+ * @typedef {{machine: string, verdict: Verdict, answer: string, plan: Record<string, any>,
+ *   isWaiting?: boolean}} About a machine, its verdict at these limits, the checker's answer, and whether it
+ *   waits for the second pass
  */
 
 export class View {
   constructor() {
     this.diagram = new Diagram((place) => this.tape.go(place.step));
     this.tape = new Tape((place, closes) => this.diagram.goTo(place, closes));
-    this.again = new Again((about) => this.showAgain(about));
+    this.again = new Again((about, by) => this.showAgain(about, by));
+    /**
+     * Puts the line of the machine that is open, which was decided again, into its row; gives whether it did.
+     * @type {(by: import("./worker.mjs").Part, plan: Record<string, any>) => boolean}
+     */
+    this.replace = () => false;
     /** @type {About | null} */
     this.about = null;
     this.timer = 0;
@@ -142,12 +148,17 @@ export class View {
     tellFacts({ ...about, steps, verdict, isConfirmed: answer === "ok" || verdict.kind === "undecided" });
   }
 
-  /** Shows what larger limits said; the list keeps what it has. */
-  showAgain(/** @type {About} */ about) {
+  /**
+   * Shows what larger limits said, and puts it into the row; gives whether it did.
+   * @param {About} about @param {import("./worker.mjs").Part} by the line
+   */
+  showAgain(about, by) {
     this.about = about;
+    const isIn = this.replace(by, about.plan);
     part("machine-says").textContent = `${doubtOf(about)}${sentence(about.verdict)}`;
     tellLive(part("machine-says").textContent ?? "");
     this.show(about);
+    return isIn;
   }
 
   /** Puts the machine's link into the address, and where it can be pasted from. */
@@ -160,7 +171,10 @@ export class View {
 }
 
 /** What is said before a verdict that the checker doesn't confirm; nothing of others. */
-function doubtOf(/** @type {About} */ { verdict, answer }) {
+function doubtOf(/** @type {About} */ { verdict, answer, isWaiting }) {
+  if (isWaiting) {
+    return "The second pass, with the limits of the list, hasn’t come to it yet. By the first one: ";
+  }
   const isSure = answer === "ok" || verdict.kind === "undecided" || verdict.kind === "refused";
   return isSure ? "" : `${DOUBTS[answer] ?? DOUBTS.unread} The line says: `;
 }

@@ -1,5 +1,6 @@
 /** The work on a list: workers answer it, and how far they are is said. */
-import { refuse } from "./fields.mjs";
+import { larger, refuse } from "./fields.mjs";
+import { Holdouts } from "./holdouts.mjs";
 import { KINDS, counted } from "./machine.mjs";
 import { part, setAside, tellLive } from "./parts.mjs";
 import { Pieces } from "./pieces.mjs";
@@ -17,7 +18,11 @@ const REFRESH_MILLISECONDS = 250;
 const TELL_MILLISECONDS = 10_000;
 // A worker isn't begun for fewer bytes.
 const LEAST_BYTES = 256;
+// As many are counted for a machine that is decided again, which may take long.
+const LEAST_MACHINE = 256;
 const UNDECIDED = KINDS.indexOf("undecided");
+// A list is decided with so many steps first, and with those of its limits then what is open by that.
+const FIRST_STEPS = 1_000n;
 const NO_MEMORY =
   "Out of memory. What was decided until then stays. Fewer cells would do, or a browser with more memory.";
 
@@ -46,7 +51,7 @@ function mostWorkers() {
 }
 
 /** How many workers a list has. */
-function workersFor(/** @type {Blob} */ { size }) {
+function workersFor(/** @type {number} */ size) {
   return Math.max(1, Math.min(mostWorkers(), Math.ceil(size / LEAST_BYTES)));
 }
 
@@ -56,9 +61,12 @@ export class Work {
     this.shows = shows;
     /** @type {Pool | null} */
     this.pool = null;
-    this.results = new Results();
+    this.results = new Results({});
     /** @type {import("./status.mjs").Run} */
     this.run = { mode: "decide", plan: {}, form: null, isText: true, size: 0, begun: 0, taken: 0 };
+    // The limits that were last asked for.
+    this.plan = {};
+    this.how = "Done";
     // Whether anything of the list is shown.
     this.isShown = false;
     this.refresh = 0;
@@ -81,23 +89,66 @@ export class Work {
     const form = clean ? asked.form : null;
     this.run = { mode, plan, form, isText, size: blob.size, begun: performance.now(), taken: 0 };
     this.saidAt = this.run.begun;
-    this.results = new Results();
+    this.plan = plan;
+    this.results = new Results(plan);
     this.isShown = false;
     part("results").hidden = false;
-    this.beginPool(new Pieces(blob, first, workersFor(blob)), asked);
+    const source = new Pieces(blob, first, workersFor(blob.size));
+    const isFirst = mode === "decide" && plan.steps > FIRST_STEPS;
+    this.beginPool(workersFor(blob.size), isFirst ? { ...asked, plan: { ...plan, steps: FIRST_STEPS } } : asked, {
+      piece: () => source.next(),
+      part: (one, read) => (isFirst ? this.results.addFirst(one, read) : this.results.add(one, read)),
+      end: () => this.decideRows(this.results.openRows(), plan, 0),
+    });
+    this.beginClock();
+  }
+
+  /** Decides what is undecided again, with larger limits, into its rows. */
+  decideAgain() {
+    this.plan = larger(this.plan);
+    Object.assign(this.run, { begun: performance.now(), taken: 0 });
+    const rows = this.results.rows(new Set([UNDECIDED])).slice();
+    this.decideRows(rows, this.plan, this.results.planNumber(this.plan));
+    this.beginClock();
+  }
+
+  /**
+   * Has workers decide rows again, into the list.
+   * @param {Uint32Array} rows @param {Record<string, any>} plan @param {number} number of these limits
+   */
+  decideRows(rows, plan, number) {
+    const { results } = this;
+    if (rows.length === 0) {
+      this.ended("Done");
+      return;
+    }
+    const workers = workersFor(rows.length * LEAST_MACHINE);
+    const holdouts = new Holdouts(results, rows, workers);
+    this.beginPool(workers, { mode: "decide", form: "machines", clean: false, plan }, {
+      piece: () => holdouts.next(),
+      part: (one) => results.replace(holdouts.rowsOf(one), one, number),
+      end: () => this.ended("Done"),
+    });
+  }
+
+  beginClock() {
+    clearInterval(this.clock);
     this.clock = setInterval(() => this.showClock(), REFRESH_MILLISECONDS);
     this.showSoon();
   }
 
-  beginPool(/** @type {Pieces} */ source, /** @type {Asked} */ asked) {
+  /**
+   * Has workers answer pieces.
+   * @param {number} workers @param {Asked} asked @param {Omit<import("./pool.mjs").Work, "fail">} work
+   */
+  beginPool(workers, asked, work) {
     /** @type {HTMLButtonElement} */ (part("stop")).disabled = false;
-    this.pool = new Pool(workersFor(source.blob), asked, {
-      piece: () => source.next(),
+    this.pool = new Pool(workers, asked, {
+      ...work,
       part: (one, read) => {
-        this.results.add(one, read);
+        work.part(one, read);
         this.showSoon();
       },
-      end: () => this.ended("Done"),
       fail: (error) => this.failed(error),
     });
   }
@@ -107,6 +158,7 @@ export class Work {
     clearInterval(this.clock);
     this.run.taken = performance.now() - this.run.begun;
     this.pool = null;
+    this.how = how;
     setAside("stop", "disabled", true, "run");
     part("results").dataset.state = how.toLowerCase();
     this.show(how);
@@ -155,11 +207,18 @@ export class Work {
 
   showProgress(/** @type {string} */ how) {
     const { run, results } = this;
-    const share = how === "Done" || run.size === 0 ? 1 : results.read / run.size;
+    const { lines, waiting } = results;
+    const read = how === "Done" || run.size === 0 ? 1 : results.read / run.size;
+    const share = lines === 0 ? read : read * (1 - waiting / lines);
     /** @type {HTMLProgressElement} */ (part("progress")).value = share;
     part("status").textContent = statusOf(how, share, run, results);
     const words = underWayWords(this.pool?.underWay() ?? null);
     Object.assign(part("under-way"), { textContent: words, hidden: words === "" });
+  }
+
+  /** Shows the results anew, of which one was changed. */
+  refreshed() {
+    this.show(this.pool === null ? this.how : "Running");
   }
 
   /** Shows what is known by now. */

@@ -7,12 +7,13 @@
  *   kinds: Uint8Array, steps?: Float64Array, answers: Uint8Array, kindCounts: number[],
  *   answerCounts: number[], first: number, numbers: Uint32Array | null, source: Uint8Array | null,
  *   places: Uint32Array | null, left: number, next: number, nextLine: number, done: boolean, taken: number,
- *   held: number}} Part
+ *   held: number, plans?: Uint8Array}} Part
  *   `steps` are those that lines name, once they are read; `first` is the number of the first line,
  *   `numbers` those of all where some between them were left out; `source` has the lines as they were given
  *   and `places` where they begin, where some aren't as the engine was given them; `left` is how many were
  *   left out; `next` and `nextLine` say which byte and line of the piece come next; `taken` are the
- *   milliseconds that it took, `held` is the memory of the engine, in bytes
+ *   milliseconds that it took, `held` is the memory of the engine, in bytes; `plans` are the limits of each
+ *   line, by their numbers, where they aren't all those of the list
  * @typedef {{job: number, at: string, lines: number, bytes: number}} Note what is begun: the first line of a
  *   batch, and how many lines and bytes it has
  * @typedef {import("./bb.mjs").Engine} Host
@@ -140,7 +141,7 @@ function originOf({ bytes, numbers, places }, given, { from, line, count }, kind
 /** The verdict on one machine and the checker's answer to it. */
 function decidedOne(/** @type {{machine: string, plan: Record<string, any>}} */ { machine, plan }) {
   const part = answered(new TextEncoder().encode(machine), { mode: "decide", plan });
-  return { line: new TextDecoder().decode(part.bytes).trimEnd(), answer: ANSWERS[part.answers[0]] };
+  return { line: new TextDecoder().decode(part.bytes).trimEnd(), answer: ANSWERS[part.answers[0]], part };
 }
 
 /**

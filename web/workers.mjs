@@ -3,34 +3,35 @@ import { isSupported } from "./memory.mjs";
 import { part } from "./parts.mjs";
 
 const READY_MILLISECONDS = 50;
-const DIGITS =
-  "0123456789ABCDEFGHIJKLMNOPQRSTUVWXYZabcdefghijklmnopqrstuvwxyz!#$%&()*+-;<=>?@^_`{|}~";
 
 /** A text that stands in the page. */
 function text(/** @type {string} */ id) {
   return part(id).textContent ?? "";
 }
 
-/** The bytes of a text in base85, as Python's `b85encode` writes them: five digits are four bytes. */
-function decoded(/** @type {string} */ encoded) {
-  const values = new Uint8Array(128);
-  Array.from(DIGITS, (digit, value) => (values[digit.charCodeAt(0)] = value));
-  const words = Math.ceil(encoded.length / 5);
-  const padded = encoded.padEnd(5 * words, "~");
-  const bytes = new DataView(new ArrayBuffer(4 * words));
-  for (let word = 0; word < words; word += 1) {
-    let number = 0;
-    for (let at = 5 * word; at < 5 * word + 5; at += 1) {
-      number = 85 * number + values[padded.charCodeAt(at)];
+/**
+ * The bytes of a text in which a pair of characters, from # to }, is 13 bits; ~ stands for <.
+ * @param {string} encoded @param {number} length
+ */
+function decoded(encoded, length) {
+  const bytes = new Uint8Array(length);
+  const text = encoded.replace(/~/g, "<");
+  const digit = (/** @type {number} */ at) => text.charCodeAt(at) - 35;
+  let [held, bits, size] = [0, 0, 0];
+  for (let at = 0; at < encoded.length; at += 2) {
+    held = (held << 13) | (digit(at) * 91 + digit(at + 1));
+    for (bits += 13; bits >= 8; size += 1) {
+      bits -= 8;
+      bytes[size] = held >> bits;
     }
-    bytes.setUint32(4 * word, number);
+    held &= (1 << bits) - 1;
   }
-  return new Uint8Array(bytes.buffer, 0, Math.floor((encoded.length * 4) / 5));
+  return bytes;
 }
 
 /** The engine's module. */
 async function compiled() {
-  return WebAssembly.compile(decoded(text("module").trim()));
+  return WebAssembly.compile(decoded(text("module"), Number(part("module").dataset.length)));
 }
 
 const scripts = new Blob([text("shared"), text("worker")], { type: "text/javascript" });

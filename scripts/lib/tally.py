@@ -15,6 +15,10 @@ from typing import Callable, NoReturn, Sequence
 from counts import Counts
 
 TOP = os.path.dirname(os.path.dirname(os.path.dirname(os.path.abspath(__file__))))
+sys.path.append(os.path.join(TOP, "python", "src"))
+
+from budlarem.numbers import option_number  # noqa: E402
+
 PROGRAM = os.path.join(TOP, "crates", "bb", "out", "bb")
 PACKAGES = os.path.join(TOP, "scripts", "packages.txt")
 # How many times its bar a time may be before a check fails: other work on the machine must not fail one.
@@ -87,10 +91,11 @@ def program_at(path: str) -> str:
 
 
 def from_one(word: str) -> int:
-    """A number from 1 on."""
-    if not word.isdecimal() or int(word) < 1:
+    """A number from 1 on, as people write it."""
+    number = option_number(word)
+    if number < 1:
         raise argparse.ArgumentTypeError("%s is no whole number from 1 on" % word)
-    return int(word)
+    return number
 
 
 def words(
@@ -121,7 +126,7 @@ def words(
         parser.add_argument("--machines", type=from_one, default=machines, metavar="N", help=what)
     if seed:
         what = "of what is random (default: %d)" % seed
-        parser.add_argument("--seed", type=int, default=seed, metavar="S", help=what)
+        parser.add_argument("--seed", type=option_number, default=seed, metavar="S", help=what)
     if runs:
         what = "runs of each, of which the least time counts (default: %d)" % runs
         parser.add_argument("--runs", type=from_one, default=runs, metavar="N", help=what)

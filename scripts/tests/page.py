@@ -262,12 +262,14 @@ def hold_page(held: Held, quick: bool, seed: int) -> None:
     """All that is tried in one page."""
     from page_access import hold_access
     from page_axes import hold_axes
+    from page_example import hold_example
     from page_gestures import hold_button, hold_drag, hold_edges
     from page_given import hold_given
     from page_keys import hold_keys
     from page_leaving import hold_leaving
     from page_lists import hold_lists
     from page_machine import hold_machine
+    from page_passes import hold_passes
     from page_pictures import hold_pictures
     from page_reload import hold_reload
     from page_rows import hold_rows
@@ -275,10 +277,12 @@ def hold_page(held: Held, quick: bool, seed: int) -> None:
     hold_first(held)
     hold_examples(held, quick)
     hold_cleaning(held)
+    hold_example(held)
     hold_stop(held)
     hold_refused(held)
     hold_link(held)
     hold_lists(held, quick, seed)
+    hold_passes(held, quick)
     hold_reload(held)
     hold_rows(held)
     hold_given(held)

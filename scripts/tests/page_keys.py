@@ -15,6 +15,7 @@ SENTENCE = "It never halts: at steps 4 and 8"
 # What the focus comes to, in order, by its name; before the verdict and behind it.
 BEFORE = [
     "Example",
+    "Clear",
     "Machines or verdict lines",
     "Decide",
     "Choose a file",
@@ -23,6 +24,7 @@ BEFORE = [
 ]
 BEHIND = [
     "translated 1",
+    "What do these words mean?",
     "Order",
     "Copy",
     "Save",
@@ -104,10 +106,10 @@ def hold_keys(held: Held) -> None:
     page = held.page
     page.open()
     page.js("document.activeElement.blur(); scrollTo(0, 0)")
-    walk(held, BEFORE[:2])
+    walk(held, BEFORE[:3])
     page.js("document.getElementById('list').select()")
     write(page, MACHINE)
-    walk(held, BEFORE[2:3])
+    walk(held, BEFORE[3:4])
     page.js("document.getElementById('results').dataset.state = 'asked'")
     key(page, "Enter")
     page.ended()
@@ -117,7 +119,7 @@ def hold_keys(held: Held) -> None:
     page.drawn()
     soon(lambda: page.text("tape-text").startswith("Step 4:"))
     held.hold("the focus stays at the button: " + name_of(page), name_of(page) == "Decide")
-    walk(held, BEFORE[3:] + BEHIND)
+    walk(held, BEFORE[4:] + BEHIND)
     hold_rest(held)
     walk(held, [*reversed(BEFORE + BEHIND)], back=True)
     key(page, "Tab", True)

@@ -146,6 +146,7 @@ def hold_focus(held: Held) -> None:
     page.plan({"steps": 50}, "auto", True)
     page.open_list("1RB1LB_1LA0LC_1RZ1LD_1RD0RA\n")
     hold_active(held, "again", 1, "copy-text")
+    page.open_list("1RB1LB_1LA0LC_1RZ1LD_1RD0RA\n")
     hold_active(held, "left", 1, "rows")
     page.ended()
     page.open()

@@ -177,7 +177,9 @@ def hold_again(held: Held) -> None:
     page.click("again")
     page.until(lambda: "halts after 107 steps" in page.text("machine-says"))
     held.hold("again: " + page.text("again-text"), "halt 107 13" in page.text("again-text"))
-    held.hold("the list keeps what it has", page.saved().endswith(b"undecided steps\n"))
+    held.hold("the list has it", page.saved().endswith(b"halt 107 13\n"))
+    page.plan({"steps": 50}, "auto", True)
+    page.open_list("1RB1LB_1LA1RZ\n%s\n" % given)
     page.click("kind-halt")
     page.click("save-shown")
     wanted = ("%s undecided steps\n" % given).encode()
@@ -186,9 +188,8 @@ def hold_again(held: Held) -> None:
     page.js("document.getElementById('results').dataset.state = 'asked'")
     page.click("left")
     page.ended()
-    held.hold("what is left", page.saved() == ("%s halt 107 13\n" % given).encode())
+    held.hold("what is left", page.saved().endswith(("\n%s halt 107 13\n" % given).encode()))
     held.hold("the text stays", page.js("return document.getElementById('list').value").startswith("1RB1LB"))
-    page.click("file-remove")
 
 
 def hold_machine(held: Held) -> None:

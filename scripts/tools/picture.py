@@ -19,6 +19,7 @@ TOP = pathlib.Path(__file__).resolve().parents[2]
 sys.path[:0] = [str(TOP / "python" / "src"), str(TOP / "scripts" / "lib")]
 
 from budlarem.pictures import Picture, PictureError, drawn, rows_of_lines, sampled, taken  # noqa: E402
+from budlarem.numbers import option_number  # noqa: E402
 from tally import end_with, from_one  # noqa: E402
 
 
@@ -37,10 +38,10 @@ def words() -> argparse.ArgumentParser:
         "--columns", type=from_one, help="cut to so many columns (default: scaled down above 2,000)"
     )
     parser.add_argument(
-        "--left", type=int, metavar="P", help="the first position shown (default: the lowest)"
+        "--left", type=option_number, metavar="P", help="the first position shown (default: the lowest)"
     )
     parser.add_argument(
-        "--right", type=int, metavar="P", help="the last position shown (default: the highest)"
+        "--right", type=option_number, metavar="P", help="the last position shown (default: the highest)"
     )
     parser.add_argument("--scale", type=from_one, default=1, help="pixels of a place (default: 1)")
     return parser

@@ -62,6 +62,7 @@ __all__ = [
     "Configuration",
     "Cycler",
     "EncodingError",
+    "EndlessLineError",
     "Extent",
     "Form",
     "Growth",

@@ -30,7 +30,18 @@ from .lists import (
     triage,
 )
 from .publishing import Published, PublishError, UnconfirmedError, publish
-from .reading import Columns, EncodingError, Form, Passed, Reading, Readings, Reason, Rewriting, read
+from .reading import (
+    Columns,
+    EncodingError,
+    EndlessLineError,
+    Form,
+    Passed,
+    Reading,
+    Readings,
+    Reason,
+    Rewriting,
+    read,
+)
 from .reports import Report, ReportError, report
 from .verdicts import (
     Answer,
@@ -56,6 +67,7 @@ __all__ = [
     "Configuration",
     "Cycler",
     "EncodingError",
+    "EndlessLineError",
     "Extent",
     "Form",
     "Growth",

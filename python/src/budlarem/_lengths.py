@@ -9,6 +9,8 @@ LONGEST_LINE = 16_384
 # So many bytes are kept of a line that is looked through: a character has four at most, so a line that is
 # too long is seen to be so.
 BYTES_KEPT = 4 * (LONGEST_LINE + 1)
+# A list with so many bytes and no newline among them is refused: it may never end.
+LONGEST_UNENDED = 1 << 28
 # So many characters of a text are quoted in the reason why a line has no machine, so that it stays one line
 # or two: it may quote two texts.
 LONGEST_QUOTED = 60

@@ -12,6 +12,10 @@ _NUMBER = re.compile(
     "0|[1-9][0-9]*|[1-9][0-9]{0,2}(?:([,'\u2019_ \u00a0\u2009\u202f])[0-9]{3})(?:\\1[0-9]{3})*"
 )
 
+_DIGITS = re.compile("[0-9]{1,99}")
+# So many times ten, with a part behind a point or without.
+_POWER = re.compile("(?:([0-9]{1,15})(?:\\.([0-9]{1,15}))?[eE]\\+?|10\\^)([0-9]{1,2})")
+
 
 def number_of(text: str) -> int:
     """The number that a text is, with or without groups of three digits. Raises ValueError.
@@ -22,6 +26,39 @@ def number_of(text: str) -> int:
     if _NUMBER.fullmatch(text) is None:
         raise ValueError("%s is no number" % shown(text))
     return int(re.sub("[^0-9]", "", text))
+
+
+def whole_number(text: str) -> int:
+    """A whole number as people write it for an option: `1000000`, `1,000,000`, `1_000_000`, `1e6`, `10^6`,
+    each with a sign or without. Raises ValueError.
+
+    >>> whole_number("1e6"), whole_number("-1,000")
+    (1000000, -1000)
+    """
+    plain = text.strip()
+    sign = -1 if plain.startswith("-") else 1
+    digits = re.sub("^[+-]", "", plain)
+    power = _POWER.fullmatch(digits)
+    if power is not None:
+        whole, part, zeros = power[1] or "1", power[2] or "", int(power[3])
+        if zeros < len(part):
+            raise ValueError("%s is no whole number" % shown(text))
+        scaled: int = int(whole + part) * 10 ** (zeros - len(part))
+        return sign * scaled
+    if _DIGITS.fullmatch(digits) is None and _NUMBER.fullmatch(digits) is None:
+        raise ValueError("%s is no whole number" % shown(text))
+    return sign * int(re.sub("[^0-9]", "", digits))
+
+
+def option_number(text: str) -> int:
+    """The same for a reader of command lines, whose error says what would do. Raises ArgumentTypeError."""
+    try:
+        return whole_number(text)
+    except ValueError as error:
+        # Only command lines need it, and it takes a while to import.
+        from argparse import ArgumentTypeError
+
+        raise ArgumentTypeError("%s; 1000000, 1,000,000, 1_000_000 and 1e6 are" % error) from None
 
 
 def numbers_in(words: Sequence[str], counts: Sequence[int]) -> List[int]:

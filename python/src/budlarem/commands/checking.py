@@ -9,6 +9,7 @@ import sys
 from .._lengths import LONGEST_SHOWN
 from ..checking import Checked, answers_to, why
 from ..escaping import escape_controls
+from ..numbers import option_number
 from ..reading.files import BytesFile
 from ..runner.progress import count_of
 from ..verdicts import Answer
@@ -61,4 +62,6 @@ def add_check(commands: "argparse._SubParsersAction[argparse.ArgumentParser]") -
     check.set_defaults(do=do_check)
     add_file(check)
     add_greatest_limits(check)
-    check.add_argument("--threads", type=int, default=1, metavar="N", help="cores used (default: 1)")
+    check.add_argument(
+        "--threads", type=option_number, default=1, metavar="N", help="cores used (default: 1)"
+    )

@@ -11,6 +11,7 @@ from typing import BinaryIO, Counter, Dict, Iterator, Optional, Union
 from ..claims import WORDS, Sayings, Word
 from ..judging.sources import Twice
 from ..lists import Agreement, compare
+from ..numbers import option_number
 from ..reading import Passed
 from ..reports import report
 from ..translation import read_words, translation_of
@@ -139,7 +140,9 @@ def add_claims(commands: "argparse._SubParsersAction[argparse.ArgumentParser]") 
     add_file(page)
     add_claims_form(page)
     page.add_argument("--out", required=True, metavar="PAGE.html")
-    page.add_argument("--diagrams", type=int, default=100, metavar="N", help="at most (default: 100)")
-    page.add_argument("--threads", type=int, metavar="N", help="cores used (default: all)")
+    page.add_argument(
+        "--diagrams", type=option_number, default=100, metavar="N", help="at most (default: 100)"
+    )
+    page.add_argument("--threads", type=option_number, metavar="N", help="cores used (default: all)")
     page.add_argument("--title", help="default: the file's name")
     add_limits(page, ["steps", "cells"])

@@ -10,6 +10,7 @@ from typing import Counter, Sequence
 from ..judging import GREATEST, Judgement, Judging, judge
 from ..judging.lists import Placed
 from ..limits import Limits, Plan
+from ..numbers import option_number
 from ..runner.progress import count_of
 from ..translation import read_words
 from .progress import Progress
@@ -127,8 +128,10 @@ def add_judge(commands: "argparse._SubParsersAction[argparse.ArgumentParser]") -
     highest = Limits.RANGES["steps"][1]
     judging.add_argument(
         "--check-steps",
-        type=int,
+        type=option_number,
         metavar="N",
         help="the most steps that a claim may name (default: {:,})".format(highest),
     )
-    judging.add_argument("--threads", type=int, default=1, metavar="N", help="cores used (default: 1)")
+    judging.add_argument(
+        "--threads", type=option_number, default=1, metavar="N", help="cores used (default: 1)"
+    )

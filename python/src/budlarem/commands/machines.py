@@ -7,6 +7,7 @@ import sys
 
 from ..limits import Limits, Plan
 from ..lists import carried, distinct, triage
+from ..numbers import option_number
 from .shared import (
     LIST_HELP,
     ListReader,
@@ -104,7 +105,9 @@ def add_machines(commands: "argparse._SubParsersAction[argparse.ArgumentParser]"
     add_limits(decide, Limits.RANGES)
     for name in ("cyclers", "translated", "backward"):
         decide.add_argument("--no-" + name, action="store_true", help="leave this decider out")
-    decide.add_argument("--threads", type=int, default=1, metavar="N", help="cores used (default: 1)")
+    decide.add_argument(
+        "--threads", type=option_number, default=1, metavar="N", help="cores used (default: 1)"
+    )
     _add_forms(commands)
 
 
@@ -117,7 +120,9 @@ def _add_forms(commands: "argparse._SubParsersAction[argparse.ArgumentParser]") 
     add_file(normal)
     add_form(normal)
     normal.add_argument("--distinct", action="store_true", help="only the first machine of each normal form")
-    normal.add_argument("--steps", type=int, default=10_000, metavar="N", help="of the run (default: 10,000)")
+    normal.add_argument(
+        "--steps", type=option_number, default=10_000, metavar="N", help="of the run (default: 10,000)"
+    )
     add_limits(normal, ["cells"])
     columns = [("machine", "as it was read"), ("growth", "stays, logarithm, root, line or halts")]
     columns += [("steps", "how many were made")]

@@ -11,6 +11,7 @@ from typing import Optional
 
 from ..escaping import escape_controls
 from ..limits import Limits
+from ..numbers import option_number
 from ..publishing import UnconfirmedError, publish
 from ..runner.errors import RunError
 from ..runner.folder import limits_of
@@ -97,9 +98,9 @@ def add_publish(commands: "argparse._SubParsersAction[argparse.ArgumentParser]")
     highest = Limits.RANGES["steps"][1]
     parser.add_argument(
         "--steps",
-        type=int,
+        type=option_number,
         default=highest,
         metavar="N",
         help="the most that a claim may name (default: {:,})".format(highest),
     )
-    parser.add_argument("--threads", type=int, metavar="N", help="cores used (default: all)")
+    parser.add_argument("--threads", type=option_number, metavar="N", help="cores used (default: all)")

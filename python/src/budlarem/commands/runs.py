@@ -6,6 +6,7 @@ import argparse
 import sys
 
 from ..engine import MachineError, trace
+from ..numbers import option_number
 from ..pictures import picture
 from .shared import add_command, add_limits
 
@@ -50,16 +51,24 @@ def add_runs(commands: "argparse._SubParsersAction[argparse.ArgumentParser]") ->
     steps = add_command(commands, "trace", "the steps of a run", _TRACE, columns, "a space")
     steps.set_defaults(do=do_trace)
     steps.add_argument("machine", metavar="MACHINE")
-    steps.add_argument("--upto", type=int, required=True, metavar="N", help="steps of the run")
+    steps.add_argument("--upto", type=option_number, required=True, metavar="N", help="steps of the run")
     add_limits(steps, ["cells"])
     image = add_command(commands, "picture", "a space-time picture of a run", _PICTURE)
     image.set_defaults(do=do_picture)
     image.add_argument("machine", metavar="MACHINE")
-    image.add_argument("--upto", type=int, required=True, metavar="N", help="steps of the run")
+    image.add_argument("--upto", type=option_number, required=True, metavar="N", help="steps of the run")
     image.add_argument("--out", required=True, metavar="PICTURE.png")
-    image.add_argument("--every", type=int, metavar="N", help="show each Nth step")
-    image.add_argument("--left", type=int, metavar="P", help="the first position (default: the lowest)")
-    image.add_argument("--right", type=int, metavar="P", help="the last position (default: the highest)")
-    image.add_argument("--columns", type=int, metavar="N", help="cut to N positions about the middle")
-    image.add_argument("--scale", type=int, default=1, metavar="N", help="pixels of a place (default: 1)")
+    image.add_argument("--every", type=option_number, metavar="N", help="show each Nth step")
+    image.add_argument(
+        "--left", type=option_number, metavar="P", help="the first position (default: the lowest)"
+    )
+    image.add_argument(
+        "--right", type=option_number, metavar="P", help="the last position (default: the highest)"
+    )
+    image.add_argument(
+        "--columns", type=option_number, metavar="N", help="cut to N positions about the middle"
+    )
+    image.add_argument(
+        "--scale", type=option_number, default=1, metavar="N", help="pixels of a place (default: 1)"
+    )
     add_limits(image, ["cells"])

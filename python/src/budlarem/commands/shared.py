@@ -9,6 +9,7 @@ from typing import BinaryIO, Iterable, Iterator, Mapping, Optional, Sequence, Tu
 
 from ..escaping import escape_controls
 from ..limits import Limits
+from ..numbers import option_number
 from ..reading import Columns, Form, ListForm, Passed, Reading, Readings
 from ..reading.texts import counted
 from .progress import Progress
@@ -180,14 +181,14 @@ def add_limits(parser: argparse.ArgumentParser, names: Iterable[str]) -> None:
         lowest, highest = Limits.RANGES[name]
         default = getattr(defaults, name)
         help = "{:,} to {:,} (default: {:,})".format(lowest, highest, default)
-        parser.add_argument("--" + name, type=int, default=default, metavar="N", help=help)
+        parser.add_argument("--" + name, type=option_number, default=default, metavar="N", help=help)
 
 
 def add_greatest_limits(parser: argparse.ArgumentParser) -> None:
     """Options of limits that are the greatest where they aren't given."""
     for name, (lowest, highest) in Limits.RANGES.items():
         help = "{:,} to {:,} (default: the greatest)".format(lowest, highest)
-        parser.add_argument("--" + name, type=int, metavar="N", help=help)
+        parser.add_argument("--" + name, type=option_number, metavar="N", help=help)
 
 
 def greatest_limits(asked: argparse.Namespace) -> Limits:

@@ -9,7 +9,7 @@ from __future__ import annotations
 
 from typing import Optional
 
-from .encodings import EncodingError
+from .encodings import EncodingError, EndlessLineError
 from .files import Source
 from .forms import ListForm, Readings
 from .tables import Columns, Layout
@@ -18,6 +18,7 @@ from .values import Form, Passed, Reading, Reason, Rewriting
 __all__ = [
     "Columns",
     "EncodingError",
+    "EndlessLineError",
     "Form",
     "Layout",
     "ListForm",

@@ -4,6 +4,8 @@ from __future__ import annotations
 
 from typing import Optional
 
+from .._lengths import LONGEST_UNENDED
+
 # The first bytes of encodings and formats, and their names. UTF-32 comes before UTF-16, whose mark begins
 # that of UTF-32.
 _MARKS = (
@@ -30,6 +32,17 @@ class EncodingError(ValueError):
         self.encoding = encoding
 
 
+class EndlessLineError(ValueError):
+    """A line of a list goes on for more than LONGEST_UNENDED bytes. `number` is its number, from 1 on."""
+
+    def __init__(self, name: object, number: int) -> None:
+        super().__init__(
+            "%s: line %s has more than %s bytes and no newline; a list has a machine or a verdict a line"
+            % (name, "{:,}".format(number), "{:,}".format(LONGEST_UNENDED))
+        )
+        self.number = number
+
+
 def _advice(encoding: str) -> str:
     """The advice for a person."""
     if encoding.endswith(" text"):
@@ -43,7 +56,8 @@ def find_encoding(begin: bytes) -> Optional[str]:
         if begin.startswith(mark):
             return name
     begin = begin[:_LOOKED_AT]
-    if len(begin) < 4 or begin.count(0) * 3 < len(begin):
+    # Zeros alone are no text of any encoding.
+    if len(begin) < 4 or begin.count(0) * 3 < len(begin) or begin.count(0) == len(begin):
         return None
     is_wide = begin.count(0) * 3 > 2 * len(begin)
     return "UTF-32 text" if is_wide else "UTF-16 text"

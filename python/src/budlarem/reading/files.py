@@ -9,8 +9,8 @@ import os
 import zlib
 from typing import Any, BinaryIO, Callable, Iterable, Iterator, Tuple, Union
 
-from .._lengths import BYTES_KEPT, LONGEST_VALUE
-from .encodings import require_utf8
+from .._lengths import BYTES_KEPT, LONGEST_UNENDED, LONGEST_VALUE
+from .encodings import EndlessLineError, require_utf8
 
 GZIP = b"\x1f\x8b"
 BLOCK = 1 << 19
@@ -40,7 +40,8 @@ class Lines(Iterator[Numbered]):
     `empty` counts the others so far, `undecoded` those with bytes that are no UTF-8.
 
     Raises OSError where a path can't be opened or read, EncodingError where the bytes are UTF-16 or no text,
-    TypeError where the source is no list, ValueError where it is the text of one.
+    EndlessLineError where a line never ends, TypeError where the source is no list, ValueError
+    where it is the text of one.
     """
 
     def __init__(self, source: Source) -> None:
@@ -90,8 +91,8 @@ class Lines(Iterator[Numbered]):
         return text
 
     def _cut(self, file: BytesFile) -> Iterator[Tuple[int, bytes]]:
-        """The lines of a file, none longer than BYTES_KEPT bytes."""
-        number, rest = 1, b""
+        """The lines of a file, none longer than BYTES_KEPT bytes. Raises EndlessLineError."""
+        number, rest, unended = 1, b"", 0
         block = file.begin(4)
         require_utf8(block, file.name)
         while block:
@@ -100,6 +101,9 @@ class Lines(Iterator[Numbered]):
                 number += len(block)
                 block = file.read1(BLOCK)
                 continue
+            unended = unended + len(block) if block.rfind(b"\n") < 0 else 0
+            if unended > LONGEST_UNENDED:
+                raise EndlessLineError(file.name, number)
             lines = (rest + block).split(b"\n")
             rest = lines.pop()[:BYTES_KEPT]
             for at, line in enumerate(lines, number):
@@ -128,6 +132,8 @@ class BytesFile:
         raw = io.FileIO(self.name) if self._is_ours else _Raw(source)
         self._file: Any = io.BufferedReader(raw, BLOCK)
         self._opened: Any = None
+        # Newlines that `read` has given, and bytes since the last one.
+        self._newlines, self._unended = 0, 0
 
     def _reader(self) -> BinaryIO:
         """What the bytes are read from: looked for when they are asked for, since a pipe may wait."""
@@ -139,8 +145,14 @@ class BytesFile:
         return opened
 
     def read(self, size: int = -1) -> bytes:
-        """The next bytes: so many, but for the end."""
-        return self._tried(lambda: self._reader().read(size))
+        """The next bytes: so many, but for the end. Raises EndlessLineError."""
+        block = self._tried(lambda: self._reader().read(size))
+        last = block.rfind(b"\n")
+        self._newlines += block.count(b"\n")
+        self._unended = self._unended + len(block) if last < 0 else len(block) - last - 1
+        if self._unended > LONGEST_UNENDED:
+            raise EndlessLineError(self.name, self._newlines + 1)
+        return block
 
     def read1(self, size: int) -> bytes:
         """The next bytes, at most so many, as soon as there are some; none at the end."""

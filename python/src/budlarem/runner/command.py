@@ -17,6 +17,7 @@ from typing import List, Optional
 
 from ..escaping import escape_controls
 from ..limits import Limits
+from ..numbers import option_number
 from .cutting import HERE, SENT
 from .errors import CheckError, FolderError, ListError, MovedError, RunError, WordsError
 from .folder import Folder, hold_apart, limits_of
@@ -60,7 +61,7 @@ def add_command(commands: "argparse._SubParsersAction[argparse.ArgumentParser]")
         help="limits of a pass, each of which may be left out; the next pass decides what it leaves"
         " (default: one pass, at the defaults of bb)",
     )
-    parser.add_argument("--threads", type=int, metavar="N", help="cores used (default: all)")
+    parser.add_argument("--threads", type=option_number, metavar="N", help="cores used (default: all)")
     parser.add_argument("--scheduler", metavar="ADDRESS", help="of dask, whose workers decide the pieces")
     for name, what in TLS.items():
         parser.add_argument("--" + name, metavar="FILE", help="dask's option: %s" % what)
@@ -77,7 +78,7 @@ def add_command(commands: "argparse._SubParsersAction[argparse.ArgumentParser]")
     )
     parser.add_argument(
         "--piece",
-        type=int,
+        type=option_number,
         metavar="LINES",
         help="lines of a piece at most (default: {:,}, over dask {:,})".format(HERE.lines, SENT.lines),
     )

@@ -15,6 +15,7 @@ from typing import Any, Callable, Dict, Iterable, Iterator, List, Optional, Sequ
 
 from ..escaping import escape_controls
 from ..limits import Limits
+from ..numbers import whole_number
 from .checksums import Checksum
 from .directory import Directory, FileId, Pin, id_of, write_at, write_blocks
 from .errors import FolderError, RunError
@@ -169,15 +170,24 @@ def limits_of(words: str) -> Limits:
     """The limits that words as `steps=1000,cells=1024` name; those that aren't named are the program's.
     Raises ValueError, LimitsError."""
     found: Dict[str, int] = {}
-    for word in words.split(","):
-        name, equals, number = word.partition("=")
-        if not equals or name not in Limits.RANGES or not re.fullmatch("[0-9]+", number) or name in found:
-            raise ValueError(
-                "--pass %s: %r is no limit; a pass is as steps=1000,cells=1024,depth=40,nodes=10000,"
-                " each at most once" % (words, word)
-            )
-        found[name] = int(number)
+    # A comma also stands between the digits of a number.
+    for word in re.split(",(?![0-9]{3}(?:,|$))", words):
+        name, _, number = word.partition("=")
+        if name not in Limits.RANGES or name in found or number.startswith("-"):
+            raise _no_limit(words, word)
+        try:
+            found[name] = whole_number(number)
+        except ValueError:
+            raise _no_limit(words, word) from None
     return Limits(**found)
+
+
+def _no_limit(words: str, word: str) -> ValueError:
+    """The error for a word of a pass that is no limit."""
+    return ValueError(
+        "--pass %s: %r is no limit; a pass is as steps=1000,cells=1024,depth=40,nodes=10000,"
+        " each at most once" % (words, word)
+    )
 
 
 def key_of(passes: Sequence[Limits], keep: Keep, library: str) -> str:

@@ -12,7 +12,7 @@ import stat
 import zlib
 from typing import Any, Callable, Iterator, List, Optional, Protocol, Tuple
 
-from .._lengths import LONGEST_GIVEN
+from .._lengths import LONGEST_GIVEN, LONGEST_UNENDED
 from .errors import RunError
 
 STANDARD_INPUT = "standard input"
@@ -298,11 +298,21 @@ class ListFile:
         if self.is_compressed:
             opened = gzip.GzipFile(fileobj=self._file)
         try:
-            yield from _read(opened)
+            yield from self._ending(_read(opened))
         except (OSError, EOFError, zlib.error) as error:
             kind = "as gzip" if self.is_compressed else "to its end"
             raise RunError("%s can't be read %s: %s" % (self.name, kind, error)) from error
         self.hold_unchanged()
+
+    def _ending(self, blocks: Iterator[bytes]) -> Iterator[bytes]:
+        """The same blocks. Raises RunError where a line never ends."""
+        size = 0
+        for block in blocks:
+            size = size + len(block) if block.rfind(b"\n") < 0 else 0
+            if size > LONGEST_UNENDED:
+                sentence = "%s has a line of more than %s bytes and no newline; a list has a machine a line"
+                raise RunError(sentence % (self.name, "{:,}".format(LONGEST_UNENDED)))
+            yield block
 
     def hold_unchanged(self) -> None:
         """Raises RunError where the file isn't as it was when it was opened. What was read before this
