@@ -41,7 +41,7 @@ export function encodingOf(begin) {
   }
   const first = begin.subarray(0, LOOKED_AT);
   const zeros = first.filter((byte) => byte === 0).length;
-  if (first.length < LEAST || 3 * zeros < first.length) {
+  if (first.length < LEAST || 3 * zeros < first.length || zeros === first.length) {
     return null;
   }
   return 3 * zeros > 2 * first.length ? "UTF-32 text" : "UTF-16 text";

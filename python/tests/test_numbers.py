@@ -123,8 +123,10 @@ class EndlessLines(unittest.TestCase):
             ["compare", "/dev/null", "-"],
         ]
         every.append(["check", "--cells", "1000"])
+        temporary = tempfile.TemporaryDirectory()
+        self.addCleanup(temporary.cleanup)
         if all(importlib.util.find_spec(name) for name in ("numpy", "matplotlib")):
-            every.append(["report", "--out", "/dev/null"])
+            every.append(["report", "--out", os.path.join(temporary.name, "report.html")])
         for given in every:
             with self.subTest(command=given[0]):
                 ended = command(*given)
