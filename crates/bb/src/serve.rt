@@ -16,7 +16,7 @@ use bb_machine::Limits;
 use bb_run::laws::verdicts_are_borne_out;
 use bb_run::{
     AnswerCounts, Summary, ring_bench, ring_pair, run_check_with_counts, run_decide,
-    run_decide_in_one_run_with_counts, run_trace,
+    run_decide_in_one_run, run_trace,
 };
 use bb_tape::RingTape;
 use std::alloc::Global;
@@ -97,7 +97,7 @@ pub fn serve_in_one_run<R: Read, W: Write>(
     let limits = asked.limits;
     match &asked.work {
         Work::Decide(plan) => match ring_bench(alloc, &limits) {
-            Ok(mut bench) => run_decide_in_one_run_with_counts(
+            Ok(mut bench) => run_decide_in_one_run(
                 reader,
                 writer,
                 &limits,

@@ -25,7 +25,7 @@ use bb_decide::{Plan, SpreadKeys, decide_in_one_run};
 use bb_lines::watched::Watched;
 use bb_machine::{Limits, Machine};
 use bb_run::laws::verdicts_are_borne_out;
-use bb_run::{ring_bench, run_decide_in_one_run};
+use bb_run::{VerdictCounts, ring_bench, run_decide_in_one_run};
 use bb_sim::Meter;
 use bb_tape::Memory;
 use std::alloc::Global;
@@ -97,7 +97,8 @@ fn verdicts(
     let mut bench = ring_bench(alloc, limits)?;
     let mut reader = Watched::new(list);
     let mut writer = Watched::new(Vec::new(alloc));
-    match run_decide_in_one_run(&mut reader, &mut writer, limits, plan, &mut bench) {
+    let counts = VerdictCounts::default();
+    match run_decide_in_one_run(&mut reader, &mut writer, limits, plan, &mut bench, &counts) {
         Ok(summary) => Ok((writer.into_inner(), summary.clean)),
         Err(_) => Err(Memory),
     }

@@ -154,6 +154,6 @@ fn machines_are_traced(rt: HostRuntime) {
         status,
         &out,
         count,
-        (0, b"0 A 0 0\n3 B -1 011\n6 Z 0 1111\n"),
+        (0, b"0 A 0 0 0\n3 B -1 -1 011\n6 Z 0 -2 1111\n"),
     );
 }

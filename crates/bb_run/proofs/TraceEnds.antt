@@ -10,40 +10,41 @@ use Rattle.bb_machine.specs.Machine.{Table}
 use Rattle.bb_sim.specs.Span.{Inside, IsLastInside}
 use Rattle.bb_lines.specs.Ends.{AppendsPrefix}
 use Rattle.bb_lines.specs.Output.{Sends}
+use Rattle.bb_run.specs.declared.tracing.Form.{Form}
 use Rattle.bb_run.specs.Sample.{IsSampleSize, sampled_lines}
-use Rattle.bb_run.specs.Trace.{step_text, lines_text}
+use Rattle.bb_run.specs.Trace.{line_text, lines_text}
 use Rattle.bb_run.specs.inside.RunningOn.{EndsWithin, IsWantedBefore, StopsBefore}
 use Rattle.bb_run.proofs.SampledRuns.{printed_before, printed_later, size_is_unique}
 use Rattle.bb_lines.proofs.Facts.{AppendsPrefix-further, AppendsPrefix-more, Sends-none, Sends-trans}
 
-module _ (table : Table) (from every : ℕ) where
+module _ (form : Form) (table : Table) (from every : ℕ) where
   lines_of : ℕ → List ℕ
-  lines_of count = lines_text (sampled_lines table from every count)
+  lines_of count = lines_text (sampled_lines form table from every count)
 
   -- the lines of one printed step more
   lines-next : (n step : ℕ) → step ≡ from + every * n
-      → lines_of n ++ (step_text table step ++ 10 ∷ []) ≡ lines_of (n + 1)
+      → lines_of n ++ (line_text form table step ++ 10 ∷ []) ≡ lines_of (n + 1)
   unfolding lines_of
   lines-next n step is =
       let f : List ℕ → List ℕ = λ line. line ++ 10 ∷ [] in
-      let printed : ℕ → List ℕ = λ k. step_text table (from + every * k) in
-      let all : List (List ℕ) = sampled_lines table from every n in
-      let more : sampled_lines table from every (n + 1) ≡ all ++ printed n ∷ [] =
+      let printed : ℕ → List ℕ = λ k. line_text form table (from + every * k) in
+      let all : List (List ℕ) = sampled_lines form table from every n in
+      let more : sampled_lines form table from every (n + 1) ≡ all ++ printed n ∷ [] =
       map-range_with_len_more printed 0 n n (omega arith) in
       let one : f (printed n) ++ [] ≡ f (printed n) = append-nil _ in
-      let same : step_text table step ≡ printed n = ap (step_text table) is in
+      let same : line_text form table step ≡ printed n = ap (line_text form table) is in
       ap (λ line. lines_text all ++ (line ++ 10 ∷ [])) same
       ∙ sym (ap lines_text more ∙ flat_map-append f all (printed n ∷ []) ∙ ap (λ b. lines_text all ++ b) one)
 
   -- the lines of fewer printed steps are the first ones
   lines_split : (n m : ℕ) → n ≤ m
-      → lines_of n ++ lines_text (drop n (sampled_lines table from every m)) ≡ lines_of m
+      → lines_of n ++ lines_text (drop n (sampled_lines form table from every m)) ≡ lines_of m
   unfolding lines_of
   lines_split n m h =
       let f : List ℕ → List ℕ = λ line. line ++ 10 ∷ [] in
-      let all : List (List ℕ) = sampled_lines table from every m in
-      let first : take n all ≡ sampled_lines table from every n =
-      take-map-range_with_len (λ k. step_text table (from + every * k)) 0 m n h in
+      let all : List (List ℕ) = sampled_lines form table from every m in
+      let first : take n all ≡ sampled_lines form table from every n =
+      take-map-range_with_len (λ k. line_text form table (from + every * k)) 0 m n h in
       ap (λ l. lines_text l ++ lines_text (drop n all)) (sym first)
       ∙ sym (flat_map-append f (take n all) (drop n all)) ∙ ap lines_text (take-append-drop n all)
 
@@ -58,7 +59,7 @@ module _ (table : Table) (from every : ℕ) where
     pub count : ℕ
     pub next_is : next ≡ from + every * count
     pub past : (k : ℕ) → k < count → from + every * k ≤ here
-    pub sent : Sends old new [] waiting (lines_text (sampled_lines table from every count))
+    pub sent : Sends old new [] waiting (lines_text (sampled_lines form table from every count))
 
   -- before the first one nothing was sent
   pub printed_none : (held : Option (List ℕ)) {here : ℕ} (waiting : List ℕ) → here ≡ 0 → waiting ≡ []
@@ -85,7 +86,7 @@ module _ (table : Table) (from every : ℕ) where
     -- where the run ends between both, the lines are all
     pub printed_all : {bounds : Bounds} {left n last total : ℕ} → EndsWithin table bounds here left n
         → next ≡ here + left → IsLastInside table bounds last → IsSampleSize from every last total
-        → Sends old new [] waiting (lines_text (sampled_lines table from every total))
+        → Sends old new [] waiting (lines_text (sampled_lines form table from every total))
     printed_all {bounds} {left} {n} {last} {total} end is is_last size =
         let above = is_last.greatest n end.is_last.inside in
         let same : n ≡ last = omega (arith, end.is_last.greatest last is_last.inside, above) in
@@ -93,15 +94,15 @@ module _ (table : Table) (from every : ℕ) where
         printed_size n end.from_old (omega (arith, end.few, is)) in
         let last_size : IsSampleSize from every last printed.count =
         subst (λ m. IsSampleSize from every m printed.count) same here_size in
-        subst (λ k. Sends old new [] waiting (lines_text (sampled_lines table from every k)))
+        subst (λ k. Sends old new [] waiting (lines_text (sampled_lines form table from every k)))
         (size_is_unique last_size size) printed.sent
 
     -- where a step between both was wanted and not made, the run was left before the last one
     pub printed_early : {bounds : Bounds} {left last : ℕ} {new_then : Option (List ℕ)}
         → IsWantedBefore table bounds here left
         → next ≡ here + left → IsLastInside table bounds last
-        → Appends old new_then (lines_text (sampled_lines table from every printed.count))
-        → StopsBefore table from every last old new_then
+        → Appends old new_then (lines_text (sampled_lines form table from every printed.count))
+        → StopsBefore form table from every last old new_then
     printed_early {bounds} {left} {last} wanted is is_last appends =
         record {
           at = wanted.at;
@@ -114,8 +115,8 @@ module _ (table : Table) (from every : ℕ) where
     -- a beginning of the lines so far is one of all
     pub printed_begun : {bounds : Bounds} {last total : ℕ} {new_then : Option (List ℕ)}
         → Inside table bounds here → IsLastInside table bounds last → IsSampleSize from every last total
-        → AppendsPrefix old new_then (lines_text (sampled_lines table from every printed.count))
-        → AppendsPrefix old new_then (lines_text (sampled_lines table from every total))
+        → AppendsPrefix old new_then (lines_text (sampled_lines form table from every printed.count))
+        → AppendsPrefix old new_then (lines_text (sampled_lines form table from every total))
     unfolding lines_of
     printed_begun {bounds} {last} {total} inside is_last size begun =
         let most = is_last.greatest here inside in
@@ -130,7 +131,7 @@ module _ (table : Table) (from every : ℕ) where
     -- at the next step its line is sent
     module _ {at : ℕ} (is : at ≡ next) where
       pub printed_next : {new_then : Option (List ℕ)} {waiting_then : List ℕ} → here ≤ at
-          → Sends new new_then waiting waiting_then (step_text table at ++ 10 ∷ [])
+          → Sends new new_then waiting waiting_then (line_text form table at ++ 10 ∷ [])
           → HasPrinted at (at + every) old new_then waiting_then
       unfolding lines_of
       printed_next {new_then} {waiting_then} after line =
@@ -146,8 +147,8 @@ module _ (table : Table) (from every : ℕ) where
 
       pub printed_begun_next : {bounds : Bounds} {last total : ℕ} {new_then : Option (List ℕ)}
           → Inside table bounds at → IsLastInside table bounds last → IsSampleSize from every last total
-          → AppendsPrefix new new_then (waiting ++ (step_text table at ++ 10 ∷ []))
-          → AppendsPrefix old new_then (lines_text (sampled_lines table from every total))
+          → AppendsPrefix new new_then (waiting ++ (line_text form table at ++ 10 ∷ []))
+          → AppendsPrefix old new_then (lines_text (sampled_lines form table from every total))
       unfolding lines_of
       printed_begun_next {bounds} {last} {total} {new_then} inside is_last size begun =
           let next_is = printed.next_is in

@@ -20,10 +20,12 @@ use Rattle.bb_lines.specs.declared.fault.Fault.TheVariants.{Memory, Write}
 use Rattle.bb_lines.specs.Ends.{AppendsPrefix}
 use Rattle.bb_lines.specs.Output.{Sends}
 use Rattle.bb_run.specs.declared.summary.Summary.{Summary}
+use Rattle.bb_run.specs.declared.tracing.Form.{Form}
+use Rattle.bb_run.specs.declared.tracing.Form.TheVariants.{Plain, WithLow}
 use Rattle.bb_run.specs.Ends.{TraceEnds}
 use Rattle.bb_run.specs.Sample.{AppendsFirstLines, IsSampledRun, IsSampledTrace, IsSampleSize, SampledEnds}
 use Rattle.bb_run.specs.Sample.{sampled_lines}
-use Rattle.bb_run.specs.Trace.{step_lines, step_text, lines_text, AppendsSomeLines, IsRunTrace, IsTrace}
+use Rattle.bb_run.specs.Trace.{line_text, lines_text, step_lines, step_text, AppendsSomeLines, IsRunTrace, IsTrace}
 use Rattle.bb_run.specs.Trace.{IsUncut}
 use Rattle.bb_run.specs.inside.RunningOn.{AddedEnds, EndsEarly, RunEnds, WaitsWith, WrittenEnds}
 use Rattle.bb_run.proofs.SampledRuns.{size_grows, size_is_unique}
@@ -39,16 +41,16 @@ module _ {bounds : Bounds} {line : List ℕ} where
         (one is.table table is.of.machine of.machine (is.of.is_text ∙ sym of.is_text)) is.fits),
   )
 
-module _ {bounds : Bounds} {from every : ℕ} {line : List ℕ} where
+module _ {form : Form} {bounds : Bounds} {from every : ℕ} {line : List ℕ} where
   pub added_run : TextsDiffer → {table : Table} → IsTextOf table line → {last count : ℕ}
       → IsLastInside table bounds last → IsSampleSize from every last count
       → (old new : Option (List ℕ)) (waiting : List ℕ) → (r : Result Bool Fault)
-      → RunEnds bounds from every table last count old new waiting r
-      → AddedEnds bounds from every line old new waiting r
+      → RunEnds form bounds from every table last count old new waiting r
+      → AddedEnds form bounds from every line old new waiting r
   added_run one {table} of {last} {count} is_last size old new waiting r ends =
-      (sampled_lines table from every count, inl run, by_line r ends)
+      (sampled_lines form table from every count, inl run, by_line r ends)
     where
-      run : IsSampledRun bounds from every line (sampled_lines table from every count)
+      run : IsSampledRun form bounds from every line (sampled_lines form table from every count)
       run = record {
         table = table;
         of = of;
@@ -59,14 +61,14 @@ module _ {bounds : Bounds} {from every : ℕ} {line : List ℕ} where
         are_lines = refl;
       }
 
-      by_line : (r : Result Bool Fault) → RunEnds bounds from every table last count old new waiting r
-          → WaitsWith bounds from every line old new waiting (sampled_lines table from every count) r
+      by_line : (r : Result Bool Fault) → RunEnds form bounds from every table last count old new waiting r
+          → WaitsWith form bounds from every line old new waiting (sampled_lines form table from every count) r
       by_line (Ok whole) ends = (ends.0, uncut one of whole ends.1)
       by_line (Err Memory) ends = record { run = run; stops = ends }
       by_line r ends = ends
 
   module _ {column : ℕ} (no_machine : IsMachineLine line → ⊥) (is_column : IsColumn line column) where
-    refused : IsSampledTrace bounds from every line (refusal_text column ∷ [])
+    refused : IsSampledTrace form bounds from every line (refusal_text column ∷ [])
     refused =
         inr (record {
           no_machine = no_machine;
@@ -77,7 +79,7 @@ module _ {bounds : Bounds} {from every : ℕ} {line : List ℕ} where
 
     pub added_refusal : {old new : Option (List ℕ)} {waiting : List ℕ}
         → Sends old new [] waiting (refusal_text column ++ 10 ∷ [])
-        → AddedEnds bounds from every line old new waiting (Ok false)
+        → AddedEnds form bounds from every line old new waiting (Ok false)
     added_refusal {old} {new} {waiting} added = (
       refusal_text column ∷ [],
       refused,
@@ -89,7 +91,7 @@ module _ {bounds : Bounds} {from every : ℕ} {line : List ℕ} where
     )
 
     pub failed_refusal : {old new : Option (List ℕ)} (waiting : List ℕ) → AppendsPrefix old new []
-        → AddedEnds bounds from every line old new waiting (Err Write)
+        → AddedEnds form bounds from every line old new waiting (Err Write)
     failed_refusal waiting front = (
       refusal_text column ∷ [],
       refused,
@@ -97,8 +99,8 @@ module _ {bounds : Bounds} {from every : ℕ} {line : List ℕ} where
     )
 
 -- where it stops early, the first of the lines are written
-module _ {bounds : Bounds} {from every : ℕ} {line : List ℕ} {old new : Option (List ℕ)}
-    {lines : List (List ℕ)} (early : EndsEarly bounds from every line old new lines) where
+module _ {form : Form} {bounds : Bounds} {from every : ℕ} {line : List ℕ} {old new : Option (List ℕ)}
+    {lines : List (List ℕ)} (early : EndsEarly form bounds from every line old new lines) where
   few_lines : early.stops.count ≤ early.run.count
   few_lines =
       size_grows (omega (arith, early.stops.before)) early.stops.is_size early.run.is_size
@@ -106,12 +108,12 @@ module _ {bounds : Bounds} {from every : ℕ} {line : List ℕ} {old new : Optio
   long_lines : length lines ≡ early.run.count
   long_lines =
       ap length early.run.are_lines
-      ∙ length-map-range_with_len (λ k. step_text early.run.table (from + every * k)) 0 early.run.count
+      ∙ length-map-range_with_len (λ k. line_text form early.run.table (from + every * k)) 0 early.run.count
 
   begun_lines : Appends old new (lines_text (take early.stops.count lines))
   begun_lines =
-      let printed : ℕ → List ℕ = λ k. step_text early.run.table (from + every * k) in
-      let first : take early.stops.count lines ≡ sampled_lines early.run.table from every early.stops.count =
+      let printed : ℕ → List ℕ = λ k. line_text form early.run.table (from + every * k) in
+      let first : take early.stops.count lines ≡ sampled_lines form early.run.table from every early.stops.count =
       ap (take early.stops.count) early.run.are_lines
       ∙ take-map-range_with_len printed 0 early.run.count early.stops.count few_lines in
       subst (λ l. Appends old new (lines_text l)) (sym first) early.stops.appends
@@ -125,15 +127,15 @@ module _ {bounds : Bounds} {from every : ℕ} {line : List ℕ} {old new : Optio
       }
 
 pub sampled_ends : {bounds : Bounds} {from every : ℕ} {line : List ℕ} (old new : Option (List ℕ))
-    (r : Result Summary Fault) → WrittenEnds bounds from every line old new r
+    (r : Result Summary Fault) → WrittenEnds WithLow bounds from every line old new r
     → SampledEnds bounds from every line old new r
 sampled_ends old new (Err Memory) ends = (ends.0, ends.1, first_lines ends.2)
 sampled_ends old new r ends = ends
 
 -- from step 0 on each step is printed
-all_printed : (table : Table) (count : ℕ) → sampled_lines table 0 1 count ≡ step_lines table count
+all_printed : (table : Table) (count : ℕ) → sampled_lines Plain table 0 1 count ≡ step_lines table count
 all_printed table count =
-    let same : (λ (k : ℕ). step_text table (0 + 1 * k)) ≡ step_text table =
+    let same : (λ (k : ℕ). line_text Plain table (0 + 1 * k)) ≡ step_text table =
     fun_ext (λ k. ap (step_text table) (omega arith)) in
     ap (λ printed. map printed (range_with_len 0 count)) same
 
@@ -145,7 +147,7 @@ all_size {last} {count} size =
     } in
     size_is_unique size all
 
-all_run : {bounds : Bounds} {line : List ℕ} {lines : List (List ℕ)} → IsSampledRun bounds 0 1 line lines
+all_run : {bounds : Bounds} {line : List ℕ} {lines : List (List ℕ)} → IsSampledRun Plain bounds 0 1 line lines
     → IsRunTrace bounds line lines
 all_run run = record {
   table = run.table;
@@ -156,14 +158,14 @@ all_run run = record {
       ∙ ap (step_lines run.table) (all_size run.is_size);
 }
 
-all_trace : {bounds : Bounds} {line : List ℕ} {lines : List (List ℕ)} → IsSampledTrace bounds 0 1 line lines
+all_trace : {bounds : Bounds} {line : List ℕ} {lines : List (List ℕ)} → IsSampledTrace Plain bounds 0 1 line lines
     → IsTrace bounds line lines
 all_trace (inl run) = inl (all_run run)
 all_trace (inr refused) = inr refused
 
 -- where it stops early, they aren't all
 some_lines : {bounds : Bounds} {line : List ℕ} {old new : Option (List ℕ)} {lines : List (List ℕ)}
-    → EndsEarly bounds 0 1 line old new lines → AppendsSomeLines old new lines
+    → EndsEarly Plain bounds 0 1 line old new lines → AppendsSomeLines old new lines
 some_lines early =
     let all = all_size early.run.is_size in
     record {
@@ -173,6 +175,6 @@ some_lines early =
     }
 
 pub trace_ends : {bounds : Bounds} {line : List ℕ} (old new : Option (List ℕ)) (r : Result Summary Fault)
-    → WrittenEnds bounds 0 1 line old new r → TraceEnds bounds line old new r
+    → WrittenEnds Plain bounds 0 1 line old new r → TraceEnds bounds line old new r
 trace_ends old new (Err Memory) ends = (ends.0, all_trace ends.1, some_lines ends.2)
 trace_ends old new r ends = (ends.0, all_trace ends.1, ends.2)

@@ -8,11 +8,13 @@ use Rattle.bb_tape.specs.Content.{Content, cell}
 use Rattle.bb_tape.specs.TapeView.{TapeView}
 use Rattle.bb_sim.specs.declared.runner.Runner.{Runner}
 use Rattle.bb_sim.specs.CellsBetween.{cells_between}
+use Rattle.bb_sim.specs.Span.{counted_head, least, span}
 use Rattle.bb_sim.specs.Runner.{Stands, high_of, low_of, position_of, state_of, steps_of}
 use Rattle.bb_lines.specs.Ends.{AppendsPrefix}
 use Rattle.bb_lines.specs.Output.{Sends}
 use Rattle.bb_lines.proofs.Facts.{AppendsPrefix-further, AppendsPrefix-more, AppendsPrefix-after, Sends-trans}
-use Rattle.bb_run.specs.Trace.{cells_text, head_text, text_at, step_text}
+use Rattle.bb_run.specs.declared.tracing.Form.{Form}
+use Rattle.bb_run.specs.Trace.{cells_text, front_text, line_text, text_at}
 
 -- one cell more
 pub cells-next : (tape : Content) (low : ℤ) (i : ℕ)
@@ -55,14 +57,17 @@ same_cells tape low high least greatest l h =
     ∙ ap (λ x. cells_text tape low (cells_between low x)) (sym h)
 
 -- the line of the step at which a runner stands, by the runner and its tape
-pub step_text-is : {table : Table} {runner : Runner} {view : TapeView} {head : List ℕ}
+pub line_text-is : (form : Form) {table : Table} {runner : Runner} {view : TapeView} {head : List ℕ}
     → Stands table runner view
-    → head ≡ head_text (steps_of runner) (state_of runner) (position_of runner)
-    → IsJoined (step_text table (steps_of runner)) head
+    → head ≡ front_text form (steps_of runner) (state_of runner) (position_of runner) (low_of runner)
+    → IsJoined (line_text form table (steps_of runner)) head
     (cells_text view.content (low_of runner) (cells_between (low_of runner) (high_of runner)))
-step_text-is {table} {runner} {view} stands is_head = record {
-  is = ap (text_at table (steps_of runner)) stands.at
-      ∙ ap (λ c. head_text (steps_of runner) (state_of runner) (position_of runner) ++ c)
+line_text-is form {table} {runner} {view} stands is_head = record {
+  is = ap (text_at form table (steps_of runner)) stands.at
+      ∙ ap (λ low. front_text form (steps_of runner) (state_of runner) (position_of runner) low
+      ++ cells_text view.content (least (counted_head table) (steps_of runner))
+      (span table (steps_of runner))) (sym stands.low)
+      ∙ ap (λ c. front_text form (steps_of runner) (state_of runner) (position_of runner) (low_of runner) ++ c)
       (same_cells view.content _ _ _ _ stands.low stands.high)
       ∙ ap (λ h. h ++ cells_text view.content (low_of runner)
       (cells_between (low_of runner) (high_of runner))) (sym is_head);

@@ -1,4 +1,5 @@
--- What a sampled trace prints: the lines of the steps `from`, `from + every` and so on. This project's own.
+-- What a sampled trace prints: the lines of the steps `from`, `from + every` and so on, each with the position
+-- of its first cell. This project's own.
 use Rattle.std.specs.Prelude.{◌≡◌, ℕ, ◌+◌, ◌*◌, ◌<◌, ◌≤◌, ◌⊎◌, ◌↔◌, List, length, take, map, Option, Result}
 use Rattle.std.specs.Io.KnownBytes.{Appends}
 use Rattle.std.specs.List.{range_with_len}
@@ -8,12 +9,14 @@ use Rattle.bb_sim.specs.Span.{IsLastInside}
 use Rattle.bb_lines.specs.declared.fault.Fault.{Fault}
 use Rattle.bb_lines.specs.Ends.{AppendsPrefix, MatchEnd}
 use Rattle.bb_run.specs.declared.summary.Summary.{Summary}
-use Rattle.bb_run.specs.Trace.{step_text, lines_text, IsRefusalTrace, IsTraceSummary}
+use Rattle.bb_run.specs.declared.tracing.Form.{Form}
+use Rattle.bb_run.specs.declared.tracing.Form.TheVariants.{WithLow}
+use Rattle.bb_run.specs.Trace.{line_text, lines_text, IsRefusalTrace, IsTraceSummary}
 
 -- the lines of so many of these steps
-abbrev pub sampled_lines : Table → ℕ → ℕ → ℕ → List (List ℕ)
-sampled_lines table from every count =
-    map (λ k. step_text table (from + every * k)) (range_with_len 0 count)
+abbrev pub sampled_lines : Form → Table → ℕ → ℕ → ℕ → List (List ℕ)
+sampled_lines form table from every count =
+    map (λ k. line_text form table (from + every * k)) (range_with_len 0 count)
 
 -- so many of these steps are up to the last
 pub record IsSampleSize (from every last count : ℕ) : Type 0 where
@@ -21,20 +24,20 @@ pub record IsSampleSize (from every last count : ℕ) : Type 0 where
 
 -- the line is a machine's text, and these are the lines of those of these steps that are up to the last one
 -- inside
-pub record IsSampledRun (bounds : Bounds) (from every : ℕ) (line : List ℕ) (lines : List (List ℕ))
-    : Type 0 where
+pub record IsSampledRun (form : Form) (bounds : Bounds) (from every : ℕ) (line : List ℕ)
+    (lines : List (List ℕ)) : Type 0 where
   pub table : Table
   pub of : IsTextOf table line
   pub last : ℕ
   pub is_last : IsLastInside table bounds last
   pub count : ℕ
   pub is_size : IsSampleSize from every last count
-  pub are_lines : lines ≡ sampled_lines table from every count
+  pub are_lines : lines ≡ sampled_lines form table from every count
 
 -- these are the lines of the sampled trace of a line
-abbrev pub IsSampledTrace : Bounds → ℕ → ℕ → List ℕ → List (List ℕ) → Type 0
-IsSampledTrace bounds from every line lines =
-    IsSampledRun bounds from every line lines ⊎ IsRefusalTrace line lines
+abbrev pub IsSampledTrace : Form → Bounds → ℕ → ℕ → List ℕ → List (List ℕ) → Type 0
+IsSampledTrace form bounds from every line lines =
+    IsSampledRun form bounds from every line lines ⊎ IsRefusalTrace line lines
 
 -- known bytes grow by the first of the lines, maybe by all of them
 pub record AppendsFirstLines (old new : Option (List ℕ)) (lines : List (List ℕ)) : Type 0 where
@@ -47,7 +50,7 @@ pub record AppendsFirstLines (old new : Option (List ℕ)) (lines : List (List �
 abbrev pub SampledEnds : Bounds → ℕ → ℕ → List ℕ → Option (List ℕ) → Option (List ℕ) → Result Summary Fault
     → Type 0
 SampledEnds bounds from every line held held_then end =
-    (lines : List (List ℕ)) × IsSampledTrace bounds from every line lines × MatchEnd end
+    (lines : List (List ℕ)) × IsSampledTrace WithLow bounds from every line lines × MatchEnd end
     (λ summary. Appends held held_then (lines_text lines) × IsTraceSummary bounds line summary)
     (AppendsFirstLines held held_then lines)
     ⊥

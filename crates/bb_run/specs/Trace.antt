@@ -16,6 +16,8 @@ use Rattle.bb_sim.specs.Span.{counted_head, least, span, IsLastInside}
 use Rattle.bb_sim.specs.Meter.{zero_meter}
 use Rattle.bb_cert.specs.verdict.Line.{refusal_text}
 use Rattle.bb_run.specs.declared.summary.Summary.{Summary}
+use Rattle.bb_run.specs.declared.tracing.Form.{Form}
+use Rattle.bb_run.specs.declared.tracing.Form.TheVariants.{Plain, WithLow}
 
 -- the digits of so many cells, from one position on
 abbrev pub cells_text : Content → ℤ → ℕ → List ℕ
@@ -25,15 +27,26 @@ cells_text tape low count = map (λ i. 48 + cell tape (low +ℤ pos i)) (range_w
 abbrev pub head_text : ℕ → Next → ℤ → List ℕ
 head_text n state head = decimal n ++ (32 ∷ next_letter state ∷ 32 ∷ []) ++ signed_decimal head ++ 32 ∷ []
 
-abbrev pub text_at : Table → ℕ → Option Configuration → List ℕ
-text_at table n None = []
-text_at table n (Some c) =
-    head_text n c.state c.head ++ cells_text c.tape (least (counted_head table) n) (span table n)
+-- what stands before the cells: the same, and in the form that has it the position of the first cell
+abbrev pub front_text : Form → ℕ → Next → ℤ → ℤ → List ℕ
+front_text Plain n state head low = head_text n state head
+front_text WithLow n state head low = head_text n state head ++ signed_decimal low ++ 32 ∷ []
+
+abbrev pub text_at : Form → Table → ℕ → Option Configuration → List ℕ
+text_at form table n None = []
+text_at form table n (Some c) =
+    front_text form n c.state c.head (least (counted_head table) n)
+    ++ cells_text c.tape (least (counted_head table) n) (span table n)
 
 -- the line of a step: its number, and the state, the position of the head and the cells of that
--- configuration, over the positions of the span up to there
+-- configuration, over the positions of the span up to there; in the form that has it also the first of these
+-- positions, before the cells
+abbrev pub line_text : Form → Table → ℕ → List ℕ
+line_text form table n = text_at form table n (conf table n)
+
+-- the same without that position
 abbrev pub step_text : Table → ℕ → List ℕ
-step_text table n = text_at table n (conf table n)
+step_text table n = line_text Plain table n
 
 -- the lines of so many steps, from step 0 on
 abbrev pub step_lines : Table → ℕ → List (List ℕ)

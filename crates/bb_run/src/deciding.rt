@@ -1,17 +1,17 @@
-//! Verdicts on the machines of a list, a line each.
+//! Verdicts on the machines of a list, a line each: by the definition, or each machine in one run.
 ghost use Rattle.std.specs.Prelude.{◌≡◌, ◌↔◌, false, true, IsTrue};
 ghost use Rattle.bb_cert.specs.tree.Path.{depth_of};
 ghost use Rattle.bb_decide.specs.Bench.{BenchHasCells};
 ghost use Rattle.bb_lines.specs.Watched.{is_marked, watched_inner};
 ghost use Rattle.bb_run.specs.BorneOut.{VerdictsAreBorneOut};
-ghost use Rattle.bb_run.specs.Ends.{DecideEnds};
+ghost use Rattle.bb_run.specs.Ends.{DecideEnds, DecideInOneRunEnds};
 ghost use Rattle.bb_run.specs.FewCells.{FewCellsAreReplied};
 
 use crate::counts::VerdictCounts;
 use crate::decider::{Decide, reply_to_lines};
 use crate::summary::Summary;
 use bb_cert::Verdict;
-use bb_decide::{Bench, Plan, decide};
+use bb_decide::{Bench, Plan, SpreadKeys, decide, decide_in_one_run};
 use bb_lines::fault::Fault;
 use bb_lines::watched::Watched;
 use bb_machine::laws::texts_differ;
@@ -37,6 +37,26 @@ impl Decide for InTurn {
         meter: &mut Meter,
     ) -> Result<Verdict, Memory> {
         decide(machine, limits, plan, bench, meter)
+    }
+}
+
+/// In one run, watched for all that a verdict may be.
+struct InOneRun;
+
+impl Decide for InOneRun {
+    ghost use Rattle.bb_run.specs.Seen.{CountsInOneRun};
+
+    ghost counts = { CountsInOneRun };
+
+    #[inline(always)]
+    fn decide<T: Tape>(
+        machine: &Machine,
+        limits: &Limits,
+        plan: Plan,
+        bench: &mut Bench<T>,
+        meter: &mut Meter,
+    ) -> Result<Verdict, Memory> {
+        decide_in_one_run(machine, limits, plan, &SpreadKeys, bench, meter)
     }
 }
 
@@ -73,13 +93,15 @@ pub fn run_decide<R: Read, W: Write, T: Tape>(
     ensures tapes { BenchHasCells T.view limits.now.cells bench.new }
     ensures path { depth_of bench.new.path ≡ depth_of bench.old.path }
 {
+    texts_differ();
     let counts = VerdictCounts::default();
-    run_decide_with_counts(reader, writer, limits, plan, bench, &counts)
+    reply_to_lines::<R, W, T, InTurn>(reader, writer, limits, plan, bench, &counts)
 }
 
-/// The same as [`run_decide`], and counts what the lines come to. A line is counted once its reply is known,
-/// before it is written.
-pub fn run_decide_with_counts<R: Read, W: Write, T: Tape>(
+/// Writes the same as [`run_decide`], but each machine is decided in one run. The summary counts what was made:
+/// less than there, where a verdict is early. A line is counted in `counts` once its reply is known, before it
+/// is written.
+pub fn run_decide_in_one_run<R: Read, W: Write, T: Tape>(
     reader: &mut Watched<R>,
     writer: &mut Watched<W>,
     limits: &Limits,
@@ -93,7 +115,7 @@ pub fn run_decide_with_counts<R: Read, W: Write, T: Tape>(
     requires path { depth_of bench.old.path ≡ limits.now.depth }
 
     // How the run ends, and what is written then.
-    ensures ends { DecideEnds limits.now plan
+    ensures ends { DecideInOneRunEnds limits.now plan
         (R.remaining (watched_inner reader.old)) (R.remaining (watched_inner reader.new))
         (W.contents (watched_inner writer.old)) (W.contents (watched_inner writer.new)) result }
 
@@ -110,5 +132,5 @@ pub fn run_decide_with_counts<R: Read, W: Write, T: Tape>(
     ensures path { depth_of bench.new.path ≡ depth_of bench.old.path }
 {
     texts_differ();
-    reply_to_lines::<R, W, T, InTurn>(reader, writer, limits, plan, bench, counts)
+    reply_to_lines::<R, W, T, InOneRun>(reader, writer, limits, plan, bench, counts)
 }

@@ -8,7 +8,6 @@ mod decider;
 mod deciding;
 pub mod laws;
 mod looking;
-mod one_run;
 mod rings;
 mod summary;
 mod tally;
@@ -17,9 +16,8 @@ mod words;
 
 pub use checking::{run_check, run_check_with_counts};
 pub use counts::{AnswerCounts, VerdictCounts};
-pub use deciding::{run_decide, run_decide_with_counts};
+pub use deciding::{run_decide, run_decide_in_one_run};
 pub use looking::{KindCounts, Looked, ReplyKind, Unanswered, look};
-pub use one_run::{run_decide_in_one_run, run_decide_in_one_run_with_counts};
 pub use rings::{ring_bench, ring_pair};
 pub use summary::Summary;
 pub use tracing::{run_sampled_trace, run_trace};

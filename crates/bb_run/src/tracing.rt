@@ -15,7 +15,7 @@ ghost use Rattle.bb_lines.specs.Output.{Sends};
 ghost use Rattle.bb_lines.specs.Watched.{is_marked, watched_inner};
 ghost use Rattle.bb_run.specs.Ends.{TraceEnds};
 ghost use Rattle.bb_run.specs.Sample.{IsSampledTrace, IsSampleSize, SampledEnds, sampled_lines};
-ghost use Rattle.bb_run.specs.Trace.{IsTraceSummary, IsUncut, cells_text, head_text, lines_text, step_text};
+ghost use Rattle.bb_run.specs.Trace.{IsTraceSummary, IsUncut, cells_text, front_text, head_text, line_text, lines_text};
 ghost use Rattle.bb_run.specs.inside.RunningOn.{AddedEnds, RunEnds, RunsOn, WrittenEnds};
 
 use crate::summary::Summary;
@@ -57,11 +57,12 @@ pub fn run_trace<W: Write, T: Tape>(
 
     ensures tape { (T.view tape.new).limit ≡ limits.now.cells }
 {
-    write_trace(line, limits, 0, 1, tape, writer)
+    write_trace(Form::Plain, line, limits, 0, 1, tape, writer)
 }
 
 /// The same of some of the steps: `from`, `from + every` and so on, up to the last one that `run_trace`
-/// writes. A step that isn't written costs what it costs to simulate it.
+/// writes; each line has the position of its first cell too, before the cells. A step that isn't written costs
+/// what it costs to simulate it.
 ///
 /// After a fault the writer is not to be used again.
 pub fn run_sampled_trace<W: Write, T: Tape>(
@@ -87,11 +88,12 @@ pub fn run_sampled_trace<W: Write, T: Tape>(
 
     ensures tape { (T.view tape.new).limit ≡ limits.now.cells }
 {
-    write_trace(line, limits, from, every, tape, writer)
+    write_trace(Form::WithLow, line, limits, from, every, tape, writer)
 }
 
 /// Writes the trace of a line. An allocation that failed came before the last step.
 fn write_trace<W: Write, T: Tape>(
+    form: Form,
     line: &[u8],
     limits: &Limits,
     from: u64,
@@ -102,7 +104,7 @@ fn write_trace<W: Write, T: Tape>(
     requires every { 0 < every }
     requires tape { (T.view tape.old).limit ≡ limits.now.cells }
     requires writer { is_marked writer.old ≡ false }
-    ensures ends { WrittenEnds limits.now from every line.now
+    ensures ends { WrittenEnds form limits.now from every line.now
         (W.contents (watched_inner writer.old)) (W.contents (watched_inner writer.new)) result }
     ensures memory { result ≡ Err Fault.Memory → IsTrue T.GROWS }
     ensures read { result ≢ Err Fault.Read }
@@ -110,7 +112,7 @@ fn write_trace<W: Write, T: Tape>(
     ensures tape { (T.view tape.new).limit ≡ limits.now.cells }
 {
     let mut waiting = Waiting::new();
-    let clean = add_trace(line, limits, from, every, tape, writer, &mut waiting)?;
+    let clean = add_trace(form, line, limits, from, every, tape, writer, &mut waiting)?;
     write_and_flush(writer, &mut waiting)?;
     Ok(Summary {
         clean,
@@ -120,6 +122,7 @@ fn write_trace<W: Write, T: Tape>(
 
 /// Lets the trace of a line wait, and answers whether it is a machine's and nothing of it cut off.
 fn add_trace<W: Write, T: Tape>(
+    form: Form,
     line: &[u8],
     limits: &Limits,
     from: u64,
@@ -132,7 +135,7 @@ fn add_trace<W: Write, T: Tape>(
     requires tape { (T.view tape.old).limit ≡ limits.now.cells }
     requires writer { is_marked writer.old ≡ false }
     requires waiting { waiting.old.items ≡ [] }
-    ensures ends { AddedEnds limits.now from every line.now (W.contents (watched_inner writer.old))
+    ensures ends { AddedEnds form limits.now from every line.now (W.contents (watched_inner writer.old))
         (W.contents (watched_inner writer.new)) waiting.new.items result }
     ensures memory { result ≡ Err Fault.Memory → IsTrue T.GROWS }
     ensures read { result ≢ Err Fault.Read }
@@ -143,7 +146,7 @@ fn add_trace<W: Write, T: Tape>(
     texts_differ();
     limits.show_accepted();
     match Machine::read(line) {
-        Ok(machine) => add_run(&machine, limits, from, every, tape, writer, waiting),
+        Ok(machine) => add_run(form, &machine, limits, from, every, tape, writer, waiting),
         Err(refused) => {
             add_refusal(refused.column, writer, waiting)?;
             Ok(false)
@@ -173,6 +176,7 @@ fn add_refusal<W: Write>(
 
 /// Lets the lines of a machine's run wait, and answers whether the limit of cells cut off nothing of it.
 fn add_run<W: Write, T: Tape>(
+    form: Form,
     machine: &Machine,
     limits: &Limits,
     from: u64,
@@ -186,7 +190,7 @@ fn add_run<W: Write, T: Tape>(
     requires writer { is_marked writer.old ≡ false }
     requires waiting { waiting.old.items ≡ [] }
     ensures ends { (last count : ℕ) → IsLastInside machine.now limits.now last
-        → IsSampleSize from every last count → RunEnds limits.now from every machine.now last count
+        → IsSampleSize from every last count → RunEnds form limits.now from every machine.now last count
         (W.contents (watched_inner writer.old)) (W.contents (watched_inner writer.new)) waiting.new.items
         result }
     ensures memory { result ≡ Err Fault.Memory → IsTrue T.GROWS }
@@ -198,7 +202,7 @@ fn add_run<W: Write, T: Tape>(
     let mut left = from;
     loop {
         match run_on(machine, &mut runner, tape, limits, left) {
-            Ok(RanOn::Whole) => add_step(machine, &runner, tape, writer, waiting)?,
+            Ok(RanOn::Whole) => add_step(form, machine, &runner, tape, writer, waiting)?,
             Ok(RanOn::Ended) => return Ok(true),
             Ok(RanOn::Cut) => return Ok(false),
             Err(_) => {
@@ -208,6 +212,15 @@ fn add_run<W: Write, T: Tape>(
         }
         left = every;
     }
+}
+
+/// Which fields a line of a trace has.
+#[derive(Clone, Copy, Debug, PartialEq, Eq)]
+pub(crate) enum Form {
+    /// The step, the state, the position of the head and the cells.
+    Plain,
+    /// The position of the first cell too, before the cells.
+    WithLow,
 }
 
 /// Whether all the steps were made that a call of `run_on` is asked for.
@@ -275,6 +288,7 @@ fn make_steps<T: Tape>(
 
 /// Lets the line of the configuration at which a runner stands wait.
 fn add_step<W: Write, T: Tape>(
+    form: Form,
     machine: &Machine,
     runner: &Runner,
     tape: &T,
@@ -285,21 +299,40 @@ fn add_step<W: Write, T: Tape>(
     requires writer { is_marked writer.old ≡ false }
     ensures sent { OnOk result (Sends (W.contents (watched_inner writer.old))
         (W.contents (watched_inner writer.new)) waiting.old.items waiting.new.items
-        (step_text machine.now (steps_of runner.now) ++ 10 ∷ [])) }
+        (line_text form machine.now (steps_of runner.now) ++ 10 ∷ [])) }
     ensures err { OnErr result (AppendsPrefix (W.contents (watched_inner writer.old))
         (W.contents (watched_inner writer.new))
-        (waiting.old.items ++ (step_text machine.now (steps_of runner.now) ++ 10 ∷ []))) }
+        (waiting.old.items ++ (line_text form machine.now (steps_of runner.now) ++ 10 ∷ []))) }
     ensures only_write { IsOkUnless result Fault.Write }
     ensures mark { is_marked writer.new ≡ is_err result }
 {
     machine.show_machine();
-    add(writer, waiting, head_of(runner).as_slice())?;
+    add(writer, waiting, front_of(form, runner).as_slice())?;
     add_cells(runner, tape, writer, waiting)?;
     add(writer, waiting, b"\n")
 }
 
+/// What stands before the cells in a line, each part with a space behind it.
+fn front_of(form: Form, runner: &Runner) -> ArrayVec<u8, 96>
+    requires { IsNextOf MAX_STATES (state_of runner.now) }
+    ensures text { result.items ≡ front_text form (steps_of runner.now) (state_of runner.now)
+        (position_of runner.now) (low_of runner.now) }
+    ensures short { length result.items ≤ 96 }
+{
+    let mut front = head_of(runner);
+    match form {
+        Form::Plain => front,
+        Form::WithLow => {
+            let mut digits = Buffer::new();
+            let _low = front.try_extend_from_slice(digits.format(runner.low()).as_bytes());
+            front.push(b' ');
+            front
+        }
+    }
+}
+
 /// The number of steps, the state and the position of the head, each with a space behind it.
-fn head_of(runner: &Runner) -> ArrayVec<u8, 64>
+fn head_of(runner: &Runner) -> ArrayVec<u8, 96>
     requires { IsNextOf MAX_STATES (state_of runner.now) }
     ensures text { result.items
         ≡ head_text (steps_of runner.now) (state_of runner.now) (position_of runner.now) }

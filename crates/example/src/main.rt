@@ -6,7 +6,7 @@ use bb_decide::Plan;
 use bb_lines::fault::Fault;
 use bb_lines::watched::Watched;
 use bb_machine::Limits;
-use bb_run::{Summary, ring_bench, run_decide_in_one_run};
+use bb_run::{Summary, VerdictCounts, ring_bench, run_decide_in_one_run};
 use std::process::ExitCode;
 
 /// Machines of two and three states that make the most steps, one that comes back to a configuration, one
@@ -43,5 +43,6 @@ fn decided(rt: &HostRuntime, limits: &Limits) -> Result<Summary, Fault> {
     };
     let mut reader = Watched::new(LIST);
     let mut writer = Watched::new(rt.stdout());
-    run_decide_in_one_run(&mut reader, &mut writer, limits, ALL, &mut bench)
+    let counts = VerdictCounts::default();
+    run_decide_in_one_run(&mut reader, &mut writer, limits, ALL, &mut bench, &counts)
 }

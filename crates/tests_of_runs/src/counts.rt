@@ -1,10 +1,11 @@
 //! What the lines of a list came to, as it is counted.
 
-use crate::support::engine::Engine;
 use crate::support::rows::ALL;
 use bb_lines::watched::Watched;
 use bb_machine::Limits;
-use bb_run::{AnswerCounts, VerdictCounts, ring_bench, ring_pair, run_check_with_counts};
+use bb_run::{
+    AnswerCounts, VerdictCounts, ring_bench, ring_pair, run_check_with_counts, run_decide_in_one_run,
+};
 
 #[test]
 fn verdicts_are_counted(rt: HostRuntime) {
@@ -16,32 +17,30 @@ fn verdicts_are_counted(rt: HostRuntime) {
         1RB1LC_1RC1RB_1RD0LE_1LA1LD_1RB0LA\n1RB1LC_1RC1RB_1RD0LE_1LA1LD_1RB0LA\n\
         1RB1LB_1LA1RZ\n1RB1LB_1LA1RZ\n1RB1LB_1LA1RZ\n1RB1LB_1LA1RZ\n1RB1LB_1LA1RZ\n\
         \n1\n1R\n1RA\n_\n1rB1LB\n";
-    for engine in Engine::BOTH {
-        let mut bench = ring_bench(rt.alloc(), &limits).expect(&rt, "a bench");
-        let mut reader = Watched::new(input.as_slice());
-        let mut writer = Watched::new(Vec::new(rt.alloc()));
-        let counts = VerdictCounts::default();
-        let end = engine.decide_with_counts(
-            &mut reader,
-            &mut writer,
-            &limits,
-            ALL,
-            &mut bench,
-            &counts,
-        );
-        assert!(rt; end.is_ok());
-        assert_eq!(rt;
-            [
-                counts.halt.get(),
-                counts.cycler.get(),
-                counts.translated.get(),
-                counts.backward.get(),
-                counts.undecided.get(),
-                counts.refused.get(),
-            ],
-            [1, 2, 3, 4, 5, 6]
-        );
-    }
+    let mut bench = ring_bench(rt.alloc(), &limits).expect(&rt, "a bench");
+    let mut reader = Watched::new(input.as_slice());
+    let mut writer = Watched::new(Vec::new(rt.alloc()));
+    let counts = VerdictCounts::default();
+    let end = run_decide_in_one_run(
+        &mut reader,
+        &mut writer,
+        &limits,
+        ALL,
+        &mut bench,
+        &counts,
+    );
+    assert!(rt; end.is_ok());
+    assert_eq!(rt;
+        [
+            counts.halt.get(),
+            counts.cycler.get(),
+            counts.translated.get(),
+            counts.backward.get(),
+            counts.undecided.get(),
+            counts.refused.get(),
+        ],
+        [1, 2, 3, 4, 5, 6]
+    );
 }
 
 #[test]

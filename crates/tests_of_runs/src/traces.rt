@@ -80,7 +80,7 @@ static SAMPLED_TRACES: [SampledRow; 14] = [
         64,
         0,
         1,
-        b"0 A 0 0\n1 B 1 10\n2 A 0 11\n3 B -1 011\n4 A -2 0111\n5 B -1 1111\n6 Z 0 1111\n",
+        b"0 A 0 0 0\n1 B 1 0 10\n2 A 0 0 11\n3 B -1 -1 011\n4 A -2 -2 0111\n5 B -1 -2 1111\n6 Z 0 -2 1111\n",
         true,
     ),
     (
@@ -89,7 +89,7 @@ static SAMPLED_TRACES: [SampledRow; 14] = [
         64,
         0,
         2,
-        b"0 A 0 0\n2 A 0 11\n4 A -2 0111\n6 Z 0 1111\n",
+        b"0 A 0 0 0\n2 A 0 0 11\n4 A -2 -2 0111\n6 Z 0 -2 1111\n",
         true,
     ),
     (
@@ -98,10 +98,10 @@ static SAMPLED_TRACES: [SampledRow; 14] = [
         64,
         1,
         4,
-        b"1 B 1 10\n5 B -1 1111\n",
+        b"1 B 1 0 10\n5 B -1 -2 1111\n",
         true,
     ),
-    (b"1RB1LB_1LA1RZ", 10, 64, 6, 9, b"6 Z 0 1111\n", true),
+    (b"1RB1LB_1LA1RZ", 10, 64, 6, 9, b"6 Z 0 -2 1111\n", true),
     (b"1RB1LB_1LA1RZ", 10, 64, 7, 1, b"", true),
     (
         b"1RB1LB_1LA1RZ",
@@ -109,7 +109,7 @@ static SAMPLED_TRACES: [SampledRow; 14] = [
         64,
         0,
         3,
-        b"0 A 0 0\n3 B -1 011\n",
+        b"0 A 0 0 0\n3 B -1 -1 011\n",
         true,
     ),
     (
@@ -118,16 +118,16 @@ static SAMPLED_TRACES: [SampledRow; 14] = [
         3,
         0,
         3,
-        b"0 A 0 0\n3 B -1 011\n",
+        b"0 A 0 0 0\n3 B -1 -1 011\n",
         false,
     ),
     (b"1RB1LB_1LA1RZ", 10, 3, 4, 1, b"", false),
-    (b"1RB1LB_1LA1RZ", 10, 64, 2, u64::MAX, b"2 A 0 11\n", true),
+    (b"1RB1LB_1LA1RZ", 10, 64, 2, u64::MAX, b"2 A 0 0 11\n", true),
     (b"1RB1LB_1LA1RZ", 10, 64, u64::MAX, u64::MAX, b"", true),
     (b"1RB1LB_1LA1RC", 10, 64, 5, 2, b"refused 14\n", false),
-    (b"1RZ---", 1, 1, 1, 1, b"1 Z 1 1\n", true),
-    (b"1RA1RA", 2, 2, 1, 1, b"1 A 1 10\n", false),
-    (b"------", 9, 9, 0, 2, b"0 A 0 0\n", true),
+    (b"1RZ---", 1, 1, 1, 1, b"1 Z 1 0 1\n", true),
+    (b"1RA1RA", 2, 2, 1, 1, b"1 A 1 0 10\n", false),
+    (b"------", 9, 9, 0, 2, b"0 A 0 0 0\n", true),
 ];
 
 #[test]

@@ -14,6 +14,7 @@ use Rattle.bb_lines.specs.declared.fault.Fault.{Fault}
 use Rattle.bb_lines.specs.Ends.{AppendsPrefix, MatchEnd}
 use Rattle.bb_lines.specs.Output.{Sends}
 use Rattle.bb_run.specs.declared.summary.Summary.{Summary}
+use Rattle.bb_run.specs.declared.tracing.Form.{Form}
 use Rattle.bb_run.specs.declared.tracing.RanOn.{RanOn}
 use Rattle.bb_run.specs.declared.tracing.RanOn.TheVariants.{Whole, Ended, Cut}
 use Rattle.bb_run.specs.Sample.{IsSampledRun, IsSampledTrace, IsSampleSize, sampled_lines}
@@ -56,51 +57,51 @@ pub record RunsOn (grows : Bool) (table : Table) (bounds : Bounds) (old new : Ru
   pub wanted : OnErr result (IsWantedBefore table bounds (steps_of old) count)
 
 -- known bytes grow by the sampled lines up to a step before the last
-pub record StopsBefore (table : Table) (from every last : ℕ) (old new : Option (List ℕ)) : Type 0 where
+pub record StopsBefore (form : Form) (table : Table) (from every last : ℕ) (old new : Option (List ℕ)) : Type 0 where
   pub at : ℕ
   pub before : at < last
   pub count : ℕ
   pub is_size : IsSampleSize from every at count
-  pub appends : Appends old new (lines_text (sampled_lines table from every count))
+  pub appends : Appends old new (lines_text (sampled_lines form table from every count))
 
 -- the line is a machine's text, and known bytes grow by the sampled lines up to a step before the last one
 -- inside
-pub record EndsEarly (bounds : Bounds) (from every : ℕ) (line : List ℕ) (old new : Option (List ℕ))
-    (lines : List (List ℕ)) : Type 0 where
-  pub run : IsSampledRun bounds from every line lines
-  pub stops : StopsBefore run.table from every run.last old new
+pub record EndsEarly (form : Form) (bounds : Bounds) (from every : ℕ) (line : List ℕ)
+    (old new : Option (List ℕ)) (lines : List (List ℕ)) : Type 0 where
+  pub run : IsSampledRun form bounds from every line lines
+  pub stops : StopsBefore form run.table from every run.last old new
 
 -- how a trace ends that is written: with its lines, or early
-abbrev pub WrittenEnds : Bounds → ℕ → ℕ → List ℕ → Option (List ℕ) → Option (List ℕ) → Result Summary Fault
+abbrev pub WrittenEnds : Form → Bounds → ℕ → ℕ → List ℕ → Option (List ℕ) → Option (List ℕ) → Result Summary Fault
     → Type 0
-WrittenEnds bounds from every line old new end =
-    (lines : List (List ℕ)) × IsSampledTrace bounds from every line lines × MatchEnd end
+WrittenEnds form bounds from every line old new end =
+    (lines : List (List ℕ)) × IsSampledTrace form bounds from every line lines × MatchEnd end
     (λ summary. Appends old new (lines_text lines) × IsTraceSummary bounds line summary)
-    (EndsEarly bounds from every line old new lines)
+    (EndsEarly form bounds from every line old new lines)
     ⊥
     (AppendsPrefix old new (lines_text lines))
 
 -- how one with these lines ends, the last of which wait to be written
-abbrev pub WaitsWith : Bounds → ℕ → ℕ → List ℕ → Option (List ℕ) → Option (List ℕ) → List ℕ → List (List ℕ)
+abbrev pub WaitsWith : Form → Bounds → ℕ → ℕ → List ℕ → Option (List ℕ) → Option (List ℕ) → List ℕ → List (List ℕ)
     → Result Bool Fault → Type 0
-WaitsWith bounds from every line old new waiting lines end = MatchEnd end
+WaitsWith form bounds from every line old new waiting lines end = MatchEnd end
     (λ whole. Sends old new [] waiting (lines_text lines) × (IsTrue whole ↔ IsUncut bounds line))
-    (EndsEarly bounds from every line old new lines)
+    (EndsEarly form bounds from every line old new lines)
     ⊥
     (AppendsPrefix old new (lines_text lines))
 
 -- how that of a line ends
-abbrev pub AddedEnds : Bounds → ℕ → ℕ → List ℕ → Option (List ℕ) → Option (List ℕ) → List ℕ
+abbrev pub AddedEnds : Form → Bounds → ℕ → ℕ → List ℕ → Option (List ℕ) → Option (List ℕ) → List ℕ
     → Result Bool Fault → Type 0
-AddedEnds bounds from every line old new waiting end = (lines : List (List ℕ))
-    × IsSampledTrace bounds from every line lines × WaitsWith bounds from every line old new waiting lines end
+AddedEnds form bounds from every line old new waiting end = (lines : List (List ℕ))
+    × IsSampledTrace form bounds from every line lines × WaitsWith form bounds from every line old new waiting lines end
 
 -- how that of a machine ends, whose run has its last step here
-abbrev pub RunEnds : Bounds → ℕ → ℕ → Table → ℕ → ℕ → Option (List ℕ) → Option (List ℕ) → List ℕ
+abbrev pub RunEnds : Form → Bounds → ℕ → ℕ → Table → ℕ → ℕ → Option (List ℕ) → Option (List ℕ) → List ℕ
     → Result Bool Fault → Type 0
-RunEnds bounds from every table last count old new waiting end = MatchEnd end
-    (λ whole. Sends old new [] waiting (lines_text (sampled_lines table from every count))
+RunEnds form bounds from every table last count old new waiting end = MatchEnd end
+    (λ whole. Sends old new [] waiting (lines_text (sampled_lines form table from every count))
     × (IsTrue whole ↔ (span table bounds.steps ≤ bounds.cells)))
-    (StopsBefore table from every last old new)
+    (StopsBefore form table from every last old new)
     ⊥
-    (AppendsPrefix old new (lines_text (sampled_lines table from every count)))
+    (AppendsPrefix old new (lines_text (sampled_lines form table from every count)))

@@ -8,10 +8,7 @@ use bb_decide::{Bench, Plan};
 use bb_lines::fault::Fault;
 use bb_lines::watched::Watched;
 use bb_machine::Limits;
-use bb_run::{
-    Summary, VerdictCounts, run_decide, run_decide_in_one_run, run_decide_in_one_run_with_counts,
-    run_decide_with_counts,
-};
+use bb_run::{Summary, VerdictCounts, run_decide, run_decide_in_one_run};
 use bb_tape::Tape;
 use std::io::{Read, Write};
 
@@ -45,29 +42,9 @@ impl Engine {
     {
         match self {
             Engine::InTurn => run_decide(reader, writer, limits, plan, bench),
-            Engine::InOneRun => run_decide_in_one_run(reader, writer, limits, plan, bench),
-        }
-    }
-
-    /// The same, and counts what the lines come to.
-    pub(crate) fn decide_with_counts<R: Read, W: Write, T: Tape>(
-        self,
-        reader: &mut Watched<R>,
-        writer: &mut Watched<W>,
-        limits: &Limits,
-        plan: Plan,
-        bench: &mut Bench<T>,
-        counts: &VerdictCounts,
-    ) -> Result<Summary, Fault>
-        requires reader { is_marked reader.old ≡ false }
-        requires writer { is_marked writer.old ≡ false }
-        requires tapes { BenchHasCells T.view limits.now.cells bench.old }
-        requires path { depth_of bench.old.path ≡ limits.now.depth }
-    {
-        match self {
-            Engine::InTurn => run_decide_with_counts(reader, writer, limits, plan, bench, counts),
             Engine::InOneRun => {
-                run_decide_in_one_run_with_counts(reader, writer, limits, plan, bench, counts)
+                let counts = VerdictCounts::default();
+                run_decide_in_one_run(reader, writer, limits, plan, bench, &counts)
             }
         }
     }

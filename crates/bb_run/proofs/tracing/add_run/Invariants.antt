@@ -13,7 +13,7 @@ invariant-loop-runner g l = record {
   limit : (g.T.Tape.view l.tape).limit ≡ l.limits.cells;
   inside : Inside l.machine l.limits (steps_of l.runner);
   unmarked : is_marked l.writer ≡ false;
-  printed : HasPrinted l.machine l.fn.from l.every (steps_of l.runner) (steps_of l.runner + l.left)
+  printed : HasPrinted l.form l.machine l.fn.from l.every (steps_of l.runner) (steps_of l.runner + l.left)
       (g.W.Write.contents (watched_inner l.fn.writer)) (g.W.Write.contents (watched_inner l.writer))
       l.waiting.items;
 }

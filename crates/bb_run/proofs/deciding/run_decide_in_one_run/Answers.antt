@@ -1,7 +1,7 @@
 use Rattle.bb_run.proofs.FewCells.{few_cells_are_replied}
 use Rattle.bb_run.proofs.Replies.{verdicts_are_borne_out}
 use Rattle.bb_run.proofs.Summaries.{ends_by, summed_in_one_run}
-use Rattle.bb_run.proofs.one_run.run_decide_in_one_run_with_counts.Goals as goal
+use Rattle.bb_run.proofs.deciding.run_decide_in_one_run.Goals as goal
 
 pub returns-clause-ends : goal.returns-clause-ends
 returns-clause-ends g c =
