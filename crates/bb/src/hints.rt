@@ -4,6 +4,7 @@
 use arrayvec::ArrayString;
 use std::fmt;
 use std::fmt::{Display, Formatter};
+use std::io::{Read, Result};
 
 /// What the first bytes of an input show, where its first line can't be a machine's or a verdict line.
 #[derive(Clone, Copy, Debug, PartialEq, Eq)]
@@ -16,9 +17,45 @@ pub enum InputHint {
     CarriageReturn,
 }
 
-/// The hint that the first bytes of an input give, if they give one. Inlining it keeps the single-pass run at a
-/// multiple of 64 bytes (docs/speed.md).
-#[inline]
+/// A reader that hands each call on as it is, and keeps what the first bytes show.
+#[derive(Drop)]
+pub struct Hinted<R> {
+    inner: R,
+    hint: Option<InputHint>,
+    has_read: bool,
+}
+
+impl<R> Hinted<R> {
+    /// Reads from `inner`, of which nothing was read yet.
+    pub fn new(inner: R) -> Self {
+        Hinted {
+            inner,
+            hint: None,
+            has_read: false,
+        }
+    }
+
+    /// What the first bytes read show, if they show what to do.
+    pub fn hint(&self) -> Option<InputHint> {
+        self.hint
+    }
+}
+
+impl<R: Read> Read for Hinted<R> {
+    ghost remaining = { λ hinted. R.remaining hinted.inner };
+
+    fn read(&mut self, buf: &mut [u8]) -> Result<usize> {
+        let result = self.inner.read(buf);
+        if !self.has_read {
+            self.has_read = true;
+            let count = *result.as_ref().unwrap_or(&0);
+            self.hint = input_hint(&buf[..count.min(buf.len())]);
+        }
+        result
+    }
+}
+
+/// The hint that the first bytes of an input give, if they give one.
 pub fn input_hint(bytes: &[u8]) -> Option<InputHint> {
     if bytes.starts_with(b"\x1f\x8b") {
         return Some(InputHint::Gzip);

@@ -8,7 +8,6 @@ ghost use Rattle.bb_command.specs.Command.{AreGivenBy, IsAskedBy, IsStopOf, word
 mod hints;
 mod progress;
 mod serve;
-mod streams;
 #[cfg(test)]
 mod tests;
 
@@ -16,17 +15,19 @@ use bb_command::{Advice, Asked, Numbers, Stop, ask, numbers_given};
 use bb_lines::fault::Fault;
 use bb_lines::watched::Watched;
 use bb_run::Summary;
-use hints::{InputHint, plain_number};
-use progress::{Counts, Progress};
+use bb_terminal::failures::{open_list, print_failure, read_arguments};
+use bb_terminal::progress::Progress;
+use bb_terminal::streams::Observed;
+use hints::{Hinted, InputHint, plain_number};
+use progress::{Counts, CountsByKind};
 use serve::{serve_in_one_run, status};
 use std::alloc::{AllocError, Global};
-use std::io::{ErrorKind, IsTerminal, Read};
+use std::io;
+use std::io::{IsTerminal, Read};
 use std::process::ExitCode;
-use std::{env, fs, io};
-use streams::Observed;
 
 fn main(rt: HostRuntime) -> ExitCode {
-    let arguments = match arguments(&rt) {
+    let arguments = match read_arguments(&rt) {
         Ok(arguments) => arguments,
         Err(stop) => return ExitCode::from(tell_stop(&rt, &stop, None)),
     };
@@ -42,18 +43,6 @@ fn main(rt: HostRuntime) -> ExitCode {
         }
     };
     ExitCode::from(status)
-}
-
-/// The process's arguments, which have to be UTF-8.
-fn arguments(rt: &HostRuntime) -> Result<Vec<String>, Stop> {
-    match env::args(rt) {
-        Ok(arguments) => Ok(arguments.collect(rt.alloc())?),
-        Err(error) if error.kind() == io::ErrorKind::InvalidData => {
-            let text = String::from_str(rt.alloc(), "error: an argument is not UTF-8\n")?;
-            Err(Stop::Words(text))
-        }
-        Err(_) => Err(Stop::Memory),
-    }
 }
 
 /// The arguments as words.
@@ -83,11 +72,8 @@ fn given(alloc: Global, arguments: &[String]) -> Result<Numbers, Stop>
 fn answer_request(rt: &HostRuntime, asked: &Asked) -> u8 {
     let counts = Counts::default();
     let (end, error, hint) = match &asked.file {
-        Some(file) => match fs::open(rt, file) {
-            Ok(file) => {
-                let size = file.metadata().ok().filter(|data| data.is_file());
-                serve_input(rt, asked, size.map(|data| data.len()), file, &counts)
-            }
+        Some(file) => match open_list(rt, file) {
+            Ok((file, size)) => serve_input(rt, asked, size, file, &counts),
             Err(error) => (Err(Fault::Read), Some(error), None),
         },
         None => serve_input(rt, asked, None, rt.stdin(), &counts),
@@ -98,7 +84,8 @@ fn answer_request(rt: &HostRuntime, asked: &Asked) -> u8 {
     if let Err(fault) = &end {
         let _ = eprintln!(rt; "{fault}");
         if let Some(error) = error {
-            let _ = tell_error(rt, asked, fault, &error);
+            let file = asked.file.as_ref().map(|file| file.as_str());
+            let _ = print_failure(rt, file, *fault, &error);
         }
     }
     status(&end)
@@ -114,16 +101,17 @@ fn serve_input<'a, R: Read + Drop>(
     input: R,
     counts: &'a Counts,
 ) -> (Result<Summary, Fault>, Option<io::Error>, Option<InputHint>) {
-    let progress = Progress::of(rt, &asked.work, size, counts);
+    let progress = CountsByKind::of(rt, &asked.work, counts)
+        .map(|counts| Progress::new(rt, counts, size));
     let shown = progress.as_ref();
-    let mut reader = Watched::new(Observed::new(input, shown));
+    let mut reader = Watched::new(Observed::new(Hinted::new(input), shown));
     let mut writer = Watched::new(Observed::new(rt.stdout(), shown));
     let end = serve_in_one_run(rt.alloc(), asked, &mut reader, &mut writer, counts);
     if let Some(progress) = shown {
         progress.end();
     }
     let reader = reader.into_inner();
-    let hint = reader.hint();
+    let hint = reader.inner().hint();
     let read_error = reader.into_error();
     let write_error = writer.into_inner().into_error();
     let error = match &end {
@@ -153,23 +141,6 @@ fn tell_plain_numbers(rt: &HostRuntime, arguments: &[String]) -> io::Result<()> 
         }
     }
     Ok(())
-}
-
-/// Says on a terminal what failed and why. Of a pipe that nobody reads any more it says nothing.
-fn tell_error(rt: &HostRuntime, asked: &Asked, fault: &Fault, error: &io::Error) -> io::Result<()> {
-    if !rt.stderr().is_terminal() || error.kind() == ErrorKind::BrokenPipe {
-        return Ok(());
-    }
-    match (fault, &asked.file) {
-        (Fault::Read, Some(file)) if file.as_str() == "-" => {
-            eprintln!(rt;
-                "-: {error}; - is no file name here, and without FILE standard input is read"
-            )
-        }
-        (Fault::Read, Some(file)) => eprintln!(rt; "{file}: {error}"),
-        (Fault::Read, None) => eprintln!(rt; "standard input: {error}"),
-        _ => eprintln!(rt; "standard output: {error}"),
-    }
 }
 
 /// Tells why nothing is done, and gives the exit status: that of the stop, or 3 where help or the version

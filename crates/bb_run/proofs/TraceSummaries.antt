@@ -23,7 +23,7 @@ use Rattle.bb_run.specs.declared.summary.Summary.{Summary}
 use Rattle.bb_run.specs.declared.tracing.Form.{Form}
 use Rattle.bb_run.specs.declared.tracing.Form.TheVariants.{Plain, WithLow}
 use Rattle.bb_run.specs.Ends.{TraceEnds}
-use Rattle.bb_run.specs.Sample.{AppendsFirstLines, IsSampledRun, IsSampledTrace, IsSampleSize, SampledEnds}
+use Rattle.bb_run.specs.Sample.{AppendsFirstLines, IsSampledRun, IsSampledTraceIn, IsSampleSize, SampledEnds}
 use Rattle.bb_run.specs.Sample.{sampled_lines}
 use Rattle.bb_run.specs.Trace.{line_text, lines_text, step_lines, step_text, AppendsSomeLines, IsRunTrace, IsTrace}
 use Rattle.bb_run.specs.Trace.{IsUncut}
@@ -68,7 +68,7 @@ module _ {form : Form} {bounds : Bounds} {from every : ℕ} {line : List ℕ} wh
       by_line r ends = ends
 
   module _ {column : ℕ} (no_machine : IsMachineLine line → ⊥) (is_column : IsColumn line column) where
-    refused : IsSampledTrace form bounds from every line (refusal_text column ∷ [])
+    refused : IsSampledTraceIn form bounds from every line (refusal_text column ∷ [])
     refused =
         inr (record {
           no_machine = no_machine;
@@ -158,7 +158,7 @@ all_run run = record {
       ∙ ap (step_lines run.table) (all_size run.is_size);
 }
 
-all_trace : {bounds : Bounds} {line : List ℕ} {lines : List (List ℕ)} → IsSampledTrace Plain bounds 0 1 line lines
+all_trace : {bounds : Bounds} {line : List ℕ} {lines : List (List ℕ)} → IsSampledTraceIn Plain bounds 0 1 line lines
     → IsTrace bounds line lines
 all_trace (inl run) = inl (all_run run)
 all_trace (inr refused) = inr refused

@@ -34,10 +34,14 @@ pub record IsSampledRun (form : Form) (bounds : Bounds) (from every : ℕ) (line
   pub is_size : IsSampleSize from every last count
   pub are_lines : lines ≡ sampled_lines form table from every count
 
--- these are the lines of the sampled trace of a line
-abbrev pub IsSampledTrace : Form → Bounds → ℕ → ℕ → List ℕ → List (List ℕ) → Type 0
-IsSampledTrace form bounds from every line lines =
+-- these are the lines, in this form, of the sampled trace of a line
+abbrev pub IsSampledTraceIn : Form → Bounds → ℕ → ℕ → List ℕ → List (List ℕ) → Type 0
+IsSampledTraceIn form bounds from every line lines =
     IsSampledRun form bounds from every line lines ⊎ IsRefusalTrace line lines
+
+-- these are the lines of the sampled trace of a line, each with the position of its first cell
+abbrev pub IsSampledTrace : Bounds → ℕ → ℕ → List ℕ → List (List ℕ) → Type 0
+IsSampledTrace = IsSampledTraceIn WithLow
 
 -- known bytes grow by the first of the lines, maybe by all of them
 pub record AppendsFirstLines (old new : Option (List ℕ)) (lines : List (List ℕ)) : Type 0 where
@@ -50,7 +54,7 @@ pub record AppendsFirstLines (old new : Option (List ℕ)) (lines : List (List �
 abbrev pub SampledEnds : Bounds → ℕ → ℕ → List ℕ → Option (List ℕ) → Option (List ℕ) → Result Summary Fault
     → Type 0
 SampledEnds bounds from every line held held_then end =
-    (lines : List (List ℕ)) × IsSampledTrace WithLow bounds from every line lines × MatchEnd end
+    (lines : List (List ℕ)) × IsSampledTrace bounds from every line lines × MatchEnd end
     (λ summary. Appends held held_then (lines_text lines) × IsTraceSummary bounds line summary)
     (AppendsFirstLines held held_then lines)
     ⊥

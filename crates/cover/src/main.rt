@@ -2,24 +2,23 @@
 #![tactic(auto)]
 
 mod command;
-mod progress;
 mod report;
 mod serve;
-mod streams;
 
 use bb_command::Stop;
 use bb_cover::Cover;
 use bb_lines::fault::Fault;
 use bb_lines::watched::Watched;
+use bb_terminal::failures::{open_list, print_failure, read_arguments};
+use bb_terminal::progress::Progress;
+use bb_terminal::streams::Observed;
 use command::{Asked, ask};
-use progress::Progress;
-use report::{FaultText, Report, StopText};
+use report::{FaultText, LineCount, Report, StopText};
 use serve::{cover_list, status};
 use std::cell::Cell;
-use std::io::{ErrorKind, IsTerminal, Read};
+use std::io;
+use std::io::{IsTerminal, Read};
 use std::process::ExitCode;
-use std::{env, fs, io};
-use streams::Observed;
 
 fn main(rt: HostRuntime) -> ExitCode {
     let status = match asked(&rt) {
@@ -31,14 +30,7 @@ fn main(rt: HostRuntime) -> ExitCode {
 
 /// What the process's arguments ask for; they have to be UTF-8.
 fn asked(rt: &HostRuntime) -> Result<Asked, Stop> {
-    let arguments: Vec<String> = match env::args(rt) {
-        Ok(arguments) => arguments.collect(rt.alloc())?,
-        Err(error) if error.kind() == io::ErrorKind::InvalidData => {
-            let text = String::from_str(rt.alloc(), "error: an argument is not UTF-8\n")?;
-            return Err(Stop::Words(text));
-        }
-        Err(_) => return Err(Stop::Memory),
-    };
+    let arguments = read_arguments(rt)?;
     let words: Vec<&str> = arguments
         .as_slice()
         .iter()
@@ -52,11 +44,8 @@ fn asked(rt: &HostRuntime) -> Result<Asked, Stop> {
 fn answer_request(rt: &HostRuntime, asked: &Asked) -> u8 {
     let seen = Cell::new(0);
     let (end, error) = match &asked.file {
-        Some(file) => match fs::open(rt, file) {
-            Ok(file) => {
-                let size = file.metadata().ok().filter(|data| data.is_file());
-                cover_input(rt, asked, size.map(|data| data.len()), file, &seen)
-            }
+        Some(file) => match open_list(rt, file) {
+            Ok((file, size)) => cover_input(rt, asked, size, file, &seen),
             Err(error) => (Err(Fault::Read), Some(error)),
         },
         None => cover_input(rt, asked, None, rt.stdin(), &seen),
@@ -81,7 +70,12 @@ fn cover_input<R: Read + Drop>(
     input: R,
     seen: &Cell<u64>,
 ) -> (Result<Cover, Fault>, Option<io::Error>) {
-    let progress = Progress::of(rt, size, seen);
+    // What comes to standard output comes after the progress, so the two don't mix.
+    let progress = if rt.stderr().is_terminal() {
+        Some(Progress::new(rt, LineCount { seen }, size))
+    } else {
+        None
+    };
     let shown = progress.as_ref();
     let mut reader = Watched::new(Observed::new(input, shown));
     let end = cover_list(rt.alloc(), &asked.limits, &mut reader, seen);
@@ -96,26 +90,10 @@ fn cover_input<R: Read + Drop>(
 fn tell_fault(rt: &HostRuntime, asked: &Asked, fault: Fault, error: Option<&io::Error>) -> u8 {
     let _ = rt.eprintln(FaultText { fault });
     if let Some(error) = error {
-        let _ = tell_error(rt, asked, fault, error);
+        let file = asked.file.as_ref().map(|file| file.as_str());
+        let _ = print_failure(rt, file, fault, error);
     }
     3
-}
-
-/// Says on a terminal what failed and why. Of a pipe that nobody reads any more it says nothing.
-fn tell_error(rt: &HostRuntime, asked: &Asked, fault: Fault, error: &io::Error) -> io::Result<()> {
-    if !rt.stderr().is_terminal() || error.kind() == ErrorKind::BrokenPipe {
-        return Ok(());
-    }
-    match (fault, &asked.file) {
-        (Fault::Read, Some(file)) if file.as_str() == "-" => {
-            eprintln!(rt;
-                "-: {error}; - is no file name here, and without FILE standard input is read"
-            )
-        }
-        (Fault::Read, Some(file)) => eprintln!(rt; "{file}: {error}"),
-        (Fault::Read, None) => eprintln!(rt; "standard input: {error}"),
-        _ => eprintln!(rt; "standard output: {error}"),
-    }
 }
 
 /// Tells why nothing is done, and gives the exit status: that of the stop, or 3 where help or the version

@@ -4,8 +4,21 @@ use bb_cert::Answer;
 use bb_cover::{Cover, Found, Stop, Text, Why};
 use bb_lines::fault::Fault;
 use bb_machine::LimitFault;
+use std::cell::Cell;
 use std::fmt;
 use std::fmt::{Display, Formatter};
+
+/// How many lines were visited so far, as the progress shows it.
+#[derive(Clone, Copy)]
+pub struct LineCount<'a> {
+    pub seen: &'a Cell<u64>,
+}
+
+impl Display for LineCount<'_> {
+    fn fmt<W: fmt::Write>(&self, f: &mut Formatter<W>) -> fmt::Result {
+        write!(f, "{} lines", self.seen.get())
+    }
+}
 
 /// What a list comes to, as one line.
 #[derive(Drop)]

@@ -17,7 +17,7 @@ use Rattle.bb_run.specs.declared.summary.Summary.{Summary}
 use Rattle.bb_run.specs.declared.tracing.Form.{Form}
 use Rattle.bb_run.specs.declared.tracing.RanOn.{RanOn}
 use Rattle.bb_run.specs.declared.tracing.RanOn.TheVariants.{Whole, Ended, Cut}
-use Rattle.bb_run.specs.Sample.{IsSampledRun, IsSampledTrace, IsSampleSize, sampled_lines}
+use Rattle.bb_run.specs.Sample.{IsSampledRun, IsSampledTraceIn, IsSampleSize, sampled_lines}
 use Rattle.bb_run.specs.Trace.{IsTraceSummary, IsUncut, lines_text}
 
 -- from step `old` on it went to the last step inside, which is less than so many steps away
@@ -75,7 +75,7 @@ pub record EndsEarly (form : Form) (bounds : Bounds) (from every : ℕ) (line : 
 abbrev pub WrittenEnds : Form → Bounds → ℕ → ℕ → List ℕ → Option (List ℕ) → Option (List ℕ) → Result Summary Fault
     → Type 0
 WrittenEnds form bounds from every line old new end =
-    (lines : List (List ℕ)) × IsSampledTrace form bounds from every line lines × MatchEnd end
+    (lines : List (List ℕ)) × IsSampledTraceIn form bounds from every line lines × MatchEnd end
     (λ summary. Appends old new (lines_text lines) × IsTraceSummary bounds line summary)
     (EndsEarly form bounds from every line old new lines)
     ⊥
@@ -94,7 +94,7 @@ WaitsWith form bounds from every line old new waiting lines end = MatchEnd end
 abbrev pub AddedEnds : Form → Bounds → ℕ → ℕ → List ℕ → Option (List ℕ) → Option (List ℕ) → List ℕ
     → Result Bool Fault → Type 0
 AddedEnds form bounds from every line old new waiting end = (lines : List (List ℕ))
-    × IsSampledTrace form bounds from every line lines × WaitsWith form bounds from every line old new waiting lines end
+    × IsSampledTraceIn form bounds from every line lines × WaitsWith form bounds from every line old new waiting lines end
 
 -- how that of a machine ends, whose run has its last step here
 abbrev pub RunEnds : Form → Bounds → ℕ → ℕ → Table → ℕ → ℕ → Option (List ℕ) → Option (List ℕ) → List ℕ

@@ -1,39 +1,35 @@
-//! Streams that hand each call on as it is, keep the last error, and tell how far they have come.
+//! Streams that hand each call on as it is, keep the last error, and report progress.
 ghost use Rattle.std.specs.Prelude.{◌≡◌, None};
 
-use crate::hints::{InputHint, input_hint};
 use crate::progress::Progress;
+use std::fmt::Display;
 use std::io::{Error, Read, Result, Write};
 
 /// A reader or a writer that hands each call on as it is. It keeps the error of the last call that failed and
-/// what the first bytes read show, and tells the progress, where there is one, of each call that didn't fail.
+/// reports each call that didn't fail to the progress, where there is one.
 #[derive(Drop)]
-pub struct Observed<'p, 'r, X> {
+pub struct Observed<'p, 'r, X, C> {
     inner: X,
     error: Option<Error>,
-    hint: Option<InputHint>,
-    has_read: bool,
-    progress: Option<&'p Progress<'r>>,
+    progress: Option<&'p Progress<'r, C>>,
 }
 
-impl<'p, 'r, X> Observed<'p, 'r, X> {
+impl<'p, 'r, X, C> Observed<'p, 'r, X, C> {
     /// Observes `inner`, of which no call has failed yet.
-    pub fn new(inner: X, progress: Option<&'p Progress<'r>>) -> Self
+    pub fn new(inner: X, progress: Option<&'p Progress<'r, C>>) -> Self
         ensures inner { result.inner ≡ inner }
         ensures error { result.error ≡ None }
     {
         Observed {
             inner,
             error: None,
-            hint: None,
-            has_read: false,
             progress,
         }
     }
 
-    /// What the first bytes read show, if they show what to do.
-    pub fn hint(&self) -> Option<InputHint> {
-        self.hint
+    /// The stream that is observed, which has read or written what was asked so far.
+    pub fn inner(&self) -> &X {
+        &self.inner
     }
 
     /// Why the last call that failed did, if one did.
@@ -46,16 +42,11 @@ impl<'p, 'r, X> Observed<'p, 'r, X> {
     }
 }
 
-impl<R: Read> Read for Observed<'_, '_, R> {
+impl<R: Read, C: Display> Read for Observed<'_, '_, R, C> {
     ghost remaining = { λ observed. R.remaining observed.inner };
 
     fn read(&mut self, buf: &mut [u8]) -> Result<usize> {
         let result = self.inner.read(buf);
-        if !self.has_read {
-            self.has_read = true;
-            let count = *result.as_ref().unwrap_or(&0);
-            self.hint = input_hint(&buf[..count.min(buf.len())]);
-        }
         match (&result, self.progress) {
             (Ok(count), Some(progress)) => progress.add_read(*count),
             (Ok(_), None) => {}
@@ -65,7 +56,7 @@ impl<R: Read> Read for Observed<'_, '_, R> {
     }
 }
 
-impl<W: Write> Write for Observed<'_, '_, W> {
+impl<W: Write, C: Display> Write for Observed<'_, '_, W, C> {
     ghost contents = { λ observed. W.contents observed.inner };
 
     fn write(&mut self, buf: &[u8]) -> Result<usize> {
