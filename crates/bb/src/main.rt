@@ -101,8 +101,9 @@ fn serve_input<'a, R: Read + Drop>(
     input: R,
     counts: &'a Counts,
 ) -> (Result<Summary, Fault>, Option<io::Error>, Option<InputHint>) {
-    let progress = CountsByKind::of(rt, &asked.work, counts)
-        .map(|counts| Progress::new(rt, counts, size));
+    let progress = CountsByKind::of(rt, &asked.work, counts).map(|counts| Progress::new(
+        rt, counts, size,
+    ));
     let shown = progress.as_ref();
     let mut reader = Watched::new(Observed::new(Hinted::new(input), shown));
     let mut writer = Watched::new(Observed::new(rt.stdout(), shown));

@@ -23,8 +23,8 @@ pub struct CountsByKind<'a> {
 }
 
 impl<'a> CountsByKind<'a> {
-    /// What is shown while this work is done. None for a trace, where standard error is no terminal, and where
-    /// standard output is neither a file nor the null device.
+    /// What is shown while this work is done. None for a trace, where standard error is no terminal, and
+    /// where standard output is neither a file nor the null device.
     pub fn of(rt: &HostRuntime, work: &Work, counts: &'a Counts) -> Option<CountsByKind<'a>> {
         let is_check = match work {
             Work::Decide(_) => false,

@@ -298,8 +298,8 @@ fn refuses_limits(rt: HostRuntime) {
     }
 }
 
-/// Words, the numbers that they give for steps, cells, levels and nodes, accepted or not, and whether they ask
-/// for a trace.
+/// Words, the numbers that they give for steps, cells, levels and nodes, accepted or not, and whether they
+/// ask for a trace.
 static GIVEN: [(&[&str], [u64; 4], bool); 4] = [
     (
         &["decide", "--cells=4", "--depth=3"],

@@ -13,9 +13,9 @@ use bb_run::run_sampled_trace;
 use bb_tape::{Memory, RingTape};
 use std::alloc::Global;
 
-/// Puts lines of a machine's trace into a buffer, each with a newline: those of the steps `from`,
-/// `from + every` and so on, up to the last one inside the limits. A line has the step, the state, the position
-/// of the head, the position of the first cell, and the cells. To a line that is no machine's text it is the
+/// Puts lines of a machine's trace into a buffer, each with a newline: those of the steps `from`, `from +
+/// every` and so on, up to the last one inside the limits. A line has the step, the state, the position of
+/// the head, the position of the first cell, and the cells. To a line that is no machine's text it is the
 /// refusal.
 #[unsafe(no_mangle)]
 pub extern "C" fn bb_trace(

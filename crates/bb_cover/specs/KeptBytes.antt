@@ -40,7 +40,8 @@ module _ (line : List ℕ) where
 
   applies_to_line : (bounds : Bounds) (size : Option Size) (left : List Table) (why : Why) → IsTooLong
       → Applies bounds size left (take (LINE_BUFFER + 1) line) why → Applies bounds size left line why
-  applies_to_line bounds size left Unread long applies = λ table verdict of. long.whole (Claim table verdict) of
+  applies_to_line bounds size left Unread long applies =
+      λ table verdict of. long.whole (Claim table verdict) of
   applies_to_line bounds size left NotNext long applies =
       absurd (long.kept (Claim applies.0.table applies.0.verdict) applies.1)
   applies_to_line bounds size left (Refused given) long applies =
@@ -49,7 +50,8 @@ module _ (line : List ℕ) where
 
   applies_to_kept : (bounds : Bounds) (size : Option Size) (left : List Table) (why : Why) → IsTooLong
       → Applies bounds size left line why → Applies bounds size left (take (LINE_BUFFER + 1) line) why
-  applies_to_kept bounds size left Unread long applies = λ table verdict of. long.kept (Claim table verdict) of
+  applies_to_kept bounds size left Unread long applies =
+      λ table verdict of. long.kept (Claim table verdict) of
   applies_to_kept bounds size left NotNext long applies =
       absurd (long.whole (Claim applies.0.table applies.0.verdict) applies.1)
   applies_to_kept bounds size left (Refused given) long applies =

@@ -2,8 +2,8 @@
 ghost use Rattle.bb_cover.specs.Covering.{CoverIsUnique};
 ghost use Rattle.bb_cover.specs.Numbers.{FramesAre};
 
-/// No list comes to two things within one set of limits: its bytes settle the size that it covers, or where it
-/// stops and why, and the counts.
+/// No list comes to two things within one set of limits: its bytes settle the size that it covers, or where
+/// it stops and why, and the counts.
 pub fn cover_is_unique()
     ensures unique { CoverIsUnique }
 {}

@@ -196,7 +196,10 @@ impl<T: Tape> Taker for Checker<'_, T> {
 
     ghost keeps_few = { Prim.search rules };
 
-    ghost took_by_kept = { λ a line b took. (took.0, took_of_kept a.limits line a.course.now b.course.now took.1) };
+    ghost took_by_kept = { λ a line b took. (
+      took.0,
+      took_of_kept a.limits line a.course.now b.course.now took.1,
+    ) };
 
     fn bytes_kept(&self) -> usize {
         LINE_BUFFER + 1

@@ -25,7 +25,8 @@ use Rattle.bb_run.specs.declared.tracing.Form.TheVariants.{Plain, WithLow}
 use Rattle.bb_run.specs.Ends.{TraceEnds}
 use Rattle.bb_run.specs.Sample.{AppendsFirstLines, IsSampledRun, IsSampledTraceIn, IsSampleSize, SampledEnds}
 use Rattle.bb_run.specs.Sample.{sampled_lines}
-use Rattle.bb_run.specs.Trace.{line_text, lines_text, step_lines, step_text, AppendsSomeLines, IsRunTrace, IsTrace}
+use Rattle.bb_run.specs.Trace.{line_text, lines_text, step_lines, step_text, AppendsSomeLines, IsRunTrace}
+use Rattle.bb_run.specs.Trace.{IsTrace}
 use Rattle.bb_run.specs.Trace.{IsUncut}
 use Rattle.bb_run.specs.inside.RunningOn.{AddedEnds, EndsEarly, RunEnds, WaitsWith, WrittenEnds}
 use Rattle.bb_run.proofs.SampledRuns.{size_grows, size_is_unique}
@@ -158,7 +159,8 @@ all_run run = record {
       ∙ ap (step_lines run.table) (all_size run.is_size);
 }
 
-all_trace : {bounds : Bounds} {line : List ℕ} {lines : List (List ℕ)} → IsSampledTraceIn Plain bounds 0 1 line lines
+all_trace : {bounds : Bounds} {line : List ℕ} {lines : List (List ℕ)}
+    → IsSampledTraceIn Plain bounds 0 1 line lines
     → IsTrace bounds line lines
 all_trace (inl run) = inl (all_run run)
 all_trace (inr refused) = inr refused

@@ -1,5 +1,5 @@
--- What a sampled trace prints: the lines of the steps `from`, `from + every` and so on, each with the position
--- of its first cell. This project's own.
+-- What a sampled trace prints: the lines of the steps `from`, `from + every` and so on, each with the
+-- position of its first cell. This project's own.
 use Rattle.std.specs.Prelude.{◌≡◌, ℕ, ◌+◌, ◌*◌, ◌<◌, ◌≤◌, ◌⊎◌, ◌↔◌, List, length, take, map, Option, Result}
 use Rattle.std.specs.Io.KnownBytes.{Appends}
 use Rattle.std.specs.List.{range_with_len}

@@ -98,9 +98,9 @@ pub fn run_decide<R: Read, W: Write, T: Tape>(
     reply_to_lines::<R, W, T, InTurn>(reader, writer, limits, plan, bench, &counts)
 }
 
-/// Writes the same as [`run_decide`], but each machine is decided in one run. The summary counts what was made:
-/// less than there, where a verdict is early. A line is counted in `counts` once its reply is known, before it
-/// is written.
+/// Writes the same as [`run_decide`], but each machine is decided in one run. The summary counts what was
+/// made: less than there, where a verdict is early. A line is counted in `counts` once its reply is known,
+/// before it is written.
 pub fn run_decide_in_one_run<R: Read, W: Write, T: Tape>(
     reader: &mut Watched<R>,
     writer: &mut Watched<W>,

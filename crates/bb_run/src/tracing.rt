@@ -15,7 +15,8 @@ ghost use Rattle.bb_lines.specs.Output.{Sends};
 ghost use Rattle.bb_lines.specs.Watched.{is_marked, watched_inner};
 ghost use Rattle.bb_run.specs.Ends.{TraceEnds};
 ghost use Rattle.bb_run.specs.Sample.{IsSampledTrace, IsSampleSize, SampledEnds, sampled_lines};
-ghost use Rattle.bb_run.specs.Trace.{IsTraceSummary, IsUncut, cells_text, front_text, head_text, line_text, lines_text};
+ghost use Rattle.bb_run.specs.Trace.{IsTraceSummary, IsUncut, cells_text, front_text, head_text};
+ghost use Rattle.bb_run.specs.Trace.{line_text, lines_text};
 ghost use Rattle.bb_run.specs.inside.RunningOn.{AddedEnds, RunEnds, RunsOn, WrittenEnds};
 
 use crate::summary::Summary;
@@ -61,8 +62,8 @@ pub fn run_trace<W: Write, T: Tape>(
 }
 
 /// The same of some of the steps: `from`, `from + every` and so on, up to the last one that `run_trace`
-/// writes; each line has the position of its first cell too, before the cells. A step that isn't written costs
-/// what it costs to simulate it.
+/// writes; each line has the position of its first cell too, before the cells. A step that isn't written
+/// costs what it costs to simulate it.
 ///
 /// After a fault the writer is not to be used again.
 pub fn run_sampled_trace<W: Write, T: Tape>(

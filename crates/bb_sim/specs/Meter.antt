@@ -29,8 +29,8 @@ pub record CountsRun (table : Table) (bounds : Bounds) (old new : Meter) : Type 
   pub is_last : IsLastInside table bounds last
   pub counts : CountsTo table last old new
 
--- a run was refused memory: the tape has the cells of a configuration inside, the steps up to it were counted,
--- and the widest window that was counted lies between its span and that of the next step
+-- a run was refused memory: the tape has the cells of a configuration inside, the steps up to it were
+-- counted, and the widest window that was counted lies between its span and that of the next step
 pub record CountsPart (table : Table) (bounds : Bounds) (tape : Content) (old new : Meter) : Type 0 where
   pub at : ℕ
   pub inside : Inside table bounds at

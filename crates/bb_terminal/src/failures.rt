@@ -27,7 +27,12 @@ pub fn open_list(rt: &HostRuntime, path: &String) -> io::Result<(File, Option<u6
 
 /// Prints on a terminal what failed and why: the list `file`, or standard input where there is none, or
 /// standard output. A pipe that nobody reads any more isn't mentioned.
-pub fn print_failure(rt: &HostRuntime, file: Option<&str>, fault: Fault, error: &Error) -> io::Result<()> {
+pub fn print_failure(
+    rt: &HostRuntime,
+    file: Option<&str>,
+    fault: Fault,
+    error: &Error,
+) -> io::Result<()> {
     if !rt.stderr().is_terminal() || error.kind() == ErrorKind::BrokenPipe {
         return Ok(());
     }

@@ -9,8 +9,8 @@ use std::time::{Duration, Instant};
 /// How long a line stands at least, in milliseconds.
 const REST: u64 = 250;
 
-/// How far a list has come. It writes a line to standard error a few times a second, over the one before, when
-/// the list is read or a reply written. An error of that changes nothing.
+/// How far a list has come. It writes a line to standard error a few times a second, over the one before,
+/// when the list is read or a reply written. An error of that changes nothing.
 #[derive(Drop)]
 pub struct Progress<'a, C> {
     rt: &'a HostRuntime,
@@ -99,7 +99,8 @@ impl<'a, C> Progress<'a, C> {
     }
 }
 
-/// How many of a hundred bytes are done; none where there are no bytes, and 100 of a file that grew meanwhile.
+/// How many of a hundred bytes are done; none where there are no bytes, and 100 of a file that grew
+/// meanwhile.
 fn percent_of(done: u64, size: u64) -> Option<u64>
     ensures bounded { MatchOption result (size ≡ 0) (λ percent. percent ≤ 100) }
     ensures exact { done * 100 < 2 ^ 64

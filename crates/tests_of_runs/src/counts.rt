@@ -4,7 +4,8 @@ use crate::support::rows::ALL;
 use bb_lines::watched::Watched;
 use bb_machine::Limits;
 use bb_run::{
-    AnswerCounts, VerdictCounts, ring_bench, ring_pair, run_check_with_counts, run_decide_in_one_run,
+    AnswerCounts, VerdictCounts, ring_bench, ring_pair, run_check_with_counts,
+    run_decide_in_one_run,
 };
 
 #[test]
@@ -21,14 +22,7 @@ fn verdicts_are_counted(rt: HostRuntime) {
     let mut reader = Watched::new(input.as_slice());
     let mut writer = Watched::new(Vec::new(rt.alloc()));
     let counts = VerdictCounts::default();
-    let end = run_decide_in_one_run(
-        &mut reader,
-        &mut writer,
-        &limits,
-        ALL,
-        &mut bench,
-        &counts,
-    );
+    let end = run_decide_in_one_run(&mut reader, &mut writer, &limits, ALL, &mut bench, &counts);
     assert!(rt; end.is_ok());
     assert_eq!(rt;
         [

@@ -57,7 +57,8 @@ pub record RunsOn (grows : Bool) (table : Table) (bounds : Bounds) (old new : Ru
   pub wanted : OnErr result (IsWantedBefore table bounds (steps_of old) count)
 
 -- known bytes grow by the sampled lines up to a step before the last
-pub record StopsBefore (form : Form) (table : Table) (from every last : ℕ) (old new : Option (List ℕ)) : Type 0 where
+pub record StopsBefore (form : Form) (table : Table) (from every last : ℕ) (old new : Option (List ℕ))
+    : Type 0 where
   pub at : ℕ
   pub before : at < last
   pub count : ℕ
@@ -72,8 +73,8 @@ pub record EndsEarly (form : Form) (bounds : Bounds) (from every : ℕ) (line : 
   pub stops : StopsBefore form run.table from every run.last old new
 
 -- how a trace ends that is written: with its lines, or early
-abbrev pub WrittenEnds : Form → Bounds → ℕ → ℕ → List ℕ → Option (List ℕ) → Option (List ℕ) → Result Summary Fault
-    → Type 0
+abbrev pub WrittenEnds : Form → Bounds → ℕ → ℕ → List ℕ → Option (List ℕ) → Option (List ℕ)
+    → Result Summary Fault → Type 0
 WrittenEnds form bounds from every line old new end =
     (lines : List (List ℕ)) × IsSampledTraceIn form bounds from every line lines × MatchEnd end
     (λ summary. Appends old new (lines_text lines) × IsTraceSummary bounds line summary)
@@ -82,8 +83,8 @@ WrittenEnds form bounds from every line old new end =
     (AppendsPrefix old new (lines_text lines))
 
 -- how one with these lines ends, the last of which wait to be written
-abbrev pub WaitsWith : Form → Bounds → ℕ → ℕ → List ℕ → Option (List ℕ) → Option (List ℕ) → List ℕ → List (List ℕ)
-    → Result Bool Fault → Type 0
+abbrev pub WaitsWith : Form → Bounds → ℕ → ℕ → List ℕ → Option (List ℕ) → Option (List ℕ) → List ℕ
+    → List (List ℕ) → Result Bool Fault → Type 0
 WaitsWith form bounds from every line old new waiting lines end = MatchEnd end
     (λ whole. Sends old new [] waiting (lines_text lines) × (IsTrue whole ↔ IsUncut bounds line))
     (EndsEarly form bounds from every line old new lines)
@@ -94,7 +95,8 @@ WaitsWith form bounds from every line old new waiting lines end = MatchEnd end
 abbrev pub AddedEnds : Form → Bounds → ℕ → ℕ → List ℕ → Option (List ℕ) → Option (List ℕ) → List ℕ
     → Result Bool Fault → Type 0
 AddedEnds form bounds from every line old new waiting end = (lines : List (List ℕ))
-    × IsSampledTraceIn form bounds from every line lines × WaitsWith form bounds from every line old new waiting lines end
+    × IsSampledTraceIn form bounds from every line lines
+    × WaitsWith form bounds from every line old new waiting lines end
 
 -- how that of a machine ends, whose run has its last step here
 abbrev pub RunEnds : Form → Bounds → ℕ → ℕ → Table → ℕ → ℕ → Option (List ℕ) → Option (List ℕ) → List ℕ

@@ -14,8 +14,8 @@ use Rattle.bb_sim.specs.Runner.{Answers, Moves, Reaches, Stands, high_of, low_of
 use Rattle.bb_sim.specs.Span.{span}
 
 -- what it answers, what that changes, and where the runner stands then; no memory is left only on a tape that
--- grows, where a step would have been made: then none was, no cell has changed, and the window is the one that
--- it needed
+-- grows, where a step would have been made: then none was, no cell has changed, and the window is the one
+-- that it needed
 pub record Advances (grows : Bool) (table : Table) (bounds : Bounds) (old new : Runner)
     (view_old view_new : TapeView) (meter_old meter_new : Meter) (result : Result Moved Memory)
     : Type 0 where

@@ -3,8 +3,8 @@ ghost use Rattle.std.specs.Prelude.{◌≡◌};
 
 use bb_tape::{Tape, TapeFault};
 
-/// A tape that passes each call to another. Copying a whole tape and resetting it are not counted as writes. A
-/// write of any symbol may be refused, a 0 too.
+/// A tape that passes each call to another. Copying a whole tape and resetting it are not counted as writes.
+/// A write of any symbol may be refused, a 0 too.
 #[derive(Drop)]
 pub(crate) struct CountingTape<T> {
     inner: T,
