@@ -99,9 +99,11 @@ uint32_t bb_check_line(uint64_t steps, uint64_t cells, uint64_t depth, uint64_t 
                        size_t line_len, uint8_t *out, size_t out_len, size_t *count);
 
 /* Lines of a machine's trace, each with a newline: those of the steps `from`, `from + every` and so on, up to
- * the last step inside the limits; maybe none. To a line that is no machine, `refused` and the column with a
- * newline. A step between costs what it costs to simulate it. No room is told that is surely enough: with an
- * `out_len` of 0, `*count` tells how much is, at the cost of the whole run. */
+ * the last step inside the limits; maybe none. A line is `<step> <state> <position> <low> <cells>`: the head's
+ * position, the position of the first cell, and a digit for each cell visited so far. To a line that is no
+ * machine, `refused` and the column with a newline. A step between costs what it costs to simulate it. No room
+ * is told that is surely enough: with an `out_len` of 0, `*count` tells how much is, at the cost of the whole
+ * run. */
 uint32_t bb_trace(uint64_t steps, uint64_t cells, uint64_t from, uint64_t every, const uint8_t *line,
                   size_t line_len, uint8_t *out, size_t out_len, size_t *count);
 
