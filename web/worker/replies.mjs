@@ -1,0 +1,174 @@
+/**
+ * What a reply says, line by line, read from its bytes: no text is made of them.
+ *
+ * @typedef {{starts: Uint32Array, kinds: Uint8Array}} Lines where each line begins and the last one ends, and
+ *   the number of its kind
+ */
+import { ANSWERS, KINDS } from "../reader/machine.mjs";
+
+const NEWLINE = 10;
+const SPACE = 32;
+const ZERO = 48;
+const NINE = 57;
+const LETTER_R = 114;
+const REFUSED = KINDS.indexOf("refused");
+// The kind by its first letter and the answer by its second one; no two have the same.
+for (const letters of [KINDS.map((word) => word[0]), ANSWERS.map((word) => word[1])]) {
+  if (new Set(letters).size < letters.length) {
+    throw new Error("two kinds or answers can't be known by their letters");
+  }
+}
+const KIND_BY_LETTER = new Uint8Array(256).fill(REFUSED);
+KINDS.forEach((word, kind) => (KIND_BY_LETTER[word.charCodeAt(0)] = kind));
+const ANSWER_BY_LETTER = new Uint8Array(256);
+ANSWERS.forEach((word, answer) => (ANSWER_BY_LETTER[word.charCodeAt(1)] = answer));
+const ANSWER_LENGTHS = Uint8Array.from(ANSWERS, (word) => word.length + 1);
+// How many spaces stand between a kind's first letter and the number of the steps that it names; 0 where it
+// names none.
+const SPACES = kindsBytes({ halt: 1, cycler: 2, translated: 3 });
+// The least bytes from a kind's first letter to the end of its line.
+const LEAST = kindsBytes({
+  halt: "halt 0 0".length,
+  cycler: "cycler 0 1".length,
+  translated: "translated R 1 2 1 1".length,
+  backward: "backward 0 0".length,
+  undecided: "undecided steps".length,
+});
+
+let scratch = new Uint32Array(0);
+
+/** A byte for each kind, 0 where none is given. */
+function kindsBytes(/** @type {Record<string, number>} */ given) {
+  return Uint8Array.from(KINDS, (kind) => given[kind] ?? 0);
+}
+
+/** Where each line begins and the last one ends, in a list that the next call overwrites. */
+export function startsOf(/** @type {Uint8Array} */ bytes) {
+  const { length } = bytes;
+  scratch = scratch.length > length + 1 ? scratch : new Uint32Array(2 * length + 2);
+  let lines = 0;
+  for (let end = bytes.indexOf(NEWLINE); end >= 0; end = bytes.indexOf(NEWLINE, end + 1)) {
+    lines += 1;
+    scratch[lines] = end + 1;
+  }
+  if (scratch[lines] < length) {
+    lines += 1;
+    scratch[lines] = length;
+  }
+  return scratch.subarray(0, lines + 1);
+}
+
+/** Where the first space or newline stands from there on; the end where there is none. */
+function wordEnd(/** @type {Uint8Array} */ bytes, /** @type {number} */ from) {
+  const length = bytes.length;
+  let at = from;
+  while (at < length && (bytes[at] > SPACE || (bytes[at] !== SPACE && bytes[at] !== NEWLINE))) {
+    at += 1;
+  }
+  return at;
+}
+
+/** Where the first newline stands from there on; the end where there is none. */
+function lineEnd(/** @type {Uint8Array} */ bytes, /** @type {number} */ from) {
+  const length = bytes.length;
+  let at = from;
+  while (at < length && bytes[at] !== NEWLINE) {
+    at += 1;
+  }
+  return at;
+}
+
+/** The place behind so many further spaces of a line, or its end where it has fewer. */
+function behind(/** @type {Uint8Array} */ bytes, /** @type {number} */ from, /** @type {number} */ spaces) {
+  let at = from;
+  for (let left = spaces; left > 0 && bytes[at] !== NEWLINE; left -= 1) {
+    at = wordEnd(bytes, at);
+    at += bytes[at] === SPACE ? 1 : 0;
+  }
+  return at;
+}
+
+/** The number that stands there, or -1. */
+export function numberAt(/** @type {Uint8Array} */ bytes, /** @type {number} */ from) {
+  let at = from;
+  let value = 0;
+  for (; at < bytes.length && bytes[at] >= ZERO && bytes[at] <= NINE; at += 1) {
+    value = 10 * value + bytes[at] - ZERO;
+  }
+  return at === from ? -1 : value;
+}
+
+/** Room for what so many lines say; until it is known they are refused. @returns {Lines} */
+function roomFor(/** @type {number} */ count) {
+  return { starts: new Uint32Array(count + 1), kinds: new Uint8Array(count).fill(REFUSED) };
+}
+
+/** What is said in so many verdict lines that anyone wrote. @returns {Lines} */
+export function readLines(/** @type {Uint8Array} */ bytes, /** @type {number} */ count) {
+  const { starts, kinds } = roomFor(count);
+  let at = 0;
+  for (let k = 0; k < count; k += 1) {
+    if (bytes[at] !== LETTER_R) {
+      at = behind(bytes, at, 1);
+      kinds[k] = KIND_BY_LETTER[bytes[at]] ?? REFUSED;
+    }
+    at = Math.min(lineEnd(bytes, at) + 1, bytes.length);
+    starts[k + 1] = at;
+  }
+  return { starts, kinds };
+}
+
+/**
+ * What the engine says of machines. Each line that isn't refused begins with the machine's line and ends no
+ * sooner than the shortest of its kind, so that neither needs to be looked through.
+ * @param {Uint8Array} bytes @param {Uint32Array} machines where the machines' lines begin and the last ends
+ * @returns {Lines}
+ */
+export function readReply(bytes, machines) {
+  const count = machines.length - 1;
+  const { starts, kinds } = roomFor(count);
+  let at = 0;
+  for (let k = 0; k < count; k += 1) {
+    if (bytes[at] !== LETTER_R) {
+      const space = at + machines[k + 1] - machines[k] - 1;
+      at = bytes[space] === SPACE ? space + 1 : behind(bytes, at, 1);
+      const kind = KIND_BY_LETTER[bytes[at]] ?? REFUSED;
+      kinds[k] = kind;
+      at += LEAST[kind];
+    }
+    at = Math.min(lineEnd(bytes, at) + 1, bytes.length);
+    starts[k + 1] = at;
+  }
+  return { starts, kinds };
+}
+
+/** The steps that verdict lines name, -1 for none. */
+export function stepsIn(/** @type {Uint8Array} */ bytes, /** @type {Lines} */ { starts, kinds }) {
+  const steps = new Float64Array(kinds.length).fill(-1);
+  for (let k = 0; k < kinds.length; k += 1) {
+    if (SPACES[kinds[k]] > 0) {
+      steps[k] = numberAt(bytes, behind(bytes, starts[k], 1 + SPACES[kinds[k]]));
+    }
+  }
+  return steps;
+}
+
+/** The numbers of the answers of a reply to `check`. */
+export function readAnswers(/** @type {Uint8Array} */ bytes, /** @type {number} */ count) {
+  const answers = new Uint8Array(count);
+  let at = 0;
+  for (let k = 0; k < count; k += 1) {
+    answers[k] = ANSWER_BY_LETTER[bytes[at + 1]];
+    at += ANSWER_LENGTHS[answers[k]];
+  }
+  return answers;
+}
+
+/** How often each number below `most` stands there. */
+export function tallied(/** @type {Uint8Array} */ numbers, /** @type {number} */ most) {
+  const counts = new Array(most).fill(0);
+  for (let k = 0; k < numbers.length; k += 1) {
+    counts[numbers[k]] += 1;
+  }
+  return counts;
+}
