@@ -162,7 +162,7 @@ export class Engine {
   }
 }
 
-/** A reply with bytes of its own. @returns {Reply} */
+/** @returns {Reply} a reply with bytes of its own */
 function copied(/** @type {Reply} */ { bytes, clean }) {
   return { bytes: bytes.slice(), clean };
 }
@@ -208,7 +208,6 @@ function traceRoom(/** @type {bigint[]} */ words) {
   return bytes < FIRST_TRACE_ROOM ? Number(bytes) : FIRST_TRACE_ROOM;
 }
 
-/** The bytes of these lines, each with a newline. */
 function bytesOf(/** @type {readonly string[]} */ lines) {
   if (!Array.isArray(lines) || lines.some((line) => typeof line !== "string")) {
     throw new TypeError("a list of texts is wanted");

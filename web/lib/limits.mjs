@@ -30,7 +30,6 @@ export class LimitsError extends RangeError {
 
 const END_OF_WORDS = 2n ** 64n;
 
-/** The limits of these names, in order, as 64-bit numbers. */
 export function limitsOf(/** @type {Partial<Record<Limit, Whole>>} */ given, /** @type {Limit[]} */ names) {
   for (const name of Object.keys(given)) {
     if (!names.includes(/** @type {Limit} */ (name))) {
@@ -40,7 +39,6 @@ export function limitsOf(/** @type {Partial<Record<Limit, Whole>>} */ given, /**
   return names.map((name) => wholeOf(name, given[name] ?? RANGES[name].usual));
 }
 
-/** A limit as a 64-bit number. */
 function wholeOf(/** @type {Limit} */ name, /** @type {Whole} */ given) {
   if (typeof given !== "number" && typeof given !== "bigint") {
     throw new TypeError(`${name} is no number`);

@@ -34,7 +34,6 @@ const OF_VECTORS = [
   ...[10, 10, 1, 8, 0, 65, 0, 253, 15, 253, 98, 11],
 ];
 
-/** Whether modules with vectors can be loaded here. */
 export function isSupported() {
   return typeof WebAssembly === "object" && WebAssembly.validate(new Uint8Array(OF_VECTORS));
 }
@@ -126,7 +125,6 @@ export class Room {
   }
 }
 
-/** Whether memory could be made larger. */
 function grows(/** @type {WebAssembly.Memory} */ memory, /** @type {number} */ pages) {
   try {
     memory.grow(pages);

@@ -48,7 +48,6 @@ export function signed(/** @type {number | bigint} */ value) {
   return number.format(value).replace("-", "−");
 }
 
-/** Hands a file to whoever uses the page. */
 export function save(/** @type {Blob} */ blob, /** @type {string} */ name) {
   const url = URL.createObjectURL(blob);
   made("a", { href: url, download: name }).click();
@@ -114,7 +113,6 @@ export function forgetColours() {
   colours.clear();
 }
 
-/** A colour of the page's style, as a pen wants it. */
 export function ink(/** @type {string} */ name) {
   const known = colours.get(name);
   if (known !== undefined) {
@@ -125,7 +123,6 @@ export function ink(/** @type {string} */ name) {
   return text;
 }
 
-/** The same as red, green and blue. */
 function colour(/** @type {string} */ name) {
   const text = ink(name);
   return [1, 3, 5].map((at) => parseInt(text.slice(at, at + 2), 16));

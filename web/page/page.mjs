@@ -55,7 +55,6 @@ async function begin(isOfLink = false) {
   }
 }
 
-/** Says that a list can't be read. */
 function unread(/** @type {Error} */ error) {
   tell(failureWords(toldOf(error)));
   part("results").dataset.state = "ended";
@@ -97,7 +96,6 @@ function selectExample() {
   }
 }
 
-/** Empties the list, and takes a file away. */
 function clear() {
   source.forgetExample();
   source.leaveExample();
@@ -105,7 +103,6 @@ function clear() {
   source.list.focus();
 }
 
-/** The examples, which stand in the page. */
 function makeExamples() {
   const menu = /** @type {HTMLSelectElement} */ (part("examples"));
   const examples = JSON.parse(part("examples-data").textContent ?? "[]");
@@ -156,7 +153,6 @@ function isLoadedAgain() {
   return /** @type {PerformanceNavigationTiming | undefined} */ (entry)?.type !== "navigate";
 }
 
-/** What the keys do anywhere but in a field. */
 function pressed(/** @type {KeyboardEvent} */ event) {
   const isField = event.target instanceof Element && event.target.matches("input, textarea, select");
   /** @type {Record<string, [number, boolean]>} */
@@ -177,7 +173,6 @@ async function copyAll() {
   }
 }
 
-/** Has the buttons do what they say. */
 function listen() {
   /** @param {string} id @param {() => void} act */
   const on = (id, act) => part(id).addEventListener("click", act);

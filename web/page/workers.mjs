@@ -6,7 +6,6 @@ const READY_MILLISECONDS = 50;
 // A question is ended for the next one where it takes longer.
 const PATIENCE_MILLISECONDS = 400;
 
-/** A text that stands in the page. */
 function text(/** @type {string} */ id) {
   return part(id).textContent ?? "";
 }
@@ -131,7 +130,6 @@ export class Asker {
     this.next();
   }
 
-  /** Asks what waits. */
   next() {
     const { waiting } = this;
     clearTimeout(this.timer);

@@ -16,11 +16,7 @@ export const ANSWERS = ["ok", "open", "bad", "over", "unread"];
 /** @type {Verdict} */
 const NO_VERDICT = { kind: "refused", numbers: [], side: "", text: "" };
 
-const GROUP = "(?:[0-9][LR][A-Z]|---){2,10}";
-/** The machines in a line, wherever they stand in it. */
-export const MACHINES = new RegExp(`(?<![0-9A-Za-z_])${GROUP}(?:_${GROUP})*(?![0-9A-Za-z_])`, "g");
-
-/** The machine of a text that the engine took for one. @returns {Machine} */
+/** @returns {Machine} the machine of a text that the engine took for one */
 export function machineOf(/** @type {string} */ text) {
   const groups = text.split("_");
   const rules = groups.flatMap((group, state) =>
@@ -46,12 +42,11 @@ function stateNumber(/** @type {string} */ letter) {
   return letter.charCodeAt(0) - 65;
 }
 
-/** The letter of a state. */
 export function stateLetter(/** @type {number} */ state) {
   return state < 0 ? "Z" : String.fromCharCode(65 + state);
 }
 
-/** What a line says that is no verdict line: nothing. @returns {{machine: string, verdict: Verdict}} */
+/** @returns {{machine: string, verdict: Verdict}} what a line says that is no verdict line: nothing */
 export function unreadLine() {
   return { machine: "", verdict: NO_VERDICT };
 }

@@ -16,12 +16,10 @@ function plainName(/** @type {string} */ text) {
   return text.toLowerCase().replace(/[^a-z0-9]/g, "");
 }
 
-/** Whether a name is that of a column of machines. */
 function isOfMachines(/** @type {string} */ name) {
   return MACHINE_NAMES.has(plainName(name));
 }
 
-/** Whether a line begins as a comment. */
 function beginsAsComment(/** @type {string} */ bare) {
   return bare.startsWith("#") || bare.startsWith("//");
 }
@@ -45,7 +43,6 @@ export function isPassedOver(/** @type {string} */ bare) {
   return isHeader(bare);
 }
 
-/** Whether a line has the names of a table's columns. */
 function isHeader(/** @type {string} */ bare) {
   if (bare.startsWith("!")) {
     return partsOf(bare).texts.length === 0;

@@ -8,35 +8,19 @@
  *   0, and where it begins there, null where all are as they were; and how many lines were left out
  */
 import { beginsTable, isPassedOver } from "./passing.mjs";
-import { isVerdictLine, readingOf } from "./reading.mjs";
+import { OF_MACHINES, isVerdictLine, readingOf } from "./reading.mjs";
+import { isMachine } from "./texts.mjs";
 import { LONGEST_LINE } from "./words.mjs";
 
 const NEWLINE = 10;
 const RETURN = 13;
-const DASH = 45;
 const SPACE = 32;
-const [ZERO, NINE] = [48, 57];
-const [A, L, R, Z, UNDERSCORE] = [65, 76, 82, 90, 95];
-const [FEWEST_SYMBOLS, MOST_SYMBOLS] = [2, 10];
-const MOST_STATES = 25;
-// The bytes of an entry's text, and what stands at each: a bit for a digit, one for a direction, one for a
-// state's letter, one for a dash.
-const ENTRY_BYTES = 3;
-const [DIGIT, DIRECTION, LETTER, BAR] = [1, 2, 4, 8];
-const [FIRST, MIDDLE, LAST] = [DIGIT | BAR, DIRECTION | BAR, LETTER | BAR];
-const [ENTRY, UNDEFINED] = [DIGIT | DIRECTION | LETTER, BAR];
-const BYTES = Uint8Array.from({ length: 256 }, (_, byte) => {
-  const digit = byte >= ZERO && byte <= NINE ? DIGIT : 0;
-  const direction = byte === L || byte === R ? DIRECTION : 0;
-  return digit | direction | (byte >= A && byte <= Z ? LETTER : 0) | (byte === DASH ? BAR : 0);
-});
 const NUMBERS = "(?:(?:halt|cycler|backward) \\d+ \\d+|translated [LR] \\d+ \\d+(?: \\d+ \\d+)?)";
 const VERDICT = new RegExp(
   `^(?:[0-9LRA-Z_-]+ (?:${NUMBERS}|undecided (?:steps|cells))|refused \\d+)(?:\\t.*)?$`,
 );
 // So many lines that aren't passed over settle the form of a list.
 const FIRST_LINES = 100;
-const OF_MACHINES = /^[A-Za-z0-9_\-.\\\s]*$/;
 const decoder = new TextDecoder();
 const encoder = new TextEncoder();
 
@@ -62,7 +46,7 @@ export function isUtf8(/** @type {Uint8Array} */ bytes) {
   return !/\ufffd[^]/.test(decoder.decode(bytes.subarray(0, BEGIN_BYTES)));
 }
 
-/** A list that is given as it stands. @returns {Prepared} */
+/** @returns {Prepared} a list that is given as it stands */
 export function asGiven(/** @type {Uint8Array} */ bytes) {
   return { bytes, numbers: null, places: null, left: 0 };
 }
@@ -113,25 +97,16 @@ function taken(bytes, read) {
  * The machine of a line, or a line that the engine refuses where it has none; null where it is passed over.
  */
 function machineIn(/** @type {Uint8Array} */ line, /** @type {Form} */ form) {
-  const isMachine = line.length <= LONGEST_LINE && machineEnd(line, 0) === line.length;
-  if (line.length > LONGEST_LINE || (isMachine && isAllowed(line, form))) {
+  if (line.length > LONGEST_LINE) {
     return line;
   }
-  const reading = readingOf(decoder.decode(line), form);
-  if (reading.kind === "nothing") {
-    return null;
-  }
+  const text = decoder.decode(line);
+  const reading = readingOf(text, form);
   if (reading.kind === "machine") {
-    return encoder.encode(reading.machine);
+    return reading.machine === text ? line : encoder.encode(reading.machine);
   }
   // A machine that the form doesn't allow there is refused by a space before it.
-  return isMachine ? Uint8Array.of(SPACE, ...line) : line;
-}
-
-/** Whether a line that is a machine may be one in this form. */
-function isAllowed(/** @type {Uint8Array} */ line, /** @type {Form} */ form) {
-  const isRow = line[0] === DASH && line.every((byte) => byte === DASH);
-  return form === "machines" || (form !== "verdicts" && !isRow);
+  return reading.kind === "nothing" ? null : isMachine(text) ? Uint8Array.of(SPACE, ...line) : line;
 }
 
 /** A verdict line without the spaces about it; null where the line is passed over. */
@@ -146,7 +121,6 @@ function claimIn(/** @type {Uint8Array} */ line) {
   return isPassedOver(text) ? null : line;
 }
 
-/** Where the line ends that begins there, without its newline. */
 function endOf(/** @type {Uint8Array} */ bytes, /** @type {number} */ from) {
   const newline = bytes.indexOf(NEWLINE, from);
   return newline < 0 ? bytes.length : newline;
@@ -161,44 +135,8 @@ export function lineAt(bytes, from, most) {
   return decoder.decode(bytes.subarray(from, bytes[end - 1] === RETURN ? end - 1 : end));
 }
 
-/**
- * Where the machine ends that begins there, as the engine reads it; -1 where none does, or where it is longer
- * than any line.
- */
-function machineEnd(/** @type {Uint8Array} */ bytes, /** @type {number} */ from) {
-  const { length } = bytes;
-  let [symbols, size, groups, state, symbol] = [0, 0, 1, A, ZERO];
-  let at = from;
-  // No byte beyond the end is asked for: that would cost each line as much again.
-  while (at + ENTRY_BYTES <= length) {
-    const first = bytes[at];
-    const last = bytes[at + 2];
-    const kinds = (BYTES[first] & FIRST) | (BYTES[bytes[at + 1]] & MIDDLE) | (BYTES[last] & LAST);
-    if (kinds === ENTRY) {
-      symbol = first > symbol ? first : symbol;
-      state = last > state && last !== Z ? last : state;
-    } else if (kinds !== UNDEFINED || first !== DASH || bytes[at + 1] !== DASH || last !== DASH) {
-      break;
-    }
-    symbols += 1;
-    at += ENTRY_BYTES;
-    size = groups === 1 ? symbols : size;
-    if (symbols === size && size >= FEWEST_SYMBOLS && at < length && bytes[at] === UNDERSCORE) {
-      at += 1;
-      symbols = 0;
-      groups += 1;
-    }
-  }
-  const isWhole = symbols === size && size >= FEWEST_SYMBOLS && size <= MOST_SYMBOLS && groups <= MOST_STATES;
-  return isWhole && state < A + groups && symbol < ZERO + size && at - from <= LONGEST_LINE ? at : -1;
-}
-
-/**
- * The form that the first lines of a list have; null where there are none.
- * @param {Iterable<string>} lines
- * @returns {Form | null}
- */
-export function formOf(lines) {
+/** @returns {Form | null} the form that the first lines of a list have; null where there are none. */
+export function formOf(/** @type {Iterable<string>} */ lines) {
   /** @type {string[]} */
   const alone = [];
   let verdicts = 0;
@@ -234,10 +172,9 @@ export function formOf(lines) {
 /**
  * The form of a list whose lines are machines: where rows of dashes are among others of another length, they
  * are rules.
- * @param {string[]} alone
  * @returns {Form}
  */
-function formOfMachines(alone) {
+function formOfMachines(/** @type {string[]} */ alone) {
   const isRow = (/** @type {string} */ text) => /^-*$/.test(text);
   const lengths = new Set(alone.filter((text) => !isRow(text)).map(({ length }) => length));
   const isOther = alone.some((text) => isRow(text) && !lengths.has(text.length));

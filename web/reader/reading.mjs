@@ -36,7 +36,7 @@ const REFUSED = new RegExp("^refused [1-9][0-9]*(?:\\t.*)?$");
 const STATE = /(?:(?:^|[^A-Za-z0-9_'\u2019-])([A-Y])|^\s*([a-y]))[\s:|=).,;>*`"'\]-]*$/;
 const DASHES = /^-*$/;
 // The characters of machines, in any spelling.
-const OF_MACHINES = /^[A-Za-z0-9_\-.\\\s]*$/;
+export const OF_MACHINES = /^[A-Za-z0-9_\-.\\\s]*$/;
 const QUOTES = ["``", '""', "''", "\u201c\u201d", "\u2018\u2019", "\u00ab\u00bb"];
 const PAIRS = [...QUOTES, "()", "[]", "{}", "<>", "**", "~~"];
 const BESIDE = /^[\s,;]+|[\s,;]+$/g;
@@ -113,12 +113,8 @@ export function isVerdictLine(/** @type {string} */ bare) {
   return REFUSED.test(bare) || (VERDICT.test(first.slice(machine.length + 1)) && isMachine(machine));
 }
 
-/**
- * The reading of a line of the form of verdicts.
- * @param {string} line @param {string} bare
- * @returns {Reading}
- */
-function readingOfVerdict(line, bare) {
+/** @returns {Reading} the reading of a line of the form of verdicts */
+function readingOfVerdict(/** @type {string} */ line, /** @type {string} */ bare) {
   const place = line.length - line.trimStart().length + 1;
   if (REFUSED.test(bare)) {
     return { kind: "refusal", ...reasonOf("none", "no machine in this line", place) };
@@ -133,12 +129,8 @@ function readingOfVerdict(line, bare) {
   return { kind: "refusal", ...reasonOf("verdict", "this is no verdict line", place) };
 }
 
-/**
- * The reading of a line whose machine has to stand alone.
- * @param {Reading} reading @param {string} bare
- * @returns {Reading}
- */
-function alone(reading, bare) {
+/** @returns {Reading} the reading of a line whose machine has to stand alone */
+function alone(/** @type {Reading} */ reading, /** @type {string} */ bare) {
   if (reading.kind !== "machine") {
     return reading;
   }
@@ -149,12 +141,8 @@ function alone(reading, bare) {
   return { kind: "refusal", ...reasonOf("beside", `the line has more than the machine ${cut(machine)}`, 1) };
 }
 
-/**
- * The reading of a line that isn't passed over.
- * @param {string} line
- * @returns {Reading}
- */
-function readPlain(line) {
+/** @returns {Reading} the reading of a line that isn't passed over */
+function readPlain(/** @type {string} */ line) {
   const { text, places } = unescaped(line);
   const read = readTexts(text);
   if (!Array.isArray(read)) {
@@ -180,12 +168,8 @@ function unescaped(/** @type {string} */ line) {
   return { text: kept.map((place) => line.charAt(place)).join(""), places: kept };
 }
 
-/**
- * The texts of a line that are its one machine, or why there is none.
- * @param {string} line
- * @returns {Read[] | Reason}
- */
-function readTexts(line) {
+/** @returns {Read[] | Reason} the texts of a line that are its one machine, or why there is none */
+function readTexts(/** @type {string} */ line) {
   const { texts, rows } = partsOf(line);
   if (isCommentOfMachine(line.trim())) {
     const place = texts[0].begin + 1;
@@ -245,10 +229,9 @@ function noText(/** @type {string} */ line, /** @type {import("./words.mjs").Wor
 
 /**
  * What a text is read as; its words by themselves where each is a machine and the text can't be one.
- * @param {Text} text
  * @returns {Read[] | Reason}
  */
-function readText(text) {
+function readText(/** @type {Text} */ text) {
   if (!text.isLast) {
     return reasonOf("none", "no machine in this line", text.words[0].begin + 1);
   }
@@ -296,12 +279,8 @@ function eachOf(/** @type {number} */ count, /** @type {number} */ place) {
   return reasonOf("words", sentence, place);
 }
 
-/**
- * The texts that are one machine, or why they aren't.
- * @param {Read[]} found
- * @returns {Read[] | Reason}
- */
-function oneOf(found) {
+/** @returns {Read[] | Reason} the texts that are one machine, or why they aren't */
+function oneOf(/** @type {Read[]} */ found) {
   const read = found.filter(([, outcome]) => "machine" in outcome);
   const isSetApart = read.every(([text]) => written(text).includes("_"));
   const others = found.filter(

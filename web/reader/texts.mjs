@@ -61,10 +61,9 @@ export function isMachine(/** @type {string} */ text) {
  * The machine whose groups are set apart by `_` in one word, or are these words; or that of one word without
  * `_`,
  * where there is one division into groups that makes one.
- * @param {Word[]} words
  * @returns {Found | Reason}
  */
-export function readWords(words) {
+export function readWords(/** @type {Word[]} */ words) {
   if (words.length === 1 && words[0].text.includes("_") && isMachine(words[0].text)) {
     return { machine: words[0].text, rewritten: [] };
   }
@@ -82,10 +81,9 @@ export function readWords(words) {
 
 /**
  * The machine whose entries are these words, where one division into groups makes one.
- * @param {Word[]} words
  * @returns {Found | Reason}
  */
-export function readEntries(words) {
+export function readEntries(/** @type {Word[]} */ words) {
   const entries = entriesOfGroups(words);
   return Array.isArray(entries) ? divided(entries.flat(), [...rewrittenIn(words), "entries"]) : entries;
 }
@@ -96,12 +94,8 @@ export function readArrays(/** @type {Word[][]} */ groups) {
   return machineOf(entries, [...rewrittenIn(groups.flat()), "arrays"]);
 }
 
-/**
- * The entries of each group, or why one of them has others.
- * @param {Word[]} groups
- * @returns {Group[] | Reason}
- */
-function entriesOfGroups(groups) {
+/** @returns {Group[] | Reason} the entries of each group, or why one of them has others */
+function entriesOfGroups(/** @type {Word[]} */ groups) {
   /** @type {Group[]} */
   const entries = [];
   for (const [place, group] of groups.entries()) {
@@ -175,10 +169,9 @@ function rewrittenIn(/** @type {Word[]} */ groups) {
 
 /**
  * The machine that a text without `_` is, where there is one division into groups that makes one.
- * @param {Group} entries @param {string[]} rewritten
  * @returns {Found | Reason}
  */
-function divided(entries, rewritten) {
+function divided(/** @type {Group} */ entries, /** @type {string[]} */ rewritten) {
   const count = entries.length;
   const place = entries[0][0] + 1;
   const all = count === 1 ? "1 entry" : `${count} entries`;
@@ -203,12 +196,8 @@ function divided(entries, rewritten) {
     : reasonOf("divisions", `${found.length} ways to divide ${all} into groups make a machine`, place);
 }
 
-/**
- * The machine that has these groups.
- * @param {Group[]} groups @param {string[]} rewritten
- * @returns {Found | Reason}
- */
-function machineOf(groups, rewritten) {
+/** @returns {Found | Reason} the machine that has these groups */
+function machineOf(/** @type {Group[]} */ groups, /** @type {string[]} */ rewritten) {
   const wrong = wrongSize(groups);
   if (wrong !== null) {
     return wrong;
@@ -230,7 +219,6 @@ function machineOf(groups, rewritten) {
   return { machine: texts.join("_"), rewritten: inOrder };
 }
 
-/** An entry as the engine reads it. */
 function capital(/** @type {string} */ text, /** @type {boolean} */ haltsByH) {
   const entry = text.toUpperCase().replace("...", "---");
   return haltsByH && entry[2] === "H" ? `${entry.slice(0, 2)}Z` : entry;

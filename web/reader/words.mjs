@@ -47,7 +47,6 @@ const PART = /[^/?#&=]+/g;
 // What may stand between the words of a text.
 const TOGETHER = /^[ \u00a0]*$/;
 
-/** Where a word ends. */
 export function endOf(/** @type {Word} */ { begin, text }) {
   return begin + text.length;
 }
@@ -57,32 +56,22 @@ export function written(/** @type {Text} */ { words }) {
   return words.map(({ text }) => text).join(" ");
 }
 
-/** Whether a text is one entry and nothing else. */
 export function isLoneEntry(/** @type {Text} */ { words }) {
   return words.length === 1 && words[0].text.length === 3;
 }
 
-/**
- * These words as one text.
- * @param {Word[]} words
- * @returns {Text}
- */
-export function textOf(words) {
+/** @returns {Text} these words as one text */
+export function textOf(/** @type {Word[]} */ words) {
   const end = endOf(words[words.length - 1]);
   return { words, begin: words[0].begin, end, isAddress: false, isLast: true, arrays: [] };
 }
 
-/** Whether each of several words is one entry. */
 export function isOfEntries(/** @type {Text} */ { words }) {
   return words.length > 1 && words.every(({ text }) => text.length === 3);
 }
 
-/**
- * What of a line may be a machine.
- * @param {string} given
- * @returns {Parts}
- */
-export function partsOf(given) {
+/** @returns {Parts} what of a line may be a machine */
+export function partsOf(/** @type {string} */ given) {
   const texts = arraysOf(given);
   const line = texts.reduce(
     (before, { begin, end }) => before.slice(0, begin) + "|".repeat(end - begin) + before.slice(end),
@@ -110,10 +99,7 @@ export function partsOf(given) {
   return { texts, rows: rows.filter(({ begin }) => !inside.has(begin)) };
 }
 
-/**
- * The machines of a line that are written as arrays of entries.
- * @returns {Text[]}
- */
+/** @returns {Text[]} the machines of a line that are written as arrays of entries */
 function arraysOf(/** @type {string} */ line) {
   const found = line.includes("[") ? [...line.matchAll(ARRAYS)] : [];
   return found.map((match) => {
@@ -143,12 +129,8 @@ function withoutStop(/** @type {Word} */ word) {
   return { begin, text: isStopped ? text.slice(0, -1) : text };
 }
 
-/**
- * What of an address may be a machine.
- * @param {Word} address
- * @returns {Text[]}
- */
-function textsIn(address) {
+/** @returns {Text[]} what of an address may be a machine */
+function textsIn(/** @type {Word} */ address) {
   const last = address.text.replace(/\/+$/, "").lastIndexOf("/") + 1;
   return [...address.text.matchAll(PART)].flatMap((match) => {
     const at = match.index ?? 0;
@@ -158,7 +140,6 @@ function textsIn(address) {
   });
 }
 
-/** The row that is an address's last part. */
 function rowsIn(/** @type {Word} */ { begin, text }) {
   const at = text.lastIndexOf("/") + 1;
   return ROW.test(text.slice(at)) ? [{ begin: begin + at, text: text.slice(at) }] : [];

@@ -19,7 +19,6 @@ for (let byte = 1; byte < ONES.length; byte += 1) {
   ONES[byte] = ONES[byte >> 1] + (byte & 1);
 }
 
-/** A colour as the four bytes of a pixel. */
 function pixelOf(/** @type {number[]} */ [red, green, blue]) {
   return new Uint32Array(Uint8Array.of(red, green, blue, 255).buffer)[0];
 }

@@ -26,14 +26,6 @@ const ANSWER_LENGTHS = Uint8Array.from(ANSWERS, (word) => word.length + 1);
 // How many spaces stand between a kind's first letter and the number of the steps that it names; 0 where it
 // names none.
 const SPACES = kindsBytes({ halt: 1, cycler: 2, translated: 3 });
-// The least bytes from a kind's first letter to the end of its line.
-const LEAST = kindsBytes({
-  halt: "halt 0 0".length,
-  cycler: "cycler 0 1".length,
-  translated: "translated R 1 2 1 1".length,
-  backward: "backward 0 0".length,
-  undecided: "undecided steps".length,
-});
 
 let scratch = new Uint32Array(0);
 
@@ -68,16 +60,6 @@ function wordEnd(/** @type {Uint8Array} */ bytes, /** @type {number} */ from) {
   return at;
 }
 
-/** Where the first newline stands from there on; the end where there is none. */
-function lineEnd(/** @type {Uint8Array} */ bytes, /** @type {number} */ from) {
-  const length = bytes.length;
-  let at = from;
-  while (at < length && bytes[at] !== NEWLINE) {
-    at += 1;
-  }
-  return at;
-}
-
 /** The place behind so many further spaces of a line, or its end where it has fewer. */
 function behind(/** @type {Uint8Array} */ bytes, /** @type {number} */ from, /** @type {number} */ spaces) {
   let at = from;
@@ -98,46 +80,14 @@ export function numberAt(/** @type {Uint8Array} */ bytes, /** @type {number} */ 
   return at === from ? -1 : value;
 }
 
-/** Room for what so many lines say; until it is known they are refused. @returns {Lines} */
-function roomFor(/** @type {number} */ count) {
-  return { starts: new Uint32Array(count + 1), kinds: new Uint8Array(count).fill(REFUSED) };
-}
-
-/** What is said in so many verdict lines that anyone wrote. @returns {Lines} */
-export function readLines(/** @type {Uint8Array} */ bytes, /** @type {number} */ count) {
-  const { starts, kinds } = roomFor(count);
-  let at = 0;
-  for (let k = 0; k < count; k += 1) {
-    if (bytes[at] !== LETTER_R) {
-      at = behind(bytes, at, 1);
-      kinds[k] = KIND_BY_LETTER[bytes[at]] ?? REFUSED;
+/** @returns {Lines} what is said in verdict lines; those that are none have any kind. */
+export function readLines(/** @type {Uint8Array} */ bytes) {
+  const starts = startsOf(bytes).slice();
+  const kinds = new Uint8Array(starts.length - 1).fill(REFUSED);
+  for (let k = 0; k < kinds.length; k += 1) {
+    if (bytes[starts[k]] !== LETTER_R) {
+      kinds[k] = KIND_BY_LETTER[bytes[wordEnd(bytes, starts[k]) + 1]] ?? REFUSED;
     }
-    at = Math.min(lineEnd(bytes, at) + 1, bytes.length);
-    starts[k + 1] = at;
-  }
-  return { starts, kinds };
-}
-
-/**
- * What the engine says of machines. Each line that isn't refused begins with the machine's line and ends no
- * sooner than the shortest of its kind, so that neither needs to be looked through.
- * @param {Uint8Array} bytes @param {Uint32Array} machines where the machines' lines begin and the last ends
- * @returns {Lines}
- */
-export function readReply(bytes, machines) {
-  const count = machines.length - 1;
-  const { starts, kinds } = roomFor(count);
-  let at = 0;
-  for (let k = 0; k < count; k += 1) {
-    if (bytes[at] !== LETTER_R) {
-      const space = at + machines[k + 1] - machines[k] - 1;
-      at = bytes[space] === SPACE ? space + 1 : behind(bytes, at, 1);
-      const kind = KIND_BY_LETTER[bytes[at]] ?? REFUSED;
-      kinds[k] = kind;
-      at += LEAST[kind];
-    }
-    at = Math.min(lineEnd(bytes, at) + 1, bytes.length);
-    starts[k + 1] = at;
   }
   return { starts, kinds };
 }

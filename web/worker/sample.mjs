@@ -18,7 +18,6 @@ const LOWEST_BITS = 0x01010101;
 const TOGETHER = 0x10204080;
 const NIBBLE = 15;
 
-/** How many bits a cell of so many symbols has. */
 export function bitsFor(/** @type {number} */ symbols) {
   return symbols === 2 ? 1 : 4;
 }
@@ -82,7 +81,7 @@ export function rowsOf(sample, first, apart, count) {
   return { steps, heads, lows, wide, places: begins, states: letters, cells: own, bits };
 }
 
-/** The rows of a trace of a machine with so many symbols. @returns {Sample} */
+/** @returns {Sample} the rows of a trace of a machine with so many symbols */
 export function readTrace(/** @type {Uint8Array} */ text, /** @type {number} */ symbols) {
   const { begins, states, ...columns } = columnsOf(text);
   const bits = bitsFor(symbols);

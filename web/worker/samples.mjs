@@ -154,7 +154,7 @@ export class Run {
   }
 }
 
-/** The last of some rows; null where there is none. @returns {Last | null} */
+/** @returns {Last | null} the last of some rows; null where there is none. */
 function lastOf(/** @type {Kept} */ { sample, cut }, /** @type {number} */ upto) {
   const { steps, states, lows, wide } = sample;
   const k = steps.length - 1;

@@ -25,7 +25,7 @@ function runOf(/** @type {{machine: string, cells: number}} */ { machine, cells 
   return known;
 }
 
-/** The rows of a machine that are asked for. @returns {Row[]} */
+/** @returns {Row[]} the rows of a machine that are asked for */
 export function traced(/** @type {Engine} */ engine, /** @type {Asked} */ asked) {
   const { sample } = runOf(asked).rows(engine, asked, false);
   return Array.from(sample.steps, (step, k) => {
@@ -46,7 +46,6 @@ export function keep(/** @type {Kept} */ kept) {
   }
 }
 
-/** The last step that a run makes. */
 export function lastOf(/** @type {Engine} */ engine, /** @type {Limited} */ asked) {
   return runOf(asked).last(engine, asked.upto).step;
 }
@@ -105,7 +104,6 @@ function spanOf(/** @type {{low: number, wide: number}} */ { low, wide }) {
   return { low, high: low + wide - 1 };
 }
 
-/** How many rows a view has. */
 function rowsIn(/** @type {View} */ { high }, /** @type {number} */ height) {
   return Math.ceil(height / high);
 }

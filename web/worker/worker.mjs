@@ -22,7 +22,7 @@ import { load } from "../lib/bb.mjs";
 import { ANSWERS, KINDS } from "../reader/machine.mjs";
 import { asGiven, lineAt, prepared } from "../reader/prepare.mjs";
 import { LONGEST_SHOWN } from "../reader/words.mjs";
-import { readAnswers, readLines, readReply, startsOf, tallied } from "./replies.mjs";
+import { readAnswers, readLines, startsOf, tallied } from "./replies.mjs";
 import { growthOf, keep, lastOf, pictured, takenAhead, traced } from "./traced.mjs";
 
 const NEWLINE = 10;
@@ -64,7 +64,7 @@ function answered(
   const count = starts.length - 1;
   const verdicts = mode === "decide" ? host.decideBytes(given, plan, count).bytes : given;
   const reply = host.checkBytes(verdicts, { steps, cells, depth, nodes }, count).bytes;
-  const lines = mode === "decide" ? readReply(verdicts, starts) : readLines(verdicts, count);
+  const lines = readLines(verdicts);
   const answers = readAnswers(reply, count);
   if (mode === "check") {
     refuseUnread(lines.kinds, answers);
@@ -216,7 +216,6 @@ function take(/** @type {WebAssembly.Module} */ module) {
   loaded.catch(() => undefined);
 }
 
-/** Does what a message asks. */
 async function answer(/** @type {any} */ asked) {
   if (asked.what === "load") {
     take(asked.module);

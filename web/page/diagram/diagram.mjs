@@ -70,12 +70,11 @@ export class Diagram {
     });
   }
 
-  /** Where the picture stands in the canvas. */
   get area() {
     return areaOf(this.canvas, this.shown?.last ?? 0);
   }
 
-  /** What the canvas shows; null until something does. @returns {Scene | null} */
+  /** @returns {Scene | null} what the canvas shows; null until something does. */
   get scene() {
     const { view, area, data } = this;
     return view === null ? null : { view, area, data };
@@ -114,7 +113,6 @@ export class Diagram {
     }
   }
 
-  /** Shows the whole. */
   fit() {
     Object.assign(this, { view: null, opens: false, isFitted: true });
     this.fetch();
@@ -126,7 +124,6 @@ export class Diagram {
     this.fetch();
   }
 
-  /** Shows another view. */
   show(/** @type {View} */ view) {
     Object.assign(this, { view, isFitted: false });
     this.fetch();
@@ -240,7 +237,6 @@ export class Diagram {
     return scene === null ? null : placeAt(scene, { x, y });
   }
 
-  /** What is at a place, in words. */
   placeWords(/** @type {Place} */ place) {
     return placeWords(this.data, place);
   }
@@ -257,7 +253,6 @@ export class Diagram {
     this.drawSoon();
   }
 
-  /** The place in the middle of what is seen. */
   placeOfMiddle(/** @type {Scene} */ scene) {
     return placeAt(scene, this.middle(scene)) ?? this.chosen;
   }
@@ -291,7 +286,7 @@ export class Diagram {
     canvas.dataset.state = isNew ? "drawn" : "asked";
   }
 
-  /** The picture as a file. @returns {Promise<Blob | null>} */
+  /** @returns {Promise<Blob | null>} the picture as a file */
   async png() {
     return new Promise((done) => this.canvas.toBlob(done, "image/png"));
   }
@@ -322,7 +317,6 @@ class Ahead {
     });
   }
 
-  /** Ends what is taken now. */
   end() {
     if (this.asker.isBusy) {
       this.asker.end();

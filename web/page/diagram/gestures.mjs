@@ -88,13 +88,12 @@ class Fingers {
     this.begin = this.begun();
   }
 
-  /** A finger is no longer there. */
   lost(/** @type {PointerEvent} */ event) {
     this.fingers.delete(event.pointerId);
     this.begin = this.begun();
   }
 
-  /** Where the fingers begin that are there now. @returns {Begin | null} */
+  /** @returns {Begin | null} where the fingers begin that are there now */
   begun() {
     const { view } = this.diagram;
     return view === null || this.fingers.size === 0 ? null : { view, ...this.span() };

@@ -26,12 +26,10 @@ const ARROW_PIXELS = 6;
 // A number on an axis has a mark as long, in the pixel where its row or column has its middle.
 const MARK_PIXELS = 4;
 
-/** Where a step's row begins. */
 function rowAt(/** @type {Area} */ area, /** @type {View} */ view, /** @type {number} */ step) {
   return area.y + (step - view.top) / stepsOf(view);
 }
 
-/** Where a position's column begins. */
 function columnAt(/** @type {Area} */ area, /** @type {View} */ view, /** @type {number} */ position) {
   return area.x + (position - view.left) / cellsOf(view);
 }
@@ -201,10 +199,7 @@ function paintMarks(pen, area, view, marks) {
   }
 }
 
-/**
- * The rectangle of a band; a band without ends goes over the whole width.
- * @returns {Box}
- */
+/** @returns {Box} the rectangle of a band; a band without ends goes over the whole width. */
 function boxOf(/** @type {Band} */ band, /** @type {View} */ view, /** @type {Area} */ area) {
   const x = band.from === null ? area.x + 1 : columnAt(area, view, band.from);
   const end = band.to === null ? area.x + area.width - 1 : columnAt(area, view, band.to + 1);

@@ -38,7 +38,7 @@ export function areaOf({ clientWidth: width, clientHeight: height }, last) {
   return { x, y: TOP, width: Math.max(1, width - x), height: Math.max(1, height - TOP) };
 }
 
-/** The middle of a cell in the canvas. @returns {Point} */
+/** @returns {Point} the middle of a cell in the canvas */
 export function pointOf(/** @type {Scene} */ { view, area }, /** @type {Place} */ { step, position }) {
   return {
     x: area.x + (position - view.left) / cellsOf(view) + view.wide / 2,
@@ -46,7 +46,6 @@ export function pointOf(/** @type {Scene} */ { view, area }, /** @type {Place} *
   };
 }
 
-/** Whether a place is in view. */
 export function isSeen(/** @type {Scene} */ scene, /** @type {Place} */ place) {
   const point = pointOf(scene, place);
   const { x, y, width, height } = scene.area;
@@ -59,7 +58,7 @@ export function rowOf(/** @type {Picture} */ { sample, every }, /** @type {numbe
   return k >= 0 && k < sample.steps.length ? k : -1;
 }
 
-/** The place at the step of the row that shows it; itself where no row does. @returns {Place} */
+/** @returns {Place} the place at the step of the row that shows it; itself where no row does. */
 export function beside(/** @type {Picture | null} */ data, /** @type {Place} */ place) {
   const k = data === null ? -1 : rowOf(data, place.step);
   return data === null || k < 0 ? place : { ...place, step: data.sample.steps[k] };
@@ -73,7 +72,7 @@ function rowNear(/** @type {Scene} */ { view, area, data }, /** @type {number} *
   return rowOf(data, view.top + Math.floor((y - area.y) / view.high) * view.every);
 }
 
-/** The place under a point of the canvas; null where there is none. @returns {Place | null} */
+/** @returns {Place | null} the place under a point of the canvas; null where there is none. */
 export function placeAt(/** @type {Scene} */ scene, /** @type {Point} */ { x, y }) {
   const { view, area, data } = scene;
   const k = rowNear(scene, y);
@@ -130,7 +129,7 @@ export function nextPlace({ view, data }, from, { right, down, far }, upto) {
   return apart > stride ? place : beside(data, place);
 }
 
-/** A view moved by so many pixels, by whole columns and rows. @returns {View} */
+/** @returns {View} a view moved by so many pixels, by whole columns and rows */
 export function moved(/** @type {View} */ view, /** @type {number} */ right, /** @type {number} */ down) {
   const columns = Math.round(right / view.wide);
   const rows = Math.round(down / view.high);

@@ -29,7 +29,6 @@ const APART_PIXELS = 24;
 // The last step's row is outlined; it has this room below the sampled ones.
 const LAST_ROW_PIXELS = 6;
 
-/** Whether two views show the same. */
 export function isSame(/** @type {View} */ one, /** @type {View} */ two) {
   const isPlaced = one.top === two.top && one.left === two.left;
   return isPlaced && stepsOf(one) === stepsOf(two) && cellsOf(one) === cellsOf(two);

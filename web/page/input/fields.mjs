@@ -18,7 +18,6 @@ const WHAT = {
 
 const field = (/** @type {string} */ name) => /** @type {HTMLInputElement} */ (part(name));
 
-/** Makes the fields. */
 export function makeFields() {
   for (const name of NAMES) {
     const { least, most, usual } = RANGES[name];
@@ -54,7 +53,7 @@ export function setPlan(/** @type {Record<string, any>} */ plan) {
   tellLimits();
 }
 
-/** What stands in the fields, as it is written. @returns {Record<string, any>} */
+/** @returns {Record<string, any>} what stands in the fields, as it is written */
 export function planWords() {
   const switches = SWITCHES.map((name) => [name, field(name).checked]);
   return Object.fromEntries([...NAMES.map((name) => [name, field(name).value]), ...switches]);
@@ -146,7 +145,6 @@ export function linkOf(/** @type {string} */ machine, /** @type {Record<string, 
   return words.toString();
 }
 
-/** The text of an address. */
 function decoded(/** @type {string} */ text) {
   try {
     return decodeURIComponent(text);

@@ -66,22 +66,19 @@ export function listenToFiles(take, fill) {
   });
 }
 
-/** Whether bytes begin with these. */
 function beginsWith(/** @type {Uint8Array} */ bytes, /** @type {number[]} */ mark) {
   return bytes.length >= mark.length && mark.every((byte, at) => bytes[at] === byte);
 }
 
-/** Whether bytes that begin so are compressed by gzip. */
 export function isGzip(/** @type {Uint8Array} */ begin) {
   return beginsWith(begin, GZIP);
 }
 
 /**
  * The name of the encoding or format that begins so; null for bytes that may be UTF-8.
- * @param {Uint8Array} begin
  * @returns {string | null}
  */
-export function encodingOf(begin) {
+export function encodingOf(/** @type {Uint8Array} */ begin) {
   const mark = MARKS.find(([bytes]) => beginsWith(begin, bytes));
   if (mark !== undefined) {
     return mark[1];

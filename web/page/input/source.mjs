@@ -42,19 +42,13 @@ export class Source {
     part("defaults").addEventListener("click", () => this.toDefaults());
   }
 
-  /**
-   * How a list is answered that begins so.
-   * @returns {Mode}
-   */
+  /** @returns {Mode} how a list is answered that begins so */
   modeOf(/** @type {Uint8Array} */ start) {
     const asked = this.mode.value;
     return asked === "check" || (asked === "auto" && hasVerdicts(start)) ? "check" : "decide";
   }
 
-  /**
-   * The form by which the lines of a list are read that begins so.
-   * @returns {Form}
-   */
+  /** @returns {Form} the form by which the lines of a list are read that begins so */
   formOf(/** @type {Uint8Array} */ start) {
     const asked = this.form.value;
     const found = asked === "auto" ? formOf(firstLines(start)) : /** @type {Form} */ (asked);
@@ -101,7 +95,6 @@ export class Source {
     return this.bytes;
   }
 
-  /** Puts a text into the list. */
   fill(/** @type {string} */ text) {
     this.list.value = text;
     this.hold(null);
@@ -122,14 +115,12 @@ export class Source {
     }
   }
 
-  /** Says that a list is gone. */
   tellGone(/** @type {string} */ name) {
     const words = `${name} isn’t kept over a reload; choose it again.`;
     Object.assign(part("list-gone"), { textContent: words, hidden: false });
     this.gone = name;
   }
 
-  /** All settings as they are at first. */
   toDefaults() {
     this.leaveExample();
     this.set({}, true, "auto");
@@ -170,7 +161,6 @@ export class Source {
   }
 }
 
-/** Has the button say what it does. */
 function nameRun(/** @type {Mode} */ mode) {
   part("run").textContent = mode === "check" ? "Check" : "Decide";
 }
@@ -187,7 +177,7 @@ export function keep(/** @type {Kept} */ { text, gone, ...settings }) {
   }
 }
 
-/** What was kept; null where nothing was. @returns {Kept | null} */
+/** @returns {Kept | null} what was kept; null where nothing was. */
 export function kept() {
   try {
     return JSON.parse(sessionStorage.getItem(KEY) ?? "null");
@@ -196,7 +186,6 @@ export function kept() {
   }
 }
 
-/** Keeps nothing. */
 export function forget() {
   try {
     sessionStorage.removeItem(KEY);

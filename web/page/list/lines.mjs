@@ -114,7 +114,6 @@ export class Lines {
     setAside("save-shown", "hidden", isAll, "save");
   }
 
-  /** The button of a kind. */
   kindButton(/** @type {number} */ k) {
     const { kindsShown } = this;
     const button = made("button", { type: "button", id: `kind-${KINDS[k]}`, hidden: true });

@@ -48,7 +48,7 @@ export class Pool {
     this.watch = setInterval(() => this.hands.forEach((hand) => this.hurry(hand)), WATCH_MILLISECONDS);
   }
 
-  /** A worker for this list. @returns {Hand} */
+  /** @returns {Hand} a worker for this list */
   begun() {
     /** @type {Hand} */
     const hand = { worker: takeWorker(), pieces: [], note: null, since: 0, ...UNUSED };

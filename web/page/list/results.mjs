@@ -44,7 +44,6 @@ export class Results {
     this.numbers = new Uint32Array(0);
   }
 
-  /** Takes in a part. */
   add(/** @type {Part} */ part, /** @type {number} */ read) {
     (this.jobs[part.job] ??= []).push(part);
     this.flat = null;
@@ -103,13 +102,11 @@ export class Results {
     this.again += plan >= LARGER ? by : 0;
   }
 
-  /** The rows that only the first pass has answered. */
   openRows() {
     const isOpen = Uint8Array.from([0, 1]);
     return this.rowsBy((part) => part.plans ?? new Uint8Array(part.kinds.length), isOpen);
   }
 
-  /** The machine of a row that was decided. */
   machineAt(/** @type {number} */ row) {
     const { part, line } = this.place(row);
     const from = part.starts[line];
@@ -128,7 +125,7 @@ export class Results {
     return this.flat;
   }
 
-  /** Where a line stands. @returns {Place} */
+  /** @returns {Place} where a line stands */
   place(/** @type {number} */ row) {
     const parts = this.parts();
     let [low, high] = [0, parts.length];
@@ -145,7 +142,6 @@ export class Results {
     return at < 0 ? -1 : this.begins[at] + line;
   }
 
-  /** The kind of a row, by its number. */
   kindOf(/** @type {number} */ row) {
     const { part, line } = this.place(row);
     return part.kinds[line];
@@ -256,7 +252,6 @@ export class Results {
   }
 }
 
-/** The numbers at these places. */
 function taken(/** @type {Float64Array} */ numbers, /** @type {Uint32Array} */ places) {
   const found = new Float64Array(places.length);
   for (let k = 0; k < places.length; k += 1) {
@@ -265,7 +260,6 @@ function taken(/** @type {Float64Array} */ numbers, /** @type {Uint32Array} */ p
   return found;
 }
 
-/** The numbers from 0 on, so many. */
 function numbersTo(/** @type {number} */ count) {
   const numbers = new Uint32Array(count);
   for (let k = 0; k < count; k += 1) {
@@ -289,7 +283,6 @@ function addRows(rows, count, kinds, begin, isShown) {
   return end;
 }
 
-/** Has the browser do what else waits. */
 function rest() {
   return new Promise((done) => setTimeout(done));
 }
@@ -310,7 +303,6 @@ function linesOf(/** @type {Part} */ part, /** @type {Set<number>} */ kinds) {
   return found;
 }
 
-/** The bytes of arrays, one after another. */
 function joined(/** @type {Uint8Array[]} */ arrays) {
   const bytes = new Uint8Array(arrays.reduce((sum, { length }) => sum + length, 0));
   let at = 0;

@@ -54,7 +54,6 @@ export class Rows {
     return this.phone.matches ? PHONE_ROW_PIXELS : ROW_PIXELS;
   }
 
-  /** How many rows are seen, below the head. */
   get seen() {
     return Math.max(1, Math.floor((this.inner - this.pixels - 1) / this.pixels));
   }
@@ -132,7 +131,6 @@ export class Rows {
     }
   }
 
-  /** Scrolls so that this row is the first one. */
   go(/** @type {number} */ top) {
     this.top = Math.max(0, Math.min(top, this.rows.length - this.seen));
     const share = this.top / Math.max(1, this.rows.length - this.seen);

@@ -44,12 +44,10 @@ export function tell(/** @type {string} */ message) {
   Object.assign(part("error"), { textContent: message, hidden: message === "" });
 }
 
-/** How many workers a list has at most. */
 function mostWorkers() {
   return Math.min(MOST_WORKERS, navigator.hardwareConcurrency || 1);
 }
 
-/** How many workers a list has. */
 function workersFor(/** @type {number} */ size) {
   return Math.max(1, Math.min(mostWorkers(), Math.ceil(size / LEAST_BYTES)));
 }
@@ -220,7 +218,6 @@ export class Work {
     this.show(this.pool === null ? this.how : "Running");
   }
 
-  /** Shows what is known by now. */
   show(/** @type {string} */ how) {
     clearTimeout(this.refresh);
     this.refresh = 0;

@@ -54,7 +54,6 @@ export class Again {
     });
   }
 
-  /** Ends it in the middle of the machine. */
   stop() {
     if (this.isAsked) {
       this.asker.end();

@@ -29,7 +29,6 @@ const asker = new Asker();
 /** @type {Verdict | null} the verdict that is shown: rows that come for another one are too late */
 let shownVerdict = null;
 
-/** Leaves the verdict that is shown. */
 export function forgetBehind() {
   shownVerdict = null;
 }
@@ -179,7 +178,6 @@ function rowText(row, band, rows, kind) {
   return made("div", {}, made("span", { class: "step" }, words), ...cells);
 }
 
-/** The levels of the tree with their nodes. */
 function treeParts(/** @type {{machine: string, verdict: Verdict}} */ { machine, verdict }) {
   const [levels, nodes] = verdict.numbers;
   const tree = treeOf(machineOf(machine), Math.min(nodes, MOST_NODES));

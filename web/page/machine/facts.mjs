@@ -28,7 +28,6 @@ const growthAsker = new Asker();
 /** @type {About | null} what it is about: an answer that comes for another one is too late */
 let current = null;
 
-/** The machine with left and right swapped. */
 export function mirrorOf(/** @type {string} */ text) {
   return text.replace(/[LR]/g, (move) => (move === "L" ? "R" : "L"));
 }
@@ -158,7 +157,6 @@ function askLater(/** @type {About} */ about) {
   });
 }
 
-/** Asks how the cells grow. */
 function askGrowth(/** @type {About} */ about) {
   const { machine, cells, steps } = about;
   const upto = Math.min(steps, MOST_GROWTH_STEPS);

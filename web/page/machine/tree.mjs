@@ -39,12 +39,8 @@ function before(/** @type {Machine} */ machine, /** @type {Node} */ node) {
   return nodes;
 }
 
-/**
- * The levels of the tree until one is empty, or until more nodes than `most` stand in it.
- * @param {Machine} machine @param {number} most
- * @returns {Tree}
- */
-export function treeOf(machine, most) {
+/** @returns {Tree} the levels of the tree until one is empty, or until more nodes than `most` stand in it */
+export function treeOf(/** @type {Machine} */ machine, /** @type {number} */ most) {
   const levels = [];
   let count = 0;
   let level = halting(machine);

@@ -199,7 +199,6 @@ function entryText(/** @type {import("../../reader/machine.mjs").Entry} */ { wri
   return `${write}${move > 0 ? "R" : "L"}${stateLetter(next)}`;
 }
 
-/** What the colours mean. */
 function legendOf(/** @type {import("../../reader/machine.mjs").Machine} */ { symbols }) {
   const names = Array.from({ length: symbols }, (_, symbol) => [`s${symbol}`, String(symbol)]);
   return [...names, ["head", "head"], ["unvisited", "not visited yet"]].map(([colour, name]) => {

@@ -51,7 +51,6 @@ export class Tape {
     this.calm.addEventListener("change", () => this.pause());
   }
 
-  /** Shows a machine's tape at a step. */
   open(/** @type {About} */ about, step = 0) {
     this.pause();
     Object.assign(this, { about, rows: [] });
@@ -78,7 +77,6 @@ export class Tape {
     return this.rows.find((row) => row.step === this.step);
   }
 
-  /** Goes to the step that the field names. */
   goToAsked() {
     const field = /** @type {HTMLInputElement} */ (part("tape-step"));
     const number = numberOf(field.value);
@@ -196,7 +194,6 @@ export class Tape {
     }
   }
 
-  /** Whether the run goes on after this step. */
   get goesOn() {
     const { row, about } = this;
     const isKnown = row !== undefined && about !== null;

@@ -6,7 +6,6 @@
 import { machineOf, shown, stateLetter } from "../../reader/machine.mjs";
 import { made, signed } from "../dom.mjs";
 
-/** The symbol under the head. */
 function symbolOf(/** @type {Row} */ { cells, head, low }) {
   return cells[head - low] ?? 0;
 }
