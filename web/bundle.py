@@ -1,12 +1,13 @@
 #!/usr/bin/env python3
 """Bundles the page, its worker, the examples and the engine into one file.
 
-    python3 web/bundle.py web/out/bb.wasm web/out/bb.html
+    python3 web/bundle.py
 
-A page that is opened from a disk may load no other file. So esbuild (Debian's `esbuild`) makes one script of
-the page's modules and one of the worker's, and the style smaller; the engine stands beside them in base64. A
-content security policy names the page's script and style by their hashes: the browser runs no other script,
-and connects to nothing. The same sources give the same bytes.
+It needs `web/out/bb.wasm`, and makes `web/out/bb.html`. A page that is opened from a disk may load no other
+file. So esbuild (Debian's `esbuild`) makes one script of the page's modules and one of the worker's, and the
+style smaller; the engine stands beside them in base64. A content security policy names the page's script and
+style by their hashes: the browser runs no other script, and connects to nothing. The same sources give the
+same bytes.
 """
 
 import base64
@@ -96,10 +97,10 @@ def page_of(module: bytes) -> str:
 
 
 def main() -> None:
-    module, page = map(pathlib.Path, sys.argv[1:])
-    written = page.with_name(page.name + ".new")
-    written.write_text(page_of(module.read_bytes()), encoding="utf-8")
-    os.replace(written, page)
+    page = WEB / "out" / "bb.html"
+    made = page.with_name(page.name + ".new")
+    made.write_text(page_of((WEB / "out" / "bb.wasm").read_bytes()), encoding="utf-8")
+    os.replace(made, page)
 
 
 if __name__ == "__main__":

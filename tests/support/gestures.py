@@ -1,11 +1,10 @@
 """What a person does in the page, as the browser hears it of mouse, fingers and keys."""
 
-import time
-from typing import Any, Callable, Dict, List, Sequence, Tuple
+from typing import Any, Dict, List, Sequence, Tuple
+
+from .browser import Page
 
 Point = Tuple[float, float]
-# What a gesture does is seen within so many seconds, or it did nothing.
-PATIENCE = 10.0
 # A key as the browser hears it: its name and number.
 KEY_NUMBERS = {"Tab": 9, "Enter": 13}
 SHIFT = 8
@@ -19,42 +18,39 @@ return [x + canvas.clientLeft, y + canvas.clientTop];
 """
 
 
-def soon(what: Callable[[], object], patience: float = PATIENCE) -> bool:
-    """Whether something becomes so before long."""
-    end = time.monotonic() + patience
-    while not what():
-        if time.monotonic() > end:
-            return False
-        time.sleep(0.01)
-    return True
+class Keys:
+    """Keys as the driver of the browser writes them."""
+
+    ENTER, SPACE, END, HOME = "\ue007", "\ue00d", "\ue010", "\ue011"
+    ARROW_LEFT, ARROW_UP, ARROW_RIGHT, ARROW_DOWN = "\ue012", "\ue013", "\ue014", "\ue015"
 
 
-def mouse(page: Any, kind: str, place: Point, **words: Any) -> None:
+def mouse(page: Page, kind: str, place: Point, **words: Any) -> None:
     """Something that the mouse does at a place of the window."""
     x, y = place
-    page.driver.execute_cdp_cmd("Input.dispatchMouseEvent", {"type": kind, "x": x, "y": y, **words})
+    page.command("Input.dispatchMouseEvent", type=kind, x=x, y=y, **words)
 
 
-def touch(page: Any, kind: str, places: Sequence[Point]) -> None:
+def touch(page: Page, kind: str, places: Sequence[Point]) -> None:
     """Something that fingers do which are at these places of the window."""
     points = [{"x": x, "y": y, "id": number} for number, (x, y) in enumerate(places)]
-    page.driver.execute_cdp_cmd("Input.dispatchTouchEvent", {"type": kind, "touchPoints": points})
+    page.command("Input.dispatchTouchEvent", type=kind, touchPoints=points)
 
 
-def key(page: Any, name: str, shift: bool = False) -> None:
+def key(page: Page, name: str, shift: bool = False) -> None:
     """Presses a key, wherever the focus is."""
     words: Dict[str, Any] = {"key": name, "code": name, "windowsVirtualKeyCode": KEY_NUMBERS[name]}
     words["modifiers"] = SHIFT if shift else 0
     if name == "Enter":
         words["text"] = "\r"
     kind = "keyDown" if name == "Enter" else "rawKeyDown"
-    page.driver.execute_cdp_cmd("Input.dispatchKeyEvent", {"type": kind, **words})
-    page.driver.execute_cdp_cmd("Input.dispatchKeyEvent", {"type": "keyUp", **words})
+    page.command("Input.dispatchKeyEvent", type=kind, **words)
+    page.command("Input.dispatchKeyEvent", type="keyUp", **words)
 
 
-def write(page: Any, text: str) -> None:
+def write(page: Page, text: str) -> None:
     """Types a text, wherever the focus is."""
-    page.driver.execute_cdp_cmd("Input.insertText", {"text": text})
+    page.command("Input.insertText", text=text)
 
 
 def way(begin: Point, end: Point) -> List[Point]:
@@ -64,13 +60,13 @@ def way(begin: Point, end: Point) -> List[Point]:
     return [(x + share * (to_x - x), y + share * (to_y - y)) for share in shares]
 
 
-def in_window(page: Any, right: float, down: float) -> Point:
+def in_window(page: Page, right: float, down: float) -> Point:
     """Where a place of the canvas is in the window."""
     x, y = page.js(BOX)
     return (x + right, y + down)
 
 
-def drag(page: Any, begin: Point, end: Point) -> None:
+def drag(page: Page, begin: Point, end: Point) -> None:
     """Drags by the mouse from one place of the window to another."""
     button: Dict[str, Any] = {"button": "left", "buttons": 1, "clickCount": 1}
     mouse(page, "mouseMoved", begin)
@@ -80,7 +76,7 @@ def drag(page: Any, begin: Point, end: Point) -> None:
     mouse(page, "mouseReleased", end, **{**button, "buttons": 0})
 
 
-def swipe(page: Any, begin: Point, end: Point) -> None:
+def swipe(page: Page, begin: Point, end: Point) -> None:
     """Moves one finger."""
     touch(page, "touchStart", [begin])
     for place in way(begin, end):
@@ -88,12 +84,12 @@ def swipe(page: Any, begin: Point, end: Point) -> None:
     touch(page, "touchEnd", [])
 
 
-def tap(page: Any, place: Point) -> None:
+def tap(page: Page, place: Point) -> None:
     touch(page, "touchStart", [place])
     touch(page, "touchEnd", [])
 
 
-def pinch(page: Any, middle: Point, apart: float, then: float) -> None:
+def pinch(page: Page, middle: Point, apart: float, then: float) -> None:
     """Moves two fingers, one above the other, from so far apart to as far."""
     x, y = middle
 

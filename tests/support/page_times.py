@@ -1,9 +1,10 @@
 """How long the page takes for views of the five-state champion's run, by its own clock."""
 
 import time
-from typing import Any, List
+from typing import List
 
-from machines import CHAMPION
+from .browser import Page
+from .machines import CHAMPION
 
 # Views go up to this step, and are zoomed at one near it.
 STEPS, LATE = 10_000_000, 9_900_000
@@ -25,25 +26,25 @@ document.getElementById("tape-form").requestSubmit();
 """
 
 
-def height(page: Any) -> float:
+def height(page: Page) -> float:
     """The height of the picture in pixels."""
-    return float(page.js("return document.getElementById('diagram').clientHeight") - page.drawn()["y"])
+    return float(page.get("diagram", "clientHeight") - page.drawn()["y"])
 
 
-def steps_seen(page: Any) -> float:
+def steps_seen(page: Page) -> float:
     """How many steps the view has."""
     view = page.drawn()
     return height(page) / float(view["high"]) * float(view["every"])
 
 
-def zoomed_late(page: Any, notches: float) -> float:
+def zoomed_late(page: Page, notches: float) -> float:
     """Turns the wheel at the late step; the seconds until the view is drawn."""
     view = page.drawn()
     down = (LATE - view["top"]) / view["every"] * view["high"]
     return float(page.zooming(notches, RIGHT, min(max(down, 0), height(page) - LOWEST)))
 
 
-def views(page: Any, pause: float) -> List[float]:
+def views(page: Page, pause: float) -> List[float]:
     """Zooms from a glance at all steps to a hundred late ones, and back; the seconds of each view."""
     page.open("#machine=%s&steps=%d" % (CHAMPION, STEPS))
     page.drawn()
@@ -58,7 +59,7 @@ def views(page: Any, pause: float) -> List[float]:
     return taken
 
 
-def traced_views(page: Any, pause: float) -> List[float]:
+def traced_views(page: Page, pause: float) -> List[float]:
     """Zooms at a late step by so little that no rows are known before; the seconds of each view."""
     page.open("#machine=%s&steps=%d" % (CHAMPION, STEPS))
     page.drawn()
@@ -70,7 +71,7 @@ def traced_views(page: Any, pause: float) -> List[float]:
     return taken
 
 
-def end(page: Any) -> float:
+def end(page: Page) -> float:
     """Goes to a step near the halt of 50,000,000 steps; the seconds until tape and diagram show it."""
     page.open("#machine=%s&steps=50000000" % CHAMPION)
     page.drawn()
