@@ -163,9 +163,7 @@ export class Engine {
 }
 
 /** @returns {Reply} a reply with bytes of its own */
-function copied(/** @type {Reply} */ { bytes, clean }) {
-  return { bytes: bytes.slice(), clean };
-}
+const copied = (/** @type {Reply} */ { bytes, clean }) => ({ bytes: bytes.slice(), clean });
 
 /**
  * An engine from the bytes of `bb.wasm`, or from the module that WebAssembly compiled of them, which several
@@ -219,6 +217,4 @@ function bytesOf(/** @type {readonly string[]} */ lines) {
 }
 
 /** The lines of a reply, without their newlines. */
-function linesOf(/** @type {Uint8Array} */ bytes) {
-  return new TextDecoder().decode(bytes).split("\n").slice(0, -1);
-}
+const linesOf = (/** @type {Uint8Array} */ bytes) => new TextDecoder().decode(bytes).split("\n").slice(0, -1);

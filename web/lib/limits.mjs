@@ -72,6 +72,4 @@ export function raiseLimits(/** @type {Limit[]} */ names, /** @type {bigint[]} *
   throw new LimitsError("depth", "depth does not fit in cells");
 }
 
-function outOfRange(/** @type {Limit} */ name) {
-  return new LimitsError(name, `${name} out of range`);
-}
+const outOfRange = (/** @type {Limit} */ name) => new LimitsError(name, `${name} out of range`);

@@ -34,9 +34,8 @@ const OF_VECTORS = [
   ...[10, 10, 1, 8, 0, 65, 0, 253, 15, 253, 98, 11],
 ];
 
-export function isSupported() {
-  return typeof WebAssembly === "object" && WebAssembly.validate(new Uint8Array(OF_VECTORS));
-}
+export const isSupported = () =>
+  typeof WebAssembly === "object" && WebAssembly.validate(new Uint8Array(OF_VECTORS));
 
 /** Memory by address, handed out upwards and given up as a whole: between two calls nothing is held. */
 export class Room {

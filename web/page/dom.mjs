@@ -6,9 +6,7 @@
  * @param {string} id
  * @returns {T}
  */
-export function part(id) {
-  return /** @type {T} */ (document.getElementById(id));
-}
+export const part = (id) => /** @type {T} */ (document.getElementById(id));
 
 /**
  * A new element with properties, attributes and children.
@@ -41,12 +39,28 @@ export function setAside(id, how, is, other) {
   }
 }
 
+/** Has elements, by their ids, do something where they are clicked. */
+export function onClick(/** @type {Record<string, () => void>} */ acts) {
+  Object.entries(acts).forEach(([id, act]) => part(id).addEventListener("click", act));
+}
+
+/** Does what a key asks, where it asks something and no other key is held with it. */
+export function pressKey(/** @type {KeyboardEvent} */ event, /** @type {Record<string, () => void>} */ keys) {
+  if (event.key in keys && !event.ctrlKey && !event.metaKey && !event.altKey) {
+    event.preventDefault();
+    keys[event.key]();
+  }
+}
+
+/** Shows words in an element; without any it is hidden. */
+export function showWords(/** @type {string} */ id, /** @type {string} */ words) {
+  Object.assign(part(id), { textContent: words, hidden: words === "" });
+}
+
 const number = new Intl.NumberFormat("en");
 
 /** A number as people read it, below 0 with a minus. */
-export function signed(/** @type {number | bigint} */ value) {
-  return number.format(value).replace("-", "−");
-}
+export const signed = (/** @type {number | bigint} */ value) => number.format(value).replace("-", "−");
 
 export function save(/** @type {Blob} */ blob, /** @type {string} */ name) {
   const url = URL.createObjectURL(blob);

@@ -1,6 +1,6 @@
 /** The page: reads what is asked, has workers answer it, and shows what comes. */
 import { isSupported } from "../lib/memory.mjs";
-import { copy, made, part, save } from "./dom.mjs";
+import { copy, made, onClick, part, pressKey, save } from "./dom.mjs";
 import { makeFields, planOf, readLink, refuse, setPlan } from "./input/fields.mjs";
 import { listenToFiles } from "./input/files.mjs";
 import { Source, kept } from "./input/source.mjs";
@@ -155,12 +155,8 @@ function isLoadedAgain() {
 
 function pressed(/** @type {KeyboardEvent} */ event) {
   const isField = event.target instanceof Element && event.target.matches("input, textarea, select");
-  /** @type {Record<string, [number, boolean]>} */
-  const keys = { n: [1, false], p: [-1, false], N: [1, true], P: [-1, true] };
-  if (!isField && event.key in keys && !event.ctrlKey && !event.metaKey && !event.altKey) {
-    event.preventDefault();
-    lines.openBeside(...keys[event.key]);
-  }
+  const open = (/** @type {number} */ by, isUndecided = false) => () => lines.openBeside(by, isUndecided);
+  isField || pressKey(event, { n: open(1), p: open(-1), N: open(1, true), P: open(-1, true) });
 }
 
 /** Copies what the program would write. */
@@ -174,20 +170,20 @@ async function copyAll() {
 }
 
 function listen() {
-  /** @param {string} id @param {() => void} act */
-  const on = (id, act) => part(id).addEventListener("click", act);
+  const name = () => (work.run.mode === "check" ? "answers.txt" : "verdicts.txt");
   part("form").addEventListener("submit", (event) => {
     event.preventDefault();
     begin();
   });
-  on("clear", clear);
-  on("list", selectExample);
-  on("stop", () => work.stop());
-  on("left", () => work.decideAgain());
-  const name = () => (work.run.mode === "check" ? "answers.txt" : "verdicts.txt");
-  on("save", () => save(work.results.blob(), name()));
-  on("save-shown", async () => save(await work.results.blobOf(lines.kindsShown), name()));
-  on("copy", copyAll);
+  onClick({
+    clear,
+    list: selectExample,
+    stop: () => work.stop(),
+    left: () => work.decideAgain(),
+    save: () => save(work.results.blob(), name()),
+    "save-shown": async () => save(await work.results.blobOf(lines.kindsShown), name()),
+    copy: copyAll,
+  });
   addEventListener("keydown", pressed);
   addEventListener("hashchange", () => openLink());
   addEventListener("pagehide", () => source.keep());

@@ -6,9 +6,7 @@ const READY_MILLISECONDS = 50;
 // A question is ended for the next one where it takes longer.
 const PATIENCE_MILLISECONDS = 400;
 
-function text(/** @type {string} */ id) {
-  return part(id).textContent ?? "";
-}
+const text = (/** @type {string} */ id) => part(id).textContent ?? "";
 
 /** The engine's module. */
 async function compiled() {
@@ -35,9 +33,7 @@ export function newWorker() {
 }
 
 /** A worker for a list: one that waits, or a new one. */
-export function takeWorker() {
-  return idle.pop() ?? newWorker();
-}
+export const takeWorker = () => idle.pop() ?? newWorker();
 
 /** Has a worker wait for the next list; it keeps nothing of the last one. */
 export function giveBack(/** @type {Worker} */ worker) {
@@ -76,9 +72,7 @@ function warm(/** @type {Worker} */ worker) {
 }
 
 /** What went wrong, as it is said. */
-export function toldOf(/** @type {Error} */ { name, message }) {
-  return { error: name, message };
-}
+export const toldOf = (/** @type {Error} */ { name, message }) => ({ error: name, message });
 
 /**
  * A worker of its own for one question after another, as for pictures. A new question waits a moment for the

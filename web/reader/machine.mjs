@@ -38,18 +38,12 @@ function entryOf(/** @type {string} */ text) {
   return { write: Number(text[0]), move: text[1] === "R" ? 1 : -1, next };
 }
 
-function stateNumber(/** @type {string} */ letter) {
-  return letter.charCodeAt(0) - 65;
-}
+const stateNumber = (/** @type {string} */ letter) => letter.charCodeAt(0) - 65;
 
-export function stateLetter(/** @type {number} */ state) {
-  return state < 0 ? "Z" : String.fromCharCode(65 + state);
-}
+export const stateLetter = (/** @type {number} */ state) => state < 0 ? "Z" : String.fromCharCode(65 + state);
 
 /** @returns {{machine: string, verdict: Verdict}} what a line says that is no verdict line: nothing */
-export function unreadLine() {
-  return { machine: "", verdict: NO_VERDICT };
-}
+export const unreadLine = () => ({ machine: "", verdict: NO_VERDICT });
 
 /**
  * The machine's text of a verdict line, and what is said of it.
@@ -76,14 +70,11 @@ const WORDS = { L: "left", R: "right" };
 const number = new Intl.NumberFormat("en");
 
 /** A number as people read it, with a word behind it. */
-export function counted(/** @type {number} */ count, /** @type {string} */ word) {
-  return `${number.format(count)} ${word}${count === 1 ? "" : "s"}`;
-}
+export const counted = (/** @type {number} */ count, /** @type {string} */ word) =>
+  `${number.format(count)} ${word}${count === 1 ? "" : "s"}`;
 
 /** A number as people read it. */
-export function shown(/** @type {number} */ value) {
-  return number.format(value);
-}
+export const shown = (/** @type {number} */ value) => number.format(value);
 
 /** What a verdict says, in plain English. */
 export function sentence(/** @type {Verdict} */ { kind, numbers, side }) {

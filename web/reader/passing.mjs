@@ -12,22 +12,15 @@ const MACHINE_NAMES = new Set(["machine", "machines", "tm", "turingmachine", "tu
 const SEPARATORS = ["\t", ",", ";", "|"];
 
 /** The name of a column in small letters, without signs and spaces. */
-function plainName(/** @type {string} */ text) {
-  return text.toLowerCase().replace(/[^a-z0-9]/g, "");
-}
+const plainName = (/** @type {string} */ text) => text.toLowerCase().replace(/[^a-z0-9]/g, "");
 
-function isOfMachines(/** @type {string} */ name) {
-  return MACHINE_NAMES.has(plainName(name));
-}
+const isOfMachines = (/** @type {string} */ name) => MACHINE_NAMES.has(plainName(name));
 
-function beginsAsComment(/** @type {string} */ bare) {
-  return bare.startsWith("#") || bare.startsWith("//");
-}
+const beginsAsComment = (/** @type {string} */ bare) => bare.startsWith("#") || bare.startsWith("//");
 
 /** Whether a line begins as a comment, and has a machine or more than one entry of one. */
-export function isCommentOfMachine(/** @type {string} */ bare) {
-  return beginsAsComment(bare) && partsOf(bare).texts.some((text) => !isLoneEntry(text));
-}
+export const isCommentOfMachine = (/** @type {string} */ bare) =>
+  beginsAsComment(bare) && partsOf(bare).texts.some((text) => !isLoneEntry(text));
 
 /** Whether a line is passed over that has no spaces at its ends. */
 export function isPassedOver(/** @type {string} */ bare) {

@@ -42,14 +42,11 @@ export function firstLines(/** @type {Uint8Array} */ bytes) {
 }
 
 /** Whether the first bytes of a list are text in UTF-8, but for a character that is cut at their end. */
-export function isUtf8(/** @type {Uint8Array} */ bytes) {
-  return !/\ufffd[^]/.test(decoder.decode(bytes.subarray(0, BEGIN_BYTES)));
-}
+export const isUtf8 = (/** @type {Uint8Array} */ bytes) =>
+  !/\ufffd[^]/.test(decoder.decode(bytes.subarray(0, BEGIN_BYTES)));
 
 /** @returns {Prepared} a list that is given as it stands */
-export function asGiven(/** @type {Uint8Array} */ bytes) {
-  return { bytes, numbers: null, places: null, left: 0 };
-}
+export const asGiven = (/** @type {Uint8Array} */ bytes) => ({ bytes, numbers: null, places: null, left: 0 });
 
 /**
  * What the engine is given of a list.

@@ -102,9 +102,8 @@ export function readingOf(given, form = "text") {
 }
 
 /** @returns {Machine} */
-function machineWith(/** @type {string} */ machine, /** @type {string} */ behind) {
-  return { kind: "machine", machine, rewritten: [], before: "", behind };
-}
+const machineWith = (/** @type {string} */ machine, /** @type {string} */ behind) =>
+  ({ kind: "machine", machine, rewritten: [], before: "", behind });
 
 /** Whether a line is a verdict line, which may have fields behind a tab. */
 export function isVerdictLine(/** @type {string} */ bare) {

@@ -34,9 +34,7 @@ export const REWRITINGS = {
  * @param {string} refusal @param {string} reason @param {number} place
  * @returns {Reason}
  */
-export function reasonOf(refusal, reason, place) {
-  return { refusal, reason, place };
-}
+export const reasonOf = (refusal, reason, place) => ({ refusal, reason, place });
 
 /** A text as a sentence has it: characters that don't show by name, cut where it is long. */
 export function cut(/** @type {string} */ given) {

@@ -47,18 +47,13 @@ const PART = /[^/?#&=]+/g;
 // What may stand between the words of a text.
 const TOGETHER = /^[ \u00a0]*$/;
 
-export function endOf(/** @type {Word} */ { begin, text }) {
-  return begin + text.length;
-}
+export const endOf = (/** @type {Word} */ { begin, text }) => begin + text.length;
 
 /** The words of a text, with a space between them. */
-export function written(/** @type {Text} */ { words }) {
-  return words.map(({ text }) => text).join(" ");
-}
+export const written = (/** @type {Text} */ { words }) => words.map(({ text }) => text).join(" ");
 
-export function isLoneEntry(/** @type {Text} */ { words }) {
-  return words.length === 1 && words[0].text.length === 3;
-}
+export const isLoneEntry = (/** @type {Text} */ { words }) =>
+  words.length === 1 && words[0].text.length === 3;
 
 /** @returns {Text} these words as one text */
 export function textOf(/** @type {Word[]} */ words) {
@@ -66,9 +61,8 @@ export function textOf(/** @type {Word[]} */ words) {
   return { words, begin: words[0].begin, end, isAddress: false, isLast: true, arrays: [] };
 }
 
-export function isOfEntries(/** @type {Text} */ { words }) {
-  return words.length > 1 && words.every(({ text }) => text.length === 3);
-}
+export const isOfEntries = (/** @type {Text} */ { words }) =>
+  words.length > 1 && words.every(({ text }) => text.length === 3);
 
 /** @returns {Parts} what of a line may be a machine */
 export function partsOf(/** @type {string} */ given) {
@@ -146,9 +140,8 @@ function rowsIn(/** @type {Word} */ { begin, text }) {
 }
 
 /** Whether a word has entries, or pieces of them. */
-function hasEntries(/** @type {string} */ text) {
-  return text !== ORDINAL && !ROW.test(text) && (ENTRIES.test(text) || PIECES.test(text));
-}
+const hasEntries = (/** @type {string} */ text) =>
+  text !== ORDINAL && !ROW.test(text) && (ENTRIES.test(text) || PIECES.test(text));
 
 /**
  * The texts that these words make: those between which there are only spaces are one. Between entries that
@@ -202,9 +195,7 @@ const CONTROL = /\p{Cc}/u;
 const HIDDEN = /(?! )[\p{C}\p{Z}\u034f\u115f\u1160\u2800\u3164\uffa0\ufe00-\ufe0f]/u;
 const UNASSIGNED = /[\p{Co}\p{Cn}\p{Cs}]/u;
 
-function isHidden(/** @type {string} */ character) {
-  return HIDDEN.test(character) && !UNASSIGNED.test(character);
-}
+const isHidden = (/** @type {string} */ character) => HIDDEN.test(character) && !UNASSIGNED.test(character);
 
 /** Where the first character stands that doesn't show; -1 where all show. */
 export function firstHidden(/** @type {string} */ text) {
@@ -225,9 +216,8 @@ export function nameOf(/** @type {string} */ character) {
 }
 
 /** The text with the characters that don't show by name: controls as `\\x1b`, others as `U+200B`. */
-export function nameHidden(/** @type {string} */ text) {
-  return /^[ -~]*$/.test(text) ? text : [...text].map(named).join("");
-}
+export const nameHidden = (/** @type {string} */ text) =>
+  /^[ -~]*$/.test(text) ? text : [...text].map(named).join("");
 
 function named(/** @type {string} */ character) {
   if (!isHidden(character)) {

@@ -19,9 +19,8 @@ for (let byte = 1; byte < ONES.length; byte += 1) {
   ONES[byte] = ONES[byte >> 1] + (byte & 1);
 }
 
-function pixelOf(/** @type {number[]} */ [red, green, blue]) {
-  return new Uint32Array(Uint8Array.of(red, green, blue, 255).buffer)[0];
-}
+const pixelOf = (/** @type {number[]} */ [red, green, blue]) =>
+  new Uint32Array(Uint8Array.of(red, green, blue, 255).buffer)[0];
 
 /**
  * The pixels of all rows; what isn't visited yet stays clear.

@@ -25,14 +25,9 @@ ANSWERS.forEach((word, answer) => (ANSWER_BY_LETTER[word.charCodeAt(1)] = answer
 const ANSWER_LENGTHS = Uint8Array.from(ANSWERS, (word) => word.length + 1);
 // How many spaces stand between a kind's first letter and the number of the steps that it names; 0 where it
 // names none.
-const SPACES = kindsBytes({ halt: 1, cycler: 2, translated: 3 });
+const SPACES = Uint8Array.from(KINDS, (kind) => ({ halt: 1, cycler: 2, translated: 3 })[String(kind)] ?? 0);
 
 let scratch = new Uint32Array(0);
-
-/** A byte for each kind, 0 where none is given. */
-function kindsBytes(/** @type {Record<string, number>} */ given) {
-  return Uint8Array.from(KINDS, (kind) => given[kind] ?? 0);
-}
 
 /** Where each line begins and the last one ends, in a list that the next call overwrites. */
 export function startsOf(/** @type {Uint8Array} */ bytes) {

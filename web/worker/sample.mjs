@@ -18,14 +18,11 @@ const LOWEST_BITS = 0x01010101;
 const TOGETHER = 0x10204080;
 const NIBBLE = 15;
 
-export function bitsFor(/** @type {number} */ symbols) {
-  return symbols === 2 ? 1 : 4;
-}
+export const bitsFor = (/** @type {number} */ symbols) => symbols === 2 ? 1 : 4;
 
 /** How many bytes so many cells take, each row's beginning with one of its own. */
-export function bytesFor(/** @type {number} */ cells, /** @type {number} */ bits) {
-  return Math.ceil((cells * bits) / 8);
-}
+export const bytesFor = (/** @type {number} */ cells, /** @type {number} */ bits) =>
+  Math.ceil((cells * bits) / 8);
 
 /** The symbol of a cell of a row, counted from its lowest one. */
 export function symbolOf(/** @type {Sample} */ sample, /** @type {number} */ k, /** @type {number} */ cell) {
@@ -121,9 +118,8 @@ function columnsOf(/** @type {Uint8Array} */ text) {
 }
 
 /** The number that stands there, with a sign where it is below 0. */
-function signedAt(/** @type {Uint8Array} */ text, /** @type {number} */ from) {
-  return text[from] === MINUS ? -numberAt(text, from + 1) : numberAt(text, from);
-}
+const signedAt = (/** @type {Uint8Array} */ text, /** @type {number} */ from) =>
+  text[from] === MINUS ? -numberAt(text, from + 1) : numberAt(text, from);
 
 /**
  * Packs cells of two symbols, eight in a byte.
@@ -141,9 +137,7 @@ function packTwo(cells, text, begin, count) {
 }
 
 /** The four symbols of four digits, each 0 or 1, as four bits. */
-function together(/** @type {number} */ digits) {
-  return Math.imul(digits & LOWEST_BITS, TOGETHER) >>> 28;
-}
+const together = (/** @type {number} */ digits) => Math.imul(digits & LOWEST_BITS, TOGETHER) >>> 28;
 
 /**
  * Packs cells of more symbols, two in a byte.

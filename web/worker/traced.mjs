@@ -46,9 +46,8 @@ export function keep(/** @type {Kept} */ kept) {
   }
 }
 
-export function lastOf(/** @type {Engine} */ engine, /** @type {Limited} */ asked) {
-  return runOf(asked).last(engine, asked.upto).step;
-}
+export const lastOf = (/** @type {Engine} */ engine, /** @type {Limited} */ asked) =>
+  runOf(asked).last(engine, asked.upto).step;
 
 /**
  * How the cells that a run visits grow, by how many they are after a hundredth of the steps, a tenth, and
@@ -100,13 +99,9 @@ export function pictured(engine, asked) {
 }
 
 /** The lowest and the highest of positions. */
-function spanOf(/** @type {{low: number, wide: number}} */ { low, wide }) {
-  return { low, high: low + wide - 1 };
-}
+const spanOf = (/** @type {{low: number, wide: number}} */ { low, wide }) => ({ low, high: low + wide - 1 });
 
-function rowsIn(/** @type {View} */ { high }, /** @type {number} */ height) {
-  return Math.ceil(height / high);
-}
+const rowsIn = (/** @type {View} */ { high }, /** @type {number} */ height) => Math.ceil(height / high);
 
 /**
  * The views that keys zoom to from this one, by their rows.

@@ -13,7 +13,7 @@
  */
 import { forgetColours, palette, part } from "../dom.mjs";
 import { Asker } from "../workers.mjs";
-import { paintAll, sheetOf } from "./paint.mjs";
+import { Painter, sheetOf } from "./paint.mjs";
 import {
   LEGIBLE,
   areaOf,
@@ -278,10 +278,14 @@ export class Diagram {
     if (data === null || scene === null) {
       return;
     }
-    const { marks, sheet, chosen, place } = this;
-    const ratio = paintAll(canvas, { ...scene, data }, { marks, sheet, chosen: chosen.step, place });
+    const painter = new Painter(canvas, scene);
+    painter.picture(data, this.sheet);
+    painter.heads(data.sample);
+    this.marks.forEach((mark) => painter.mark(mark));
+    painter.axes(this.chosen.step);
+    this.place !== null && painter.place(this.place);
     const isNew = canvas.dataset.state === "taken" || canvas.dataset.state === "drawn";
-    Object.assign(canvas.dataset, { ...scene.view, x: scene.area.x, y: scene.area.y, ratio });
+    Object.assign(canvas.dataset, { ...scene.view, x: scene.area.x, y: scene.area.y, ratio: painter.ratio });
     part("diagram-text").textContent = pictureWords(data, scene.area.width);
     canvas.dataset.state = isNew ? "drawn" : "asked";
   }

@@ -1,5 +1,5 @@
 /** Moving and zooming a diagram by wheel, keys, mouse and fingers, and pointing at its cells. */
-import { part } from "../dom.mjs";
+import { part, pressKey } from "../dom.mjs";
 import { beside } from "./places.mjs";
 import { ZOOM } from "./scale.mjs";
 
@@ -177,9 +177,8 @@ function pressed(diagram, event, tell) {
     diagram.point(right, down, event.shiftKey);
     tell(pointed(diagram), true);
   };
-  const choose = () => diagram.place !== null && diagram.choose(diagram.place);
-  /** @type {Record<string, () => void>} */
-  const keys = {
+  const choose = () => diagram.place && diagram.choose(diagram.place);
+  pressKey(event, {
     ArrowLeft: point(-1, 0),
     ArrowRight: point(1, 0),
     ArrowUp: point(0, -1),
@@ -190,9 +189,5 @@ function pressed(diagram, event, tell) {
     0: () => diagram.fit(),
     Enter: choose,
     " ": choose,
-  };
-  if (event.key in keys && !event.ctrlKey && !event.metaKey && !event.altKey) {
-    event.preventDefault();
-    keys[event.key]();
-  }
+  });
 }

@@ -35,19 +35,13 @@ export function isSame(/** @type {View} */ one, /** @type {View} */ two) {
 }
 
 /** Steps of a pixel. */
-export function stepsOf(/** @type {View} */ { every, high }) {
-  return every / high;
-}
+export const stepsOf = (/** @type {View} */ { every, high }) => every / high;
 
 /** Cells of a pixel. */
-export function cellsOf(/** @type {View} */ { across, wide }) {
-  return across / wide;
-}
+export const cellsOf = (/** @type {View} */ { across, wide }) => across / wide;
 
 /** The size of a cell that is at most this one, so that a row or column fits. */
-function sizeUpTo(/** @type {number} */ pixels) {
-  return Math.max(1, ...SIZES.filter((one) => one <= pixels));
-}
+const sizeUpTo = (/** @type {number} */ pixels) => Math.max(1, ...SIZES.filter((one) => one <= pixels));
 
 /** How so many units to a pixel are shown: as many in one, or one with several pixels. */
 function shownAs(/** @type {number} */ units) {

@@ -66,13 +66,10 @@ export function listenToFiles(take, fill) {
   });
 }
 
-function beginsWith(/** @type {Uint8Array} */ bytes, /** @type {number[]} */ mark) {
-  return bytes.length >= mark.length && mark.every((byte, at) => bytes[at] === byte);
-}
+const beginsWith = (/** @type {Uint8Array} */ bytes, /** @type {number[]} */ mark) =>
+  bytes.length >= mark.length && mark.every((byte, at) => bytes[at] === byte);
 
-export function isGzip(/** @type {Uint8Array} */ begin) {
-  return beginsWith(begin, GZIP);
-}
+export const isGzip = (/** @type {Uint8Array} */ begin) => beginsWith(begin, GZIP);
 
 /**
  * The name of the encoding or format that begins so; null for bytes that may be UTF-8.
@@ -92,9 +89,8 @@ export function encodingOf(/** @type {Uint8Array} */ begin) {
 }
 
 /** The sentence for a list that is no text in UTF-8, with advice. */
-export function encodingWords(/** @type {string} */ encoding) {
-  return `The list is ${encoding}, which the page doesn’t read. Give it as text in UTF-8.`;
-}
+export const encodingWords = (/** @type {string} */ encoding) =>
+  `The list is ${encoding}, which the page doesn’t read. Give it as text in UTF-8.`;
 
 /** A list that can't be read, for which the message gives the reason. */
 export class ListError extends Error {

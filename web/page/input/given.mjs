@@ -2,7 +2,7 @@
 import { shown } from "../../reader/machine.mjs";
 import { ADVICE, readingOf } from "../../reader/reading.mjs";
 import { REWRITINGS, isMachine } from "../../reader/texts.mjs";
-import { part } from "../dom.mjs";
+import { part, showWords } from "../dom.mjs";
 
 // Characters that are shown about the place where a line goes wrong.
 const AROUND = 30;
@@ -23,9 +23,9 @@ export function tellGiven(/** @type {Given} */ given, /** @type {Verdict} */ ver
   const { text, form } = given;
   const reading = text !== null && form !== null ? readingOf(text, form) : null;
   const words = reading?.kind === "machine" && !isRefused ? rewrittenWords(reading, given.text ?? "") : "";
-  Object.assign(part("machine-given"), { textContent: words, hidden: words === "" });
+  showWords("machine-given", words);
   const caret = isRefused && given.text !== null ? caretOf(given.text, placeOf(reading, verdict)) : "";
-  Object.assign(part("machine-caret"), { textContent: caret, hidden: caret === "" });
+  showWords("machine-caret", caret);
   if (isRefused) {
     const what = isUnread(verdict) ? "verdict line" : "machine";
     part("machine-text").textContent = `Line ${shown(given.number + 1)} is no ${what}`;
@@ -34,14 +34,11 @@ export function tellGiven(/** @type {Given} */ given, /** @type {Verdict} */ ver
 }
 
 /** Whether a line is no verdict line; of a machine's refusal the column is known. */
-function isUnread(/** @type {Verdict} */ { numbers }) {
-  return numbers.length === 0;
-}
+const isUnread = (/** @type {Verdict} */ { numbers }) => numbers.length === 0;
 
 /** The place where a line goes wrong, from 1 on; null where none is known. */
-function placeOf(/** @type {Reading | null} */ reading, /** @type {Verdict} */ { numbers: [column] }) {
-  return reading?.kind === "refusal" ? reading.place : column ?? null;
-}
+const placeOf = (/** @type {Reading | null} */ reading, /** @type {Verdict} */ { numbers: [column] }) =>
+  reading?.kind === "refusal" ? reading.place : column ?? null;
 
 /**
  * @param {Reading | null} reading @param {Verdict} verdict

@@ -1,7 +1,7 @@
 /** The list that is given, as a text or a file, and the settings with which it is answered. */
 import { counted } from "../../reader/machine.mjs";
 import { BEGIN_BYTES, firstLines, formOf, hasVerdicts, isUtf8 } from "../../reader/prepare.mjs";
-import { part, setAside } from "../dom.mjs";
+import { part, setAside, showWords } from "../dom.mjs";
 import { FIRST_BYTES } from "../list/pieces.mjs";
 import { planWords, setPlan } from "./fields.mjs";
 import { requireUtf8, unpacked } from "./files.mjs";
@@ -117,7 +117,7 @@ export class Source {
 
   tellGone(/** @type {string} */ name) {
     const words = `${name} isn’t kept over a reload; choose it again.`;
-    Object.assign(part("list-gone"), { textContent: words, hidden: false });
+    showWords("list-gone", words);
     this.gone = name;
   }
 

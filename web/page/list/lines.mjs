@@ -1,6 +1,6 @@
 /** The lines of a list that are shown: their kinds, their order, and which one is open. */
 import { KINDS, shown } from "../../reader/machine.mjs";
-import { made, part, setAside, tellLive } from "../dom.mjs";
+import { made, onClick, part, setAside, tellLive } from "../dom.mjs";
 import { Asker } from "../workers.mjs";
 import { Rows } from "./rows.mjs";
 
@@ -43,13 +43,12 @@ export class Lines {
     // How often rows were shown, so that what comes late isn't.
     this.turn = 0;
     this.order.addEventListener("change", () => this.showRows());
-    /** @param {string} id @param {number} by @param {boolean} isUndecided */
-    const on = (id, by, isUndecided) =>
-      part(id).addEventListener("click", () => this.openBeside(by, isUndecided));
-    on("row-before", -1, false);
-    on("row-next", 1, false);
-    on("open-before", -1, true);
-    on("open-next", 1, true);
+    onClick({
+      "row-before": () => this.openBeside(-1, false),
+      "row-next": () => this.openBeside(1, false),
+      "open-before": () => this.openBeside(-1, true),
+      "open-next": () => this.openBeside(1, true),
+    });
   }
 
   /**

@@ -283,9 +283,7 @@ function addRows(rows, count, kinds, begin, isShown) {
   return end;
 }
 
-function rest() {
-  return new Promise((done) => setTimeout(done));
-}
+const rest = () => new Promise((done) => setTimeout(done));
 
 /** The lines of a part whose kinds are among these, as bytes; those that stand together are one. */
 function linesOf(/** @type {Part} */ part, /** @type {Set<number>} */ kinds) {

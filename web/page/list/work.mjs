@@ -1,6 +1,6 @@
 /** The work on a list: workers answer it, and how far they are is said. */
 import { KINDS, counted } from "../../reader/machine.mjs";
-import { part, setAside, tellLive } from "../dom.mjs";
+import { part, setAside, showWords, tellLive } from "../dom.mjs";
 import { larger, refuse } from "../input/fields.mjs";
 import { ListError } from "../input/files.mjs";
 import { makeReady } from "../workers.mjs";
@@ -40,17 +40,12 @@ export function failureWords(/** @type {{error: string, message: string}} */ { e
 }
 
 /** Says what went wrong, above the results. */
-export function tell(/** @type {string} */ message) {
-  Object.assign(part("error"), { textContent: message, hidden: message === "" });
-}
+export const tell = (/** @type {string} */ message) => showWords("error", message);
 
-function mostWorkers() {
-  return Math.min(MOST_WORKERS, navigator.hardwareConcurrency || 1);
-}
+const mostWorkers = () => Math.min(MOST_WORKERS, navigator.hardwareConcurrency || 1);
 
-function workersFor(/** @type {number} */ size) {
-  return Math.max(1, Math.min(mostWorkers(), Math.ceil(size / LEAST_BYTES)));
-}
+const workersFor = (/** @type {number} */ size) =>
+  Math.max(1, Math.min(mostWorkers(), Math.ceil(size / LEAST_BYTES)));
 
 export class Work {
   /** @param {() => void} shows what else is shown, when more of the list is answered */
@@ -209,8 +204,7 @@ export class Work {
     const share = lines === 0 ? read : read * (1 - waiting / lines);
     /** @type {HTMLProgressElement} */ (part("progress")).value = share;
     part("status").textContent = statusOf(how, share, run, results);
-    const words = underWayWords(this.pool?.underWay() ?? null);
-    Object.assign(part("under-way"), { textContent: words, hidden: words === "" });
+    showWords("under-way", underWayWords(this.pool?.underWay() ?? null));
   }
 
   /** Shows the results anew, of which one was changed. */

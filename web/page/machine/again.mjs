@@ -1,6 +1,6 @@
 /** Deciding one machine again with larger limits, beside what the list says of it. */
 import { readLine, shown } from "../../reader/machine.mjs";
-import { part, setAside } from "../dom.mjs";
+import { part, setAside, showWords } from "../dom.mjs";
 import { larger } from "../input/fields.mjs";
 import { Asker } from "../workers.mjs";
 
@@ -26,7 +26,7 @@ export class Again {
   forget(/** @type {About} */ about) {
     this.stop();
     this.about = about;
-    Object.assign(part("again-text"), { textContent: "", hidden: true });
+    showWords("again-text", "");
     part("again").hidden = about.verdict.kind !== "undecided" || about.isWaiting === true;
   }
 
@@ -39,17 +39,17 @@ export class Again {
     const limits = `${shown(Number(plan.steps))} steps and ${shown(Number(plan.cells))} cells`;
     this.isAsked = true;
     part("again").textContent = "Stop";
-    this.tell(`Deciding with ${limits} …`);
+    showWords("again-text", `Deciding with ${limits} …`);
     this.asker.ask({ what: "one", machine: about.machine, plan }, (answer) => {
       this.rest();
       if (answer.error) {
-        this.tell(`Not decided with ${limits}: ${answer.message}.`);
+        showWords("again-text", `Not decided with ${limits}: ${answer.message}.`);
         return;
       }
       const { verdict } = readLine(answer.line);
       this.about = { machine: about.machine, verdict, answer: answer.answer, plan };
       const isIn = this.done(this.about, answer.part);
-      this.tell(`With ${limits}: ${verdict.text}. ${isIn ? "Its row has it, marked." : "The list stays."}`);
+      showWords("again-text", `With ${limits}: ${verdict.text}. ${isIn ? "Its row has it, marked." : "The list stays."}`);
       setAside("again", "hidden", verdict.kind !== "undecided", "copy-text");
     });
   }
@@ -58,16 +58,12 @@ export class Again {
     if (this.isAsked) {
       this.asker.end();
       this.rest();
-      this.tell("Stopped. What the list has stays.");
+      showWords("again-text", "Stopped. What the list has stays.");
     }
   }
 
   rest() {
     this.isAsked = false;
     part("again").textContent = WORDS;
-  }
-
-  tell(/** @type {string} */ words) {
-    Object.assign(part("again-text"), { textContent: words, hidden: false });
   }
 }

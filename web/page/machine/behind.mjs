@@ -58,9 +58,8 @@ function askRows(/** @type {any} */ about, /** @type {(rows: Row[]) => void} */ 
 }
 
 /** The cells that agree in the rows of a translated cycler: those behind the head, itself with them. */
-function stretchOf(/** @type {Row} */ { head }, /** @type {string} */ side, /** @type {number} */ length) {
-  return side === "R" ? [head - length + 1, head] : [head, head + length - 1];
-}
+const stretchOf = (/** @type {Row} */ { head }, /** @type {string} */ side, /** @type {number} */ length) =>
+  side === "R" ? [head - length + 1, head] : [head, head + length - 1];
 
 /**
  * Finds what stands behind a verdict, shows it, and hands over what is to be marked on the diagram, with the
@@ -153,9 +152,7 @@ function configurationOf(/** @type {Row} */ { state, head, low, cells }) {
   return [state, head, ...content.filter(Boolean)].join(" ");
 }
 
-function cellOf(/** @type {Row} */ row, /** @type {number} */ position) {
-  return row.cells[position - row.low] ?? 0;
-}
+const cellOf = (/** @type {Row} */ row, /** @type {number} */ position) => row.cells[position - row.low] ?? 0;
 
 /**
  * A row as text: its step, state and cells, with the head and the stretch marked.
@@ -198,9 +195,7 @@ function treeParts(/** @type {{machine: string, verdict: Verdict}} */ { machine,
   return parts;
 }
 
-function hint(/** @type {string} */ words) {
-  return made("p", { class: "hint" }, words);
-}
+const hint = (/** @type {string} */ words) => made("p", { class: "hint" }, words);
 
 function levelPart(/** @type {import("./tree.mjs").Node[]} */ level, /** @type {number} */ k) {
   const texts = level.slice(0, NODES_SHOWN).map((node) => `${stateLetter(node.state)} ${nodeText(node)}`);

@@ -28,9 +28,8 @@ const growthAsker = new Asker();
 /** @type {About | null} what it is about: an answer that comes for another one is too late */
 let current = null;
 
-export function mirrorOf(/** @type {string} */ text) {
-  return text.replace(/[LR]/g, (move) => (move === "L" ? "R" : "L"));
-}
+export const mirrorOf = (/** @type {string} */ text) =>
+  text.replace(/[LR]/g, (move) => (move === "L" ? "R" : "L"));
 
 /** The states in the order in which a run of so many steps comes to them. */
 function firstUses(/** @type {import("../../reader/machine.mjs").Machine} */ { symbols, rules }) {

@@ -3,7 +3,7 @@ import { machineOf, sentence, stateLetter } from "../../reader/machine.mjs";
 import { Diagram } from "../diagram/diagram.mjs";
 import { listen } from "../diagram/gestures.mjs";
 import { ZOOM } from "../diagram/scale.mjs";
-import { copy, copyPicture, made, part, save, tellLive } from "../dom.mjs";
+import { copy, copyPicture, made, onClick, part, save, tellLive } from "../dom.mjs";
 import { linkOf } from "../input/fields.mjs";
 import { tellGiven } from "../input/given.mjs";
 import { Tape } from "../tape/tape.mjs";
@@ -49,17 +49,18 @@ export class View {
       part("place-text").textContent = words;
       byKeys && tellLive(words);
     });
-    /** @param {string} id @param {() => void} act */
-    const on = (id, act) => part(id).addEventListener("click", act);
-    on("zoom-in", () => this.diagram.zoom(ZOOM));
-    on("zoom-out", () => this.diagram.zoom(1 / ZOOM));
-    on("fit", () => this.diagram.fit());
-    on("marked", () => this.diagram.reopen());
-    on("png", async () => save(/** @type {Blob} */ (await this.diagram.png()), `${this.about?.machine}.png`));
-    on("copy-png", () => copyPicture(this.diagram.png(), part("copy-png")));
-    on("copy-text", () => copy(this.about?.machine ?? "", part("copy-text")));
-    on("link", () => this.link());
-    on("back", () => part("rows").focus());
+    const { diagram } = this;
+    onClick({
+      "zoom-in": () => diagram.zoom(ZOOM),
+      "zoom-out": () => diagram.zoom(1 / ZOOM),
+      fit: () => diagram.fit(),
+      marked: () => diagram.reopen(),
+      png: async () => save(/** @type {Blob} */ (await diagram.png()), `${this.about?.machine}.png`),
+      "copy-png": () => copyPicture(diagram.png(), part("copy-png")),
+      "copy-text": () => copy(this.about?.machine ?? "", part("copy-text")),
+      link: () => this.link(),
+      back: () => part("rows").focus(),
+    });
   }
 
   /**
@@ -195,9 +196,8 @@ function tableOf(/** @type {import("../../reader/machine.mjs").Machine} */ machi
   return made("table", {}, head, ...rows);
 }
 
-function entryText(/** @type {import("../../reader/machine.mjs").Entry} */ { write, move, next }) {
-  return `${write}${move > 0 ? "R" : "L"}${stateLetter(next)}`;
-}
+const entryText = (/** @type {import("../../reader/machine.mjs").Entry} */ { write, move, next }) =>
+  `${write}${move > 0 ? "R" : "L"}${stateLetter(next)}`;
 
 function legendOf(/** @type {import("../../reader/machine.mjs").Machine} */ { symbols }) {
   const names = Array.from({ length: symbols }, (_, symbol) => [`s${symbol}`, String(symbol)]);

@@ -1,6 +1,6 @@
 /** The tape at one step: its cells about the head, the entry that is used next, and moving on by one step. */
 import { shown } from "../../reader/machine.mjs";
-import { part, setAside, tellLive } from "../dom.mjs";
+import { onClick, part, pressKey, setAside, tellLive } from "../dom.mjs";
 import { numberOf } from "../input/fields.mjs";
 import { Asker } from "../workers.mjs";
 import { cellOf, entryAt, markEntry, wordsOf } from "./taperow.mjs";
@@ -36,12 +36,12 @@ export class Tape {
   }
 
   listen() {
-    /** @param {string} id @param {() => void} act */
-    const on = (id, act) => part(id).addEventListener("click", act);
-    on("tape-first", () => this.go(0));
-    on("tape-back", () => this.go(this.step - 1));
-    on("tape-on", () => this.go(this.step + 1));
-    on("tape-play", () => this.play());
+    onClick({
+      "tape-first": () => this.go(0),
+      "tape-back": () => this.go(this.step - 1),
+      "tape-on": () => this.go(this.step + 1),
+      "tape-play": () => this.play(),
+    });
     part("tape-form").addEventListener("submit", (event) => {
       event.preventDefault();
       this.goToAsked();
@@ -233,19 +233,15 @@ export class Tape {
   /** Does what a key asks, but for those of a field and of a button that has the focus. */
   pressed(/** @type {KeyboardEvent} */ event) {
     const keeps = event.key === " " ? "input, button" : "input";
-    const isOwn = /** @type {HTMLElement} */ (event.target).matches(keeps);
     const far = event.shiftKey ? 10 : 1;
-    /** @type {Record<string, () => void>} */
-    const keys = {
-      ArrowLeft: () => this.go(this.step - far),
-      ArrowRight: () => this.go(this.step + far),
-      Home: () => this.go(0),
-      End: () => this.go(this.about?.last ?? 0),
-      " ": () => this.play(),
-    };
-    if (!isOwn && event.key in keys && !event.ctrlKey && !event.metaKey && !event.altKey) {
-      event.preventDefault();
-      keys[event.key]();
+    if (!(/** @type {HTMLElement} */ (event.target).matches(keeps))) {
+      pressKey(event, {
+        ArrowLeft: () => this.go(this.step - far),
+        ArrowRight: () => this.go(this.step + far),
+        Home: () => this.go(0),
+        End: () => this.go(this.about?.last ?? 0),
+        " ": () => this.play(),
+      });
     }
   }
 

@@ -6,9 +6,7 @@
 import { machineOf, shown, stateLetter } from "../../reader/machine.mjs";
 import { made, signed } from "../dom.mjs";
 
-function symbolOf(/** @type {Row} */ { cells, head, low }) {
-  return cells[head - low] ?? 0;
-}
+const symbolOf = (/** @type {Row} */ { cells, head, low }) => cells[head - low] ?? 0;
 
 /** The entry of a machine's table that is used after a row; null where there is none. */
 export function entryAt(/** @type {Row} */ row, /** @type {string} */ text) {
