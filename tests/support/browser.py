@@ -1,0 +1,464 @@
+"""The built page in a headless Chromium, beside the program."""
+
+from __future__ import annotations
+
+import contextlib
+import json
+import os
+import pathlib
+import signal
+import threading
+import time
+from typing import Any, Callable, Dict, List, NamedTuple, Optional, Tuple
+
+from .program import LIMITS, SWITCHES, ended, words_of_plan
+
+# What tells of tasks that kept the page from answering.
+WATCH = """
+window.longest = 0;
+new PerformanceObserver((list) => list.getEntries().forEach((entry) => {
+  window.longest = Math.max(window.longest, entry.duration);
+})).observe({ entryTypes: ["longtask"] });
+"""
+# What makes the page believe that there are so many cores.
+CORES = "Object.defineProperty(navigator, 'hardwareConcurrency', { get: () => %d });"
+DROP = """
+const moved = new DataTransfer();
+moved.items.add(document.getElementById("file").files[0]);
+dispatchEvent(new DragEvent("drop", { dataTransfer: moved, bubbles: true, cancelable: true }));
+"""
+HIDE_FILE = """
+document.getElementById("file").addEventListener("change", (event) => event.stopImmediatePropagation(),
+  { capture: true, once: true });
+"""
+# Does what a script says, and tells how long it takes until the diagram is drawn anew, in milliseconds.
+DRAWING = """
+const done = arguments[arguments.length - 1];
+const canvas = document.getElementById("diagram");
+const begun = performance.now();
+const watch = new MutationObserver(() => {
+  if (canvas.dataset.state === "drawn") {
+    watch.disconnect();
+    done(performance.now() - begun);
+  }
+});
+watch.observe(canvas, { attributes: true, attributeFilter: ["data-state"] });
+%s
+"""
+# Turns the wheel on the diagram by so many notches, at a place in pixels from where its picture begins.
+WHEEL = """
+canvas.focus({ preventScroll: true });
+const { left, top } = canvas.getBoundingClientRect();
+canvas.dispatchEvent(new WheelEvent("wheel", {
+  deltaY: -100 * arguments[0],
+  clientX: left + Number(canvas.dataset.x) + arguments[1],
+  clientY: top + Number(canvas.dataset.y) + arguments[2],
+  bubbles: true,
+  cancelable: true,
+}));
+"""
+# The contrast of two colours as styles have them.
+CONTRAST = """
+const parse = (text) => (text.match(/[0-9.]+/g) ?? []).map(Number);
+const light = ([r, g, b]) => [r, g, b].map((part) => part / 255)
+  .map((part) => (part <= 0.03928 ? part / 12.92 : ((part + 0.055) / 1.055) ** 2.4))
+  .reduce((sum, part, k) => sum + part * [0.2126, 0.7152, 0.0722][k], 0);
+const contrast = (one, two) => {
+  const [a, b] = [light(one), light(two)].sort((x, y) => y - x);
+  return (a + 0.05) / (b + 0.05);
+};
+"""
+PIXELS = """
+const pen = document.getElementById("diagram").getContext("2d");
+const { x, y, ratio } = pen.canvas.dataset;
+return arguments[0].map(([right, down]) => [...pen.getImageData(
+  (right + Number(x)) * ratio, (down + Number(y)) * ratio, 1, 1).data].slice(0, 3));
+"""
+ROWS = (
+    "return [...document.querySelectorAll('#shown .row')].map((row) => "
+    "[...row.children].map((cell) => cell.textContent))"
+)
+# After so many seconds something that is waited for counts as lost.
+PATIENCE = 1_800
+# A command that takes more seconds counts as lost; a script and a page's loading a few less, so that they
+# are what is named.
+COMMAND, SCRIPT = 300, 290
+# A browser that takes more seconds to end is killed.
+ENDING = 20
+# A machine of two symbols that never halts, and limits at which it runs on for hours.
+LONG = "0RB---_0LA---"
+ENDLESS: Dict[str, Any] = {"steps": 10**12, "cells": 64, "depth": 9, **{name: False for name in SWITCHES}}
+# The numbers in the palette of what isn't visited, and of the head.
+UNVISITED, HEAD = 10, 11
+
+
+class Row(NamedTuple):
+    """A step of a run: its state, the head, the lowest position visited, and the symbols from there on."""
+
+    step: int
+    state: str
+    head: int
+    low: int
+    cells: str
+
+    def read(self, position: int) -> int:
+        """The symbol that a head reads at a position."""
+        symbol = self.symbol(position)
+        return 0 if symbol == UNVISITED else symbol
+
+    @property
+    def state_words(self) -> str:
+        """Its state, as the page tells it."""
+        return "halted" if self.state == "Z" else "state " + self.state
+
+    def place_words(self, position: int) -> str:
+        """What the page tells of a position at this step."""
+        symbol = self.symbol(position)
+        cell = "not visited yet" if symbol == UNVISITED else "symbol %d" % symbol
+        head = "here" if position == self.head else "at " + signed(self.head)
+        words = (signed(self.step), self.state_words, signed(position), cell, head)
+        return "Step %s, %s; position %s: %s; the head is %s." % words
+
+    def symbol(self, position: int) -> int:
+        """The symbol at a position, or the number of what isn't visited yet."""
+        at = position - self.low
+        return int(self.cells[at]) if 0 <= at < len(self.cells) else UNVISITED
+
+
+def signed(number: int) -> str:
+    """A number as the page writes it."""
+    return "{:,}".format(number).replace("-", "\u2212")
+
+
+def trace(program: str, machine: str, steps: int, cells: int = 65_536) -> List[Row]:
+    """All steps of a run, by the program, each with its lowest position."""
+    command = [program, "trace", "--upto", str(steps), "--cells", str(cells), "--", machine]
+    rows, low = [], 0
+    for line in ended(command).output.decode().splitlines():
+        step, state, head, symbols = line.split()
+        low = min(low, int(head)) if state != "Z" else low
+        rows.append(Row(int(step), state, int(head), low, symbols))
+    return rows
+
+
+def soon(what: Callable[[], object], patience: float = 10.0) -> bool:
+    """Whether something becomes so before long."""
+    end = time.monotonic() + patience
+    while not what():
+        if time.monotonic() > end:
+            return False
+        time.sleep(0.01)
+    return True
+
+
+def is_whole(path: str) -> bool:
+    """Whether the browser has written a file to its end; before, it may stand there empty."""
+    return os.path.exists(path) and os.path.getsize(path) > 0 and not os.path.exists(path + ".crdownload")
+
+
+class Page:
+    """A page in a browser of its own, which ends with the block of `with`, whatever comes. `folder` is where
+    it saves files, `program` what it is held against. `cores` are those that it believes to have."""
+
+    def __init__(
+        self,
+        path: object,
+        folder: object,
+        width: int = 1280,
+        height: int = 900,
+        is_phone: bool = False,
+        cores: Optional[int] = None,
+        program: str = "",
+    ) -> None:
+        # Where selenium is missing the tests of the page are skipped, but this module is imported.
+        from selenium import webdriver
+        from selenium.webdriver.chrome.service import Service
+        from selenium.webdriver.remote.remote_connection import RemoteConnection
+
+        options = webdriver.ChromeOptions()
+        for word in ("--headless=new", "--no-sandbox", "--window-size=%d,%d" % (width, height)):
+            options.add_argument(word)
+        if is_phone:
+            metrics = {"deviceMetrics": {"width": width, "height": height, "pixelRatio": 2.0}}
+            options.add_experimental_option("mobileEmulation", metrics)
+        options.set_capability("goog:loggingPrefs", {"browser": "ALL", "performance": "ALL"})
+        RemoteConnection.set_timeout(COMMAND)
+        service = Service("/usr/bin/chromedriver", popen_kw={"start_new_session": True})
+        self.driver = webdriver.Chrome(options=options, service=service)
+        self.process: int = service.process.pid
+        self.driver.set_script_timeout(SCRIPT)
+        self.driver.set_page_load_timeout(SCRIPT)
+        self.folder, self.path, self.program = str(folder), str(path), program
+        self.command("Page.setDownloadBehavior", behavior="allow", downloadPath=self.folder)
+        self.add_script(WATCH + (CORES % cores if cores else ""))
+
+    def command(self, name: str, **words: Any) -> Any:
+        """Has the browser do what its protocol for developers names."""
+        return self.driver.execute_cdp_cmd(name, words)
+
+    def add_script(self, source: str) -> Any:
+        """Has each page that is opened run a script first, until it is taken out."""
+        return self.command("Page.addScriptToEvaluateOnNewDocument", source=source)
+
+    def remove_script(self, added: Any) -> None:
+        """Takes a script out that was added."""
+        self.command("Page.removeScriptToEvaluateOnNewDocument", **added)
+
+    def open(self, link: str = "") -> None:
+        """Opens the page from the disk, and waits for what it decides first."""
+        if self.driver.current_url.startswith("file:"):
+            # The page keeps its list when it is left.
+            self.js("addEventListener('pagehide', () => sessionStorage.clear())")
+        self.driver.get("about:blank")
+        self.driver.get("file://" + self.path + link)
+        self.ended()
+
+    def reload(self) -> None:
+        """Loads the page again, and waits for what it decides then."""
+        self.driver.refresh()
+        self.ended()
+
+    def js(self, script: str, *words: Any) -> Any:
+        """What a script in the page gives."""
+        return self.driver.execute_script(script, *words)
+
+    def wait_for_js(self, script: str, *words: Any) -> Any:
+        """What a script in the page hands over later."""
+        return self.driver.execute_async_script(script, *words)
+
+    def get(self, name: str, field: str) -> Any:
+        """A property of an element, such as its value."""
+        return self.js("return document.getElementById(arguments[0])[arguments[1]]", name, field)
+
+    def put(self, name: str, field: str, value: Any) -> None:
+        """Sets a property of an element."""
+        self.js("document.getElementById(arguments[0])[arguments[1]] = arguments[2]", name, field, value)
+
+    def text(self, name: str) -> str:
+        """The text of an element."""
+        return str(self.get(name, "textContent"))
+
+    def focus(self) -> str:
+        """The id of the element that has the focus."""
+        return str(self.js("return document.activeElement.id"))
+
+    def click(self, name: str) -> None:
+        """Clicks an element, as whoever uses the page does."""
+        self.js("document.getElementById(arguments[0]).click()", name)
+
+    def press(self, name: str, *keys: str) -> None:
+        """Presses keys in an element, one after another."""
+        element = self.driver.find_element("id", name)
+        self.js("arguments[0].focus({ preventScroll: true })", element)
+        for key in keys:
+            element.send_keys(key)
+
+    def type(self, name: str, text: str) -> None:
+        """Puts a text into a field, as if it was typed."""
+        self.put(name, "value", text)
+        self.tell(name, "input")
+
+    def choose_option(self, name: str, value: str) -> None:
+        """Chooses an option of a menu by its value."""
+        self.put(name, "value", value)
+        self.tell(name, "change")
+
+    def choose_example(self, name: str) -> None:
+        """Chooses an example by its name, and waits until it is answered."""
+        script = (
+            "return [...document.getElementById('examples').options].find((one) => one.text === arguments[0])"
+        )
+        self.await_answer(lambda: self.choose_option("examples", self.js(script + ".value", name)))
+
+    def tell(self, name: str, event: str) -> None:
+        """Has an element hear of an event."""
+        script = (
+            "document.getElementById(arguments[0]).dispatchEvent(new Event(arguments[1], { bubbles: true }))"
+        )
+        self.js(script, name, event)
+
+    def await_answer(self, act: Callable[[], object]) -> None:
+        """Does something that has a list answered, and waits until it is."""
+        self.js("document.getElementById('results').dataset.state = 'asked'")
+        act()
+        self.ended()
+
+    def open_list(self, text: str) -> None:
+        """Types a list, in place of a file where one is chosen, and waits until it is answered."""
+        self.js(
+            "document.getElementById('file-shown').hidden || document.getElementById('file-remove').click()"
+        )
+        self.type("list", text)
+        self.await_answer(self.run)
+
+    def open_row(self, row: int) -> None:
+        """Clicks a row that is seen, by its number."""
+        self.js("document.querySelectorAll('#shown .row')[arguments[0]].click()", row)
+
+    def rows(self) -> List[List[str]]:
+        """The texts of the rows that are seen."""
+        found: List[List[str]] = self.js(ROWS)
+        return found
+
+    def media(self, **features: str) -> None:
+        """Has the browser prefer something, such as `prefers_color_scheme="dark"`."""
+        wanted = [{"name": name.replace("_", "-"), "value": value} for name, value in features.items()]
+        self.command("Emulation.setEmulatedMedia", features=wanted)
+
+    def until(self, what: Callable[[], Any]) -> Any:
+        """Waits until something is so, and gives it."""
+        end = time.monotonic() + PATIENCE
+        while not (found := what()):
+            assert time.monotonic() < end, "it didn't come: %s" % self.text("status")
+            time.sleep(0.01)
+        return found
+
+    def tape_is_at(self, step: str) -> bool:
+        """Whether the tape shows a step, soon; `step` may go on with what is said of it."""
+        return soon(lambda: self.text("tape-text").startswith("Step %s" % step))
+
+    def state(self) -> Optional[str]:
+        """Whether the work is over: done, stopped, ended."""
+        state: Optional[str] = self.js("return document.getElementById('results').dataset.state")
+        return state
+
+    def ended(self) -> None:
+        """Waits until the work is over."""
+        self.until(lambda: self.state() in ("done", "stopped", "ended"))
+
+    def drawn(self) -> Dict[str, float]:
+        """Waits until the diagram is drawn, and gives where it stands: the numbers of its view."""
+        script = "return {...document.getElementById('diagram').dataset}"
+        drawn: Dict[str, str] = self.until(
+            lambda: (found := self.js(script)).get("state") == "drawn" and found
+        )
+        return {name: float(value) for name, value in drawn.items() if name != "state"}
+
+    def drawing(self, script: str, *words: Any) -> float:
+        """The seconds from what a script does until the diagram is drawn anew, by the page's clock."""
+        return float(self.wait_for_js(DRAWING % script, *words)) / 1_000
+
+    def zooming(self, notches: float, right: float, down: float) -> float:
+        """The same of the wheel, turned at a place in the picture."""
+        return self.drawing(WHEEL, notches, right, down)
+
+    def size(self) -> Tuple[int, int]:
+        """The width and height of the diagram's canvas."""
+        return self.get("diagram", "clientWidth"), self.get("diagram", "clientHeight")
+
+    def scroll_to_diagram(self) -> None:
+        """Has the window show the diagram."""
+        self.js("document.getElementById('diagram').scrollIntoView({ block: 'center' })")
+
+    def go_to(self, step: str) -> None:
+        """Goes to a step by the field of the tape."""
+        self.put("tape-step", "value", step)
+        self.js("document.getElementById('tape-form').requestSubmit()")
+
+    def colour(self, name: str) -> List[int]:
+        """A colour of the page's style."""
+        script = "return getComputedStyle(document.documentElement).getPropertyValue(arguments[0])"
+        text = self.js(script, name).strip()
+        return [int(text[at : at + 2], 16) for at in (1, 3, 5)]
+
+    def palette(self) -> List[List[int]]:
+        """The colours of the symbols, of what isn't visited yet, and of the head."""
+        return [self.colour(name) for name in [*map("--s{}".format, range(10)), "--unvisited", "--head"]]
+
+    def pixels(self, places: List[List[float]]) -> List[List[int]]:
+        """The colours of the diagram at places, in pixels of the page from where its picture begins."""
+        found: List[List[int]] = self.js(PIXELS, places)
+        return found
+
+    def plan(self, plan: Dict[str, Any], mode: str, clean: bool = False) -> None:
+        """Sets the fields; those that aren't named get their defaults."""
+        self.click("defaults")
+        for name in LIMITS:
+            if name in plan:
+                self.put(name, "value", str(plan[name]))
+        checked = {name: plan.get(name, True) for name in SWITCHES}
+        for name, value in {**checked, "clean": clean}.items():
+            self.put(name, "checked", value)
+        self.put("mode", "value", mode)
+
+    def run(self) -> None:
+        """Asks for the list, without waiting for it."""
+        self.click("run")
+
+    def file(self, given: bytes, drop: bool = False) -> None:
+        """Chooses a file with these bytes, or drops it; the page begins at once."""
+        path = pathlib.Path(self.folder) / "list"
+        path.write_bytes(given)
+        self.choose(str(path), drop)
+
+    def choose(self, path: str, drop: bool = False) -> None:
+        """Chooses a file, or drops it; the page begins at once."""
+        self.js("document.getElementById('results').dataset.state = 'asked'")
+        self.put("file", "value", "")
+        if drop:
+            self.js(HIDE_FILE)
+        self.driver.find_element("id", "file").send_keys(path)
+        if drop:
+            self.js(DROP)
+
+    def answer_file(self, given: bytes, drop: bool = False) -> None:
+        """Chooses a file with these bytes, or drops it, and waits until it is answered."""
+        self.file(given, drop)
+        self.ended()
+
+    def saved(self) -> bytes:
+        """The bytes that the page saves."""
+        self.click("save")
+        return self.taken()
+
+    def taken(self) -> bytes:
+        """The bytes of a list that the page is about to save."""
+        names = [os.path.join(self.folder, name) for name in ("verdicts.txt", "answers.txt")]
+        path = pathlib.Path(self.until(lambda: next(filter(is_whole, names), None)))
+        given = path.read_bytes()
+        path.unlink()
+        return given
+
+    def written(self, name: str, plan: Dict[str, Any], given: bytes) -> bytes:
+        """What the program writes of a list."""
+        return ended([self.program, name, *words_of_plan(plan)], given).output
+
+    def same(self, name: str, plan: Dict[str, Any], given: bytes, drop: bool = False) -> bytes:
+        """Answers a file, and requires that the page saves what the program writes."""
+        self.plan(plan, name)
+        self.answer_file(given, drop)
+        found, wanted = self.saved(), self.written(name, plan, given)
+        first = next((k for k, pair in enumerate(zip(found, wanted)) if pair[0] != pair[1]), "at its end")
+        assert found == wanted, "%s %s differs at byte %s" % (name, plan, first)
+        return found
+
+    def requests(self) -> List[str]:
+        """The addresses that were asked for, but of the page itself and of what it made."""
+        messages = [json.loads(entry["message"])["message"] for entry in self.driver.get_log("performance")]
+        sent = [one["params"] for one in messages if one["method"] == "Network.requestWillBeSent"]
+        own = ("file://" + self.path, "blob:", "data:", "about:")
+        return [one["request"]["url"] for one in sent if not one["request"]["url"].startswith(own)]
+
+    def errors(self) -> List[str]:
+        """What the console has of errors."""
+        return [entry["message"] for entry in self.driver.get_log("browser") if entry["level"] == "SEVERE"]
+
+    def __enter__(self) -> Page:
+        return self
+
+    def __exit__(self, *_: object) -> None:
+        self.end()
+
+    def quit(self) -> None:
+        """Asks the browser to end; whether it answers doesn't matter."""
+        with contextlib.suppress(Exception):
+            self.driver.quit()
+
+    def end(self) -> None:
+        """Ends the browser; where it no longer answers, by its processes, which are a group of their own."""
+        ending = threading.Thread(target=self.quit, daemon=True)
+        ending.start()
+        ending.join(ENDING)
+        if ending.is_alive():
+            with contextlib.suppress(ProcessLookupError):
+                os.killpg(self.process, signal.SIGKILL)

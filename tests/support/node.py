@@ -1,0 +1,70 @@
+"""The engine as WebAssembly in a process of Node."""
+
+import itertools
+import json
+import pathlib
+import subprocess
+from typing import Any, Dict, NamedTuple
+
+from . import TOP
+
+MODULE = TOP / "web" / "out" / "bb.wasm"
+
+
+def documented(heading: str) -> str:
+    """The script below a heading of docs/web.md, or the only block of code there."""
+    text = (TOP / "docs" / "web.md").read_text(encoding="utf-8")
+    part = text.split("\n## %s\n" % heading)[1].split("\n## ")[0]
+    begin = part.find("\n    import")
+    lines = part[max(begin, part.index("\n    ")) + 1 :].split("\n")
+    block = itertools.takewhile(lambda line: line.startswith("    ") or not line, lines)
+    return "".join(line[4:] + "\n" for line in block).strip("\n") + "\n"
+
+
+class CallEnd(NamedTuple):
+    """What a call gives: the status of the program and the bytes, or the error that it threw."""
+
+    status: int
+    reply: bytes
+    answer: Dict[str, Any]
+
+
+class Engine:
+    """A process of Node that answers calls; bytes go through files of a folder."""
+
+    def __init__(self, folder: object, module: object = MODULE) -> None:
+        command = ["node", str(TOP / "web" / "tests" / "engine.mjs"), str(module)]
+        pipe = subprocess.PIPE
+        self.process = subprocess.Popen(command, stdin=pipe, stdout=pipe, text=True)
+        self.given, self.out = (pathlib.Path(str(folder)) / name for name in ("given", "out"))
+        self.about = self.line()
+
+    def line(self) -> Dict[str, Any]:
+        """The next line of the process; empty where it ended."""
+        assert self.process.stdout
+        answer: Dict[str, Any] = json.loads(self.process.stdout.readline() or "{}")
+        return answer
+
+    def call(self, name: str, plan: Dict[str, Any], given: bytes, **more: int) -> CallEnd:
+        """One call, with limits and switches by name."""
+        self.given.write_bytes(given)
+        job: Dict[str, Any] = {
+            "call": name,
+            "plan": plan,
+            "given": str(self.given),
+            "out": str(self.out),
+            **more,
+        }
+        assert self.process.stdin
+        self.process.stdin.write(json.dumps(job) + "\n")
+        self.process.stdin.flush()
+        answer = self.line()
+        if "clean" not in answer:
+            return CallEnd(2, b"", answer)
+        return CallEnd(0 if answer["clean"] else 1, self.out.read_bytes(), answer)
+
+    def end(self) -> None:
+        """Ends the process."""
+        assert self.process.stdin
+        self.process.stdin.close()
+        self.process.wait()

@@ -1,0 +1,97 @@
+#!/bin/sh
+# Builds the engine as WebAssembly, web/out/bb.wasm, and prints where it is.
+#
+#     web/build_module.sh
+#
+# It proves the crate of the library's calls where that isn't done, which takes about two minutes after `./bb`.
+# The kit's own clang compiles the intermediate code of the library a second time, for WebAssembly, after
+# web/narrow.py has narrowed its pointers to 32 bits; the kit's files are only read, and a folder of links
+# stands for it meanwhile. Standard error tells what it does.
+set -eu
+web=$(cd "$(dirname "$0")" && pwd)
+module=$web/out/bb.wasm
+calls='bb_decide bb_decide_line bb_check bb_check_line bb_trace'
+room=$(mktemp -d)
+trap 'rm -rf "$room"' EXIT
+trap 'exit 130' INT
+trap 'exit 143' TERM
+
+say() {
+    echo "web: $*" >&2
+}
+
+unexpected() {
+    say "$*: the kit isn't laid out as this script expects, so it can't build the module"
+    exit 1
+}
+
+# Links to all of the kit, under $room/kit; its `bin` is a copy, since `rt` finds the kit by where it stands
+# itself, and its clang a script that keeps the intermediate code.
+stand_in() {
+    command -v rt >/dev/null || unexpected 'there is no command rt'
+    kit=$(dirname "$(rt doc)")
+    for part in bin/rt bin/rattle toolchain/bin/clang toolchain/bin/ld.lld; do
+        [ -x "$kit/$part" ] || unexpected "$kit/$part is missing"
+    done
+    mkdir -p "$room/kit/toolchain/bin"
+    for part in "$kit"/* "$kit"/toolchain/* "$kit"/toolchain/bin/*; do
+        case ${part#"$kit"/} in
+            bin | toolchain | toolchain/bin | toolchain/bin/clang) ;;
+            *) ln -s "$part" "$room/kit/${part#"$kit"/}" ;;
+        esac
+    done
+    cp -R "$kit/bin" "$room/kit/bin"
+    cat >"$room/kit/toolchain/bin/clang" <<END
+#!/bin/sh
+for word in "\$@"; do
+    case \$word in *module.bc) cp "\$word" '$room/module.bc' ;; esac
+done
+exec '$kit/toolchain/bin/clang' "\$@"
+END
+    chmod +x "$room/kit/toolchain/bin/clang"
+}
+
+# Proves the library's crate, and keeps its intermediate code as $room/module.bc.
+prove() {
+    say 'proving bb_c and what it stands on'
+    if ! (cd "$web/../crates/bb_c" && "$room/kit/bin/rt" lib) </dev/null >"$room/log" 2>&1; then
+        cat "$room/log" >&2
+        exit 1
+    fi
+    [ -s "$room/module.bc" ] || unexpected 'the kit gave its clang no module.bc'
+}
+
+# Runs the kit's clang over intermediate code; what it says is shown where it fails.
+translate() {
+    if ! "$kit/toolchain/bin/clang" -Wno-override-module -O3 -x ir "$@" 2>"$room/log"; then
+        cat "$room/log" >&2
+        unexpected "the kit's clang compiles nothing for WebAssembly"
+    fi
+}
+
+# Compiles and links the module, from intermediate code that web/narrow.py takes as text. The code names a
+# processor that this target lacks; clang says so, and goes on. Unrolled loops make the module an eighth
+# larger, and no faster; so does as much inlining as clang does by itself (its threshold is 250).
+compile() {
+    say 'compiling bb.wasm'
+    ln -s "$kit/toolchain/bin/ld.lld" "$room/wasm-ld"
+    translate "$room/module.bc" --target=wasm64-unknown-unknown -S -emit-llvm -Xclang -disable-llvm-passes \
+        -o "$room/wide.ll"
+    python3 "$web/narrow.py" "$room/wide.ll" "$room/narrow.ll"
+    translate "$room/narrow.ll" --target=wasm32-unknown-unknown -msimd128 -mbulk-memory \
+        -fno-unroll-loops -mllvm -inline-threshold=200 -c -o "$room/module.o"
+    exported=
+    for call in $calls; do
+        exported="$exported --export-if-defined=$call"
+    done
+    mkdir -p "$web/out"
+    "$room/wasm-ld" -mwasm32 --no-entry $exported --export=__heap_base --allow-undefined \
+        -z stack-size=1048576 --strip-all -o "$room/bb.wasm" "$room/module.o" ||
+        unexpected "the kit's linker links nothing for WebAssembly"
+    mv "$room/bb.wasm" "$module"
+}
+
+stand_in
+prove
+compile
+echo "$module"

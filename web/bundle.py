@@ -1,0 +1,107 @@
+#!/usr/bin/env python3
+"""Bundles the page, its worker, the examples and the engine into one file.
+
+    python3 web/bundle.py
+
+It needs `web/out/bb.wasm`, and makes `web/out/bb.html`. A page that is opened from a disk may load no other
+file. So esbuild (Debian's `esbuild`) makes one script of the page's modules and one of the worker's, and the
+style smaller; the engine stands beside them in base64. A content security policy names the page's script and
+style by their hashes: the browser runs no other script, and connects to nothing. The same sources give the
+same bytes.
+"""
+
+import base64
+import hashlib
+import json
+import os
+import pathlib
+import shlex
+import subprocess
+import sys
+from typing import Any, Dict, Iterator, List
+
+WEB = pathlib.Path(__file__).resolve().parent
+EXAMPLES = WEB.parent / "examples"
+MOST_EXAMPLE_CHARACTERS = 20_000
+
+
+def bundle(path: str, *options: str) -> str:
+    """A script or style with all that it imports, as short as esbuild makes it."""
+    command = ["esbuild", str(WEB / path), "--bundle", "--minify", "--charset=utf8", "--target=es2022"]
+    text = subprocess.run([*command, *options], check=True, stdout=subprocess.PIPE, text=True).stdout.strip()
+    if "</script" in text or "</style" in text or "<!--" in text:
+        sys.exit("bundle: %s can't stand in a page" % path)
+    return text
+
+
+def plan_of(words: List[str]) -> Dict[str, Any]:
+    """Limits and switches by name, for the words of a command."""
+    plan: Dict[str, Any] = {word[5:]: False for word in words if word.startswith("--no-")}
+    for word, value in zip(words, words[1:]):
+        if word.startswith("--") and not word.startswith("--no-"):
+            plan[word[2:]] = value
+    return plan
+
+
+def examples() -> Iterator[Dict[str, Any]]:
+    """The examples that decide or check lists of their own."""
+    for path in sorted(EXAMPLES.glob("*/lines.txt")):
+        call, *words = shlex.split((path.parent / "command").read_text(encoding="utf-8"))
+        lines = path.read_text(encoding="utf-8")
+        if len(lines) <= MOST_EXAMPLE_CHARACTERS:
+            name = path.parent.name.replace("_", " ")
+            yield {"name": name, "call": call, "plan": plan_of(words), "lines": lines}
+
+
+def source_of(text: str) -> str:
+    """A script or style as a policy names it: by its hash."""
+    return "'sha256-%s'" % base64.b64encode(hashlib.sha256(text.encode()).digest()).decode()
+
+
+def policy(script: str, style: str) -> str:
+    """What the page may do: run its script, also in workers, and compile the engine; and connect to nothing."""
+    allowed = {
+        "default-src": "'none'",
+        "script-src": source_of(script) + " 'wasm-unsafe-eval'",
+        "worker-src": "blob:",
+        "style-src": source_of(style),
+        "img-src": "data: blob:",
+        "base-uri": "'none'",
+        "form-action": "'none'",
+    }
+    return "; ".join("%s %s" % pair for pair in allowed.items())
+
+
+def page_of(module: bytes) -> str:
+    """The page that has the engine's module inside."""
+    style = bundle("page/page.css")
+    script = bundle("page/page.mjs", "--format=esm")
+    worker = bundle("worker/worker.mjs", "--format=iife")
+    data = json.dumps(list(examples())).replace("<", "\\u003c")
+    scripts = [
+        '<script type="application/json" id="examples-data">%s</script>' % data,
+        '<script type="text/plain" id="module">%s</script>' % base64.b64encode(module).decode(),
+        '<script type="text/plain" id="worker">%s</script>' % worker,
+        '<script type="module">%s</script>' % script,
+    ]
+    text = (WEB / "page" / "page.html").read_text(encoding="utf-8")
+    parts = {
+        "policy": '<meta http-equiv="content-security-policy" content="%s">' % policy(script, style),
+        "style": "<style>%s</style>" % style,
+        "scripts": "\n".join(scripts),
+    }
+    page = "\n".join(line.strip() for line in text.splitlines()) + "\n"
+    for place, part in parts.items():
+        page = page.replace("<!--%s-->" % place, part)
+    return page
+
+
+def main() -> None:
+    page = WEB / "out" / "bb.html"
+    made = page.with_name(page.name + ".new")
+    made.write_text(page_of((WEB / "out" / "bb.wasm").read_bytes()), encoding="utf-8")
+    os.replace(made, page)
+
+
+if __name__ == "__main__":
+    main()

@@ -1,0 +1,134 @@
+/** The memory of the engine, and what is said where it can't be had. */
+
+const NEWLINE = 10;
+
+/** The memory that a call needs can't be had. The engine stays usable, with fewer cells or shorter lists. */
+export class MemoryError extends Error {
+  constructor() {
+    super("out of memory");
+    this.name = "MemoryError";
+  }
+}
+
+/** This browser, or this Node, has no WebAssembly with vectors. */
+export class UnsupportedError extends Error {
+  constructor() {
+    super("no WebAssembly with vectors (SIMD) here");
+    this.name = "UnsupportedError";
+  }
+}
+
+/** The number of lines; a last one without a newline counts if it isn't empty. */
+export function countLines(/** @type {Uint8Array} */ bytes) {
+  let count = bytes.length > 0 && bytes[bytes.length - 1] !== NEWLINE ? 1 : 0;
+  for (let at = bytes.indexOf(NEWLINE); at >= 0; at = bytes.indexOf(NEWLINE, at + 1)) {
+    count += 1;
+  }
+  return count;
+}
+
+const PAGE = 65_536;
+// A module of one function, which gives `i8x16.popcnt (i8x16.splat (i32.const 0))`.
+const OF_VECTORS = [
+  ...[0, 97, 115, 109, 1, 0, 0, 0, 1, 5, 1, 96, 0, 1, 123, 3, 2, 1, 0],
+  ...[10, 10, 1, 8, 0, 65, 0, 253, 15, 253, 98, 11],
+];
+
+export const isSupported = () =>
+  typeof WebAssembly === "object" && WebAssembly.validate(new Uint8Array(OF_VECTORS));
+
+/** Memory by address, handed out upwards and given up as a whole: between two calls nothing is held. */
+export class Room {
+  /** @param {number} most bytes of memory */
+  constructor(most) {
+    /** @type {WebAssembly.Memory | undefined} */
+    this.memory = undefined;
+    this.base = 0;
+    this.free = 0;
+    this.last = 0;
+    this.most = most;
+  }
+
+  /** Gives up all that was handed out. */
+  clear() {
+    this.free = this.base;
+    this.last = 0;
+  }
+
+  /**
+   * The address of so many bytes, or 0 where they can't be had.
+   * @param {number} size
+   * @param {number} align a power of two
+   */
+  take(size, align) {
+    const at = Math.ceil(this.free / align) * align;
+    if (!this.reaches(at + size)) {
+      return 0;
+    }
+    this.last = at;
+    this.free = at + size;
+    return at;
+  }
+
+  /**
+   * The same for bytes that grow and move; the last ones handed out grow where they stand.
+   * @param {number} old @param {number} was @param {number} size @param {number} align
+   */
+  retake(old, was, size, align) {
+    if (old === this.last && this.reaches(old + size)) {
+      this.free = old + size;
+      return old;
+    }
+    const at = this.take(size, align);
+    if (at !== 0) {
+      this.bytes(0, this.free).copyWithin(at, old, old + Math.min(was, size));
+    }
+    return at;
+  }
+
+  /** Whether memory ends there or later, grown if need be. */
+  reaches(/** @type {number} */ end) {
+    const memory = /** @type {WebAssembly.Memory} */ (this.memory);
+    const missing = Math.ceil((end - memory.buffer.byteLength) / PAGE);
+    if (missing <= 0) {
+      return true;
+    }
+    return end <= this.most && grows(memory, missing);
+  }
+
+  /** A view of these bytes, until memory grows. */
+  bytes(/** @type {number} */ at, /** @type {number} */ length) {
+    return new Uint8Array(/** @type {WebAssembly.Memory} */ (this.memory).buffer, at, length);
+  }
+
+  /** Writes what the module waits for: whether there is memory, and its address. */
+  answer(/** @type {number} */ to, /** @type {number} */ at) {
+    const view = new DataView(/** @type {WebAssembly.Memory} */ (this.memory).buffer, to >>> 0, 16);
+    view.setBigUint64(0, at === 0 ? 0n : 1n, true);
+    view.setBigUint64(8, BigInt(at === 0 ? 1 : at), true);
+  }
+
+  /** What the module imports. An address comes as a signed number of 32 bits. */
+  imports() {
+    return {
+      /** @param {number} to @param {bigint} size @param {bigint} align */
+      rattle_alloc: (to, size, align) => this.answer(to, this.take(Number(size), Number(align))),
+      /**
+       * @param {number} to @param {number} old @param {bigint} was @param {bigint} size
+       * @param {bigint} align
+       */
+      rattle_realloc: (to, old, was, size, align) =>
+        this.answer(to, this.retake(old >>> 0, Number(was), Number(size), Number(align))),
+      rattle_dealloc: () => undefined,
+    };
+  }
+}
+
+function grows(/** @type {WebAssembly.Memory} */ memory, /** @type {number} */ pages) {
+  try {
+    memory.grow(pages);
+    return true;
+  } catch {
+    return false;
+  }
+}

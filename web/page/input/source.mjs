@@ -1,0 +1,195 @@
+/** The list that is given, as a text or a file, and the settings with which it is answered. */
+import { counted } from "../../reader/machine.mjs";
+import { BEGIN_BYTES, firstLines, formOf, hasVerdicts, isUtf8 } from "../../reader/prepare.mjs";
+import { part, setAside, showWords } from "../dom.mjs";
+import { FIRST_BYTES } from "../list/pieces.mjs";
+import { planWords, setPlan } from "./fields.mjs";
+import { requireUtf8, unpacked } from "./files.mjs";
+
+/**
+ * @typedef {"decide" | "check"} Mode
+ * @typedef {import("../../reader/prepare.mjs").Form} Form
+ * @typedef {{text: string, gone: string, plan: Record<string, any>, mode: string, clean: boolean,
+ *   form?: string, isExample: boolean, hash: string}} Kept `gone` names a list that is too long to be kept,
+ *   `isExample` says that the settings are an example's, `hash` is the address behind `#`
+ */
+
+const KEY = "budlarem";
+const MOST_CHARACTERS = 1_000_000;
+
+export class Source {
+  constructor() {
+    this.list = /** @type {HTMLTextAreaElement} */ (part("list"));
+    this.mode = /** @type {HTMLSelectElement} */ (part("mode"));
+    this.clean = /** @type {HTMLInputElement} */ (part("clean"));
+    this.form = /** @type {HTMLSelectElement} */ (part("list-form"));
+    /** @type {File | null} */
+    this.file = null;
+    // The bytes of the file, unpacked; null where they weren't asked for yet.
+    /** @type {Promise<Blob> | null} */
+    this.bytes = null;
+    // What the list is called that a reload doesn't keep, where a file or such a list stands there.
+    this.gone = "";
+    // Whether the settings are those of an example: then the next list has the defaults again.
+    this.isExample = false;
+    this.list.addEventListener("input", () => {
+      this.forgetExample();
+      this.nameRun();
+      this.gone = "";
+      part("list-gone").hidden = true;
+    });
+    this.mode.addEventListener("change", () => this.nameRun());
+    part("defaults").addEventListener("click", () => this.toDefaults());
+  }
+
+  /** @returns {Mode} how a list is answered that begins so */
+  modeOf(/** @type {Uint8Array} */ start) {
+    const asked = this.mode.value;
+    return asked === "check" || (asked === "auto" && hasVerdicts(start)) ? "check" : "decide";
+  }
+
+  /** @returns {Form} the form by which the lines of a list are read that begins so */
+  formOf(/** @type {Uint8Array} */ start) {
+    const asked = this.form.value;
+    const found = asked === "auto" ? formOf(firstLines(start)) : /** @type {Form} */ (asked);
+    return found ?? "text";
+  }
+
+  /** Has the button say what it does with the text, or with a file once its begin is read. */
+  nameRun() {
+    if (this.file === null) {
+      nameRun(this.modeOf(new TextEncoder().encode(this.list.value.slice(0, BEGIN_BYTES))));
+    } else {
+      // A file that can't be read is told where it is run.
+      this.given(BEGIN_BYTES).catch(() => undefined);
+    }
+  }
+
+  /**
+   * What is to be answered, its first bytes, whether it is decided or checked, which the button says, the
+   * form of its lines, and whether it begins as text in UTF-8.
+   * @param {number} [bytes] how many first ones
+   */
+  async given(bytes = FIRST_BYTES) {
+    const { file } = this;
+    const blob = await (file === null ? new Blob([this.list.value]) : this.unpacked(file));
+    await requireUtf8(blob);
+    const first = await blob.slice(0, bytes).arrayBuffer();
+    const start = new Uint8Array(first, 0, Math.min(first.byteLength, BEGIN_BYTES));
+    const mode = this.modeOf(start);
+    if (file === this.file) {
+      nameRun(mode);
+    }
+    return { blob, first, mode, form: this.formOf(start), isText: isUtf8(start) };
+  }
+
+  /**
+   * The bytes of a file, unpacked once where they are compressed; one that can't be read is tried again when
+   * it is asked for again.
+   */
+  unpacked(/** @type {File} */ file) {
+    this.bytes ??= unpacked(file).catch((error) => {
+      this.bytes = null;
+      throw error;
+    });
+    return this.bytes;
+  }
+
+  fill(/** @type {string} */ text) {
+    this.list.value = text;
+    this.hold(null);
+  }
+
+  /** Takes a file in place of the text, which is named when it is run; null takes it away again. */
+  hold(/** @type {File | null} */ file) {
+    this.file = file;
+    this.bytes = null;
+    this.gone = file === null ? "" : `The file ${file.name}`;
+    part("file-shown").hidden = file === null;
+    part("list-gone").hidden = true;
+    setAside("list", "hidden", file !== null, "file-remove");
+    if (file === null) {
+      this.nameRun();
+    } else {
+      part("file-name").textContent = `${file.name}, ${counted(file.size, "byte")}`;
+    }
+  }
+
+  tellGone(/** @type {string} */ name) {
+    const words = `${name} isn’t kept over a reload; choose it again.`;
+    showWords("list-gone", words);
+    this.gone = name;
+  }
+
+  toDefaults() {
+    this.leaveExample();
+    this.set({}, true, "auto");
+  }
+
+  /**
+   * Sets limits, deciders, whether lines are cleaned, what they are, and the form of the list.
+   * @param {Record<string, any>} plan @param {boolean} clean @param {string} mode @param {string} [form]
+   */
+  set(plan, clean, mode, form = "auto") {
+    setPlan(plan);
+    this.clean.checked = clean;
+    this.mode.value = mode;
+    this.form.value = form;
+    this.nameRun();
+  }
+
+  /** Gives the next list the defaults again, where the settings are an example's. */
+  forgetExample() {
+    if (this.isExample) {
+      this.toDefaults();
+    }
+  }
+
+  /** The settings are no example's any more; each can be chosen again. */
+  leaveExample() {
+    this.isExample = false;
+    /** @type {HTMLSelectElement} */ (part("examples")).value = "";
+  }
+
+  /** Keeps list and settings for a reload. */
+  keep() {
+    const { gone, list, mode, clean, form, isExample } = this;
+    const { hash } = location;
+    const lines = { mode: mode.value, form: form.value, clean: clean.checked };
+    const settings = { plan: planWords(), ...lines, isExample };
+    keep({ text: list.value, gone, ...settings, hash });
+  }
+}
+
+function nameRun(/** @type {Mode} */ mode) {
+  part("run").textContent = mode === "check" ? "Check" : "Decide";
+}
+
+/** Keeps these for a reload; where the browser keeps nothing, nothing is kept. */
+export function keep(/** @type {Kept} */ { text, gone, ...settings }) {
+  const isShort = gone === "" && text.length <= MOST_CHARACTERS;
+  const named = gone || `The list of ${text.length.toLocaleString("en")} characters`;
+  const kept = { text: isShort ? text : "", gone: isShort ? "" : named, ...settings };
+  try {
+    sessionStorage.setItem(KEY, JSON.stringify(kept));
+  } catch {
+    forget();
+  }
+}
+
+/** @returns {Kept | null} what was kept; null where nothing was. */
+export function kept() {
+  try {
+    return JSON.parse(sessionStorage.getItem(KEY) ?? "null");
+  } catch {
+    return null;
+  }
+}
+
+export function forget() {
+  try {
+    sessionStorage.removeItem(KEY);
+  } catch {
+    // There is no storage then.
+  }
+}

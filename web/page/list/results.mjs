@@ -1,0 +1,338 @@
+/**
+ * What was said of a list, in the order of its lines, though pieces of it may end in another order.
+ *
+ * @typedef {import("../../worker/worker.mjs").Part} Part
+ * @typedef {{part: Part, line: number}} Place
+ */
+import { ANSWERS, KINDS, readLine, unreadLine } from "../../reader/machine.mjs";
+import { lineAt } from "../../reader/prepare.mjs";
+import { BYTES_KEPT, LONGEST_SHOWN } from "../../reader/words.mjs";
+import { startsOf, stepsIn } from "../../worker/replies.mjs";
+
+// How long work takes before the page rests.
+const BUSY_MILLISECONDS = 20;
+const SPACE = 32;
+const decoder = new TextDecoder();
+const [UNDECIDED, BACKWARD] = [KINDS.indexOf("undecided"), KINDS.indexOf("backward")];
+/** The number of the limits of a list's first pass. */
+export const FIRST_PASS = 1;
+/** The number of the first limits that are larger than the list's. */
+export const LARGER = 2;
+const MOST_PLANS = 255;
+
+export class Results {
+  /** @param {Record<string, any>} plan the limits of the list */
+  constructor(plan) {
+    // Limits by their numbers.
+    this.plans = [plan, plan];
+    // How many lines only the first pass has answered, and how many of these it left undecided.
+    this.open = 0;
+    this.waiting = 0;
+    // How many lines were decided again with larger limits.
+    this.again = 0;
+    /** @type {Part[][]} */
+    this.jobs = [];
+    this.counts = KINDS.map(() => 0);
+    this.answers = ANSWERS.map(() => 0);
+    this.left = 0;
+    this.read = 0;
+    this.lines = 0;
+    /** @type {Part[] | null} */
+    this.flat = null;
+    this.begins = new Float64Array(1);
+    // The numbers from 0 on.
+    this.numbers = new Uint32Array(0);
+  }
+
+  add(/** @type {Part} */ part, /** @type {number} */ read) {
+    (this.jobs[part.job] ??= []).push(part);
+    this.flat = null;
+    this.lines += part.kinds.length;
+    this.left += part.left;
+    this.read += read;
+    part.kindCounts.forEach((count, kind) => (this.counts[kind] += count));
+    part.answerCounts.forEach((count, answer) => (this.answers[answer] += count));
+  }
+
+  /**
+   * Takes in a part of the first pass: of what it left undecided, and of backward reasoning, which comes last,
+   * the limits of the list may find another verdict.
+   */
+  addFirst(/** @type {Part} */ part, /** @type {number} */ read) {
+    const { kinds } = part;
+    part.plans = kinds.map((kind) => (kind === UNDECIDED || kind === BACKWARD ? FIRST_PASS : 0));
+    this.open += part.kindCounts[UNDECIDED] + part.kindCounts[BACKWARD];
+    this.waiting += part.kindCounts[UNDECIDED];
+    this.add(part, read);
+  }
+
+  /** The number of limits; those that are new get one. */
+  planNumber(/** @type {Record<string, any>} */ plan) {
+    const { plans } = this;
+    const isSame = (/** @type {any} */ one) => one.steps === plan.steps && one.cells === plan.cells;
+    const at = plans.findIndex((one, k) => k >= LARGER && isSame(one));
+    return at >= 0 ? at : Math.min(MOST_PLANS, plans.push(plan) - 1);
+  }
+
+  /**
+   * Puts the lines of a part in the place of rows, of which it has the machines in this order.
+   * @param {Uint32Array} rows in order @param {Part} by @param {number} plan the number of its limits
+   */
+  replace(rows, by, plan) {
+    for (let first = 0; first < rows.length; ) {
+      const { part, line } = this.place(rows[first]);
+      const begin = rows[first] - line;
+      const beyond = rows.findIndex((row) => row >= begin + part.kinds.length);
+      const end = beyond < 0 ? rows.length : beyond;
+      const lines = rows.subarray(first, end).map((row) => row - begin);
+      lines.forEach((one) => this.count(part, one, -1));
+      replaceLines(part, lines, by, first, plan);
+      lines.forEach((one) => this.count(part, one, 1));
+      first = end;
+    }
+  }
+
+  /** Counts a line, or takes it out of the counts. */
+  count(/** @type {Part} */ { kinds, answers, plans }, /** @type {number} */ line, /** @type {1 | -1} */ by) {
+    const plan = plans?.[line] ?? 0;
+    this.counts[kinds[line]] += by;
+    this.answers[answers[line]] += by;
+    this.open += plan === FIRST_PASS ? by : 0;
+    this.waiting += plan === FIRST_PASS && kinds[line] === UNDECIDED ? by : 0;
+    this.again += plan >= LARGER ? by : 0;
+  }
+
+  openRows() {
+    const isOpen = Uint8Array.from([0, 1]);
+    return this.rowsBy((part) => part.plans ?? new Uint8Array(part.kinds.length), isOpen);
+  }
+
+  machineAt(/** @type {number} */ row) {
+    const { part, line } = this.place(row);
+    const from = part.starts[line];
+    return decoder.decode(part.bytes.subarray(from, part.bytes.indexOf(SPACE, from)));
+  }
+
+  /** The parts in order, with the number of the first line of each in `begins`. */
+  parts() {
+    if (this.flat === null) {
+      this.flat = this.jobs.filter(Boolean).flat();
+      this.begins = new Float64Array(this.flat.length + 1);
+      this.flat.forEach((part, k) => {
+        this.begins[k + 1] = this.begins[k] + part.kinds.length;
+      });
+    }
+    return this.flat;
+  }
+
+  /** @returns {Place} where a line stands */
+  place(/** @type {number} */ row) {
+    const parts = this.parts();
+    let [low, high] = [0, parts.length];
+    while (high - low > 1) {
+      const middle = (low + high) >> 1;
+      [low, high] = this.begins[middle] <= row ? [middle, high] : [low, middle];
+    }
+    return { part: parts[low], line: row - this.begins[low] };
+  }
+
+  /** The row of a line; -1 where it has none. */
+  rowOf(/** @type {Place} */ { part, line }) {
+    const at = this.parts().indexOf(part);
+    return at < 0 ? -1 : this.begins[at] + line;
+  }
+
+  kindOf(/** @type {number} */ row) {
+    const { part, line } = this.place(row);
+    return part.kinds[line];
+  }
+
+  /** Whether a row is undecided by the first pass, and waits for the second one. */
+  isWaiting(/** @type {number} */ row) {
+    const { part, line } = this.place(row);
+    return part.plans?.[line] === FIRST_PASS && part.kinds[line] === UNDECIDED;
+  }
+
+  /** Whether the first line of the list has come: no piece before it has one that comes later. */
+  get hasFirst() {
+    for (const parts of this.jobs) {
+      if (parts?.some(({ kinds }) => kinds.length > 0)) {
+        return true;
+      }
+      if (!parts?.some(({ done }) => done)) {
+        return false;
+      }
+    }
+    return false;
+  }
+
+  /** A row as it is shown: its number in the list, its verdict line, and as what it was given. */
+  row(/** @type {number} */ row) {
+    const { part, line } = this.place(row);
+    const text = part.lines ?? part.bytes;
+    const end = Math.min(part.starts[line + 1], part.starts[line] + LONGEST_SHOWN);
+    const answer = ANSWERS[part.answers[line]];
+    const written = decoder.decode(text.subarray(part.starts[line], end)).replace(/[\r\n]+$/, "");
+    const read = answer === "unread" ? unreadLine() : readLine(written);
+    const number = part.first + (part.numbers === null ? line : part.numbers[line]);
+    const { source, places } = part;
+    const given = source === null || places === null ? null : lineAt(source, places[line], BYTES_KEPT);
+    const pass = part.plans?.[line] ?? 0;
+    return { ...read, answer, kind: KINDS[part.kinds[line]], number, given, pass, plan: this.plans[pass] };
+  }
+
+  /** The lines of these kinds, as the program would write them; the page rests between parts. Lines that only
+   * the first pass has answered are left out. */
+  async blobOf(/** @type {Set<number>} */ kinds) {
+    const parts = [];
+    for (const part of this.parts()) {
+      parts.push(...linesOf(part, kinds));
+      await rest();
+    }
+    return new Blob(parts, { type: "text/plain" });
+  }
+
+  /** All rows, in order, in a list that is kept. */
+  allRows() {
+    if (this.numbers.length < this.lines) {
+      this.numbers = numbersTo(Math.max(this.lines, 2 * this.numbers.length));
+    }
+    return this.numbers.subarray(0, this.lines);
+  }
+
+  /** The rows of these kinds, in order. */
+  rows(/** @type {Set<number>} */ kinds) {
+    if (this.counts.every((count, kind) => count === 0 || kinds.has(kind))) {
+      return this.allRows();
+    }
+    return this.rowsBy((part) => part.kinds, Uint8Array.from(KINDS, (_, kind) => (kinds.has(kind) ? 1 : 0)));
+  }
+
+  /**
+   * The rows whose numbers are among those that are shown, in order.
+   * @param {(part: Part) => Uint8Array} numbers of each line of a part
+   * @param {Uint8Array} isShown for each number 1 or 0
+   */
+  rowsBy(numbers, isShown) {
+    const rows = new Uint32Array(this.lines);
+    let [count, begin] = [0, 0];
+    for (const part of this.parts()) {
+      count = addRows(rows, count, numbers(part), begin, isShown);
+      begin += part.kinds.length;
+    }
+    return rows.subarray(0, count);
+  }
+
+  /**
+   * The steps that these rows name, -1 for none; the page rests while they are read for the first time. Where
+   * they aren't wanted any more, they are left.
+   */
+  async stepsOf(/** @type {Uint32Array} */ rows, /** @type {() => boolean} */ isWanted) {
+    const all = new Float64Array(this.lines);
+    let begun = performance.now();
+    for (const [k, part] of this.parts().entries()) {
+      if (!isWanted()) {
+        break;
+      }
+      part.steps ??= stepsIn(part.lines ?? part.bytes, part);
+      all.set(part.steps, this.begins[k]);
+      if (performance.now() - begun > BUSY_MILLISECONDS) {
+        await rest();
+        begun = performance.now();
+      }
+    }
+    return taken(all, rows);
+  }
+
+  /** All that the program would write, without lines that only the first pass has answered. */
+  blob() {
+    const all = new Set(KINDS.keys());
+    const bytes = (/** @type {Part} */ part) => (part.plans ? linesOf(part, all) : [part.bytes]);
+    return new Blob(this.parts().flatMap(bytes), { type: "text/plain" });
+  }
+}
+
+function taken(/** @type {Float64Array} */ numbers, /** @type {Uint32Array} */ places) {
+  const found = new Float64Array(places.length);
+  for (let k = 0; k < places.length; k += 1) {
+    found[k] = numbers[places[k]];
+  }
+  return found;
+}
+
+function numbersTo(/** @type {number} */ count) {
+  const numbers = new Uint32Array(count);
+  for (let k = 0; k < count; k += 1) {
+    numbers[k] = k;
+  }
+  return numbers;
+}
+
+/**
+ * Adds the numbers of a part's lines whose kinds are shown, and gives how many there are then.
+ * @param {Uint32Array} rows @param {number} count of rows that are there
+ * @param {Uint8Array} kinds @param {number} begin number of the part's first line
+ * @param {Uint8Array} isShown for each kind 1 or 0
+ */
+function addRows(rows, count, kinds, begin, isShown) {
+  let end = count;
+  for (let k = 0; k < kinds.length; k += 1) {
+    rows[end] = begin + k;
+    end += isShown[kinds[k]] ?? 0;
+  }
+  return end;
+}
+
+const rest = () => new Promise((done) => setTimeout(done));
+
+/** The lines of a part whose kinds are among these, as bytes; those that stand together are one. */
+function linesOf(/** @type {Part} */ part, /** @type {Set<number>} */ kinds) {
+  const { plans } = part;
+  const starts = part.lines === null ? part.starts : startsOf(part.bytes).slice();
+  const found = [];
+  let begin = -1;
+  for (let k = 0; k <= part.kinds.length; k += 1) {
+    const isIn = k < part.kinds.length && kinds.has(part.kinds[k]) && plans?.[k] !== FIRST_PASS;
+    if (!isIn && begin >= 0) {
+      found.push(part.bytes.subarray(starts[begin], starts[k]));
+    }
+    begin = isIn ? (begin < 0 ? k : begin) : -1;
+  }
+  return found;
+}
+
+function joined(/** @type {Uint8Array[]} */ arrays) {
+  const bytes = new Uint8Array(arrays.reduce((sum, { length }) => sum + length, 0));
+  let at = 0;
+  for (const array of arrays) {
+    bytes.set(array, at);
+    at += array.length;
+  }
+  return bytes;
+}
+
+/**
+ * Replaces lines of a part by the first lines of another one from `first` on. The part stays the same object,
+ * and its bytes become another one.
+ * @param {Part} part of machines that were decided
+ * @param {ArrayLike<number>} lines the numbers of the lines in the part, in order
+ * @param {Part} by @param {number} first @param {number} plan the number of the limits of the new lines
+ */
+export function replaceLines(part, lines, by, first, plan) {
+  const { bytes, starts } = part;
+  const plans = (part.plans ??= new Uint8Array(part.kinds.length));
+  const pieces = [];
+  let from = 0;
+  for (let k = 0; k < lines.length; k += 1) {
+    const [line, other] = [lines[k], first + k];
+    pieces.push(bytes.subarray(from, starts[line]));
+    pieces.push(by.bytes.subarray(by.starts[other], by.starts[other + 1]));
+    from = starts[line + 1];
+    part.kinds[line] = by.kinds[other];
+    part.answers[line] = by.answers[other];
+    plans[line] = plan;
+  }
+  part.bytes = joined([...pieces, bytes.subarray(from)]);
+  part.starts = startsOf(part.bytes).slice();
+  part.steps = undefined;
+}

@@ -1,0 +1,65 @@
+/** The tree of what could come before a halt, from its definition. */
+
+/**
+ * @typedef {import("../../reader/machine.mjs").Machine} Machine
+ * @typedef {{state: number, known: Map<number, number>}} Node A state, and symbols by distance from the head.
+ * @typedef {{levels: Node[][], count: number, ended: boolean}} Tree `ended`: no level is left out
+ */
+
+/** The nodes of the halting entries: those undefined or into Z. */
+function halting(/** @type {Machine} */ machine) {
+  /** @type {Node[]} */
+  const nodes = [];
+  for (const { state, symbol, entry } of machine.rules) {
+    if (entry === null || entry.next === -1) {
+      nodes.push({ state, known: new Map([[0, symbol]]) });
+    }
+  }
+  return nodes;
+}
+
+/**
+ * What could come before a node: by each entry that leads to its state, unless the cell that the head left is
+ * known to have another symbol than was written.
+ */
+function before(/** @type {Machine} */ machine, /** @type {Node} */ node) {
+  /** @type {Node[]} */
+  const nodes = [];
+  for (const { state, symbol, entry } of machine.rules) {
+    if (entry === null || entry.next !== node.state) {
+      continue;
+    }
+    const left = entry.move > 0 ? -1 : 1;
+    const there = node.known.get(left);
+    if (there === undefined || there === entry.write) {
+      const known = new Map([...node.known].map(([distance, value]) => [distance - left, value]));
+      nodes.push({ state, known: known.set(0, symbol) });
+    }
+  }
+  return nodes;
+}
+
+/** @returns {Tree} the levels of the tree until one is empty, or until more nodes than `most` stand in it */
+export function treeOf(/** @type {Machine} */ machine, /** @type {number} */ most) {
+  const levels = [];
+  let count = 0;
+  let level = halting(machine);
+  while (level.length > 0 && count + level.length <= most) {
+    levels.push(level);
+    count += level.length;
+    level = level.flatMap((node) => before(machine, node));
+  }
+  return { levels, count, ended: level.length === 0 };
+}
+
+/** A node as text: the known cells from left to right, `.` where nothing is known, the head's in brackets. */
+export function nodeText(/** @type {Node} */ node) {
+  const distances = [...node.known.keys()];
+  const parts = [];
+  for (let at = Math.min(...distances); at <= Math.max(...distances); at += 1) {
+    const symbol = node.known.get(at);
+    const shown = symbol === undefined ? "." : String(symbol);
+    parts.push(at === 0 ? `[${shown}]` : shown);
+  }
+  return parts.join("");
+}

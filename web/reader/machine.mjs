@@ -1,0 +1,107 @@
+/**
+ * A machine and its verdict, as read from a line that the engine wrote.
+ *
+ * @typedef {{write: number, move: 1 | -1, next: number}} Entry `next` is -1 for Z
+ * @typedef {{state: number, symbol: number, entry: Entry | null}} Rule `null` where it is undefined
+ * @typedef {{text: string, states: number, symbols: number, rules: Rule[]}} Machine
+ * @typedef {{kind: Kind, numbers: number[], side: string, text: string}} Verdict
+ * @typedef {"halt" | "cycler" | "translated" | "backward" | "undecided" | "refused"} Kind
+ */
+
+/** The kinds of a verdict line, in the order in which they are shown. @type {readonly Kind[]} */
+export const KINDS = ["halt", "cycler", "translated", "backward", "undecided", "refused"];
+/** The answers to a verdict line, as they are shown. */
+export const ANSWERS = ["ok", "open", "bad", "over", "unread"];
+
+/** @type {Verdict} */
+const NO_VERDICT = { kind: "refused", numbers: [], side: "", text: "" };
+
+/** @returns {Machine} the machine of a text that the engine took for one */
+export function machineOf(/** @type {string} */ text) {
+  const groups = text.split("_");
+  const rules = groups.flatMap((group, state) =>
+    Array.from({ length: group.length / 3 }, (_, symbol) => ({
+      state,
+      symbol,
+      entry: entryOf(group.slice(3 * symbol, 3 * symbol + 3)),
+    })),
+  );
+  return { text, states: groups.length, symbols: groups[0].length / 3, rules };
+}
+
+/** @returns {Entry | null} */
+function entryOf(/** @type {string} */ text) {
+  if (text === "---") {
+    return null;
+  }
+  const next = text[2] === "Z" ? -1 : stateNumber(text[2]);
+  return { write: Number(text[0]), move: text[1] === "R" ? 1 : -1, next };
+}
+
+const stateNumber = (/** @type {string} */ letter) => letter.charCodeAt(0) - 65;
+
+export const stateLetter = (/** @type {number} */ state) => state < 0 ? "Z" : String.fromCharCode(65 + state);
+
+/** @returns {{machine: string, verdict: Verdict}} what a line says that is no verdict line: nothing */
+export const unreadLine = () => ({ machine: "", verdict: NO_VERDICT });
+
+/**
+ * The machine's text of a verdict line, and what is said of it.
+ * @returns {{machine: string, verdict: Verdict}}
+ */
+export function readLine(/** @type {string} */ line) {
+  const [machine, word, ...rest] = line.split(" ");
+  if (machine === "refused") {
+    return { machine: "", verdict: { kind: "refused", numbers: [Number(word)], side: "", text: line } };
+  }
+  const kind = /** @type {Kind} */ (KINDS.includes(/** @type {Kind} */ (word)) ? word : "refused");
+  const numbers = rest.filter((field) => /^\d+$/.test(field)).map(Number);
+  const side = kind === "translated" || kind === "undecided" ? rest[0] ?? "" : "";
+  return { machine, verdict: { kind, numbers, side, text: line.slice(machine.length + 1) } };
+}
+
+const NO_STEPS =
+  "Undecided: it doesn’t halt within the limit of steps, and no decider that is on found anything.";
+const NO_CELLS =
+  "Undecided: its head would pass the limit of cells before it halts and before the steps end, and no " +
+  "decider that is on found anything.";
+/** @type {Record<string, string>} */
+const WORDS = { L: "left", R: "right" };
+const number = new Intl.NumberFormat("en");
+
+/** A number as people read it, with a word behind it. */
+export const counted = (/** @type {number} */ count, /** @type {string} */ word) =>
+  `${number.format(count)} ${word}${count === 1 ? "" : "s"}`;
+
+/** A number as people read it. */
+export const shown = (/** @type {number} */ value) => number.format(value);
+
+/** What a verdict says, in plain English. */
+export function sentence(/** @type {Verdict} */ { kind, numbers, side }) {
+  const [first, second, shift, length] = numbers;
+  const never = "It never halts: ";
+  switch (kind) {
+    case "halt":
+      return `It halts after ${counted(first, "step")}, with ${counted(second, "cell")} other than 0.`;
+    case "cycler":
+      return `${never}the configuration at step ${shown(first)} comes again at step ${shown(second)}.`;
+    case "translated": {
+      const steps = `at steps ${shown(first)} and ${shown(second)}`;
+      const extent = length === undefined ? "" : ` of ${counted(length, "cell")}`;
+      const farther = shift === undefined ? "" : `, ${counted(shift, "cell")} farther out`;
+      return (
+        `${never}${steps} the head is farther ${WORDS[side]} than before, ` +
+        `with the same pattern${extent} behind it${farther}.`
+      );
+    }
+    case "backward":
+      return (
+        `${never}what could come before a halt is a tree that ends, with ${counted(second, "node")} in ` +
+        `${counted(first, "level")}, and the start fits none of them.`
+      );
+    case "undecided":
+      return side === "cells" ? NO_CELLS : NO_STEPS;
+    default:
+      return `Refused: the line is no machine; it goes wrong at column ${shown(first)}.`;
+  }
+}

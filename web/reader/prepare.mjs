@@ -1,0 +1,179 @@
+/**
+ * A list as it is given to the engine: its form, and the machines that its lines are read as.
+ *
+ * @typedef {"machines" | "verdicts" | "table" | "text"} Form a machine a line and nothing else; verdict
+ *   lines; a table with a column of machines; what people paste, with one machine a line
+ * @typedef {{bytes: Uint8Array, numbers: Uint32Array | null, places: Uint32Array | null, left: number}}
+ *   Prepared what the engine is given; of each of its lines the number among the lines that were given, from
+ *   0, and where it begins there, null where all are as they were; and how many lines were left out
+ */
+import { beginsTable, isPassedOver } from "./passing.mjs";
+import { OF_MACHINES, isVerdictLine, readingOf } from "./reading.mjs";
+import { isMachine } from "./texts.mjs";
+import { LONGEST_LINE } from "./words.mjs";
+
+const NEWLINE = 10;
+const RETURN = 13;
+const SPACE = 32;
+const NUMBERS = "(?:(?:halt|cycler|backward) \\d+ \\d+|translated [LR] \\d+ \\d+(?: \\d+ \\d+)?)";
+const VERDICT = new RegExp(
+  `^(?:[0-9LRA-Z_-]+ (?:${NUMBERS}|undecided (?:steps|cells))|refused \\d+)(?:\\t.*)?$`,
+);
+// So many lines that aren't passed over settle the form of a list.
+const FIRST_LINES = 100;
+const decoder = new TextDecoder();
+const encoder = new TextEncoder();
+
+/** So many bytes of a list tell whether it has verdict lines. */
+export const BEGIN_BYTES = 65_536;
+
+/** Whether a list has verdict lines: most of the lines at its begin are whole ones. */
+export function hasVerdicts(/** @type {Uint8Array} */ bytes) {
+  const whole = firstLines(bytes).map((line) => line.replace(/^\ufeff/, "").trim());
+  const texts = whole.filter((text) => !isPassedOver(text));
+  const verdicts = texts.filter((text) => VERDICT.test(text)).length;
+  return verdicts > 0 && 2 * verdicts > texts.length;
+}
+
+/** The first whole lines of a list. */
+export function firstLines(/** @type {Uint8Array} */ bytes) {
+  const lines = decoder.decode(bytes.subarray(0, BEGIN_BYTES)).split("\n");
+  return bytes.length >= BEGIN_BYTES && lines.length > 1 ? lines.slice(0, -1) : lines;
+}
+
+/** Whether the first bytes of a list are text in UTF-8, but for a character that is cut at their end. */
+export const isUtf8 = (/** @type {Uint8Array} */ bytes) =>
+  !/\ufffd[^]/.test(decoder.decode(bytes.subarray(0, BEGIN_BYTES)));
+
+/** @returns {Prepared} a list that is given as it stands */
+export const asGiven = (/** @type {Uint8Array} */ bytes) => ({ bytes, numbers: null, places: null, left: 0 });
+
+/**
+ * What the engine is given of a list.
+ * @param {Uint8Array} bytes @param {{mode: string, clean: boolean, form: Form}} asked
+ * @returns {Prepared}
+ */
+export function prepared(bytes, { mode, clean, form }) {
+  const machine = (/** @type {Uint8Array} */ line) => machineIn(line, form);
+  return clean ? taken(bytes, mode === "check" ? claimIn : machine) : asGiven(bytes);
+}
+
+/**
+ * The lines that are taken, each as the engine is given it.
+ * @param {Uint8Array} bytes @param {(line: Uint8Array) => Uint8Array | null} read null for a line left out
+ * @returns {Prepared}
+ */
+function taken(bytes, read) {
+  const numbers = [];
+  const places = [];
+  /** @type {Uint8Array[]} */
+  const lines = [];
+  let [number, length] = [0, 0];
+  for (let from = 0; from < bytes.length; number += 1) {
+    const end = endOf(bytes, from);
+    const line = read(bytes.subarray(from, end));
+    if (line !== null) {
+      lines.push(line);
+      numbers.push(number);
+      places.push(from);
+      length += line.length + 1;
+    }
+    from = end + 1;
+  }
+  const made = new Uint8Array(length);
+  lines.reduce((at, line) => {
+    made.set(line, at);
+    made[at + line.length] = NEWLINE;
+    return at + line.length + 1;
+  }, 0);
+  const left = number - numbers.length;
+  return { bytes: made, numbers: Uint32Array.from(numbers), places: Uint32Array.from(places), left };
+}
+
+/**
+ * The machine of a line, or a line that the engine refuses where it has none; null where it is passed over.
+ */
+function machineIn(/** @type {Uint8Array} */ line, /** @type {Form} */ form) {
+  if (line.length > LONGEST_LINE) {
+    return line;
+  }
+  const text = decoder.decode(line);
+  const reading = readingOf(text, form);
+  if (reading.kind === "machine") {
+    return reading.machine === text ? line : encoder.encode(reading.machine);
+  }
+  // A machine that the form doesn't allow there is refused by a space before it.
+  return reading.kind === "nothing" ? null : isMachine(text) ? Uint8Array.of(SPACE, ...line) : line;
+}
+
+/** A verdict line without the spaces about it; null where the line is passed over. */
+function claimIn(/** @type {Uint8Array} */ line) {
+  if (line.length > LONGEST_LINE) {
+    return line;
+  }
+  const text = decoder.decode(line).replace(/^\ufeff/, "").trim();
+  if (VERDICT.test(text)) {
+    return encoder.encode(text.split("\t")[0]);
+  }
+  return isPassedOver(text) ? null : line;
+}
+
+function endOf(/** @type {Uint8Array} */ bytes, /** @type {number} */ from) {
+  const newline = bytes.indexOf(NEWLINE, from);
+  return newline < 0 ? bytes.length : newline;
+}
+
+/**
+ * A line that was given, as a text.
+ * @param {Uint8Array} bytes @param {number} from @param {number} most bytes of it
+ */
+export function lineAt(bytes, from, most) {
+  const end = Math.min(endOf(bytes, from), from + most);
+  return decoder.decode(bytes.subarray(from, bytes[end - 1] === RETURN ? end - 1 : end));
+}
+
+/** @returns {Form | null} the form that the first lines of a list have; null where there are none. */
+export function formOf(/** @type {Iterable<string>} */ lines) {
+  /** @type {string[]} */
+  const alone = [];
+  let verdicts = 0;
+  for (const line of lines) {
+    const bare = line.trim();
+    if (alone.length === 0 && verdicts === 0 && beginsTable(bare)) {
+      return "table";
+    }
+    if (isPassedOver(bare)) {
+      continue;
+    }
+    const isAlone = OF_MACHINES.test(bare) && readingOf(bare, "machines").kind === "machine";
+    if (isAlone) {
+      alone.push(bare);
+    } else if (isVerdictLine(bare)) {
+      verdicts += 1;
+    } else {
+      return "text";
+    }
+    if (alone.length > 0 && verdicts > 0) {
+      return "text";
+    }
+    if (alone.length + verdicts === FIRST_LINES) {
+      break;
+    }
+  }
+  if (verdicts > 0) {
+    return "verdicts";
+  }
+  return alone.length > 0 ? formOfMachines(alone) : null;
+}
+
+/**
+ * The form of a list whose lines are machines: where rows of dashes are among others of another length, they
+ * are rules.
+ * @returns {Form}
+ */
+function formOfMachines(/** @type {string[]} */ alone) {
+  const isRow = (/** @type {string} */ text) => /^-*$/.test(text);
+  const lengths = new Set(alone.filter((text) => !isRow(text)).map(({ length }) => length));
+  const isOther = alone.some((text) => isRow(text) && !lengths.has(text.length));
+  return lengths.size > 0 && isOther ? "text" : "machines";
+}

@@ -1,0 +1,267 @@
+/**
+ * A text of entries read as a machine: in one way, or with the reason why there is none.
+ *
+ * @typedef {import("./words.mjs").Word} Word
+ * @typedef {{machine: string, rewritten: string[]}} Found a machine as the engine reads it, and what was
+ *   rewritten
+ * @typedef {{refusal: string, reason: string, place: number}} Reason why there is none: its kind, in words,
+ *   and the character of the line where it is, from 1
+ * @typedef {[number, string][]} Group entries, each with how many characters come before it
+ */
+import { LONGEST_QUOTED, firstHidden, nameHidden, nameOf } from "./words.mjs";
+
+const STATES = "ABCDEFGHIJKLMNOPQRSTUVWXY";
+const MOST_SYMBOLS = 10;
+// Of so many states at most H is none, so it may be meant for the halting state.
+const MOST_BEFORE_H = STATES.indexOf("H");
+const GROUP = "(?:[0-9][LR][A-Z]|---){2,10}";
+const WHOLE = new RegExp(`^${GROUP}(?:_${GROUP}){0,24}$`);
+const ENTRY = /^(?:[0-9][LRlr][A-Za-z]|---|\.\.\.)$/;
+const LOST = /^[0-9][LRlr][-_]$/;
+/** What is rewritten, in the order in which it is named, in words. */
+export const REWRITINGS = {
+  "small-letters": "small letters read as capital ones",
+  "halting-state": "H read as Z, the halting state",
+  "undefined-entries": "... read as ---, an undefined entry",
+  spaces: "spaces between groups read as _",
+  underscores: "_ put between the groups",
+  escapes: "\\_ read as _",
+  entries: "spaces between entries left out",
+  arrays: "arrays of entries read as groups",
+};
+
+/**
+ * @param {string} refusal @param {string} reason @param {number} place
+ * @returns {Reason}
+ */
+export const reasonOf = (refusal, reason, place) => ({ refusal, reason, place });
+
+/** A text as a sentence has it: characters that don't show by name, cut where it is long. */
+export function cut(/** @type {string} */ given) {
+  const text = nameHidden(given);
+  return text.length <= LONGEST_QUOTED ? text : `${text.slice(0, LONGEST_QUOTED - 2)}..`;
+}
+
+/** Whether the engine reads a text as a machine. */
+export function isMachine(/** @type {string} */ text) {
+  if (!WHOLE.test(text)) {
+    return false;
+  }
+  const groups = text.split("_");
+  const symbols = groups[0].length / 3;
+  const last = STATES[groups.length - 1];
+  const fits = (/** @type {string} */ entry) =>
+    entry === "---" || (Number(entry[0]) < symbols && (entry[2] <= last || entry[2] === "Z"));
+  return groups.every((group) => group.length === 3 * symbols && (group.match(/.../g) ?? []).every(fits));
+}
+
+/**
+ * The machine whose groups are set apart by `_` in one word, or are these words; or that of one word without
+ * `_`,
+ * where there is one division into groups that makes one.
+ * @returns {Found | Reason}
+ */
+export function readWords(/** @type {Word[]} */ words) {
+  if (words.length === 1 && words[0].text.includes("_") && isMachine(words[0].text)) {
+    return { machine: words[0].text, rewritten: [] };
+  }
+  const groups = words.length > 1 ? words : split(words[0]);
+  const entries = entriesOfGroups(groups);
+  if (!Array.isArray(entries)) {
+    return entries;
+  }
+  const rewritten = rewrittenIn(groups);
+  if (groups.length === 1) {
+    return divided(entries[0], rewritten);
+  }
+  return machineOf(entries, words.length > 1 ? [...rewritten, "spaces"] : rewritten);
+}
+
+/**
+ * The machine whose entries are these words, where one division into groups makes one.
+ * @returns {Found | Reason}
+ */
+export function readEntries(/** @type {Word[]} */ words) {
+  const entries = entriesOfGroups(words);
+  return Array.isArray(entries) ? divided(entries.flat(), [...rewrittenIn(words), "entries"]) : entries;
+}
+
+/** The machine whose groups are arrays of these entries. */
+export function readArrays(/** @type {Word[][]} */ groups) {
+  const entries = groups.map((group) => /** @type {Group} */ (group.map(({ begin, text }) => [begin, text])));
+  return machineOf(entries, [...rewrittenIn(groups.flat()), "arrays"]);
+}
+
+/** @returns {Group[] | Reason} the entries of each group, or why one of them has others */
+function entriesOfGroups(/** @type {Word[]} */ groups) {
+  /** @type {Group[]} */
+  const entries = [];
+  for (const [place, group] of groups.entries()) {
+    const before = entries.reduce((count, one) => count + one.length, 0);
+    const found = entriesOf(group, before, place, place + 1 < groups.length);
+    if (!Array.isArray(found)) {
+      return found;
+    }
+    entries.push(found);
+  }
+  return entries;
+}
+
+/** What `_` sets apart in a word. */
+function split(/** @type {Word} */ word) {
+  let { begin } = word;
+  return word.text.split("_").map((text) => {
+    const part = { begin, text };
+    begin += text.length + 1;
+    return part;
+  });
+}
+
+/**
+ * The entries of a group, before which there are so many entries and groups.
+ * @param {Word} group @param {number} before @param {number} place
+ * @param {boolean} isFollowed whether a `_` or a space stands behind it
+ * @returns {Group | Reason}
+ */
+function entriesOf(group, before, place, isFollowed) {
+  if (group.text === "") {
+    return reasonOf("empty-group", `group ${place + 1} is empty`, group.begin + 1);
+  }
+  /** @type {Group} */
+  const entries = [];
+  for (let at = 0; at < group.text.length; at += 3) {
+    const entry = group.text.slice(at, at + 3);
+    if (!ENTRY.test(entry)) {
+      const characters = [...group.text.slice(at, at + 6)].slice(0, 3).join("");
+      return noEntry(characters, before + entries.length + 1, group.begin + at + 1, isFollowed);
+    }
+    entries.push([group.begin + at, entry]);
+  }
+  return entries;
+}
+
+/**
+ * Why a text of up to three characters is no entry.
+ * @param {string} text @param {number} number @param {number} place @param {boolean} isFollowed
+ */
+function noEntry(text, number, place, isFollowed) {
+  const whole = text.length === 2 && isFollowed ? `${text}_` : text;
+  if (LOST.test(whole)) {
+    const sentence = `entry ${number} is ${whole}: the ${whole[0]} that it writes would be lost`;
+    return reasonOf("lost", sentence, place);
+  }
+  const hidden = firstHidden(text);
+  if (hidden >= 0) {
+    const name = nameOf(String.fromCodePoint(text.codePointAt(hidden) ?? 0));
+    return reasonOf("hidden", `entry ${number} has ${name}, a character that doesn't show`, place + hidden);
+  }
+  return reasonOf("entry", `entry ${number} is no entry: ${text}`, place);
+}
+
+/** What is rewritten in the letters of these groups. */
+function rewrittenIn(/** @type {Word[]} */ groups) {
+  const text = groups.map((group) => group.text).join("");
+  const kinds = text === text.toUpperCase() ? [] : ["small-letters"];
+  return text.includes("...") ? [...kinds, "undefined-entries"] : kinds;
+}
+
+/**
+ * The machine that a text without `_` is, where there is one division into groups that makes one.
+ * @returns {Found | Reason}
+ */
+function divided(/** @type {Group} */ entries, /** @type {string[]} */ rewritten) {
+  const count = entries.length;
+  const place = entries[0][0] + 1;
+  const all = count === 1 ? "1 entry" : `${count} entries`;
+  const states = Array.from(STATES, (_, k) => k + 1).filter((number) => {
+    const size = count / number;
+    return Number.isInteger(size) && size >= 2 && size <= MOST_SYMBOLS;
+  });
+  if (states.length === 0) {
+    return reasonOf("division", `${all} can't be divided into 1 to 25 groups of 2 to 10`, place);
+  }
+  const outcomes = states.map((number) => {
+    const size = count / number;
+    const groups = Array.from({ length: number }, (_, k) => entries.slice(k * size, (k + 1) * size));
+    return machineOf(groups, number > 1 ? [...rewritten, "underscores"] : rewritten);
+  });
+  const found = outcomes.filter((outcome) => "machine" in outcome);
+  if (found.length === 1 || outcomes.length === 1) {
+    return found[0] ?? outcomes[0];
+  }
+  return found.length === 0
+    ? reasonOf("division", `no way to divide ${all} into groups makes a machine`, place)
+    : reasonOf("divisions", `${found.length} ways to divide ${all} into groups make a machine`, place);
+}
+
+/** @returns {Found | Reason} the machine that has these groups */
+function machineOf(/** @type {Group[]} */ groups, /** @type {string[]} */ rewritten) {
+  const wrong = wrongSize(groups);
+  if (wrong !== null) {
+    return wrong;
+  }
+  const letters = groups.flat().map(([, entry]) => entry[2].toUpperCase());
+  const haltsByH = letters.includes("H") && !letters.includes("Z") && groups.length <= MOST_BEFORE_H;
+  const entries = groups.flat().map(([begin, entry]) => ({ begin, entry: capital(entry, haltsByH) }));
+  for (const [k, { begin, entry }] of entries.entries()) {
+    const reason = wrongEntry(entry, k + 1, begin, groups.length, groups[0].length);
+    if (reason !== null) {
+      return reason;
+    }
+  }
+  const size = groups[0].length;
+  const capitals = entries.map(({ entry }) => entry);
+  const texts = groups.map((_, k) => capitals.slice(k * size, (k + 1) * size).join(""));
+  const kinds = haltsByH ? [...rewritten, "halting-state"] : rewritten;
+  const inOrder = Object.keys(REWRITINGS).filter((kind) => kinds.includes(kind));
+  return { machine: texts.join("_"), rewritten: inOrder };
+}
+
+function capital(/** @type {string} */ text, /** @type {boolean} */ haltsByH) {
+  const entry = text.toUpperCase().replace("...", "---");
+  return haltsByH && entry[2] === "H" ? `${entry.slice(0, 2)}Z` : entry;
+}
+
+/** Why no machine has groups of these lengths; null where one may. */
+function wrongSize(/** @type {Group[]} */ groups) {
+  const lengths = [...new Set(groups.map((group) => group.length))];
+  const place = groups[0][0][0] + 1;
+  if (lengths.length > 1) {
+    const other = /** @type {Group} */ (groups.find((group) => group.length !== lengths[0]));
+    const counts = `${lengths.slice(0, -1).join(", ")} and ${lengths[lengths.length - 1]}`;
+    return reasonOf("groups", `the groups have ${counts} entries`, other[0][0] + 1);
+  }
+  const [size] = lengths;
+  if (size < 2 || size > MOST_SYMBOLS) {
+    const each = size === 1 ? "1 entry" : `${size} entries`;
+    return reasonOf("symbols", `the groups have ${each}, not 2 to 10`, place);
+  }
+  if (groups.length > STATES.length) {
+    const [begin] = groups[STATES.length][0];
+    return reasonOf("states", `there are ${groups.length} groups, not 1 to 25`, begin + 1);
+  }
+  return null;
+}
+
+/**
+ * Why no machine of so many states and symbols has this entry; null where one may.
+ * @param {string} entry @param {number} number @param {number} begin @param {number} states
+ * @param {number} symbols
+ */
+function wrongEntry(entry, number, begin, states, symbols) {
+  if (entry === "---") {
+    return null;
+  }
+  if (Number(entry[0]) >= symbols) {
+    const sentence = `entry ${number} writes ${entry[0]}, but there are ${symbols} symbols`;
+    return reasonOf("symbol", sentence, begin + 1);
+  }
+  if (entry[2] === "Z" || STATES.slice(0, states).includes(entry[2])) {
+    return null;
+  }
+  if (entry[2] === "H" && states <= MOST_BEFORE_H) {
+    return reasonOf("halting-state", "H: the halting state is Z here", begin + 3);
+  }
+  const there = states === 1 ? "there is 1 state" : `there are ${states} states`;
+  return reasonOf("state", `entry ${number} names state ${entry[2]}, but ${there}`, begin + 3);
+}

@@ -1,0 +1,29 @@
+/**
+ * Rows of machines' runs as the page keeps them, for `test_page_pictures.py`: a machine, a limit of cells and
+ * which rows are asked for, one question after another, in a line of standard input, as JSON; the lines of
+ * each question back, as JSON, and how many questions needed no trace.
+ */
+import { readFileSync } from "node:fs";
+import { createInterface } from "node:readline";
+import { load } from "../lib/bb.mjs";
+import { symbolsOf } from "../worker/sample.mjs";
+import { Run } from "../worker/samples.mjs";
+
+const engine = await load(readFileSync(process.argv[2]));
+
+/** The lines of rows, as the engine writes them. @param {import("../worker/sample.mjs").Sample} sample */
+function linesOf({ steps, states, heads, lows, wide, ...cells }) {
+  return Array.from(steps, (step, k) => {
+    const symbols = symbolsOf({ wide, ...cells }, k, 0, wide[k] - 1);
+    return `${step} ${states[k]} ${heads[k]} ${lows[k]} ${Array.from(symbols).join("")}`;
+  });
+}
+
+for await (const line of createInterface({ input: process.stdin })) {
+  const { machine, cells, asked } = JSON.parse(line);
+  const run = new Run(machine, cells);
+  let traces = 0;
+  const counted = { traceInPlace: (...words) => ((traces += 1), engine.traceInPlace(...words)) };
+  const lines = asked.map((one) => linesOf(run.rows(counted, { machine, cells, ...one }, true).sample));
+  console.log(JSON.stringify({ lines, known: asked.length - traces }));
+}

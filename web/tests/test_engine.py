@@ -1,0 +1,286 @@
+"""The engine as WebAssembly, in Node, beside the program: the same bytes."""
+
+import itertools
+import pathlib
+import random
+import re
+from typing import Any, Dict, Iterator, List, Tuple
+
+import pytest
+from support import TOP
+from support.browser import trace
+from support.claims import with_other_number
+from support.examples import README, Example, read_examples
+from support.machines import CHAMPION, random_machines, seldom_halting
+from support.node import CallEnd, Engine, documented
+from support.plans import FOUR, MOST, all_plans, random_plan
+from support.program import MAX_CELLS, SWITCHES, as_lines, ended, processor_time, words_of_plan
+
+pytestmark = pytest.mark.needs("node")
+
+Plan = Dict[str, Any]
+MOST_BYTES = 65_536
+LISTS = list(read_examples("decide", "check"))
+SMALL = {"steps": 100, "cells": 64, "depth": 20, "nodes": 100}
+# How many bytes some pages of the module's memory have.
+MEMORY = 64 * 65_536
+
+
+class Both:
+    """The program and the engine."""
+
+    def __init__(self, program: str, engine: Engine) -> None:
+        self.program, self.engine = program, engine
+
+    def written(self, name: str, plan: Plan, given: bytes) -> bytes:
+        """What the program writes."""
+        return ended([self.program, name, *words_of_plan(plan)], given).output
+
+    def same(self, name: str, plan: Plan, given: bytes) -> CallEnd:
+        """Requires that a call's reply is the program's, and gives it."""
+        reply = self.engine.call(name, plan, given)
+        wanted = ended([self.program, name, *words_of_plan(plan)], given)
+        assert reply.status == wanted.status, reply.answer
+        assert reply.reply == wanted.output, (name, plan)
+        return reply
+
+
+@pytest.fixture(scope="module")
+def engine(module: pathlib.Path, tmp_path_factory: pytest.TempPathFactory) -> Iterator[Engine]:
+    """A process of Node with the engine."""
+    opened = Engine(tmp_path_factory.mktemp("engine"), module)
+    if opened.about.get("unsupported"):
+        pytest.skip("this Node has no vectors; Node 16.4 or later has (package nodejs)")
+    yield opened
+    opened.end()
+
+
+@pytest.fixture
+def both(bb: str, engine: Engine) -> Both:
+    return Both(bb, engine)
+
+
+def test_size(module: pathlib.Path) -> None:
+    assert module.stat().st_size <= MOST_BYTES
+
+
+@pytest.mark.parametrize("example", LISTS, ids=[example.name for example in LISTS])
+def test_example(both: Both, example: Example) -> None:
+    both.same(example.words[0], example.plan, example.lines)
+
+
+def test_all_plans(both: Both) -> None:
+    """The first run of the README, and all plans at the rows of limits."""
+    both.same("decide", {}, README)
+    both.same("decide", {name: False for name in SWITCHES}, README)
+    given = b"".join(example.lines for example in LISTS if example.name in ("verdicts", "small_limits"))
+    plans = list(all_plans())
+    for plan in plans:
+        both.same("decide", plan, given)
+    print("%d plans of %d lines" % (len(plans), given.count(b"\n")))
+
+
+@pytest.mark.parametrize("count", [1_000, pytest.param(20_000, marks=pytest.mark.slow)])
+def test_random_machines_and_claims(both: Both, rng: random.Random, count: int) -> None:
+    """At random limits; half of the claims are forged."""
+    machines = random_machines(count, rng)
+    for k in range(0, count, 100):
+        reply = both.same("decide", random_plan(rng), as_lines(machines[k : k + 100])).reply
+        lines = reply.decode().splitlines()
+        claims = [with_other_number(line, rng) if rng.random() < 0.5 else line for line in lines]
+        limits = {name: value for name, value in random_plan(rng).items() if name not in SWITCHES}
+        both.same("check", limits, as_lines(claims))
+    print("%d machines and claims" % count)
+
+
+@pytest.mark.slow
+def test_four_states(both: Both, four_states: List[str]) -> None:
+    """All machines of four states, decided and checked; their times."""
+    given = as_lines(four_states)
+    assert len(four_states) == 858_909
+    before = processor_time()
+    wanted = both.written("decide", FOUR, given)
+    taken = processor_time() - before
+    reply = both.engine.call("decide", FOUR, given)
+    assert reply.reply == wanted
+    seconds = reply.answer["seconds"]
+    print("four states: %.2f s, the program %.2f s, %.2f times" % (seconds, taken, seconds / taken))
+    both.same("check", FOUR, wanted)
+
+
+@pytest.mark.slow
+@pytest.mark.parametrize("name", ["decide", "check"])
+def test_noise(both: Both, rng: random.Random, name: str) -> None:
+    """Bytes that are no list, lines without an end, and a line of 10 MB."""
+    for length in (0, 1, 2, 100, 10_000, 100_000):
+        noise = rng.randbytes(length)
+        both.same(name, {}, noise)
+        both.same(name, {}, noise + b"\n\n1RZ---")
+    for line in (b"1RB1LB_" * 1_500_000, b"\xff" * 10_000_000, b"1RZ--- halt 1 1" + b" " * 10_000_000):
+        both.same(name, {}, line)
+
+
+@pytest.mark.parametrize(
+    "plan",
+    [
+        {"steps": 10**12 + 1},
+        {"cells": 0},
+        {"cells": MAX_CELLS + 1},
+        {"depth": 10_001},
+        {"nodes": 10**12 + 1},
+        {"cells": 598},
+        {"cells": 0, "steps": 10**13},
+        {"depth": 10_001, "nodes": 10**13},
+    ],
+)
+def test_refused_limit(both: Both, plan: Plan) -> None:
+    """The error has the program's words and names the limit."""
+    answer = both.engine.call("decide", plan, b"1RA1RA\n").answer
+    said = ended([both.program, "decide", *words_of_plan(plan)]).error.decode()
+    assert (answer["error"], answer["limit"]) == ("LimitsError", said[4:].split(" ")[0])
+    assert said == "bb: %s\n" % answer["message"]
+
+
+@pytest.mark.parametrize(
+    "plan, error",
+    [({"cells": 2.5}, "LimitsError"), ({"cell": 5}, "TypeError"), ({"backward": 1}, "TypeError")],
+)
+def test_wrong_plan(engine: Engine, plan: Plan, error: str) -> None:
+    assert engine.call("decide", plan, b"1RA1RA\n").answer["error"] == error
+
+
+@pytest.mark.parametrize("name", ["decide", "check"])
+def test_greatest_limits(both: Both, name: str) -> None:
+    reply = both.same(name, MOST, b"1RB1LB_1LA1RZ\n1RB1LB_1LA1RZ halt 6 4\n")
+    print("memory of %s at the greatest limits: %d MB" % (name, reply.answer["held"] // 10**6))
+
+
+def test_script_of_the_documentation(both: Both, tmp_path: pathlib.Path) -> None:
+    """The script of docs/web.md decides a list and checks what it said, as it stands there."""
+    (tmp_path / "web").symlink_to(TOP / "web")
+    (tmp_path / "decide.mjs").write_text(documented("A script"), encoding="utf-8")
+    limits = {"steps": 100_000, "cells": 4096}
+    decided = both.written("decide", limits, README)
+    found = ended(["node", "decide.mjs"], README, cwd=str(tmp_path))
+    assert found.output == decided + both.written("check", limits, decided), found.error
+
+
+def test_memory_that_cannot_be_had(engine: Engine) -> None:
+    """It is an error, after which the engine stays usable."""
+    cases: List[Tuple[str, Plan, bytes]] = [
+        ("decide", {"cells": 10**7}, b"1RA1RA\n"),
+        ("check", {"cells": 10**7}, b"1RA1RA translated R 1 2\n"),
+        ("decide", {}, b"1RA1RA\n" * 10**6),
+    ]
+    for name, plan, given in cases:
+        assert engine.call(name, plan, given, memory=MEMORY).answer["error"] == "MemoryError"
+    reply = engine.call("decide", {"cells": 64, "depth": 9}, b"1RZ---\n", memory=MEMORY)
+    assert reply.reply == b"1RZ--- halt 1 1\n"
+
+
+@pytest.mark.slow
+def test_memory_stays(module: pathlib.Path, tmp_path: pathlib.Path) -> None:
+    """An engine of its own holds after a thousand lists what it holds after one."""
+    own = Engine(tmp_path, module)
+    once = own.call("decide", SMALL, README * 1000).answer["held"]
+    assert once == own.call("decide", SMALL, README * 1000, times=1000).answer["held"]
+    own.end()
+
+
+def traced(program: str, machine: str, steps: int, cells: int) -> List[bytes]:
+    """The program's rows as the engine's trace has them: with the lowest position before the cells."""
+    return [
+        b"%d %s %d %d %s\n" % (row.step, row.state.encode(), row.head, row.low, row.cells.encode())
+        for row in trace(program, machine, steps, cells)
+    ]
+
+
+@pytest.mark.parametrize("count", [5, pytest.param(100, marks=pytest.mark.slow)])
+def test_traces_of_some_rows(both: Both, rng: random.Random, count: int) -> None:
+    """Traces of random machines from each step by each interval."""
+    for machine in random_machines(count, rng):
+        plan = {"steps": rng.randint(0, 200), "cells": rng.randint(1, 60)}
+        lines = traced(both.program, machine, plan["steps"], plan["cells"])
+        wanted = [lines[first::every] for first, every in itertools.product(range(51), range(1, 51))]
+        reply = both.engine.call("samples", {**plan, "from": 50, "every": 50}, machine.encode())
+        assert reply.reply == b"".join(itertools.chain.from_iterable(wanted)), (machine, plan)
+    print("%d machines" % count)
+
+
+@pytest.mark.parametrize("count", [50, pytest.param(500, marks=pytest.mark.slow)])
+def test_traces_name_the_lowest_position(both: Both, rng: random.Random, count: int) -> None:
+    """Whole traces of machines that seldom halt."""
+    machines = [seldom_halting(rng, rng.randint(2, 5), rng.randint(2, 4)) for _ in range(count)]
+    for machine in [CHAMPION, *machines]:
+        steps = rng.randint(100, 4_000)
+        reply = both.engine.call("trace", {"steps": steps}, machine.encode())
+        assert reply.reply == b"".join(traced(both.program, machine, steps, 65_536)), (machine, steps)
+    print("%d machines" % (count + 1))
+
+
+def test_trace_at_the_greatest_limits(both: Both) -> None:
+    most = {"steps": 10**12, "cells": MAX_CELLS, "from": 0, "every": 1}
+    reply = both.engine.call("trace", most, b"1RB1LB_1LA1RZ")
+    assert reply.status == 0
+    assert reply.reply == b"".join(traced(both.program, "1RB1LB_1LA1RZ", 10**12, MAX_CELLS))
+    for plan in ({"every": 0}, {"cells": 0}, {"steps": 10**12 + 1}):
+        answer = both.engine.call("trace", {**most, **plan}, b"1RB1LB_1LA1RZ").answer
+        assert answer["limit"] == next(iter(plan))
+    reply = both.engine.call("trace", {"steps": 5}, b"1rB")
+    assert (reply.status, reply.reply) == (1, b"refused 2\n")
+
+
+NARROW = ["python3", str(TOP / "web" / "narrow.py")]
+
+
+# Lines of intermediate code, and what they are with pointers of 32 bits.
+@pytest.mark.parametrize(
+    "line, wanted",
+    [
+        ("  store ptr %a, ptr %b, align 8", "ptrtoint ptr %a to i64|store i64 %X, ptr %b, align 8"),
+        ("  %a = alloca ptr, align 8", "%a = alloca i64, align 8"),
+        ("  %a = load { i8, ptr }, ptr %b, align 8", "%a = load { i8, i64 }, ptr %b, align 8"),
+        (
+            "  %a = extractvalue { i8, ptr } %b, 1",
+            "extractvalue { i8, i64 } %b, 1|%a = inttoptr i64 %X to ptr",
+        ),
+        ("  %a = extractvalue { ptr, i64 } %b, 1", "%a = extractvalue { i64, i64 } %b, 1"),
+        ("  %a = ptrtoaddr ptr %b to i64", "%a = ptrtoint ptr %b to i64"),
+        ('  call void @"a ptr"(ptr %b, i64 8)', 'call void @"a ptr"(ptr %b, i64 8)'),
+    ],
+)
+def test_narrowed_line(tmp_path: pathlib.Path, line: str, wanted: str) -> None:
+    given, made = tmp_path / "wide", tmp_path / "narrow"
+    given.write_text(line + "\n", encoding="ascii")
+    assert ended([*NARROW, str(given), str(made)]).status == 0
+    text = re.sub(r"%narrow\.\d+", "%X", made.read_text(encoding="ascii")).replace("%X = ", "")
+    assert "|".join(one.strip() for one in text.splitlines()) == wanted
+
+
+@pytest.mark.parametrize(
+    "line",
+    [
+        "@a = constant [1 x ptr] [ptr @b]",
+        "  %a = alloca [2 x ptr], align 8",
+        "  %a = alloca ptr, i64 2, align 8",
+        "  %a = getelementptr ptr, ptr %b, i64 1",
+        "  %a = inttoptr i64 %b to ptr",
+        "  %a = insertvalue { ptr, i64 } %b, ptr %c, 0",
+        "  %a = load <2 x ptr>, ptr %b, align 16",
+        "  call void @a(ptr byval([8 x i8]) %b)",
+        "  store { ptr, i64, i64 } %a, ptr %b, align 8",
+    ],
+)
+def test_line_that_is_not_narrowed(tmp_path: pathlib.Path, line: str) -> None:
+    """It is refused, with a line that says so, and nothing is written."""
+    given, made = tmp_path / "wide", tmp_path / "narrow"
+    given.write_text(line + "\n", encoding="ascii")
+    status, _, error = ended([*NARROW, str(given), str(made)])
+    assert (status, error) == (1, b"narrow: %s isn't known here\n" % line.strip().encode())
+    assert not made.exists()
+
+
+@pytest.mark.needs("tsc")
+def test_types_of_the_modules() -> None:
+    status, output, _ = ended(["tsc", "-p", str(TOP / "web")])
+    assert status == 0, output.decode()

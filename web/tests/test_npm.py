@@ -1,0 +1,78 @@
+"""The npm package of the engine: installed by npm into an empty folder, with no network."""
+
+import pathlib
+import subprocess
+from typing import List
+
+import pytest
+from support import TOP
+from support.node import documented
+from support.program import as_lines, ended
+
+pytestmark = pytest.mark.needs("node", "npm", "tsc")
+
+MACHINES = ["1RB1LB_1LA1RZ", "1RA1RA", "1rB1LB"]
+TYPED = """import { load, LimitsError, type Plan } from "budlarem";
+const engine = await load(new Uint8Array());
+const plan: Plan = { steps: 1_000, cyclers: false };
+const lines: string[] = engine.decide(["1RB1LB_1LA1RZ"], plan);
+const { clean }: { clean: boolean } = engine.trace("1RA1RA", { steps: 10n });
+console.log(lines, clean, LimitsError);
+"""
+TSC = (
+    "tsc --strict --noEmit --target es2022 --lib es2022,dom --module node16 --moduleResolution node16".split()
+)
+INSTALL = "npm install --offline --no-audit --no-fund --cache cache".split()
+
+
+def package(folder: pathlib.Path) -> pathlib.Path:
+    """The package, made into a folder."""
+    done = ended(["python3", str(TOP / "web" / "package.py"), "--out", str(folder)])
+    assert done.status == 0, done.error
+    return pathlib.Path(done.output.decode().strip())
+
+
+@pytest.fixture(scope="module")
+def installed(module: object, tmp_path_factory: pytest.TempPathFactory) -> pathlib.Path:
+    """A folder in which the package is installed, and nothing else."""
+    folder = tmp_path_factory.mktemp("installed")
+    made = package(tmp_path_factory.mktemp("package"))
+    status, output, error = ended([*INSTALL, str(made)], cwd=str(folder))
+    assert status == 0, (output, error)
+    return folder
+
+
+def run(folder: pathlib.Path, script: str, given: List[str]) -> str:
+    """What a script writes in the folder."""
+    (folder / "script.mjs").write_text(script, encoding="utf-8")
+    done = ended(["node", "script.mjs"], as_lines(given), cwd=str(folder))
+    assert done.status == 0, done.error
+    return done.output.decode()
+
+
+def test_same_bytes_again(module: object, tmp_path: pathlib.Path) -> None:
+    one, other = package(tmp_path / "one"), package(tmp_path / "other")
+    assert one.name == other.name and one.read_bytes() == other.read_bytes()
+
+
+def test_example_of_the_documentation(bb: str, installed: pathlib.Path) -> None:
+    limits = ["--steps", "100000", "--cells", "4096"]
+    verdicts = ended([bb, "decide", *limits], as_lines(MACHINES)).output
+    wanted = (verdicts + ended([bb, "check", *limits], verdicts).output).decode()
+    assert run(installed, documented("From npm's package"), MACHINES) == wanted
+
+
+def test_example_of_the_readme(bb: str, installed: pathlib.Path) -> None:
+    page = (installed / "node_modules" / "budlarem" / "README.md").read_text(encoding="utf-8")
+    script = "".join(line[4:] + "\n" for line in page.splitlines() if line.startswith("    "))
+    assert run(installed, script, []) == ended([bb, "decide"], as_lines(MACHINES[:1])).output.decode()
+
+
+@pytest.mark.parametrize("name, is_right", [("steps", True), ("stepps", False)])
+def test_types(installed: pathlib.Path, name: str, is_right: bool) -> None:
+    """The types are those of the calls; what is misspelled is named."""
+    text = TYPED.replace("steps: 1_000", name + ": 1_000")
+    (installed / "typed.mts").write_text(text, encoding="utf-8")
+    done = subprocess.run([*TSC, "typed.mts"], cwd=installed, capture_output=True, text=True)
+    assert (done.returncode == 0) == is_right, done.stdout
+    assert is_right or "'stepps' does not exist in type 'Plan'" in done.stdout

@@ -1,0 +1,194 @@
+"""The built page: what it writes is what the program writes, byte for byte; its size, links and stops."""
+
+import functools
+import http.server
+import pathlib
+import random
+import shutil
+import threading
+import time
+from typing import Any, Dict, List
+
+import pytest
+from support import TOP
+from support.browser import ENDLESS, LONG, Page
+from support.claims import with_other_number
+from support.examples import README, Example, read_examples
+from support.machines import random_machines
+from support.node import documented
+from support.plans import FOUR, all_plans, random_plan
+from support.program import SWITCHES, as_lines
+
+MOST_BYTES = 260_000
+# The examples that decide or check lists of their own.
+LISTS = list(read_examples("decide", "check"))
+# Goes on to the next undecided line a few times; the most milliseconds that it takes.
+UNDECIDED = """
+const taken = [0, 0, 0].map(() => {
+  const begun = performance.now();
+  document.getElementById("open-next").click();
+  return performance.now() - begun;
+});
+return Math.max(...taken);
+"""
+
+
+def test_size(page: pathlib.Path) -> None:
+    assert page.stat().st_size <= MOST_BYTES
+
+
+def test_first_verdict_and_first_list(tab: Page) -> None:
+    """What the page shows when it is opened, and the first run of the README."""
+    assert "halts after 6 steps" in tab.text("machine-says")
+    assert tab.js("return performance.getEntriesByName('first verdict').length") == 1
+    tab.same("decide", {}, README)
+    tab.same("decide", {name: False for name in SWITCHES}, README)
+    assert tab.rows()[-1] == ["3", "1rB1LB", "refused 2", "\u2013"]
+
+
+def test_machines_out_of_lines(tab: Page) -> None:
+    """Machines are taken out of their lines, as the recipe does, and lines without one are counted."""
+    tab.answer_file(b"# a list\n\n  1RB1LB_1LA1RZ # two states\n17, 1RA1RA,x\r\n1rB\nno machine\n")
+    assert tab.saved() == tab.written("decide", {}, b"1RB1LB_1LA1RZ\n1RA1RA\n1rB\nno machine\n")
+    assert "2 decided, 0 undecided, 2 refused, 2 left out" in tab.text("status")
+
+
+@pytest.mark.parametrize("example", LISTS, ids=[example.name for example in LISTS])
+def test_example_as_file(tab: Page, example: Example) -> None:
+    assert tab.same(example.words[0], example.plan, example.lines)
+
+
+def test_example_of_the_menu(tab: Page) -> None:
+    tab.choose_example("claims")
+    assert tab.saved() == (TOP / "examples" / "claims" / "expected.txt").read_bytes()
+
+
+@pytest.mark.parametrize("every", [9, pytest.param(1, marks=pytest.mark.slow)])
+def test_all_plans(tab: Page, every: int) -> None:
+    """All plans at the rows of limits, or some of them."""
+    given = b"".join(example.lines for example in LISTS if example.name in ("verdicts", "small_limits"))
+    plans = list(all_plans())[::every]
+    for plan in plans:
+        tab.same("decide", plan, given)
+    print("%d plans of %d lines" % (len(plans), given.count(b"\n")))
+
+
+@pytest.mark.slow
+def test_random_machines_and_claims(tab: Page, rng: random.Random, count: int = 20_000) -> None:
+    """Random machines at random limits, and claims of which half are forged, told for what they are."""
+    machines = random_machines(count, rng)
+    for k in range(0, count, 200):
+        decided = tab.same("decide", random_plan(rng), as_lines(machines[k : k + 200]))
+        lines = decided.decode().splitlines()
+        claims = [with_other_number(line, rng) if rng.random() < 0.5 else line for line in lines]
+        limits = {name: value for name, value in random_plan(rng).items() if name not in SWITCHES}
+        tab.same("check", limits, as_lines(claims))
+    tab.plan({}, "auto")
+    tab.answer_file(decided)
+    assert "verdict lines, checked" in tab.text("status")
+    print("%d machines and claims" % count)
+
+
+@pytest.mark.parametrize(
+    "plan, name, sentence",
+    [
+        ({"cells": 0}, "cells", "cells out of range"),
+        ({"steps": 10**12 + 1}, "steps", "steps out of range"),
+        ({"depth": 10_001}, "depth", "depth out of range"),
+        ({"nodes": 10**12 + 1}, "nodes", "nodes out of range"),
+        ({"cells": 598}, "depth", "depth does not fit in cells"),
+        ({"steps": "many"}, "steps", "steps is no number"),
+    ],
+)
+def test_refused_limits(tab: Page, plan: Dict[str, Any], name: str, sentence: str) -> None:
+    """Refused limits are told beside the field, in the program's words."""
+    tab.plan(plan, "auto")
+    tab.run()
+    tab.until(lambda: tab.get(name, "ariaInvalid"))
+    shown = tab.text(name + "-range")
+    assert shown.startswith(sentence) and len(shown) > len(sentence)
+
+
+@pytest.mark.slow
+@pytest.mark.parametrize("name", ["decide", "check"])
+def test_noise(tab: Page, rng: random.Random, name: str) -> None:
+    """Bytes that are no UTF-8, lines of noise, and a line of 100 MB."""
+    tab.same(name, {}, rng.randbytes(100_000) + b"\n<img src=x onerror=alert(1)>\n1RZ---")
+    tab.same(name, {}, b"\xff<b>\n" * 1_000_000)
+    tab.same(name, {}, b"1RB1LB_" * 14_000_000 + b"\n1RZ---\n")
+
+
+def test_stop_in_the_middle(tab: Page) -> None:
+    """A stop in the middle of 10^12 steps; what was decided stays, and the next list is decided."""
+    tab.plan(ENDLESS, "decide")
+    tab.file(b"1RB1LB_1LA1RZ\n" * 40 + LONG.encode() + b"\n")
+    tab.until(lambda: tab.text("status").startswith("Running") and "40 decided" in tab.text("status"))
+    tab.click("stop")
+    assert tab.state() == "stopped"
+    assert tab.saved() == b"1RB1LB_1LA1RZ halt 6 4\n" * 40
+    tab.same("decide", {}, README)
+
+
+def test_link_opens_a_machine(tab: Page) -> None:
+    """A link opens a machine, its limits and switches again."""
+    tab.open("#machine=1RA1RA&steps=9&cells=700&translated=off&cyclers=off&backward=off")
+    assert tab.saved() == b"1RA1RA undecided steps\n"
+    tab.click("link")
+    wanted = "#machine=1RA1RA&steps=9&cells=700&cyclers=off&translated=off&backward=off"
+    assert tab.js("return location.hash") == wanted
+
+
+class Quiet(http.server.SimpleHTTPRequestHandler):
+    """Serves a folder, and tells nothing of it."""
+
+    def log_message(self, *_: object) -> None:
+        pass
+
+
+def test_page_of_the_documentation(browser: Page, module: pathlib.Path, tmp_path: pathlib.Path) -> None:
+    """The page of docs/web.md decides its list, served with the files that are named there."""
+    for path in [*(TOP / "web" / "lib").glob("*.mjs"), module]:
+        shutil.copy(path, tmp_path)
+    (tmp_path / "favicon.ico").touch()
+    (tmp_path / "index.html").write_text(documented("A page"), encoding="utf-8")
+    handler = functools.partial(Quiet, directory=str(tmp_path))
+    with http.server.ThreadingHTTPServer(("127.0.0.1", 0), handler) as server:
+        threading.Thread(target=server.serve_forever, daemon=True).start()
+        browser.driver.get("http://127.0.0.1:%d/" % server.server_port)
+        text = browser.until(lambda: browser.text("verdicts"))
+        server.shutdown()
+    assert text + "\n" == browser.written("decide", {"steps": 1000}, README[:21]).decode()
+    assert not browser.errors()
+    browser.requests()
+
+
+@pytest.mark.slow
+@pytest.mark.timing
+def test_four_states(tab: Page, four_states: List[str]) -> None:
+    """All machines of four states as a dropped file; the page never stands still for long beside the time
+    that they take, also when it goes on to an undecided line, and when it sorts them."""
+    given = as_lines(four_states)
+    tab.js("window.longest = 0")
+    begun = time.monotonic()
+    tab.plan(FOUR, "decide")
+    tab.answer_file(given, drop=True)
+    taken, longest = time.monotonic() - begun, tab.js("return window.longest") / 1_000
+    assert tab.saved() == tab.written("decide", FOUR, given)
+    beside = tab.js(UNDECIDED) / 1_000
+    tab.js("window.longest = 0")
+    tab.choose_option("order", "down")
+    tab.until(lambda: "halt 107" in tab.text("shown") or "translated" in tab.text("shown"))
+    sorting = tab.js("return window.longest") / 1_000
+    print("%d lines in %.1f s; it stood still for %.3f s" % (len(four_states), taken, longest))
+    print("the next undecided line after %.3f s; still for %.3f s while it sorted" % (beside, sorting))
+    assert max(longest, beside, sorting) < taken / 5
+
+
+def test_browser_without_vectors(page: pathlib.Path, tmp_path: pathlib.Path) -> None:
+    """A browser without vectors hears that it lacks them, and can't decide."""
+    with Page(page, tmp_path) as bare:
+        bare.add_script("WebAssembly.validate = () => false")
+        bare.driver.get("file://" + bare.path)
+        assert "no vectors" in bare.text("error") and "Chromium 156" in bare.text("error")
+        assert bare.get("run", "disabled")
+        assert not bare.errors()

@@ -1,0 +1,290 @@
+"""Whether everyone can use the page: contrasts, names and roles, widths, live text, and what it may send."""
+
+import pathlib
+import re
+import time
+from typing import Dict, List
+
+import pytest
+from support import TOP
+from support.browser import CONTRAST, Page, soon, trace
+from support.gestures import Keys
+from support.machines import CHAMPION
+
+TEXT, MARK = 4.5, 3.0
+# Its head comes to each of ten symbols, and halts at step 19.
+COUNTER = "1RB2RB3RB4RB5RB6RB7RB8RB9RB9RZ_1LA2LA3LA4LA5LA6LA7LA8LA9LA9LA"
+# It has marks late, over cells of a pixel.
+LATE = "1RB1LB_1LA0LC_1RE1LD_1RD0RA_1RE1RE"
+# The pixels above a marked row: its outline, what is about that, and one that only a label reaches.
+ABOVE = (-1, -2, -3, -6)
+# Texts and what is behind them: the smallest contrast of each element's text, computed in the page.
+CONTRASTS = """
+const over = (upper, lower) => {
+  const alpha = upper[3] ?? 1;
+  return [0, 1, 2].map((k) => upper[k] * alpha + lower[k] * (1 - alpha));
+};
+const ground = (element) => {
+  const layers = [];
+  for (let one = element; one; one = one.parentElement) {
+    layers.push(parse(getComputedStyle(one).backgroundColor));
+  }
+  const white = [255, 255, 255];
+  return layers.reverse().reduce((below, layer) => (layer.length ? over(layer, below) : below), white);
+};
+const seen = (element) => element.checkVisibility() && element.getClientRects().length > 0;
+const all = [...document.querySelectorAll("body *")].filter(seen);
+const hasText = (node) => node.nodeType === 3 && node.data.trim();
+const texts = all.filter((one) => [...one.childNodes].some(hasText));
+const bad = texts.map((one) => [contrast(parse(getComputedStyle(one).color), ground(one)), one])
+  .filter(([ratio]) => ratio < arguments[0]).map(([ratio, one]) => one.outerHTML.slice(0, 80) + " " + ratio);
+const used = "button:not(:disabled), input[type=text], select, textarea";
+const controls = all.filter((one) => one.matches(used));
+const borders = controls.map((one) => [contrast(parse(getComputedStyle(one).borderTopColor),
+  ground(one.parentElement)), one]).filter(([ratio]) => ratio < arguments[1])
+  .map(([ratio, one]) => one.outerHTML.slice(0, 80) + " " + ratio);
+return [bad, borders];
+"""
+# What has no name, though it is used; and what names what isn't there.
+NAMES = """
+const nodes = arguments[0];
+const named = ["button", "textbox", "combobox", "checkbox", "link", "grid", "img", "image", "listbox",
+  "progressbar", "group", "region", "application"];
+return nodes.filter(({ role, name, ignored }) => !ignored && named.includes(role?.value) && !name?.value)
+  .map((node) => node.role.value + JSON.stringify(node.properties));
+"""
+REFERENCES = """
+const found = [];
+for (const name of ["aria-describedby", "aria-labelledby", "aria-activedescendant", "aria-controls", "for"]) {
+  for (const one of document.querySelectorAll("[" + name + "]")) {
+    for (const id of one.getAttribute(name).split(" ")) {
+      document.getElementById(id) ?? found.push(name + " " + id);
+    }
+  }
+}
+const ids = [...document.querySelectorAll("[id]")].map((one) => one.id);
+return [...found, ...ids.filter((id, k) => ids.indexOf(id) !== k)];
+"""
+SEND = """
+const done = arguments[arguments.length - 1];
+const violations = [];
+addEventListener("securitypolicyviolation", (event) => violations.push(event.effectiveDirective));
+const image = new Image();
+image.src = "https://example.invalid/x.png";
+const tried = [
+  fetch("https://example.invalid/").then(() => "sent", () => "refused"),
+  new Promise((end) => {
+    try {
+      const request = new XMLHttpRequest();
+      request.onload = () => end("sent");
+      request.onerror = () => end("refused");
+      request.open("GET", "https://example.invalid/");
+      request.send();
+    } catch { end("refused"); }
+  }),
+  new Promise((end) => {
+    try {
+      const socket = new WebSocket("wss://example.invalid/");
+      socket.onopen = () => end("sent");
+      socket.onerror = () => end("refused");
+    } catch { end("refused"); }
+  }),
+  new Promise((end) => {
+    const script = document.createElement("script");
+    script.textContent = "window.ran = true";
+    document.body.append(script);
+    end(window.ran ? "sent" : "refused");
+  }),
+];
+Promise.all(tried).then((ends) => setTimeout(() => done([ends, violations]), 300));
+"""
+WORKER = """
+const done = arguments[arguments.length - 1];
+const source = "fetch('https://example.invalid/')" +
+  ".then(() => postMessage('sent'), () => postMessage('refused'));";
+const worker = new Worker(URL.createObjectURL(new Blob([source])));
+worker.onmessage = (event) => done(event.data);
+worker.onerror = () => done("error");
+"""
+LIVE = """
+window.live = [];
+new MutationObserver(() => window.live.push([performance.now(), document.getElementById("live").textContent]))
+  .observe(document.getElementById("live"), { childList: true, characterData: true, subtree: true });
+"""
+CLIPPED = """
+return [...document.querySelectorAll("#shown .row > *")].filter((cell) => cell.scrollWidth > cell.clientWidth + 1)
+  .map((cell) => cell.textContent);
+"""
+TOPS = """
+return [...document.querySelectorAll("#shown .row")[1].children]
+  .map((one) => Math.round(one.getBoundingClientRect().top));
+"""
+DIGITS = """
+const pen = document.createElement("canvas").getContext("2d");
+pen.font = "11px system-ui, sans-serif";
+return document.getElementById("diagram").dataset.x - 9 - pen.measureText(arguments[0]).width;
+"""
+WIDTH = "return document.documentElement.scrollWidth"
+
+
+def luminance(colour: List[int]) -> float:
+    parts = [part / 255 for part in colour]
+    linear: List[float] = [
+        part / 12.92 if part <= 0.03928 else ((part + 0.055) / 1.055) ** 2.4 for part in parts
+    ]
+    return 0.2126 * linear[0] + 0.7152 * linear[1] + 0.0722 * linear[2]
+
+
+def contrast(one: List[int], two: List[int]) -> float:
+    high, low = sorted((luminance(one), luminance(two)), reverse=True)
+    return (high + 0.05) / (low + 0.05)
+
+
+@pytest.mark.parametrize("scheme", [0, 1], ids=["light", "dark"])
+def test_colours_of_the_style(scheme: int) -> None:
+    """The letter in a head, which is its halo's colour, marks and texts."""
+    style = (TOP / "web" / "page" / "page.css").read_text(encoding="utf-8")
+    text = style.split("@media (prefers-color-scheme: dark)")[scheme].split("* { box-sizing")[0]
+    found: Dict[str, str] = dict(re.findall(r"--([a-z0-9-]+): #([0-9a-f]{6})", text))
+    colours = {name: list(bytes.fromhex(digits)) for name, digits in found.items()}
+    for symbol in range(10):
+        letter = colours["on%d" % symbol]
+        assert contrast(colours["s%d" % symbol], letter) >= TEXT
+        assert contrast(colours["head"], letter) >= MARK
+    for mark in ("mark", "head", "accent"):
+        assert contrast(colours[mark], colours["panel"]) >= MARK
+    assert contrast(colours["mark"], colours["panel"]) >= TEXT
+    assert contrast(colours["good"], colours["wash"]) >= TEXT
+
+
+@pytest.mark.parametrize("scheme", ["light", "dark"])
+def test_heads_have_halos(tab: Page, scheme: str) -> None:
+    """The frame of a head is seen beside its halo on each symbol."""
+    tab.media(prefers_color_scheme=scheme)
+    tab.open("#machine=" + COUNTER)
+    view, rows = tab.drawn(), trace(tab.program, COUNTER, 18)
+    assert {row.symbol(row.head) for row in rows} == set(range(10))
+    assert view["high"] >= 12 and view["every"] == 1
+    for row in rows:
+        x, y = (row.head - view["left"]) * view["wide"], (row.step + 0.5) * view["high"]
+        frame, ring = tab.pixels([[x + 1, y], [x + 2, y]])
+        assert contrast(frame, ring) >= MARK
+        assert frame == tab.colour("--head")
+    tab.media()
+
+
+@pytest.mark.parametrize("scheme", ["light", "dark"])
+def test_marks_have_halos(tab: Page, scheme: str) -> None:
+    """A mark over cells of a pixel has a halo of the panel's colour."""
+    tab.media(prefers_color_scheme=scheme)
+    tab.open("#machine=%s" % LATE)
+    tab.drawn()
+    tab.click("fit")
+    soon(lambda: tab.drawn()["top"] == 0)
+    view, mark = tab.drawn(), tab.colour("--mark")
+    assert view["high"] <= 3
+    step = int(tab.written("decide", {}, LATE.encode()).split()[3])
+    y = int((step - view["top"]) / view["every"] * view["high"] + view["y"]) - view["y"]
+    found = tab.pixels([[x, y + k] for x in range(2, 600, 3) for k in ABOVE])
+    columns = [found[k : k + len(ABOVE)] for k in range(0, len(found), len(ABOVE))]
+    outer = [about for one, two, about, label in columns if one == two == mark != label]
+    assert outer and min(contrast(mark, about) for about in outer) >= MARK
+    tab.media()
+
+
+@pytest.mark.parametrize("scheme", ["light", "dark"])
+def test_contrasts(tab: Page, scheme: str) -> None:
+    """All texts and controls that are seen."""
+    tab.media(prefers_color_scheme=scheme)
+    tab.put("limits", "open", True)
+    tab.open_list("1RB1LB_1LA1RZ\n1RB1LH_1LA1RZ\n1RA1RA halt 6 4\n1LB0LA_1RA---\n")
+    for row in range(4):
+        tab.open_row(row)
+        time.sleep(0.2)
+        texts, borders = tab.js(CONTRAST + CONTRASTS, TEXT, MARK)
+        assert not texts and not borders
+    tab.media()
+
+
+def test_names_and_references(tab: Page) -> None:
+    """What is used has a name; ids that are named exist, and once; the chosen row exists or isn't named."""
+    tab.open_list("1RA1RA\n" * 500)
+    assert not tab.js(NAMES, tab.command("Accessibility.getFullAXTree")["nodes"])
+    assert not tab.js(REFERENCES)
+    tab.press("rows", Keys.END)
+    assert not tab.js(REFERENCES)
+    tab.put("rows", "scrollTop", 0)
+    tab.until(lambda: tab.js("return document.querySelector('#row-0') !== null"))
+    assert not tab.js(REFERENCES)
+    assert tab.get("diagram", "role") == "application"
+    assert tab.get("file-choose", "tagName") == "BUTTON"
+
+
+def test_live_text(tab: Page) -> None:
+    """Live text is told at most once a second and at the end; opening a row tells its verdict."""
+
+    def told(words: str) -> bool:
+        return any(words in text for _, text in tab.js("return window.live"))
+
+    tab.js(LIVE)
+    tab.open_list("1RA1RA\n1RB1LB_1LA1RZ\n")
+    tab.until(lambda: told("Done"))
+    tab.press("rows", Keys.ARROW_DOWN, Keys.ENTER)
+    tab.until(lambda: told("It halts after 6 steps"))
+    for _ in range(12):
+        tab.press("diagram", Keys.ARROW_DOWN)
+        time.sleep(0.1)
+    time.sleep(1.2)
+    times = [at for at, _ in tab.js("return window.live")]
+    assert min(after - before for before, after in zip(times, times[1:])) >= 990
+    roles = tab.js("return [...document.querySelectorAll('[role=status], [aria-live]')].map((one) => one.id)")
+    assert roles == ["live"]
+
+
+def test_page_sends_nothing(tab: Page) -> None:
+    """The browser refuses it, also in a worker; the page works all the same."""
+    policy = tab.js("return document.querySelector('meta[http-equiv]').content")
+    assert "default-src 'none'" in policy and "connect-src" not in policy
+    ends, violations = tab.wait_for_js(SEND)
+    assert ends == ["refused"] * 4
+    assert {"connect-src", "img-src", "script-src-elem"} <= set(violations)
+    assert violations.count("connect-src") == 3
+    assert tab.wait_for_js(WORKER) == "refused"
+    # What was tried is in the console.
+    assert tab.requests() and tab.errors()
+    tab.open_list("1RA1RA\n")
+    assert tab.saved() == b"1RA1RA translated R 1 2 1 1\n"
+
+
+def test_row_fits_at_a_desk(tab: Page) -> None:
+    """At a desk's width the list has room for 34 characters and a `translated` verdict."""
+    tab.plan({}, "check", True)
+    tab.open_list("%s translated R 1234 5678 12 34\n1RB1LB_1LA1RZ halt 7\n" % CHAMPION)
+    assert not tab.js(CLIPPED)
+
+
+@pytest.mark.slow
+@pytest.mark.parametrize("width, height", [(390, 844), (320, 640)])
+def test_narrow_page(page: pathlib.Path, bb: str, tmp_path: pathlib.Path, width: int, height: int) -> None:
+    """Nothing is wider than the page, and rows have two lines; a line is chosen by keys; on a narrow axis
+    there is room for the digits of all steps."""
+    with Page(page, tmp_path, width, height, is_phone=True, program=bb) as phone:
+        phone.open()
+        phone.press("rows", Keys.ARROW_DOWN, Keys.ENTER)
+        phone.until(lambda: phone.text("machine-text") == "1RA1RA")
+        phone.plan({"steps": 1000}, "auto", True)
+        phone.open_list("1RA1RA\n%s\n1RB1LH_1LA1RZ\n1LB0LA_1RA---\n" % CHAMPION)
+        for row in range(4):
+            phone.open_row(row)
+            assert phone.js(WIDTH) <= width
+        tops = phone.js(TOPS)
+        assert tops[1] < tops[2]
+        assert width < 390 or not phone.js(CLIPPED)
+        for line in ("`1rb1la_1lc1re_1ld1rf_1ra0lb_0re1lc_1rz0rd`", "1RA1RA %s" % ("x" * 90)):
+            phone.open_list(line + "\n")
+            assert phone.js(WIDTH) <= width
+        for steps in (999_999, 9_999_999, 50_000_000):
+            phone.open("#machine=%s&steps=%d" % (CHAMPION, steps))
+            phone.drawn()
+            assert phone.js(DIGITS, "{:,}".format(steps)) >= 0
+        assert not phone.errors()

@@ -1,0 +1,170 @@
+"""The axes of a diagram, whose numbers stand where the view has them, and what is shown at the pointer and of
+what keys point at."""
+
+import re
+from typing import Dict, List, NamedTuple, Tuple
+
+from support.browser import HEAD, Page, Row, soon, trace
+from support.gestures import Keys, in_window, mouse
+from support.machines import CHAMPION, CHAMPION_OF_FOUR
+
+STEPS = 10_000
+# A step at which both ends of the tape are in view.
+EARLY = 301
+# What was painted of the diagram since it was drawn the last time: texts and the marks beside them.
+PAINTED = """
+window.painted = { texts: [], marks: [] };
+const pen = CanvasRenderingContext2D.prototype;
+const painting = (name, note) => {
+  const paint = pen[name];
+  pen[name] = function (...words) {
+    this.canvas.id === "diagram" && note(this, words);
+    return paint.apply(this, words);
+  };
+};
+painting("scale", () => { window.painted = { texts: [], marks: [] }; });
+painting("fillText", ({ textAlign }, [text, x, y]) => window.painted.texts.push([text, x, y, textAlign]));
+painting("fillRect", (_, words) => window.painted.marks.push(words));
+"""
+# How far ticks are apart at least, in pixels, so that their numbers can be read.
+STEPS_APART, POSITIONS_APART = 20, 40
+
+
+class Tick(NamedTuple):
+    """A number on an axis, and where its text and its mark stand along the axis."""
+
+    number: int
+    text: float
+    mark: float
+
+
+def number_of(text: str) -> int:
+    return int(text.replace(",", "").replace("\u2212", "-"))
+
+
+def ticks(tab: Page, view: Dict[str, float]) -> Tuple[List[Tick], List[Tick]]:
+    """The numbers of the steps and of the positions, with their marks."""
+    painted = tab.js("return window.painted")
+    texts, marks = painted["texts"], painted["marks"]
+    downs = [y for x, y, wide, high in marks if (x, wide, high) == (view["x"] - 4, 4, 1)]
+    rights = [x for x, y, wide, high in marks if (y, wide, high) == (view["y"] - 4, 1, 4)]
+    steps = [(text, y) for text, x, y, align in texts if align == "right" and x == view["x"] - 9]
+    positions = [(text, x) for text, x, y, align in texts if align == "center" and y == view["y"] - 11]
+    found = [zip(steps, downs), zip(positions, rights)]
+    both = [[Tick(number_of(text), at, mark) for (text, at), mark in one] for one in found]
+    return both[0], both[1]
+
+
+def require_ticks(tab: Page) -> None:
+    """Each number stands at the pixel where the view has it, with a mark there that is seen on the canvas,
+    beside ground of the panel."""
+    view = tab.drawn()
+    steps, positions = ticks(tab, view)
+    down, right = view["high"] / view["every"], view["wide"] / view["across"]
+    soft, panel, accent = (tab.colour(name) for name in ("--soft", "--panel", "--accent"))
+    for found, first, scale, begin, size, apart in (
+        (steps, view["top"], down, view["y"], view["high"], STEPS_APART),
+        (positions, view["left"], right, view["x"], view["wide"], POSITIONS_APART),
+    ):
+        assert len(found) >= 2
+        wanted = [begin + (tick.number - first) * scale + size / 2 for tick in found]
+        assert all(abs(tick.text - at) < 0.01 and tick.mark == int(at) for tick, at in zip(found, wanted))
+        assert len({b.number - a.number for a, b in zip(found, found[1:])}) == 1
+        assert all(b.text - a.text >= apart for a, b in zip(found, found[1:]))
+        places = [tick.mark - begin for tick in found]
+        marks = [[-2.0, at] if found is steps else [at, -2.0] for at in places]
+        # The arrow at the chosen step may stand before a mark.
+        assert all(colour in (soft, accent) for colour in tab.pixels(marks))
+        beside = [[x, y + 6] if found is steps else [x + 6, y] for x, y in marks]
+        assert all(colour in (panel, accent) for colour in tab.pixels(beside))
+
+
+def require_rows(tab: Page, rows: Dict[int, Row]) -> None:
+    """At a step's number stands its row, with its head, each cell where the positions' numbers say."""
+    colours, view = tab.palette(), tab.drawn()
+    steps, positions = ticks(tab, view)
+    first, last = positions[0], positions[-1]
+    apart = (last.text - first.text) / (last.number - first.number)
+    for step in steps:
+        row, cells = rows[step.number], range(first.number, last.number + 1)
+        middles = [first.text - view["x"] + apart * k for k in range(len(cells))]
+        # A head's frame is at the edge of its cell.
+        rights = [x - apart / 2 + 1 if at == row.head else x for x, at in zip(middles, cells)]
+        kinds = [HEAD if at == row.head else row.symbol(at) for at in cells]
+        found = tab.pixels([[x, step.text - view["y"]] for x in rights])
+        assert len(kinds) > 20 and found == [colours[kind] for kind in kinds]
+    assert any(first.number <= rows[step.number].head <= last.number for step in steps)
+
+
+def require_places(tab: Page, rows: Dict[int, Row]) -> None:
+    """At the pointer the program's row of that step is shown."""
+    view = tab.drawn()
+    width, height = tab.size()
+    for right, down in ((0.05, 0.03), (0.5, 0.5), (0.97, 0.4), (0.3, 0.9), (0.52, 0.2)):
+        x = int(view["x"] + right * (width - view["x"] - 1))
+        y = int(view["y"] + down * (height - view["y"] - 1))
+        mouse(tab, "mouseMoved", in_window(tab, x, y))
+        step = int(view["top"] + (y - view["y"]) // view["high"] * view["every"])
+        position = int(view["left"] + (x - view["x"]) // view["wide"] * view["across"])
+        wanted = rows[step].place_words(position) if step in rows else None
+        assert wanted is None or soon(lambda: tab.text("place-text") == wanted), wanted
+
+
+def test_axes_and_pointer(tab: Page) -> None:
+    """From the whole to single cells, moved and zoomed."""
+    made = tab.add_script(PAINTED)
+    tab.open("#machine=%s&steps=%d" % (CHAMPION, STEPS))
+    tab.scroll_to_diagram()
+    rows = {row.step: row for row in trace(tab.program, CHAMPION, STEPS)}
+    assert tab.drawn()["every"] > 1
+    require_ticks(tab)
+    require_places(tab, rows)
+    for _ in range(3):
+        tab.zooming(1.3, 190, 130)
+        tab.drawn()
+        require_ticks(tab)
+        require_places(tab, rows)
+    tab.go_to(str(EARLY))
+    soon(lambda: tab.drawn()["every"] == 1 and tab.drawn()["top"] > EARLY / 2)
+    require_ticks(tab)
+    require_rows(tab, rows)
+    require_places(tab, rows)
+    tab.remove_script(made)
+
+
+def step_shown(tab: Page) -> int:
+    """The step that is told of the place that keys point at; -1 where none is."""
+    found = re.match(r"Step ([\d,]+)", tab.text("place-text"))
+    return number_of(found[1]) if found else -1
+
+
+def test_keys_name_the_row_that_enter_shows(tab: Page) -> None:
+    """Where a row stands for many steps, keys point at the step that is told: Enter shows its tape."""
+    tab.open("#machine=%s&steps=50000000" % CHAMPION)
+    tab.drawn()
+    tab.go_to("1000000")
+    assert tab.tape_is_at("1,000,000")
+    tab.press("diagram", "0")
+    soon(lambda: tab.drawn()["every"] > 10_000)
+    every = tab.drawn()["every"]
+    for way in ((Keys.ARROW_DOWN,), (Keys.ARROW_DOWN, Keys.ARROW_RIGHT), (Keys.ARROW_UP,) * 3):
+        tab.press("diagram", *way)
+        told = step_shown(tab)
+        assert told >= 0 and told % every == 0
+        tab.press("diagram", Keys.ENTER)
+        assert tab.tape_is_at("{:,}:".format(told))
+
+
+def test_keys_beyond_the_view(tab: Page) -> None:
+    """Their place is told once the picture has it."""
+    tab.open("#machine=%s" % CHAMPION_OF_FOUR)
+    tab.drawn()
+    tab.press("diagram", "+", "+")
+    top = tab.drawn()["top"]
+    for _ in range(3):
+        tab.press("diagram", *[Keys.ARROW_DOWN] * 13)
+        assert soon(lambda: tab.text("place-text") != "", 2)
+    assert tab.drawn()["top"] > top
+    told = step_shown(tab)
+    tab.press("diagram", Keys.ENTER)
+    assert tab.tape_is_at("{:,}:".format(told))

@@ -1,0 +1,179 @@
+"""Moving and zooming a diagram by mouse and fingers: which steps and positions are in view then."""
+
+from typing import Dict, Tuple
+
+import pytest
+from support.browser import Page, soon, trace
+from support.gestures import Point, drag, in_window, pinch, swipe, tap
+from support.machines import CHAMPION
+
+View = Dict[str, float]
+STEPS = 10_000
+# Cells are large enough there to be seen one by one.
+NEAR = 6_000
+# What the browser tells where the mouse is dragged by its right button.
+OTHER_BUTTON = """
+const canvas = document.getElementById("diagram");
+canvas.setPointerCapture = () => {};
+const { left, top } = canvas.getBoundingClientRect();
+for (const [kind, far] of [["down", 0], ["move", 40], ["move", 80], ["up", 80]]) {
+  canvas.dispatchEvent(new PointerEvent("pointer" + kind, {
+    pointerId: 1, pointerType: "mouse", button: kind === "move" ? -1 : 2, buttons: kind === "up" ? 0 : 2,
+    clientX: left + 200, clientY: top + 200 - far, bubbles: true,
+  }));
+}
+delete canvas.setPointerCapture;
+"""
+
+
+def seen(tab: Page) -> Tuple[float, float, float, float]:
+    """The first and the last step, the first and the last position in view."""
+    view = tab.drawn()
+    width, height = tab.size()
+    down, right = (height - view["y"]) / view["high"], (width - view["x"]) / view["wide"]
+    last, end = view["top"] + down * view["every"], view["left"] + right * view["across"]
+    return view["top"], last, view["left"], end
+
+
+def cell_at(view: View, place: Point) -> Tuple[int, int]:
+    """The step and the position at a place of the canvas."""
+    right, down = place[0] - view["x"], place[1] - view["y"]
+    step = view["top"] + down // view["high"] * view["every"]
+    return int(step), int(view["left"] + right // view["wide"] * view["across"])
+
+
+def place_of(view: View, cell: Tuple[int, int]) -> Point:
+    """The place of the canvas at which a step and a position begin."""
+    step, position = cell
+    right = (position - view["left"]) / view["across"] * view["wide"]
+    return view["x"] + right, view["y"] + (step - view["top"]) / view["every"] * view["high"]
+
+
+def open_near(tab: Page) -> View:
+    """Opens a run at a step whose cells are seen one by one."""
+    tab.open("#machine=%s&steps=%d" % (CHAMPION, STEPS))
+    tab.drawn()
+    tab.go_to(str(NEAR))
+    soon(lambda: tab.drawn()["top"] > 0)
+    tab.scroll_to_diagram()
+    return tab.drawn()
+
+
+def require_cells(tab: Page) -> None:
+    """The cells in view have the colours of the program's rows at these steps and positions."""
+    colours, view = tab.palette(), tab.drawn()
+    first, last = int(view["top"]), int(view["top"] + 12)
+    rows = {row.step: row for row in trace(tab.program, CHAMPION, last)}
+    left, columns = int(view["left"]), int((tab.size()[0] - view["x"]) / view["wide"])
+    cells = [(rows[step], at) for step in range(first, last + 1) for at in range(left, left + columns)]
+    # A head's frame is in its own cell.
+    plain = [(row, at) for row, at in cells if at != row.head]
+    wide, high = view["wide"], view["high"]
+    places = [[(at - left + 0.5) * wide, (row.step - first + 0.5) * high] for row, at in plain]
+    assert plain and tab.pixels(places) == [colours[row.symbol(at)] for row, at in plain]
+
+
+def test_mouse_moves_the_picture(tab: Page) -> None:
+    """The mouse moves the picture: what was under it stays there, in steps and positions."""
+    before = open_near(tab)
+    high, wide = before["high"], before["wide"]
+    assert before["every"] == 1 and high >= 6
+    first = seen(tab)
+    begin = (before["x"] + 30.5 * wide, before["y"] + 20.5 * high)
+    # Neither is a multiple of a cell's size, and each move of the mouse is shorter than a cell.
+    end = (begin[0] - 7.25 * wide, begin[1] - 9.25 * high)
+    drag(tab, in_window(tab, *begin), in_window(tab, *end))
+    soon(lambda: tab.drawn()["top"] == before["top"] + 9)
+    after, then = tab.drawn(), seen(tab)
+    assert [b - a for a, b in zip(first, then)] == [9, 9, 7, 7]
+    assert (after["high"], after["wide"]) == (high, wide)
+    assert cell_at(before, begin) == cell_at(after, end)
+    require_cells(tab)
+    assert tab.text("tape-text").startswith("Step {:,}".format(NEAR))
+    drag(tab, in_window(tab, *end), in_window(tab, *begin))
+    soon(lambda: tab.drawn()["top"] == before["top"])
+    assert tab.drawn() == before
+    drag(tab, in_window(tab, *begin), in_window(tab, begin[0] + 1, begin[1] + 1))
+    step = cell_at(before, begin)[0]
+    assert soon(lambda: tab.text("tape-text").startswith("Step {:,}".format(step)))
+    assert tab.drawn() == before
+
+
+def test_other_button_moves_nothing(tab: Page) -> None:
+    """Another button than the main one moves nothing."""
+    before = open_near(tab)
+    tab.js(OTHER_BUTTON)
+    assert not soon(lambda: tab.drawn() != before, 0.5)
+
+
+@pytest.mark.slow
+def test_drag_ends_at_the_edges(tab: Page) -> None:
+    """A drag doesn't go before the first step, nor away from all cells."""
+    tab.open("#machine=%s&steps=%d" % (CHAMPION, STEPS))
+    before = tab.drawn()
+    tab.scroll_to_diagram()
+    begin, end = in_window(tab, 150, 100), in_window(tab, 350, 300)
+    for _ in range(4):
+        drag(tab, begin, end)
+    soon(lambda: tab.drawn()["left"] < before["left"])
+    view, (_, _, left, right) = tab.drawn(), seen(tab)
+    assert view["top"] == 0
+    assert left <= trace(tab.program, CHAMPION, STEPS)[-1].low <= right
+
+
+def require_place(view: View, cell: Tuple[int, int], middle: Point) -> None:
+    """The cell that was between the fingers is there still, within a cell."""
+    x, y = place_of(view, cell)
+    assert abs(x - middle[0]) <= 1 + 2 * view["wide"]
+    assert abs(y - middle[1]) <= 1 + 2 * view["high"]
+
+
+@pytest.mark.slow
+def test_two_fingers_zoom(phone: Page) -> None:
+    """Two fingers zoom: apart to fewer steps and positions, together to more; what is between them stays."""
+    before = open_near(phone)
+    tap(phone, in_window(phone, before["x"] + 100, before["y"] + 100))
+    soon(lambda: phone.js("return document.activeElement.id") == "diagram")
+    before = phone.drawn()
+    begun = seen(phone)
+    middle = (before["x"] + 120.5, before["y"] + 150.5)
+    cell = cell_at(before, middle)
+    pinch(phone, in_window(phone, *middle), 60, 90)
+    soon(lambda: phone.drawn()["high"] > before["high"])
+    near, nearer = phone.drawn(), seen(phone)
+    assert nearer[1] - nearer[0] < 0.6 * (begun[1] - begun[0])
+    assert nearer[3] - nearer[2] < 0.6 * (begun[3] - begun[2])
+    require_place(near, cell, middle)
+    require_cells(phone)
+    # In steps of which each zooms less than to the next size of a cell.
+    pinch(phone, in_window(phone, *middle), 160, 60)
+    soon(lambda: phone.drawn()["high"] < before["high"])
+    far, farther = phone.drawn(), seen(phone)
+    assert farther[1] - farther[0] > 3 * (nearer[1] - nearer[0])
+    require_place(far, cell, middle)
+    assert phone.js("return visualViewport.scale") == 1
+
+
+@pytest.mark.slow
+def test_one_finger_scrolls_or_moves(phone: Page) -> None:
+    """On a phone one finger scrolls the page; the picture is moved only after a tap into it."""
+    phone.open("#machine=%s&steps=100000" % CHAMPION)
+    before = phone.drawn()
+    phone.scroll_to_diagram()
+    assert "Tap into the picture first" in phone.get("diagram-keys", "innerText")
+    width, height = phone.size()
+    box = in_window(phone, width / 2, height / 2)
+    place = phone.js("return scrollY")
+    swipe(phone, box, (box[0], box[1] - 120))
+    assert soon(lambda: phone.js("return scrollY") != place)
+    assert phone.drawn() == before
+    phone.scroll_to_diagram()
+    box = in_window(phone, width / 2, height / 2)
+    tap(phone, box)
+    soon(lambda: phone.js("return document.activeElement.id") == "diagram")
+    place = phone.js("return scrollY")
+    swipe(phone, box, (box[0], box[1] - 120))
+    assert soon(lambda: phone.drawn()["top"] > before["top"])
+    moved = (phone.drawn()["top"] - before["top"]) / before["every"] * before["high"]
+    assert phone.js("return scrollY") == place
+    assert abs(moved - 120) <= before["high"]

@@ -1,0 +1,266 @@
+"""What the page is given: its first list, settings, files, dropped texts, and what a reload keeps."""
+
+import pathlib
+import time
+from typing import Callable, List
+
+import pytest
+from support.browser import ENDLESS, LONG, Page, soon
+from support.gestures import mouse, write
+from support.machines import CHAMPION, CHAMPION_OF_FOUR
+
+SELECTED = """
+const { selectionStart: first, selectionEnd: end, value } = document.getElementById("list");
+return end - first === value.length ? "all" : end - first;
+"""
+MIDDLE = """
+const box = document.getElementById("list").getBoundingClientRect();
+return [box.x + box.width / 2, box.y + box.height / 2];
+"""
+DROP_TEXT = """
+const moved = new DataTransfer();
+moved.setData("text/plain", "1RA1RA");
+const event = new DragEvent("drop", { dataTransfer: moved, bubbles: true, cancelable: true });
+document.querySelector(arguments[0]).dispatchEvent(event);
+return event.defaultPrevented;
+"""
+DRAG = "document.body.dispatchEvent(new DragEvent(arguments[0], { bubbles: true }))"
+HASH = "return location.hash"
+
+
+def list_of(tab: Page) -> str:
+    return str(tab.get("list", "value"))
+
+
+def select_by_click(tab: Page) -> object:
+    """Clicks into the list by the mouse; how many characters are selected then."""
+    for kind in ("mousePressed", "mouseReleased"):
+        mouse(tab, kind, tab.js(MIDDLE), button="left", clickCount=1)
+    return tab.js(SELECTED)
+
+
+def is_refused(tab: Page, name: str) -> bool:
+    return bool(tab.get(name, "ariaInvalid") == "true")
+
+
+def test_first_click_selects_an_example(tab: Page) -> None:
+    """What is typed replaces it then; a second click doesn't, nor does one into a list of somebody's own."""
+    assert select_by_click(tab) == "all"
+    assert select_by_click(tab) == 0
+    tab.open()
+    select_by_click(tab)
+    write(tab, "1RA1RA")
+    assert list_of(tab) == "1RA1RA"
+    assert select_by_click(tab) == 0
+    tab.choose_example("claims")
+    assert select_by_click(tab) == "all"
+
+
+def test_clear_empties_the_list(tab: Page) -> None:
+    """It takes a file away, and the list gets the focus; also by keys."""
+    tab.press("clear", "\n")
+    assert list_of(tab) == ""
+    assert tab.focus() == "list"
+    assert "2 decided" in tab.text("status")
+    tab.answer_file(b"1RA1RA\n")
+    tab.click("clear")
+    assert tab.get("file-shown", "hidden") and not tab.get("list", "hidden")
+    tab.choose_example("claims")
+    tab.click("clear")
+    assert tab.get("examples", "value") == ""
+
+
+def test_words_fold_out(tab: Page) -> None:
+    """What the words of the rows mean folds out beside them, by keys too: each kind and each answer."""
+    found: List[str] = tab.js(
+        "return [...document.querySelectorAll('#words dt')].map((one) => one.textContent)"
+    )
+    kinds = ["halt", "cycler", "translated", "backward", "undecided", "refused"]
+    assert [text.split()[0] for text in found] == kinds + ["ok", "open", "bad", "over", "unread"]
+    is_shown = "return document.querySelector('#results #words dl').checkVisibility()"
+    assert not tab.js(is_shown)
+    tab.js("document.querySelector('#words summary').id = 'words-summary'")
+    tab.press("words-summary", "\n")
+    assert tab.js(is_shown)
+
+
+def test_button_says_what_a_file_gets(tab: Page) -> None:
+    tab.answer_file(b"1RA1RA\n")
+    for mode, words in (("check", "Check"), ("decide", "Decide"), ("check", "Check"), ("auto", "Decide")):
+        tab.choose_option("mode", mode)
+        assert soon(lambda: tab.text("run") == words)
+
+
+def test_defaults_take_back_a_refusal(tab: Page) -> None:
+    """They let each example be chosen again, too."""
+    tab.type("steps", "many")
+    tab.run()
+    assert soon(lambda: is_refused(tab, "steps"))
+    tab.click("defaults")
+    assert not is_refused(tab, "steps") and "number" not in tab.text("steps-range")
+    tab.choose_example("claims")
+    tab.click("defaults")
+    assert tab.get("examples", "value") == ""
+
+
+def test_examples_bring_their_settings(tab: Page) -> None:
+    """They go with its list; the button for the defaults resets all."""
+
+    def settings() -> List[object]:
+        return [tab.get("steps", "value"), tab.get("clean", "checked"), tab.get("mode", "value")]
+
+    usual = settings()
+    tab.choose_example("small limits")
+    assert settings()[:2] != usual[:2]
+    tab.type("list", "1RA1RA\n")
+    assert settings() == usual and tab.get("examples", "value") == ""
+    tab.type("steps", "7")
+    tab.put("clean", "checked", False)
+    tab.choose_option("mode", "check")
+    tab.click("defaults")
+    assert settings() == usual
+
+
+@pytest.mark.parametrize("text", ["1,5e3", "1,5", "1,00,000", ",100", "1 5", "1_5", "1,000 000", "1 000 00"])
+def test_limit_that_is_no_number(tab: Page, text: str) -> None:
+    """What separates digits stands between groups of three, or the number is refused."""
+    tab.type("steps", text)
+    tab.run()
+    assert soon(lambda: is_refused(tab, "steps"))
+
+
+@pytest.mark.parametrize("text", ["47 176 870", "47\u202f176\u202f870", "47_176_870", " +47,176,870 "])
+def test_limit_in_groups_of_digits(tab: Page, text: str) -> None:
+    tab.type("steps", text)
+    tab.open_list("%s\n" % CHAMPION)
+    assert soon(lambda: tab.text("machine-says").startswith("It halts after 47,176,870 steps"))
+
+
+def test_limits_as_people_write_them(tab: Page) -> None:
+    for text, steps in (("1e3", 1000), ("1_000", 1000), ("10^3", 1000), ("1.5e3", 1500), ("1,000", 1000)):
+        tab.plan({"steps": text}, "decide", True)
+        tab.open_list("%s\n" % CHAMPION)
+        tab.click("link")
+        assert "steps=%d" % steps in tab.js(HASH)
+
+
+def test_step_is_written_as_a_limit(tab: Page) -> None:
+    """A refusal is told, and stays until another step is shown, or another machine."""
+    tab.open("#machine=%s" % CHAMPION_OF_FOUR)
+    tab.drawn()
+    tab.go_to("1e2")
+    assert soon(lambda: tab.text("tape-text").startswith("Step 100:"))
+    tab.go_to("many")
+    assert soon(lambda: "whole number" in tab.text("live"))
+    shows: List[Callable[[], object]] = [
+        lambda: tab.click("tape-on"),
+        lambda: tab.go_to("7"),
+        lambda: tab.open_list("1RB1LB_1LA1RZ\n"),
+    ]
+    for show in shows:
+        tab.go_to("many")
+        time.sleep(0.1)
+        assert "whole number" in tab.text("tape-refused") and is_refused(tab, "tape-step")
+        show()
+        assert soon(lambda: tab.text("tape-refused") == "", 2)
+        assert not is_refused(tab, "tape-step")
+
+
+def test_changed_file_is_named(tab: Page) -> None:
+    """Where a file has changed since it was chosen, the page says so, and it can be chosen again."""
+    tab.answer_file(b"1RA1RA\n")
+    path = pathlib.Path(tab.folder) / "list"
+    time.sleep(1.1)
+    path.write_bytes(b"1RB1LB_1LA1RZ\n1RA1RA\n")
+    tab.run()
+    assert soon(lambda: "could not be read" in tab.text("error"))
+    tab.js("document.getElementById('file').click = () => {}")
+    tab.click("file-choose")
+    assert tab.js("return document.getElementById('file').files.length") == 0
+    tab.choose(str(path))
+    assert soon(lambda: tab.text("machine-text") == "1RB1LB_1LA1RZ")
+
+
+def test_dropped_text(tab: Page) -> None:
+    """A text that is dropped into the list is the browser's to insert; beside it, it becomes the list."""
+    given = list_of(tab)
+    assert not tab.js(DROP_TEXT, "#list") and list_of(tab) == given
+    # A text of the page's own stays where it is.
+    tab.js(DRAG, "dragstart")
+    tab.js(DROP_TEXT, "h1")
+    assert list_of(tab) == given
+    tab.js(DRAG, "dragend")
+    assert tab.js(DROP_TEXT, "h1") and list_of(tab) == "1RA1RA"
+
+
+def test_refused_limit_leaves_the_work_alone(tab: Page) -> None:
+    tab.plan(ENDLESS, "decide")
+    tab.type("list", "1RB1LB_1LA1RZ\n%s\n" % LONG)
+    tab.run()
+    assert soon(lambda: tab.text("status").startswith("Running"))
+    tab.type("steps", "many")
+    tab.run()
+    assert soon(lambda: is_refused(tab, "steps"))
+    time.sleep(0.3)
+    assert tab.text("status").startswith("Running")
+    tab.click("stop")
+
+
+def test_reload_keeps_a_link_or_the_list_after_it(tab: Page) -> None:
+    """A list that is run after a link is kept, and the address no longer names the link."""
+    tab.open("#1RA1RA")
+    tab.reload()
+    assert (tab.js(HASH), list_of(tab)) == ("#1RA1RA", "1RA1RA\n")
+    tab.open_list("%s\n" % LONG)
+    assert tab.js(HASH) == ""
+    tab.reload()
+    assert list_of(tab) == "%s\n" % LONG
+    tab.open("#1RA1RA")
+    tab.type("list", "%s\n" % LONG)
+    tab.reload()
+    assert list_of(tab) == "%s\n" % LONG
+    tab.open("#" + CHAMPION)
+    assert tab.text("machine-text") == CHAMPION
+
+
+def test_reload_keeps_what_is_typed(tab: Page) -> None:
+    """A list and a limit are kept, also where they weren't run, or what was left is decided again."""
+    for given in ("1RA1RA\n%s\n" % LONG, "1RB1LB_1LA1RZ\n%s\n" % CHAMPION_OF_FOUR):
+        tab.type("list", given)
+        tab.type("steps", "50")
+        tab.reload()
+        assert (list_of(tab), tab.get("steps", "value")) == (given, "50")
+    tab.await_answer(lambda: tab.click("left"))
+    tab.reload()
+    assert list_of(tab) == given and tab.get("list-gone", "hidden")
+
+
+def test_reload_names_a_list_that_is_gone(tab: Page) -> None:
+    """That of a file, also after what was left of it is decided again, and one that is too long; a list that
+    is typed takes the words away."""
+
+    def gone() -> str:
+        tab.driver.refresh()
+        return str(tab.until(lambda: tab.text("list-gone")))
+
+    tab.plan({"steps": 50}, "auto", True)
+    tab.answer_file(b"%s\n" % CHAMPION_OF_FOUR.encode())
+    tab.await_answer(lambda: tab.click("left"))
+    for _ in range(2):
+        assert gone().startswith("The file list isn\u2019t kept")
+    tab.type("list", "1RA1RA\n")
+    assert tab.get("list-gone", "hidden")
+    tab.open_list("# " + "x" * 1_000_001 + "\n1RA1RA\n")
+    assert "1,000,0" in gone()
+    tab.js("sessionStorage.clear()")
+
+
+def test_reload_keeps_an_example_with_its_settings(tab: Page) -> None:
+    tab.choose_example("small limits")
+    tab.reload()
+    assert tab.text("limits-text") != ""
+    tab.type("list", "1RA1RA\n")
+    assert tab.text("limits-text") == ""
+    # The default, written otherwise.
+    tab.type("steps", "1e6")
+    assert tab.text("limits-text") == ""

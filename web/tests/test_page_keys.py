@@ -1,0 +1,121 @@
+"""The page by keys alone: a way from its opening to a verdict, through all that it shows, and back; the keys
+of the tape."""
+
+from typing import List
+
+from support.browser import CONTRAST, Page, soon
+from support.gestures import Keys, key, write
+from support.machines import CHAMPION, CHAMPION_OF_FOUR
+
+MACHINE = "1LB0LA_1RA---"
+# What the focus comes to, in order, by its name; before the verdict and behind it.
+BEFORE = (
+    "Example, Clear, Machines or verdict lines, Decide, Choose a file, The lines are, Limits and deciders"
+).split(", ")
+BEHIND = (
+    "translated 1, What do these words mean?, Order, Copy, Save, Lines, Previous, Next, Previous undecided, "
+    "Next undecided, Copy text, Copy link, Open at bbchallenge.org, Space-time diagram of 1LB0LA_1RA---, "
+    "Zoom in, Zoom out, Whole, Marked steps, Save PNG, Copy PNG, Tape. Step, First step, One step back, Play, "
+    "One step on, Go to step, Go, Table of the machine"
+).split(", ")
+# Whether what has the focus is seen, with an outline about it.
+FOCUS = """
+const one = document.activeElement;
+let ground = one.parentElement;
+while (ground.parentElement && (parse(getComputedStyle(ground).backgroundColor)[3] ?? 1) === 0) {
+  ground = ground.parentElement;
+}
+const { left, top, right, bottom, width, height } = one.getBoundingClientRect();
+const style = getComputedStyle(one);
+const isIn = right > 0 && bottom > 0 && left < innerWidth && top < innerHeight;
+const x = (Math.max(left, 0) + Math.min(right, innerWidth)) / 2;
+const y = (Math.max(top, 0) + Math.min(bottom, innerHeight)) / 2;
+const upper = document.elementFromPoint(x, y);
+return {
+  is_body: one === document.body,
+  is_seen: one.checkVisibility() && width > 0 && height > 0 && isIn && one.contains(upper),
+  is_outlined: one.matches(":focus-visible") && style.outlineStyle === "solid"
+    && parseFloat(style.outlineWidth) >= 2,
+  contrast: contrast(parse(style.outlineColor), parse(getComputedStyle(ground).backgroundColor)),
+};
+"""
+
+
+def name_of(tab: Page) -> str:
+    """The name of what has the focus, as it is told to those who hear the page."""
+    return str(tab.driver.switch_to.active_element.accessible_name)
+
+
+def is_outside(tab: Page) -> bool:
+    """Whether nothing of the page has the focus."""
+    return bool(tab.js("return document.activeElement === document.body"))
+
+
+def walk(tab: Page, names: List[str], back: bool = False) -> None:
+    """Goes on by Tab, or back, over what has these names; each is seen with an outline."""
+    for wanted in names:
+        key(tab, "Tab", back)
+        found, focus = name_of(tab), tab.js(CONTRAST + FOCUS)
+        assert found.startswith(wanted) and not focus["is_body"]
+        assert focus["is_seen"] and focus["is_outlined"] and focus["contrast"] >= 3, (wanted, focus)
+
+
+def test_page_by_keys(tab: Page) -> None:
+    """A machine is typed and decided, all that is shown of it is come to and left again, all by keys."""
+    tab.js("document.activeElement.blur(); scrollTo(0, 0)")
+    walk(tab, BEFORE[:3])
+    tab.js("document.getElementById('list').select()")
+    write(tab, MACHINE)
+    walk(tab, BEFORE[3:4])
+    tab.await_answer(lambda: key(tab, "Enter"))
+    assert soon(lambda: tab.text("machine-says").startswith("It never halts: at steps 4 and 8"))
+    assert tab.text("machine-text") == MACHINE
+    tab.drawn()
+    assert tab.tape_is_at("4:")
+    assert name_of(tab) == "Decide"
+    walk(tab, BEFORE[4:] + BEHIND)
+    leave_and_come_back(tab)
+    walk(tab, [*reversed(BEFORE + BEHIND)], back=True)
+    key(tab, "Tab", True)
+    assert is_outside(tab) or name_of(tab) in BEHIND
+
+
+def leave_and_come_back(tab: Page) -> None:
+    """Behind the table only what scrolls takes the focus; then the page is left, and come to again."""
+    passed = 0
+    key(tab, "Tab")
+    while not is_outside(tab) and name_of(tab) != BEFORE[0] and passed < 4:
+        passed += 1
+        key(tab, "Tab")
+    assert passed < 4
+    for _ in range(passed + 1):
+        key(tab, "Tab", True)
+    assert name_of(tab) == BEHIND[-1]
+    key(tab, "Tab")
+
+
+def test_keys_of_fields_and_buttons(tab: Page) -> None:
+    """Of the tape's keys a field has its own, and a button its Space."""
+    tab.open("#machine=%s" % CHAMPION_OF_FOUR)
+    assert tab.tape_is_at("0:")
+    tab.put("tape-step", "value", "")
+    tab.press("tape-step", "1 000", Keys.HOME, "9")
+    assert tab.get("tape-step", "value") == "91 000"
+    assert tab.text("tape-play") == "Play"
+    tab.press("tape-on", Keys.SPACE)
+    assert tab.tape_is_at("1:") and not soon(lambda: tab.text("tape-play") != "Play", 0.6)
+    assert tab.tape_is_at("1:")
+    tab.press("tape", Keys.SPACE)
+    assert soon(lambda: tab.text("tape-play") == "Pause")
+    tab.press("tape", Keys.SPACE)
+
+
+def test_late_row_is_dropped(tab: Page) -> None:
+    """Where a step is gone to while another one is asked for, the answer is too late."""
+    tab.open("#machine=%s&steps=50000000" % CHAMPION)
+    tab.drawn()
+    assert tab.tape_is_at("0:")
+    tab.press("tape", Keys.END, Keys.HOME)
+    assert not soon(lambda: not tab.text("tape-text").startswith("Step 0:"), 2)
+    tab.press("tape", Keys.END)
+    assert tab.tape_is_at("47,176,870: halted")

@@ -1,0 +1,155 @@
+"""What goes: a machine's pictures when another one is opened, focused buttons, what workers held."""
+
+import time
+
+from support.browser import ENDLESS, LONG, Page, soon
+from support.gestures import key
+from support.machines import CHAMPION, CHAMPION_OF_FOUR
+
+HALT = "1RB1LB_1LA1RZ"
+STEPS = 50_000_000
+# Opens the next line, and tells soon after it whether the diagram and the tape are empty; to trace the
+# champion's last row takes longer than that.
+NEXT = """
+const done = arguments[arguments.length - 1];
+const part = (name) => document.getElementById(name);
+part("rows").dispatchEvent(new KeyboardEvent("keydown", { key: "n", bubbles: true }));
+const play = part("tape-play").textContent;
+setTimeout(() => {
+  const canvas = part("diagram");
+  const data = canvas.getContext("2d").getImageData(0, 0, canvas.width, canvas.height).data;
+  const text = part("machine-text").textContent;
+  done([play, text, canvas.dataset.state, data.some(Boolean), part("tape-cells").children.length]);
+}, 180);
+"""
+WORKERS = """
+window.workers = [];
+window.Worker = class extends Worker {
+  constructor(...words) {
+    super(...words);
+    window.workers.push(this);
+  }
+};
+"""
+HEARING = "return window.workers.filter((one) => one.onmessage !== null || one.onerror !== null).length"
+
+
+def run_endless(tab: Page, given: str) -> None:
+    """Begins a list whose machines run for hours."""
+    tab.plan(ENDLESS, "decide")
+    tab.type("list", given)
+    tab.run()
+
+
+def require_focus(tab: Page, name: str, wanted: str, times: int = 1) -> None:
+    """A button that is pressed so often gives its focus to what is wanted."""
+    tab.js("document.getElementById(arguments[0]).focus()", name)
+    for _ in range(times):
+        key(tab, "Enter")
+    assert soon(lambda: tab.focus() == wanted)
+
+
+def test_next_machine_shows_nothing_of_the_one_before(tab: Page) -> None:
+    """Nothing of it plays on or stays under the next one's name."""
+    tab.plan({"steps": STEPS}, "decide")
+    tab.open_list("1RA1RA\n%s\n" % CHAMPION)
+    tab.drawn()
+    assert tab.tape_is_at("")
+    tab.click("tape-play")
+    assert tab.text("tape-play") == "Pause"
+    play, machine, state, is_painted, cells = tab.wait_for_js(NEXT)
+    assert (play, machine, state) == ("Play", CHAMPION, "asked")
+    assert not is_painted and cells == 0
+    tab.drawn()
+    assert tab.tape_is_at("")
+
+
+def test_slow_first_machine_hides_the_one_before(tab: Page) -> None:
+    """The focus goes to the rows; the next list's machine is shown again."""
+    tab.open_list("1RA1RA\n")
+    tab.drawn()
+    tab.js("document.getElementById('copy-text').focus()")
+    run_endless(tab, "%s\n1RA1RA\n" % LONG)
+    assert soon(lambda: tab.get("machine", "hidden"))
+    assert tab.focus() == "rows" and tab.text("status").startswith("Running")
+    tab.click("stop")
+    tab.plan({}, "auto", True)
+    tab.open_list("1RB1LB_1LA1RZ\n")
+    assert not tab.get("machine", "hidden") and tab.text("machine-text") == HALT
+
+
+def test_machine_decided_again_is_left(tab: Page) -> None:
+    """Nothing is said of it under another list."""
+    tab.plan({"steps": STEPS // 10}, "decide")
+    tab.open_list("%s\n" % CHAMPION)
+    tab.click("again")
+    assert tab.text("again") == "Stop"
+    run_endless(tab, "%s\n" % LONG)
+    time.sleep(3)
+    assert tab.text("again") != "Stop" and "halts" not in tab.text("live")
+    tab.click("stop")
+
+
+def test_new_list_stays_where_another_is_decided_again(tab: Page) -> None:
+    """A list that is given while the undecided lines of another one are gathered isn't replaced by them."""
+    tab.plan({"steps": 50}, "decide")
+    tab.open_list("%s\n" % CHAMPION_OF_FOUR * 150_000)
+    tab.click("left")
+    tab.type("list", "1RA1RA\n")
+    tab.run()
+    time.sleep(3)
+    assert "1 decided" in tab.text("status") and tab.get("file-shown", "hidden")
+
+
+def test_button_keeps_the_focus(tab: Page) -> None:
+    """Where the page scrolls to a machine, the button that opened it keeps the focus."""
+    tab.driver.set_window_size(800, 900)
+    tab.open_list("1RA1RA\n%s\n%s\n" % (HALT, LONG))
+    require_focus(tab, "row-next", "row-next")
+    key(tab, "Enter")
+    assert soon(lambda: tab.text("machine-text") == LONG)
+    tab.driver.set_window_size(1280, 900)
+
+
+def test_hidden_button_gives_its_focus(tab: Page) -> None:
+    """Where a button is hidden or disabled that has the focus, something beside it has it then."""
+    tab.open("#machine=%s" % HALT)
+    tab.drawn()
+    assert tab.tape_is_at("0")
+    require_focus(tab, "tape-on", "tape", 6)
+    require_focus(tab, "tape-first", "tape")
+    require_focus(tab, "tape-on", "tape-on")
+    require_focus(tab, "tape-back", "tape")
+    tab.plan({"steps": 50}, "auto", True)
+    for name, wanted in (("again", "copy-text"), ("left", "rows")):
+        tab.open_list("%s\n" % CHAMPION_OF_FOUR)
+        require_focus(tab, name, wanted)
+    tab.ended()
+    tab.open_list("1RA1RA\nno machine\n")
+    tab.js("document.getElementById('diagram').focus()")
+    tab.click("row-next")
+    assert soon(lambda: tab.focus() == "row-next")
+    run_endless(tab, "%s\n" % LONG)
+    tab.until(lambda: tab.text("status").startswith("Running"))
+    require_focus(tab, "stop", "run")
+
+
+def test_refused_memory_ends_the_list(tab: Page) -> None:
+    """Where the page itself is refused memory for a piece, it says so."""
+    tab.js("Uint8Array.prototype.slice = () => { throw new RangeError('Array buffer allocation failed'); }")
+    tab.type("list", "1RA1RA\n")
+    tab.run()
+    assert soon(lambda: tab.text("error").startswith("Out of memory"))
+    assert tab.state() == "ended"
+
+
+def test_waiting_workers_keep_nothing(tab: Page) -> None:
+    """Neither of the list nor of the question before."""
+    added = tab.add_script(WORKERS)
+    tab.open()
+    tab.open_list("1RA1RA\n" * 200)
+    tab.drawn()
+    tab.until(lambda: "\u2026" not in tab.text("facts"))
+    assert tab.js("return window.workers.length") > 1
+    assert soon(lambda: tab.js(HEARING) == 0)
+    tab.remove_script(added)

@@ -1,0 +1,250 @@
+"""Lists in the page: how their lines are read, by the same forms as in the package, and what is shown of
+them."""
+
+import gzip
+import json
+import pathlib
+import random
+import re
+from typing import Any, Dict, List
+
+import pytest
+from budlarem.reading import Form
+from budlarem.reading.lines import read_line
+from support import TOP
+from support.browser import Page
+from support.machines import CHAMPION, mixed
+from support.program import as_lines, ended
+
+Forms = Dict[str, Any]
+DISGUISES = [
+    "%s", "  %s\r", "%s halt 6 4", "17. %s", "12,%s,x", "`%s`, it halts.", "\ufeff%s", "%s # a comment",
+    "[%s](https://bbchallenge.org/{})", "https://bbchallenge.org/%s", "| %s | cycler |",
+]  # fmt: skip
+# What is put into a line, or in the place of a character.
+MORE = (*" \t_-.,;:|#*~`'\"[](){}<>!?\\/01LRABZHabr=\u200b\xa0\x1b\u00e9\u2013", "---", "1RB")
+LEFT_OUT = "3 left out (empty lines, comments, code fences, rules and headers of tables)"
+
+
+def read_by_page(asked: List[Any]) -> List[Any]:
+    """The answers of the page's reader, the first of which are its sentences."""
+    given = "".join(json.dumps(one) + "\n" for one in asked).encode()
+    done = ended(["node", str(TOP / "web/tests/reader.mjs")], given)
+    assert done.status == 0, done.error
+    return [json.loads(line) for line in done.output.decode().split("\n") if line]
+
+
+def wanted_of(form: Dict[str, Any]) -> Dict[str, Any]:
+    """The reading that a form must have."""
+    if "nothing" in form:
+        return {"kind": "nothing"}
+    if "refusal" in form:
+        return {"kind": "refusal", **{name: form[name] for name in ("refusal", "reason", "place")}}
+    texts = {name: form.get(name, "") for name in ("before", "behind")}
+    return {"kind": "machine", "machine": form["machine"], "rewritten": form.get("rewritten", []), **texts}
+
+
+@pytest.mark.needs("node")
+def test_forms_have_their_readings(forms: Forms) -> None:
+    """The page's reader gives each form the reading that it must have."""
+    lines = [[form["line"], form.get("form", "text")] for form in forms["forms"]]
+    sentences, *found = read_by_page([*lines, *forms["lists"], *forms["encodings"]])
+    assert sentences == {name: forms[name] for name in ("advice", "rewritings")}
+    wanted = [wanted_of(form) for form in forms["forms"]]
+    wanted += [entry["form"] for entry in forms["lists"]] + [
+        entry["encoding"] for entry in forms["encodings"]
+    ]
+    assert found == wanted
+    print("%d forms, lists and encodings" % len(wanted))
+
+
+def change(line: str, source: random.Random) -> str:
+    """A line with some characters more or less."""
+    for _ in range(source.choice((0, 1, 1, 2, 3, 6))):
+        at = source.randrange(len(line) + 1)
+        more = source.choice(MORE)
+        line = line[:at] + (more if source.random() < 0.6 else "") + line[at + source.randrange(2) :]
+    return line
+
+
+def read_by_package(line: str, form: str) -> Dict[str, Any]:
+    """The package's reading of a line, as the page's reader gives it."""
+    reading = read_line(1, line, Form(form))
+    if reading is None:
+        return {"kind": "nothing"}
+    if reading.reason is not None:
+        kind, text, place = reading.reason.kind, reading.reason.text, reading.reason.place
+        return {"kind": "refusal", "refusal": kind, "reason": text, "place": place}
+    texts = {"machine": reading.machine, "before": reading.before, "behind": reading.behind}
+    return {"kind": "machine", "rewritten": list(map(str, reading.rewritten)), **texts}
+
+
+@pytest.mark.needs("node")
+@pytest.mark.parametrize("count", [5_000, pytest.param(50_000, marks=pytest.mark.slow)])
+def test_package_and_page_read_alike(forms: Forms, rng: random.Random, count: int) -> None:
+    """Changed lines, in each form."""
+    lines = [form["line"] for form in forms["forms"] if "\n" not in form["line"]]
+    kinds = ("text", "text", "machines", "verdicts")
+    asked = [[change(rng.choice(lines), rng), rng.choice(kinds)] for _ in range(count)]
+    _, *found = read_by_page(asked)
+    assert found == [read_by_package(*one) for one in asked]
+    print("%d lines" % count)
+
+
+def disguise(machine: str, source: random.Random) -> str:
+    """A machine in a form in which it must be found again."""
+    form = source.choice(DISGUISES).replace("{}", machine)
+    text = machine.lower() if source.random() < 0.3 and "_" in machine else machine
+    if "_" in machine and source.random() < 0.2 and "http" not in form:
+        text = text.replace("_", " ")
+    return form % text
+
+
+@pytest.mark.needs("node")
+@pytest.mark.parametrize("count", [1_000, pytest.param(20_000, marks=pytest.mark.slow)])
+def test_disguised_machines_are_found(rng: random.Random, count: int) -> None:
+    """Random machines in random forms come back as they were, or are refused; none as another machine."""
+    machines = list(mixed(count, rng.randrange(2**32)))
+    _, *found = read_by_page([[disguise(machine, rng)] for machine in machines])
+    taken = [one.get("machine") for one in found]
+    assert not [pair for pair in zip(machines, taken) if pair[1] not in (None, pair[0])]
+    assert taken.count(None) <= count / 10
+    print("%d machines" % count)
+
+
+@pytest.mark.needs("node")
+@pytest.mark.parametrize("change, status", [("", 0), ('"huge", ', 1)])
+def test_kinds_of_one_letter_are_refused(tmp_path: pathlib.Path, change: str, status: int) -> None:
+    """Kinds that begin with the same letter, when the module loads."""
+    for name in ("worker/replies.mjs", "reader/machine.mjs"):
+        text = (TOP / "web" / name).read_text(encoding="utf-8")
+        path = tmp_path / name
+        path.parent.mkdir()
+        path.write_text(text.replace('["halt", ', '["halt", ' + change, 1), encoding="utf-8")
+    assert ended(["node", str(tmp_path / "worker" / "replies.mjs")]).status == status
+
+
+def test_file_of_all_forms(tab: Page, forms: Forms) -> None:
+    """Each line is decided as it is read, and shown with its own number."""
+    texts = [form for form in forms["forms"] if "form" not in form and "\n" not in form["line"]]
+    # What marks the order of bytes stands at the begin of a file alone.
+    lines = [form["line"].replace("\ufeff", "") for form in texts]
+
+    def given_to_program(form: Dict[str, Any], line: str) -> str:
+        # A rule that is read as a machine elsewhere is refused for a space before it.
+        is_rule = "machine" not in form and line.strip("\r") in ("------", "------------")
+        return str(form.get("machine", " " + line if is_rule else line))
+
+    given = [given_to_program(form, line) for form, line in zip(texts, lines) if "nothing" not in form]
+    tab.plan({"steps": 1000}, "decide", True)
+    tab.choose_option("list-form", "text")
+    tab.answer_file(as_lines(lines))
+    assert tab.saved() == tab.written("decide", {"steps": 1000}, as_lines(given))
+    numbers = [number for number, form in enumerate(texts, 1) if "nothing" not in form]
+    rows = tab.rows()
+    assert [int(row[0]) for row in rows] == numbers[: len(rows)]
+
+
+@pytest.mark.parametrize(
+    "text, form, rows",
+    [
+        ("1RA1RA\n------\n", "a list of machines", ["1RA1RA", "------"]),
+        ("1RA1RA\n17. 1RA1RA\n------\n", "text", ["1RA1RA", "1RA1RA", "------"]),
+        ("1RB1LB_1LA1RZ halt 6 4\n", "verdict lines", ["1RB1LB_1LA1RZ"]),
+        ("machine,status\n1RA1RA,halt\n```\n|-\n", "a table", ["1RA1RA"]),
+    ],
+)
+def test_form_of_a_list_is_found(tab: Page, text: str, form: str, rows: List[str]) -> None:
+    """It is printed, with how many lines are passed over."""
+    tab.plan({}, "decide", True)
+    tab.open_list(text)
+    assert tab.text("status").endswith("Read as %s." % form)
+    assert [row[1].partition(" \u2190")[0] for row in tab.rows()] == rows
+    assert (LEFT_OUT in tab.text("status")) == (form == "a table")
+
+
+def test_form_of_a_list_is_chosen(tab: Page) -> None:
+    """It stays over a reload."""
+    tab.choose_option("list-form", "machines")
+    tab.open_list("1RA1RA\n17. 1RA1RA\n")
+    tab.open_row(1)
+    assert "more than the machine 1RA1RA" in tab.text("machine-says")
+    tab.reload()
+    assert tab.get("list-form", "value") == "machines"
+
+
+def test_packed_lists(tab: Page, forms: Forms) -> None:
+    """A list that gzip compressed is unpacked. Of one that is cut, in another encoding or compressed
+    otherwise the page says what it is, and decides nothing."""
+    lines = b"1RB1LB_1LA1RZ\n1RA1RA\n" * 40_000
+    tab.answer_file(gzip.compress(lines))
+    assert tab.saved() == tab.written("decide", {}, lines)
+    tab.answer_file(gzip.compress(b"1RB1LB_1LA1RZ halt 6 4\n"))
+    assert "checked: 1 ok" in tab.text("status")
+    encodings = [entry for entry in forms["encodings"] if entry["encoding"] is not None]
+    cases = [(bytes.fromhex(entry["bytes"]), entry["encoding"] + ", which the page") for entry in encodings]
+    for content, words in [*cases, (gzip.compress(lines)[:-9], "can\u2019t be read as gzip")]:
+        tab.answer_file(content)
+        assert words in tab.text("error")
+    tab.answer_file("1RA1RA \u00e9\n1RA1RA \u00fc\n".encode("latin-1"))
+    assert tab.text("status").count("no UTF-8") == 1
+    tab.answer_file("1RA1RA \u00e9\n".encode())
+    assert "UTF-8" not in tab.text("status")
+    tab.open_list("1RA1RA\n")
+    assert tab.text("error") == ""
+
+
+def test_refused_line(tab: Page) -> None:
+    """It shows its text, with a caret under the place, the reason in words and its number."""
+    tab.open_list("# a list\n\n1RB1LB 1LA1RZ\n1RB1LH_1LA1RZ\n")
+    first, second = tab.rows()
+    assert first[1] == "1RB1LB_1LA1RZ \u2190 1RB1LB 1LA1RZ"
+    assert second == ["4", "1RB1LH_1LA1RZ", "refused 14", "\u2013"]
+    assert "spaces between groups read as _" in tab.text("machine-given")
+    tab.open_row(1)
+    assert "Line 4" in tab.text("machine-text")
+    says = tab.text("machine-says")
+    assert "H: the halting state is Z here" in says and "refused 14" in says
+    assert tab.text("machine-caret").split("\n") == ["1RB1LH_1LA1RZ", "     ^"]
+
+
+def test_lines_that_are_no_verdict_lines(tab: Page) -> None:
+    """Among verdict lines they are shown as such, and count as refused."""
+    tab.plan({}, "check", True)
+    unread = ["foo bar", "hello world", "1RA1RA undecided foo", "1RB1LB_1LA1RZ halt 7"]
+    tab.open_list(as_lines([*unread, "1RB1LB_1LA1RZ halt 6 4", "1RA1RA translated R 1 2"]).decode())
+    assert "2 decided, 0 undecided, 4 refused" in tab.text("status")
+    assert [row[3] for row in tab.rows()] == ["unread"] * 4 + ["ok"] * 2
+    for row, line in enumerate(unread):
+        tab.open_row(row)
+        assert tab.text("machine-text") == "Line %d is no verdict line" % (row + 1)
+        assert tab.text("machine-says").startswith("Unread:") and tab.text("machine-caret") == line
+    tab.open_row(5)
+    tab.drawn()
+    behind = tab.text("behind")
+    assert "which cells agree" in behind and "0 cells" not in behind and "show it" not in behind
+
+
+def test_each_line_is_counted_once(tab: Page) -> None:
+    """As decided, undecided, refused or left out; and the kinds have the same."""
+    tab.plan({"steps": 100}, "auto", True)
+    tab.open_list("1RB1LB_1LA1RZ\n1RA1RA\nno\n# c\n\n%s\n" % CHAMPION)
+    assert "2 decided, 1 undecided, 1 refused, 2 left out" in tab.text("status")
+    script = "return [...document.querySelectorAll('#kinds button')].map((one) => one.textContent)"
+    kinds = {text.split()[0]: int(text.split()[1]) for text in tab.js(script)}
+    assert (sum(kinds.values()), kinds["refused"]) == (4, 1)
+
+
+def test_verdict_lines_are_told(tab: Page) -> None:
+    """By whole ones; a button says what it does; comments aren't checked."""
+    tab.type("list", "# the cycler 1RB\n1RB1LB_1LA1RZ halts\n1RA1RA cycler\n")
+    assert tab.text("run") == "Decide"
+    claims = "# theirs\n1RB1LB_1LA1RZ halt 6 4\n\n1RA1RA cycler 1 2\r\n1RB1LB_1LA1RZ\n"
+    tab.type("list", claims)
+    assert tab.text("run") == "Check"
+    tab.open_list(claims)
+    assert tab.saved() == b"ok\nbad\nunread\n"
+    assert [row[0] for row in tab.rows()] == ["2", "4", "5"]
+    tab.open_row(1)
+    assert "refutes" in tab.text("machine-says")
+    assert not re.search("found out", tab.get("mode", "textContent"))

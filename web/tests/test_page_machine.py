@@ -1,0 +1,128 @@
+"""What the page tells of one machine beside its verdict, and going on from it."""
+
+import math
+import pathlib
+import time
+
+import budlarem
+import pytest
+from support.browser import LONG, Page, trace
+from support.machines import CHAMPION, CHAMPION_OF_FOUR, SWAPPED
+
+HALT = "1RB1LB_1LA1RZ"
+TREE = "1RB1LB_1LA0RC_0LD1RC_---1LA"
+MACHINES = [HALT, "1RA1RA", LONG, "1LB0LA_1RA---", "1LC1RZ_1RB---_1RA1LA", "1RB---_1LB1LA", TREE, CHAMPION]
+MACHINES.append("1RB1LB_1LA0LC_1RE1LD_1RD0RA_1RE1RE")
+ON_BLANK = "A on the blank tape alone"
+# Keeps what is copied.
+COPY = """
+window.copied = [];
+navigator.clipboard.writeText = async (text) => { window.copied.push(text); };
+navigator.clipboard.write = async ([item]) => {
+  const png = await item.getType("image/png");
+  window.copied.push(png.type + " " + (png.size > 100));
+};
+"""
+
+
+@pytest.mark.slow
+@pytest.mark.parametrize("machine", MACHINES)
+def test_facts_are_those_of_the_package(tab: Page, library: pathlib.Path, machine: str) -> None:
+    """Normal form, mirror image and later steps."""
+    verdict = budlarem.parse(tab.written("decide", {}, machine.encode()).decode().rstrip())
+    tab.open("#machine=" + machine)
+    tab.until(lambda: "\u2026" not in tab.text("facts"))
+    normal = tab.text("fact-normal")
+    assert (machine if "is in normal form" in normal else normal) == budlarem.normal(machine).normal
+    assert tab.text("fact-mirror") == machine.translate(SWAPPED)
+    try:
+        place = budlarem.at(verdict, 10**15)
+    except ValueError:
+        assert "head at" not in tab.text("fact-later")
+        return
+    position = "{:,}".format(place.position).replace("-", "\u2212")
+    assert tab.text("fact-later") == "state %s, head at %s." % (place.state, position)
+
+
+@pytest.mark.parametrize("machine", MACHINES)
+def test_growth(tab: Page, machine: str, steps: int = 5_000) -> None:
+    """How many cells are visited after a hundredth of the steps, a tenth and all; or with how many it ends."""
+    tab.open("#machine=%s&steps=%d" % (machine, steps))
+    tab.until(lambda: "\u2026" not in tab.text("facts"))
+    rows = trace(tab.program, machine, steps)
+    if len(rows) <= steps:
+        cells = len(rows[-1].cells)
+        assert tab.text("fact-growth") == "The run ends, with %d cell%s." % (cells, "s" * (cells > 1))
+        return
+    visited = [len(rows[steps // part].cells) for part in (100, 10, 1)]
+    power = math.log10(visited[2] / visited[0]) / 2
+    grows = "grow as a " + ("logarithm" if power < 0.2 else "root" if power < 0.8 else "line")
+    wanted = "They %s: %s after" % (
+        "stay" if visited[1] == visited[2] else grows,
+        ", ".join(map("{:,}".format, visited)),
+    )
+    assert tab.text("fact-growth").startswith(wanted)
+
+
+@pytest.mark.parametrize(
+    "machine, completions, starts",
+    [
+        (HALT, "no undefined entry", ON_BLANK),
+        (LONG, "However each --- is filled", ON_BLANK),
+        ("1RB---_1LA1RA", "Where only others are filled", ON_BLANK),
+        (TREE, "No machine that fills a --- of it halts", "it halts within 11 steps"),
+    ],
+)
+def test_what_a_verdict_says_of_others(tab: Page, machine: str, completions: str, starts: str) -> None:
+    """Of the machines that fill a `---`, and of every start."""
+    tab.open("#machine=" + machine)
+    tab.until(lambda: tab.text("fact-completions") not in ("", "\u2026"))
+    assert completions in tab.text("fact-completions")
+    assert starts in tab.text("fact-starts")
+    assert tab.get("elsewhere", "href") == "https://bbchallenge.org/" + machine
+
+
+def test_text_link_and_picture_are_copied(tab: Page) -> None:
+    tab.command("Browser.grantPermissions", permissions=["clipboardReadWrite"])
+    tab.js(COPY)
+    tab.open_list("1RA1RA\n")
+    tab.drawn()
+    for name in ("copy-text", "link", "copy-png"):
+        tab.click(name)
+    tab.until(lambda: len(tab.js("return window.copied")) == 3)
+    text, link, png = tab.js("return window.copied")
+    assert (text, png) == ("1RA1RA", "image/png true") and link.endswith("#machine=1RA1RA")
+
+
+def test_keys_and_buttons_open_other_rows(tab: Page) -> None:
+    """The next and the previous row, of any kind or an undecided one."""
+    mirrored = CHAMPION.translate(SWAPPED)
+    tab.plan({"steps": 100}, "auto", True)
+    tab.open_list("%s\n%s\n1RA1RA\n%s\n" % (HALT, CHAMPION, mirrored))
+    for key, machine in zip("nnpNP", (CHAMPION, "1RA1RA", CHAMPION, mirrored, CHAMPION)):
+        tab.press("rows", key)
+        assert tab.text("machine-text") == machine
+    tab.click("row-before")
+    assert tab.text("machine-text") == HALT
+    tab.click("open-next")
+    assert tab.text("machine-text") == CHAMPION
+
+
+def test_late_answers_are_dropped(tab: Page) -> None:
+    """What comes late of a line that was left isn't shown with the next one."""
+    tab.plan({"steps": 100}, "auto", True)
+    tab.open_list("1RA1RA\n%s\n%s\n" % (HALT, CHAMPION))
+    tab.js("for (let k = 0; k < 2; k += 1) document.getElementById('row-next').click()")
+    tab.until(lambda: tab.drawn() and "\u2026" not in tab.text("facts"))
+    time.sleep(0.5)
+    assert "Steps 0 to 100" in tab.text("diagram-text")
+    assert tab.text("behind") == ""
+    assert "doesn\u2019t say" in tab.text("fact-later")
+
+
+def test_kinds_are_saved_by_themselves(tab: Page) -> None:
+    tab.plan({"steps": 50}, "auto", True)
+    tab.open_list("%s\n%s\n" % (HALT, CHAMPION_OF_FOUR))
+    tab.click("kind-halt")
+    tab.click("save-shown")
+    assert tab.taken() == b"%s undecided steps\n" % CHAMPION_OF_FOUR.encode()

@@ -1,0 +1,142 @@
+"""The passes over a list: the first one of few steps, the second one by the limits, and rows decided again."""
+
+import re
+import time
+from typing import Callable, List
+
+import pytest
+from support.browser import ENDLESS, LONG, Page
+from support.machines import CHAMPION_OF_FOUR
+from support.program import as_lines
+
+HALT = "1RB1LB_1LA1RZ"
+# Backward reasoning decides these within 1,000 steps, and a longer run finds that they are translated.
+FOUND_LATER = "1RB0LD_0LA1RC_1RE0RB_1RE1LA_1LD0RC 1RB0LE_1LE0RD_0RB1RC_0LD0RC_0LA1LA".split()
+HALTS_LATE = "halts after 107 steps"
+
+
+def percent(tab: Page) -> int:
+    """How much of the list is done, as the page prints it."""
+    found = re.search(r", (\d+) % done", tab.text("status"))
+    return int(found[1]) if found else 0
+
+
+def test_first_pass_comes_before_long_machines(tab: Page) -> None:
+    """Machines that run long don't keep the others waiting: these are decided first. A stop saves what the
+    limits have settled, and names what it leaves out."""
+    tab.plan(ENDLESS, "decide")
+    tab.file(as_lines([LONG] * 32 + [HALT] * 6_368))
+    tab.until(lambda: percent(tab) == 99)
+    assert "6,368 decided, 0 undecided" in tab.text("status")
+    assert "32 left for the second pass" in tab.text("status")
+    assert tab.rows()[0][2] == "undecided steps first pass"
+    tab.click("stop")
+    assert "leave out 32 lines of the first pass" in tab.text("status")
+    assert tab.saved() == as_lines([HALT + " halt 6 4"] * 6_368)
+
+
+def test_long_machine_is_named_while_others_are_decided(tab: Page) -> None:
+    """What is decided is shown while another machine takes long, which is named; a stop keeps it."""
+
+    def decided() -> int:
+        found = re.search(r"([0-9,]+) decided", tab.text("status"))
+        return int(found[1].replace(",", "")) if found else 0
+
+    tab.plan(ENDLESS, "decide")
+    tab.file(as_lines([HALT] * 700 + [LONG] + [HALT] * 700))
+    tab.until(lambda: LONG in tab.text("under-way") and decided() >= 1_300)
+    before = tab.text("status")
+    assert re.search(r"s, \d+ % done\. ", before)
+    time.sleep(0.5)
+    assert tab.text("status") != before
+    tab.click("stop")
+    assert tab.state() == "stopped"
+    assert tab.saved().startswith(as_lines([HALT + " halt 6 4"] * 700))
+
+
+def test_second_pass_has_the_bytes_of_the_program(tab: Page) -> None:
+    """Also where a verdict isn't the first pass's."""
+    given = as_lines([*FOUND_LATER, CHAMPION_OF_FOUR, "no machine", "1RA1RA"] * 20)
+    first = tab.written("decide", {"steps": 1_000}, given)
+    assert first.count(b" backward ") > tab.same("decide", {}, given).count(b" backward ")
+    assert "second pass" not in tab.text("status") and "% done" not in tab.text("status")
+    assert "first pass" not in str(tab.rows())
+
+
+@pytest.mark.parametrize("every", [2_000, pytest.param(100, marks=pytest.mark.slow)])
+def test_two_passes_over_four_states(tab: Page, four_states: List[str], every: int) -> None:
+    tab.same("decide", {"steps": 20_000}, as_lines(four_states[::every]))
+    print("%d machines" % len(four_states[::every]))
+
+
+@pytest.mark.slow
+@pytest.mark.timing
+def test_four_states_are_decided_soon(tab: Page, four_states: List[str]) -> None:
+    """Of all machines of four states 99 % are decided, by the default limits, in less time than the program
+    takes for all of them."""
+    given = as_lines(four_states)
+
+    def timed(what: Callable[[], object]) -> float:
+        begun = time.monotonic()
+        what()
+        return time.monotonic() - begun
+
+    tab.plan({}, "decide")
+    tab.file(given)
+    page = timed(lambda: tab.until(lambda: percent(tab) == 99))
+    tab.click("stop")
+    program = timed(lambda: tab.written("decide", {}, given))
+    print("99 %% of four states after %.1f s; the program takes %.1f s for all" % (page, program))
+    assert page < program
+
+
+def test_claims_that_are_not_confirmed_are_counted(tab: Page) -> None:
+    """A claim that is refuted, or that these limits can't tell, isn't counted as decided."""
+    tab.plan({"steps": 50}, "check")
+    claims = [HALT + " halt 6 4", HALT + " halt 7 4", CHAMPION_OF_FOUR + " halt 107 13"]
+    tab.open_list(as_lines(claims).decode())
+    assert "1 decided, 0 undecided, 0 refused" in tab.text("status")
+    assert "2 not confirmed" in tab.text("status") and "1 bad, 1 over" in tab.text("status")
+
+
+def test_machine_decided_again_comes_into_its_row(tab: Page) -> None:
+    """It is marked there, and comes into what is saved."""
+    tab.plan({"steps": 50}, "auto", True)
+    tab.open_list("%s\n%s\n" % (HALT, CHAMPION_OF_FOUR))
+    tab.press("rows", "n")
+    tab.click("again")
+    tab.until(lambda: HALTS_LATE in tab.text("machine-says"))
+    assert "halt 107 13. Its row has it, marked" in tab.text("again-text")
+    assert tab.rows()[1][2:] == ["halt 107 13 again, 500 steps", "ok"]
+    status = tab.text("status")
+    assert "2 decided, 0 undecided" in status and "1 decided again with larger limits" in status
+    assert tab.saved().endswith(b"\n%s halt 107 13\n" % CHAMPION_OF_FOUR.encode())
+    tab.click("link")
+    assert "steps=500&cells=262144" in tab.js("return location.hash")
+
+
+def test_undecided_machines_are_decided_again(tab: Page) -> None:
+    """They come into their rows, with larger limits each time; the list, its limits and the open line stay."""
+    tab.plan({"steps": 5}, "auto", True)
+    text = "%s\n%s\n# a comment\n1RA1RA\n" % (HALT, CHAMPION_OF_FOUR)
+    tab.open_list(text)
+    for steps, verdict in ((50, "undecided steps"), (500, "halt 107 13")):
+        tab.await_answer(lambda: tab.click("left"))
+        rows = tab.rows()
+        assert [row[0] for row in rows] == ["1", "2", "4"]
+        assert rows[1][2] == "%s again, %d steps" % (verdict, steps)
+    assert rows[2][2].startswith("translated R") and rows[0][2] == "halt 6 4 again, 50 steps"
+    assert (tab.get("list", "value"), tab.get("steps", "value")) == (text, "5")
+    assert "6 steps" in tab.text("machine-says")
+    assert tab.saved().endswith(b"halt 107 13\n1RA1RA translated R 1 2 1 1\n")
+    assert tab.get("left", "hidden")
+
+
+def test_claim_stays(tab: Page) -> None:
+    """Also where its machine is decided again."""
+    tab.plan({"steps": 50}, "check")
+    tab.open_list("%s undecided steps\n" % CHAMPION_OF_FOUR)
+    tab.click("again")
+    tab.until(lambda: HALTS_LATE in tab.text("machine-says"))
+    assert tab.rows()[0][2] == "undecided steps"
+    assert tab.saved() == b"open\n"

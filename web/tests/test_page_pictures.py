@@ -1,0 +1,398 @@
+"""Diagrams of the page: their pixels, scaling, zooming, what is pointed at, and the tape below."""
+
+import base64
+import json
+import pathlib
+import random
+import re
+import subprocess
+import time
+from typing import Any, Dict, List, Tuple
+
+import pytest
+from support import TOP
+from support.browser import HEAD, Page, Row, signed, soon, trace
+from support.gestures import Keys
+from support.machines import CHAMPION, CHAMPION_OF_FOUR, seldom_halting
+from support.node import Engine
+from support.page_times import PAUSE, end, steps_seen, traced_views, views
+from support.program import ended
+
+TRANSLATED = "1LB0LA_1RA---"
+# The champion of four states, which goes to the right for ever in place of its halt.
+LATE = "1RB1LB_1LA0LC_1RE1LD_1RD0RA_1RE1RE"
+TREE = "1RB1LB_1LA0RC_0LD1RC_---1LA"
+# A machine of four symbols, which halts after 3,932,964 steps.
+FOUR_SYMBOLS = "1RB2LA1RA1RA_1LB1LA3RB1RZ"
+# A machine without a verdict that visits more cells than it may.
+FEW_CELLS = "&steps=1000&cells=8&depth=2&cyclers=off&translated=off&backward=off"
+POINT = """
+const canvas = document.getElementById("diagram");
+const box = canvas.getBoundingClientRect();
+canvas.dispatchEvent(new PointerEvent("pointermove",
+  { clientX: box.x + arguments[0], clientY: box.y + arguments[1], bubbles: true }));
+"""
+TURN = """
+const canvas = document.getElementById("diagram");
+const box = canvas.getBoundingClientRect();
+canvas.dispatchEvent(new WheelEvent("wheel",
+  { deltaY: -200, clientX: box.x + 300, clientY: box.y + 200, bubbles: true, cancelable: true }));
+"""
+# The colours of the pixels at the left of the picture.
+AXES = """
+const pen = document.getElementById("diagram").getContext("2d");
+const data = pen.getImageData(0, 22, 76, 300).data;
+return new Set(Array.from({ length: data.length / 4 }, (_, k) => data.slice(4 * k, 4 * k + 3).join())).size;
+"""
+CELLS = """
+return [...document.querySelectorAll("#tape-cells .cell")].filter((one) => !one.querySelector(".blank"))
+  .map((one) => [Number(one.dataset.at), one.querySelector(".symbol").textContent]);
+"""
+
+
+def questions(source: random.Random) -> List[Dict[str, int]]:
+    """Rows that are asked for one after another, some of which are among those before."""
+    every = source.choice([1, 2, 3, 4])
+    begin = every * source.randrange(50)
+    found = [{"from": begin, "every": every, "upto": begin + 600 * every}]
+    for _ in range(5):
+        times, skipped = source.randint(1, 5), source.randrange(40)
+        first = begin + every * skipped
+        upto = source.choice([first + every * source.randrange(200), begin + 600 * every])
+        found.append({"from": first, "every": every * times, "upto": upto})
+    return found
+
+
+@pytest.mark.needs("node")
+@pytest.mark.parametrize("count", [20, pytest.param(200, marks=pytest.mark.slow)])
+def test_kept_rows_are_those_of_the_program(bb: str, module: object, rng: random.Random, count: int) -> None:
+    """Also those that are picked out of others."""
+    machines = [seldom_halting(rng, rng.randint(2, 5), rng.randint(2, 10)) for _ in range(count)]
+    asked = [(machine, questions(rng)) for machine in [CHAMPION, CHAMPION_OF_FOUR, LATE, TREE, *machines]]
+    given = "".join(json.dumps({"machine": one, "cells": 512, "asked": rows}) + "\n" for one, rows in asked)
+    command = ["node", str(TOP / "web/tests/kept_rows.mjs"), str(module)]
+    replies = [json.loads(line) for line in ended(command, given.encode()).output.splitlines()]
+    assert len(replies) == len(asked)
+    for (machine, rows), reply in zip(asked, replies):
+        run = {row.step: row for row in trace(bb, machine, 5_000, 512)}
+        for one, found in zip(rows, reply["lines"]):
+            steps = range(one["from"], one["upto"] + 1, one["every"])
+            wanted = ["%d %s %d %d %s" % run[step] for step in steps if step in run]
+            assert found == wanted, (machine, one)
+    known = sum(reply["known"] for reply in replies)
+    print("%d machines; %d questions needed no trace" % (len(asked), known))
+    assert known > 2 * len(asked)
+
+
+@pytest.mark.parametrize(
+    "machine, upto, limits",
+    [
+        (CHAMPION_OF_FOUR, 107, ""),
+        ("1RB1LB_1LA1RZ", 6, ""),
+        # It halts after 38 steps: before, nothing is marked over the cells.
+        ("1RB2LB1RZ_2LA2RB1LB", 30, "&steps=30"),
+    ],
+)
+def test_cells_have_their_colours(tab: Page, machine: str, upto: int, limits: str) -> None:
+    """Each cell of a diagram has its symbol's colour, or the head's."""
+    tab.open("#machine=%s%s" % (machine, limits))
+    view, colours = tab.drawn(), tab.palette()
+    wide, high, left = view["wide"], view["high"], view["left"]
+    is_framed = wide >= 6 and high >= 6
+    places, wanted = [], []
+    # Of small cells those above a halt's mark are behind its halo.
+    hidden = upto - 1 if high <= 3 else -1
+    for row in trace(tab.program, machine, upto):
+        for at, symbol in enumerate("" if row.step == hidden else row.cells, row.low):
+            x, y = (at - left) * wide, (row.step - view["top"]) // view["every"] * high
+            is_head = at == row.head
+            places.append([x + 1, y + high / 2] if is_head and is_framed else [x + wide / 4, y + high * 0.1])
+            wanted.append(colours[HEAD if is_head else int(symbol)])
+    assert tab.pixels(places) == wanted
+
+
+@pytest.fixture
+def sampled(module: object, tmp_path: pathlib.Path) -> Any:
+    """A function that gives a step of a machine, by the engine's trace of that step alone."""
+    engine = Engine(tmp_path)
+
+    def row(machine: str, step: int) -> Row:
+        reply = engine.call("trace", {"steps": step, "from": step, "every": 1}, machine.encode())
+        _, state, head, low, cells = reply.reply.decode().split()
+        return Row(step, state, int(head), int(low), cells)
+
+    yield row
+    engine.end()
+
+
+def require_means(tab: Page, source: random.Random, row: Row) -> None:
+    """In a view of a whole run the pixels of a row have the mean colours of its cells."""
+    view, colours = tab.drawn(), tab.palette()
+    across = int(view["across"])
+    columns = [source.randrange(1, tab.size()[0] - int(view["x"]) - 40) for _ in range(40)]
+    for x, pixel in zip(columns, tab.pixels([[x + 20, row.step / view["every"]] for x in columns])):
+        begin = int(view["left"]) + across * (x + 20)
+        cells = [colours[row.symbol(at)] for at in range(begin, begin + across)]
+        means = [sum(part) / across for part in zip(*cells)]
+        assert all(abs(a - b) <= 1 for a, b in zip(pixel, means)), (row.step, x)
+
+
+def test_means_of_four_symbols(tab: Page, sampled: Any, rng: random.Random) -> None:
+    tab.open("#machine=%s&steps=3000000" % FOUR_SYMBOLS)
+    view = tab.drawn()
+    assert view["across"] > 1
+    for number in (60, 200, 400):
+        require_means(tab, rng, sampled(FOUR_SYMBOLS, number * int(view["every"])))
+
+
+@pytest.mark.slow
+def test_whole_run_of_the_champion(tab: Page, sampled: Any, rng: random.Random) -> None:
+    """It is seen whole: a pixel has the mean colour of its cells."""
+    tab.open("#machine=%s&steps=50000000" % CHAMPION)
+    view, shown = tab.drawn(), tab.text("diagram-text")
+    every = int(view["every"])
+    assert "mean colour of %d cells" % view["across"] in shown and "all of 12,289 cells visited" in shown
+    last = int(re.sub(r"\D", "", shown.split(" to ")[1].split(" every")[0]))
+    assert last <= 47_176_870 < last + every and view["top"] == 0
+    # The last row has a mark.
+    for number in rng.sample(range(50, last // every - 6), 6):
+        require_means(tab, rng, sampled(CHAMPION, number * every))
+
+
+def test_resized_window_shows_the_whole(tab: Page) -> None:
+    """A window of another width, as of a phone that is turned; a view that someone chose stays."""
+    tab.open("#machine=%s&steps=200" % CHAMPION_OF_FOUR)
+
+    def resize(width: int) -> Dict[str, float]:
+        before = tab.size()[0]
+        metrics = {"width": width, "height": 900, "deviceScaleFactor": 1, "mobile": False}
+        tab.command("Emulation.setDeviceMetricsOverride", **metrics)
+        tab.until(lambda: tab.size()[0] != before)
+        time.sleep(0.2)
+        return tab.drawn()
+
+    tab.drawn()
+    for width in (390, 1280):
+        resize(width)
+        assert "all of 14 cells visited" in tab.text("diagram-text")
+    tab.press("diagram", "+")
+    chosen = tab.drawn()
+    assert resize(1000)["high"] == chosen["high"]
+    tab.command("Emulation.clearDeviceMetricsOverride")
+
+
+@pytest.mark.slow
+def test_zoom_to_single_cells_and_back(tab: Page) -> None:
+    """From a glance at 10^7 steps to 100 steps in a few gestures, at the head; and back to the whole."""
+    tab.open("#machine=%s&steps=10000000" % CHAMPION)
+    whole, gestures = tab.drawn(), 0
+    assert steps_seen(tab) >= 10**7
+    tab.click("fit")
+    while steps_seen(tab) > 100 and gestures < 20:
+        tab.press("diagram", "+")
+        gestures += 1
+    assert gestures <= 9
+    near = tab.drawn()
+    assert near["high"] >= 6 and near["wide"] == near["high"]
+    head = trace(tab.program, CHAMPION, int(near["top"]) + 3)[-1].head
+    assert 0 <= (head - near["left"]) * near["wide"] < 900
+    for _ in range(gestures):
+        tab.press("diagram", "-")
+    assert steps_seen(tab) >= 0.9 * 10**7
+    tab.press("diagram", "0")
+    assert tab.drawn() == whole
+
+
+@pytest.mark.slow
+@pytest.mark.timing
+def test_views_are_drawn_soon(tab: Page) -> None:
+    """Views are drawn sooner, most of them from rows that are kept, than those of which none are; and the
+    page stands still for less."""
+    taken, traced = views(tab, PAUSE), traced_views(tab, PAUSE)
+    assert len(taken) > 6 and steps_seen(tab) < 10**7
+    last = end(tab)
+    assert tab.text("tape-text").startswith("Step 47,176,860:")
+    longest = tab.js("return window.longest") / 1_000
+    print("views up to step 10^7: %.3f s at most" % max(taken))
+    print("traced anew: %.3f s at most; the champion's last steps: %.3f s" % (max(traced), last))
+    print("the page stood still for %.3f s" % longest)
+    assert sorted(taken)[len(taken) // 2] <= max(traced) and longest < last
+
+
+def test_wheel_zooms_at_the_pointer(tab: Page) -> None:
+    """After a click: the step under it stays there."""
+    tab.open("#machine=%s&steps=10000000" % CHAMPION)
+    before = tab.drawn()
+    tab.js(TURN)
+    assert tab.drawn() == before
+    step = before["top"] + int(200 - before["y"]) // before["high"] * before["every"]
+    tab.js("document.getElementById('diagram').focus()")
+    tab.js(TURN)
+    tab.until(lambda: tab.drawn() != before)
+    after = tab.drawn()
+    assert after["every"] < before["every"]
+    y = (step - after["top"]) / after["every"] * after["high"] + after["y"]
+    assert abs(y - 200) <= 2 + after["high"]
+
+
+@pytest.mark.slow
+def test_going_to_a_step(tab: Page, sampled: Any) -> None:
+    """It shows its cells and its tape; a step beyond the last one is the last one."""
+    tab.open("#machine=%s&steps=50000000" % CHAMPION)
+    tab.drawn()
+    tab.go_to("47,176,860")
+    tab.until(lambda: "47,176,860" in tab.text("tape-text"))
+    tab.until(lambda: tab.drawn()["every"] == 1)
+    view, row = tab.drawn(), sampled(CHAMPION, 47_176_860)
+    assert view["top"] <= 47_176_860 <= view["top"] + 400 / view["high"]
+    assert tab.text("tape-text").startswith(tape_words(row))
+    tab.press("tape", Keys.END)
+    assert tab.tape_is_at("47,176,870: halted")
+    tab.go_to("many")
+    assert "whole number" in tab.text("tape-refused")
+
+
+def tape_words(row: Row) -> str:
+    """What the page says of a step, as far as where the head is."""
+    symbol = row.read(row.head)
+    return "Step {:,}: state {} reads {} at position {}".format(row.step, row.state, symbol, signed(row.head))
+
+
+def require_tape(tab: Page, row: Row) -> None:
+    """The tape shows a row: its cells, what is said of it, and the entry that is used next."""
+    symbol = row.read(row.head)
+    entry = CHAMPION_OF_FOUR.split("_")[ord(row.state) - ord("A")][3 * symbol : 3 * symbol + 3]
+    assert tab.text("tape-text").startswith("%s; %s:" % (tape_words(row), entry))
+    assert all(row.read(at) == int(shown) for at, shown in tab.js(CELLS))
+    used = tab.js("return document.querySelector('#machine-table td.used')?.dataset.entry")
+    assert used == "%s%d" % (row.state, symbol)
+
+
+@pytest.mark.slow
+def test_tape_goes_step_by_step(tab: Page) -> None:
+    """On and back, by buttons and keys; it plays, or steps where that is wanted."""
+    tab.open("#machine=%s" % CHAMPION_OF_FOUR)
+    tab.drawn()
+    for row in trace(tab.program, CHAMPION_OF_FOUR, 107)[:60]:
+        assert tab.tape_is_at("%d:" % row.step)
+        require_tape(tab, row)
+        tab.click("tape-on") if row.step % 2 else tab.press("tape", Keys.ARROW_RIGHT)
+    tab.click("tape-back")
+    assert tab.tape_is_at("59:")
+    tab.press("tape", Keys.ARROW_LEFT, Keys.HOME)
+    assert tab.tape_is_at("0:")
+    tab.click("tape-play")
+    assert tab.text("tape-play") == "Pause"
+    tab.until(lambda: int(tab.text("tape-text").split(":")[0].split()[1]) >= 2)
+    tab.click("tape-play")
+    assert tab.text("tape-play") == "Play"
+    before = tab.text("tape-text")
+    tab.media(prefers_reduced_motion="reduce")
+    tab.until(lambda: tab.text("tape-play") == "Step")
+    tab.click("tape-play")
+    tab.until(lambda: tab.text("tape-text") != before)
+    after = tab.text("tape-text")
+    time.sleep(0.6)
+    assert tab.text("tape-text") == after
+    tab.media()
+
+
+@pytest.mark.parametrize("keys", [[Keys.END], [Keys.HOME, *[Keys.ARROW_RIGHT] * 7], [Keys.HOME, Keys.END]])
+def test_tape_ends_where_the_cells_do(tab: Page, keys: List[str]) -> None:
+    """The tape plays no farther than the limit of cells lets a run go."""
+    tab.open("#machine=1RA1RA" + FEW_CELLS)
+    tab.drawn()
+    assert "the limit of cells ends the trace" in tab.text("diagram-text")
+    tab.press("tape", *keys)
+    assert tab.tape_is_at("7:") and soon(lambda: tab.get("tape-on", "disabled"))
+    tab.press("tape", Keys.SPACE)
+    assert soon(lambda: tab.text("tape-play") == "Play", 1.5)
+    assert tab.get("tape-play", "disabled") and tab.tape_is_at("7:")
+
+
+@pytest.mark.slow
+def test_tape_plays_once_its_row_is_there(tab: Page) -> None:
+    """Also where it is to play from a step whose row takes long."""
+    tab.open("#machine=%s&steps=50000000" % CHAMPION)
+    tab.drawn()
+    assert tab.tape_is_at("0:")
+    tab.put("tape-step", "value", "47000000")
+    script = (
+        "document.getElementById('tape-form').requestSubmit(); document.getElementById('tape-play').click();"
+    )
+    shown, play = tab.js(
+        script + "return ['tape-text', 'tape-play'].map((id) => document.getElementById(id).textContent)"
+    )
+    assert shown.startswith("Step 0:") and play == "Pause"
+    assert tab.tape_is_at("47,000,003:")
+    tab.click("tape-play")
+    assert tab.text("tape-play") == "Play"
+
+
+def test_place_under_the_pointer(tab: Page) -> None:
+    """What is shown there, and of what keys point at: step, state, position, symbol."""
+    tab.open("#machine=%s" % CHAMPION_OF_FOUR)
+    view = tab.drawn()
+    for row in trace(tab.program, CHAMPION_OF_FOUR, 107)[::7]:
+        for at in range(row.low, row.low + len(row.cells)):
+            x = view["x"] + (at - view["left"] + 0.5) * view["wide"]
+            y = view["y"] + (row.step - view["top"] + 0.5) * view["high"]
+            tab.js(POINT, x + 1, y + 1)
+            assert tab.text("place-text") == row.place_words(at)
+    tab.press("diagram", "0", *["+"] * 3, Keys.ARROW_DOWN, Keys.ARROW_DOWN, Keys.ARROW_RIGHT)
+    tab.drawn()
+    assert "Step 2, state" in tab.text("place-text")
+    tab.press("diagram", Keys.ENTER)
+    assert tab.tape_is_at("2:")
+    assert tab.js(AXES) > 1
+
+
+def test_stretch_of_a_translated_cycler(tab: Page) -> None:
+    """It is outlined where its line says."""
+    line = tab.written("decide", {}, TRANSLATED.encode()).decode().split()
+    first, second, _, length = map(int, line[3:])
+    tab.open("#machine=%s" % TRANSLATED)
+    view, mark = tab.drawn(), tab.colour("--mark")
+    tab.until(lambda: tab.js("return document.querySelectorAll('#behind .same').length") == 2 * length)
+    tab.until(lambda: "show it" in tab.text("behind"))
+    rows = trace(tab.program, TRANSLATED, second)
+    for step in (first, second):
+        x = (rows[step].head - view["left"]) * view["wide"]
+        y = (step - view["top"]) // view["every"] * view["high"]
+        above = tab.pixels([[x + view["wide"] * (k + 0.3), y - 1] for k in range(length)])
+        assert all(one == mark for one in above)
+
+
+@pytest.mark.slow
+def test_late_marks_are_in_view(tab: Page) -> None:
+    """Records that agree late are in view when the verdict opens, apart from each other; the whole is a key
+    away."""
+    line = tab.written("decide", {}, LATE.encode()).decode().split()
+    first, second = int(line[3]), int(line[4])
+    assert second - first < second / 40
+    tab.open("#machine=%s" % LATE)
+    view = tab.drawn()
+    places = [(step - view["top"]) / view["every"] * view["high"] for step in (first, second)]
+    assert all(0 <= y < tab.size()[1] - view["y"] for y in places) and places[1] - places[0] >= 8
+    tab.click("fit")
+    tab.until(lambda: tab.drawn()["top"] == 0)
+    tab.click("marked")
+    tab.until(lambda: tab.drawn() == view)
+
+
+def test_levels_of_a_tree(tab: Page) -> None:
+    """They and the nodes are those of the line, and the page says nothing of a difference."""
+    tab.open("#machine=%s" % TREE)
+    levels, nodes = tab.written("decide", {}, TREE.encode()).decode().split()[2:]
+    script = "return [...document.querySelectorAll('.level')].map((one) => Number(one.dataset.count))"
+    counts = tab.js(script)
+    assert (len(counts), sum(counts)) == (int(levels), int(nodes))
+    assert tab.js("return document.querySelector('#behind .error') === null")
+
+
+def test_picture_and_sentence_of_a_halt(tab: Page) -> None:
+    tab.open("#machine=1RB1LB_1LA1RZ")
+    tab.drawn()
+    tab.until(lambda: "The row above shows it." in tab.text("behind"))
+    png = tab.js("return document.getElementById('diagram').toDataURL('image/png')").split(",")[1]
+    assert base64.b64decode(png).startswith(b"\x89PNG")

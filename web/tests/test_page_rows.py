@@ -1,0 +1,85 @@
+"""The lines of a list in the page: which one is open, chosen and highlighted, also while more come, in
+another order, and where kinds are hidden."""
+
+import time
+from typing import List
+
+from support.browser import LONG, Page, soon
+from support.machines import CHAMPION, CHAMPION_OF_FOUR
+
+HALT = "1RB1LB_1LA1RZ"
+CHOSEN = "return [...document.querySelectorAll('#shown [aria-selected=true]')].map((row) => row.children[1].textContent)"
+LINES = [HALT, "1RA1RA", LONG, "1LB0LA_1RA---", CHAMPION_OF_FOUR]
+ORDERS = """
+const order = document.getElementById("order");
+for (const value of arguments[0]) {
+  order.value = value;
+  order.dispatchEvent(new Event("change"));
+}
+"""
+
+
+def machines(tab: Page) -> List[str]:
+    return [row[1] for row in tab.rows()]
+
+
+def is_marked(tab: Page, machine: str) -> bool:
+    """Whether this machine is open, and its line alone is highlighted."""
+    return bool(tab.text("machine-text") == machine and tab.js(CHOSEN) == [machine])
+
+
+def test_first_line_is_opened(tab: Page) -> None:
+    """The first line of each list is opened, also where lines of later pieces come before it."""
+    for machine in ("1RA1RA", LONG):
+        tab.open_list("%s\n1RB1LB_1LA1RZ\n" % machine)
+        assert is_marked(tab, machine)
+    tab.plan({"steps": 50_000_000}, "decide")
+    tab.open_list("%s\n%s" % (CHAMPION, "%s\n" % HALT * 400))
+    assert is_marked(tab, CHAMPION)
+
+
+def test_chosen_line_stays(tab: Page) -> None:
+    """The line that is open stays highlighted in another order; from a hidden one `p` goes on."""
+    tab.open_list("\n".join(LINES) + "\n")
+    tab.open_row(1)
+    tab.js(ORDERS, ["down"])
+    assert soon(lambda: machines(tab) != LINES)
+    assert is_marked(tab, LINES[1])
+    tab.js(ORDERS, ["list"])
+    assert machines(tab) == LINES and is_marked(tab, LINES[1])
+    tab.open_row(4)
+    tab.click("kind-halt")
+    assert tab.js(CHOSEN) == []
+    tab.press("rows", "p")
+    assert is_marked(tab, LINES[3])
+
+
+def test_buttons_of_kinds_stay(tab: Page) -> None:
+    """So a click or the focus isn't lost."""
+    tab.js("window.chip = document.getElementById('kind-halt')")
+    tab.open_list("%s\n%s\n" % (HALT, HALT))
+    assert tab.js("return window.chip === document.getElementById('kind-halt')")
+    assert tab.text("kind-halt") == "halt 2"
+
+
+def test_last_order_counts(tab: Page) -> None:
+    """Of two orders that are chosen at once the second one is shown."""
+    tab.open_list("\n".join(LINES) + "\n")
+    tab.js(ORDERS, ["down", "list"])
+    time.sleep(1)
+    assert machines(tab) == LINES
+
+
+def test_sorted_list_opens_its_first_line(tab: Page) -> None:
+    """Where an order by steps is chosen, the first line of a list is opened and highlighted all the same."""
+    tab.js(ORDERS, ["down"])
+    tab.open_list("1RA1RA\n%s\n" % HALT)
+    assert soon(lambda: machines(tab) == [HALT, "1RA1RA"] and is_marked(tab, "1RA1RA"))
+
+
+def test_list_of_comments_shows_no_machine(tab: Page) -> None:
+    tab.open_list("1RA1RA\n")
+    tab.open_list("# nothing\n")
+    assert soon(lambda: tab.get("machine", "hidden"))
+    tab.open_list("1RA1RA\n")
+    assert not tab.get("machine", "hidden")

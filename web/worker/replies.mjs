@@ -1,0 +1,119 @@
+/**
+ * What a reply says, line by line, read from its bytes: no text is made of them.
+ *
+ * @typedef {{starts: Uint32Array, kinds: Uint8Array}} Lines where each line begins and the last one ends, and
+ *   the number of its kind
+ */
+import { ANSWERS, KINDS } from "../reader/machine.mjs";
+
+const NEWLINE = 10;
+const SPACE = 32;
+const ZERO = 48;
+const NINE = 57;
+const LETTER_R = 114;
+const REFUSED = KINDS.indexOf("refused");
+// The kind by its first letter and the answer by its second one; no two have the same.
+for (const letters of [KINDS.map((word) => word[0]), ANSWERS.map((word) => word[1])]) {
+  if (new Set(letters).size < letters.length) {
+    throw new Error("two kinds or answers can't be known by their letters");
+  }
+}
+const KIND_BY_LETTER = new Uint8Array(256).fill(REFUSED);
+KINDS.forEach((word, kind) => (KIND_BY_LETTER[word.charCodeAt(0)] = kind));
+const ANSWER_BY_LETTER = new Uint8Array(256);
+ANSWERS.forEach((word, answer) => (ANSWER_BY_LETTER[word.charCodeAt(1)] = answer));
+const ANSWER_LENGTHS = Uint8Array.from(ANSWERS, (word) => word.length + 1);
+// How many spaces stand between a kind's first letter and the number of the steps that it names; 0 where it
+// names none.
+const SPACES = Uint8Array.from(KINDS, (kind) => ({ halt: 1, cycler: 2, translated: 3 })[String(kind)] ?? 0);
+
+let scratch = new Uint32Array(0);
+
+/** Where each line begins and the last one ends, in a list that the next call overwrites. */
+export function startsOf(/** @type {Uint8Array} */ bytes) {
+  const { length } = bytes;
+  scratch = scratch.length > length + 1 ? scratch : new Uint32Array(2 * length + 2);
+  let lines = 0;
+  for (let end = bytes.indexOf(NEWLINE); end >= 0; end = bytes.indexOf(NEWLINE, end + 1)) {
+    lines += 1;
+    scratch[lines] = end + 1;
+  }
+  if (scratch[lines] < length) {
+    lines += 1;
+    scratch[lines] = length;
+  }
+  return scratch.subarray(0, lines + 1);
+}
+
+/** Where the first space or newline stands from there on; the end where there is none. */
+function wordEnd(/** @type {Uint8Array} */ bytes, /** @type {number} */ from) {
+  const length = bytes.length;
+  let at = from;
+  while (at < length && (bytes[at] > SPACE || (bytes[at] !== SPACE && bytes[at] !== NEWLINE))) {
+    at += 1;
+  }
+  return at;
+}
+
+/** The place behind so many further spaces of a line, or its end where it has fewer. */
+function behind(/** @type {Uint8Array} */ bytes, /** @type {number} */ from, /** @type {number} */ spaces) {
+  let at = from;
+  for (let left = spaces; left > 0 && bytes[at] !== NEWLINE; left -= 1) {
+    at = wordEnd(bytes, at);
+    at += bytes[at] === SPACE ? 1 : 0;
+  }
+  return at;
+}
+
+/** The number that stands there, or -1. */
+export function numberAt(/** @type {Uint8Array} */ bytes, /** @type {number} */ from) {
+  let at = from;
+  let value = 0;
+  for (; at < bytes.length && bytes[at] >= ZERO && bytes[at] <= NINE; at += 1) {
+    value = 10 * value + bytes[at] - ZERO;
+  }
+  return at === from ? -1 : value;
+}
+
+/** @returns {Lines} what is said in verdict lines; those that are none have any kind. */
+export function readLines(/** @type {Uint8Array} */ bytes) {
+  const starts = startsOf(bytes).slice();
+  const kinds = new Uint8Array(starts.length - 1).fill(REFUSED);
+  for (let k = 0; k < kinds.length; k += 1) {
+    if (bytes[starts[k]] !== LETTER_R) {
+      kinds[k] = KIND_BY_LETTER[bytes[wordEnd(bytes, starts[k]) + 1]] ?? REFUSED;
+    }
+  }
+  return { starts, kinds };
+}
+
+/** The steps that verdict lines name, -1 for none. */
+export function stepsIn(/** @type {Uint8Array} */ bytes, /** @type {Lines} */ { starts, kinds }) {
+  const steps = new Float64Array(kinds.length).fill(-1);
+  for (let k = 0; k < kinds.length; k += 1) {
+    if (SPACES[kinds[k]] > 0) {
+      steps[k] = numberAt(bytes, behind(bytes, starts[k], 1 + SPACES[kinds[k]]));
+    }
+  }
+  return steps;
+}
+
+/** The numbers of the answers of a reply to `check`. */
+export function readAnswers(/** @type {Uint8Array} */ bytes, /** @type {number} */ count) {
+  const answers = new Uint8Array(count);
+  let at = 0;
+  for (let k = 0; k < count; k += 1) {
+    answers[k] = ANSWER_BY_LETTER[bytes[at + 1]];
+    at += ANSWER_LENGTHS[answers[k]];
+  }
+  return answers;
+}
+
+/** How often each number below `most` stands there. */
+export function tallied(/** @type {Uint8Array} */ numbers, /** @type {number} */ most) {
+  const counts = new Array(most).fill(0);
+  for (let k = 0; k < numbers.length; k += 1) {
+    counts[numbers[k]] += 1;
+  }
+  return counts;
+}

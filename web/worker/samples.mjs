@@ -1,0 +1,188 @@
+/**
+ * Rows of a machine's run, by the engine's trace. A trace begins at step 0 each time, so rows are kept, and
+ * those of closer, neighbouring and farther views are taken ahead: most views need no trace then.
+ *
+ * @typedef {import("../lib/bb.mjs").Engine} Engine
+ * @typedef {import("./sample.mjs").Sample} Sample
+ * @typedef {{machine: string, cells: number, from: number, every: number, upto: number}} Asked the rows of
+ *   the steps `from`, `from + every` and so on up to `upto`
+ * @typedef {Asked & {space: number}} Ahead with how many bytes they have at most
+ * @typedef {{asked: Asked, sample: Sample, cut: boolean}} Kept rows, and whether the cells cut the trace;
+ *   `upto` has no end where the run ended
+ * @typedef {{upto: number, step: number, state: string, low: number, wide: number, cut: boolean}} Last the
+ *   last row up to a step, and whether the cells cut the run there
+ * @typedef {{closer: number, farther: number, beyond: number, most: number}} Next views that may come: how
+ *   many steps apart the rows of a closer and of a farther one are, how many steps above and below this view
+ *   the farther one may have, and the last step of any
+ */
+import { machineOf } from "../reader/machine.mjs";
+import { readTrace, rowsOf } from "./sample.mjs";
+
+// Bytes of a trace's line beside its cells, at most.
+const LINE_ROOM = 64;
+// A trace with more bytes is taken with fewer rows.
+const MOST_BYTES = 100_000_000;
+// A trace that is taken ahead has no more bytes.
+const MOST_AHEAD = 24_000_000;
+// All rows that are kept have no more bytes; their cells are packed.
+const MOST_KEPT = 40_000_000;
+// Below so many steps of a row all steps are taken for closer views, if that isn't too much.
+const ALL_STEPS = 32;
+// A run's last step is looked for among so many rows, then among as many about the last of these.
+const PARTS = 64;
+
+export class Run {
+  constructor(/** @type {string} */ machine, /** @type {number} */ cells) {
+    this.machine = machine;
+    this.cells = cells;
+    this.symbols = machineOf(machine).symbols;
+    /** @type {Kept[]} rows that are kept, those that were used last first */
+    this.kept = [];
+    /** @type {Last[]} */
+    this.lasts = [];
+  }
+
+  /** The last row up to a step: that of the step, or the one at which the run or its cells end. */
+  last(/** @type {Engine} */ engine, /** @type {number} */ upto) {
+    const known = this.lasts.find((one) => one.upto === upto);
+    const found = known ?? this.lastAt(engine, upto) ?? this.lastBefore(engine, upto);
+    known ?? this.lasts.push(found);
+    return found;
+  }
+
+  /** The row of a step; null where the run ends before. */
+  lastAt(/** @type {Engine} */ engine, /** @type {number} */ upto) {
+    const { machine, cells } = this;
+    return lastOf(this.trace(engine, { machine, cells, from: upto, every: 1, upto }), upto);
+  }
+
+  /** The last row of a run that ends before a step, between ever closer ones. */
+  lastBefore(/** @type {Engine} */ engine, /** @type {number} */ upto) {
+    const { machine, cells } = this;
+    let [from, every] = [0, upto];
+    /** @type {Last} */
+    let found;
+    do {
+      every = Math.ceil(every / PARTS);
+      found = /** @type {Last} */ (lastOf(this.trace(engine, { machine, cells, from, every, upto }), upto));
+      from = found.step;
+    } while (every > 1);
+    return found;
+  }
+
+  /** How many cells a row up to a step has at most, by the rows that are known. */
+  widest(/** @type {number} */ step) {
+    const ofKept = this.kept.flatMap(({ sample: { steps, wide } }) => {
+      return wide[steps.findIndex((one) => one >= step)] ?? [];
+    });
+    const ofLast = this.lasts.filter((one) => one.step >= step || one.step < one.upto).map(({ wide }) => wide);
+    return Math.min(step + 1, this.cells, ...ofKept, ...ofLast);
+  }
+
+  /** How many bytes a trace of these rows has at most. */
+  bytesOf(/** @type {Asked} */ { from, every, upto }) {
+    const count = Math.floor((upto - from) / every) + 1;
+    const together = Math.max(1, Math.ceil(count / PARTS));
+    let total = LINE_ROOM;
+    for (let first = 0; first < count; first += together) {
+      const end = Math.min(count, first + together);
+      total += (end - first) * (LINE_ROOM + this.widest(from + (end - 1) * every));
+    }
+    return total;
+  }
+
+  /** The question with so few rows that they aren't too many bytes. */
+  fitting(/** @type {Asked} */ asked) {
+    let every = Math.max(1, asked.every);
+    while (this.bytesOf({ ...asked, every }) > MOST_BYTES && asked.from + every <= asked.upto) {
+      every *= 2;
+    }
+    return { ...asked, every };
+  }
+
+  /** The rows that are asked for; those of a view are kept. */
+  rows(/** @type {Engine} */ engine, /** @type {Asked} */ given, /** @type {boolean} */ isView) {
+    this.bytesOf(given) > MOST_BYTES && this.last(engine, given.upto);
+    const asked = this.fitting(given);
+    const kept = this.kept.find((one) => has(one.asked, asked)) ?? this.trace(engine, asked);
+    if (isView) {
+      this.keep(kept);
+    }
+    return { ...picked(kept, asked), every: asked.every };
+  }
+
+  /**
+   * Keeps rows as the first ones, without others of which they have all; where all are too many bytes those
+   * that were used first are given up.
+   */
+  keep(/** @type {Kept} */ made) {
+    const others = this.kept.filter((one) => !has(made.asked, one.asked));
+    let total = 0;
+    this.kept = [made, ...others].filter(({ sample }) => (total += sample.cells.length) <= MOST_KEPT);
+  }
+
+  /**
+   * A trace of these rows, which have so many bytes at most.
+   * @param {Engine} engine @param {Asked} asked @returns {Kept}
+   */
+  trace(engine, asked, space = this.bytesOf(asked)) {
+    const { machine, cells, from, every, upto } = asked;
+    const line = new TextEncoder().encode(machine);
+    const { bytes, clean } = engine.traceInPlace(line, { steps: upto, cells, from, every }, space);
+    const sample = readTrace(bytes, this.symbols);
+    const isEnded = (sample.steps.at(-1) ?? from - every) + every <= upto;
+    return { asked: { machine, cells, from, every, upto: isEnded ? Infinity : upto }, sample, cut: !clean };
+  }
+
+  /**
+   * What views closer than this one need, those above and below it, and farther ones, but for what is kept.
+   * @param {Asked} given @param {Next} next @returns {Ahead[]}
+   */
+  ahead(given, { closer, farther, beyond, most }) {
+    const asked = this.fitting(given);
+    const { from, upto, every } = asked;
+    const half = Math.ceil((upto - from) / every / 2) * every;
+    const above = Math.floor(Math.min(half, from) / every) * every;
+    const beside = { ...asked, from: from - above, upto: Math.max(upto, Math.min(most, upto + half)) };
+    const near = [1, closer].map((one) => multiples(asked, one, 0, most));
+    const closest = every < ALL_STEPS && this.bytesOf(near[0]) <= MOST_AHEAD ? near[0] : near[1];
+    const wanted = [closest, beside, multiples(asked, farther, beyond, most)];
+    const others = wanted.filter((one) => !this.kept.some((kept) => has(kept.asked, one)));
+    return others
+      .map((one) => ({ ...one, space: this.bytesOf(one) }))
+      .filter(({ space }) => space <= MOST_AHEAD);
+  }
+}
+
+/** @returns {Last | null} the last of some rows; null where there is none. */
+function lastOf(/** @type {Kept} */ { sample, cut }, /** @type {number} */ upto) {
+  const { steps, states, lows, wide } = sample;
+  const k = steps.length - 1;
+  return k < 0 ? null : { upto, step: steps[k], state: states[k], low: lows[k], wide: wide[k], cut };
+}
+
+/** Whether rows that are kept are those that are asked for, and others. */
+function has(/** @type {Asked} */ kept, /** @type {Asked} */ asked) {
+  const falls = (asked.from - kept.from) % kept.every === 0 && asked.every % kept.every === 0;
+  return asked.from >= kept.from && asked.upto <= kept.upto && falls;
+}
+
+/**
+ * The rows whose steps are multiples of a number, as views have them after a zoom: from so many steps above
+ * other rows to as many below.
+ * @param {Asked} about @param {number} every @param {number} beyond @param {number} most the last step
+ */
+function multiples(about, every, beyond, most) {
+  const from = Math.max(0, Math.floor((about.from - beyond) / every) * every);
+  return { ...about, from, upto: Math.max(about.upto, Math.min(most, about.upto + beyond + every)), every };
+}
+
+/** The rows that are asked for, of those that are kept. */
+function picked(/** @type {Kept} */ { asked: own, sample, cut }, /** @type {Asked} */ { from, upto, every }) {
+  const first = (from - own.from) / own.every;
+  const apart = every / own.every;
+  const end = Math.min(sample.steps.length, Math.floor((upto - own.from) / own.every) + 1);
+  const count = Math.max(0, Math.ceil((end - first) / apart));
+  const isAll = count === sample.steps.length;
+  return { sample: isAll ? sample : rowsOf(sample, first, apart, count), cut };
+}
