@@ -41,7 +41,6 @@ impl<'a, C> Progress<'a, C> {
     }
 
     /// Takes in that so many bytes were read. A list is read on only once all whole lines are done.
-    #[inline(never)]
     pub fn add_read(&self, count: usize)
     where
         C: Display,
