@@ -195,7 +195,7 @@ export class Results {
   /** All rows, in order, in a list that is kept. */
   allRows() {
     if (this.numbers.length < this.lines) {
-      this.numbers = numbersTo(Math.max(this.lines, 2 * this.numbers.length));
+      this.numbers = new Uint32Array(Math.max(this.lines, 2 * this.numbers.length)).map((_, k) => k);
     }
     return this.numbers.subarray(0, this.lines);
   }
@@ -241,7 +241,7 @@ export class Results {
         begun = performance.now();
       }
     }
-    return taken(all, rows);
+    return Float64Array.from(rows, (row) => all[row]);
   }
 
   /** All that the program would write, without lines that only the first pass has answered. */
@@ -250,22 +250,6 @@ export class Results {
     const bytes = (/** @type {Part} */ part) => (part.plans ? linesOf(part, all) : [part.bytes]);
     return new Blob(this.parts().flatMap(bytes), { type: "text/plain" });
   }
-}
-
-function taken(/** @type {Float64Array} */ numbers, /** @type {Uint32Array} */ places) {
-  const found = new Float64Array(places.length);
-  for (let k = 0; k < places.length; k += 1) {
-    found[k] = numbers[places[k]];
-  }
-  return found;
-}
-
-function numbersTo(/** @type {number} */ count) {
-  const numbers = new Uint32Array(count);
-  for (let k = 0; k < count; k += 1) {
-    numbers[k] = k;
-  }
-  return numbers;
 }
 
 /**
