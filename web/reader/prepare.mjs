@@ -13,6 +13,7 @@ import { isMachine } from "./texts.mjs";
 import { LONGEST_LINE } from "./words.mjs";
 
 const NEWLINE = 10;
+const LINE_END = Uint8Array.of(NEWLINE);
 const RETURN = 13;
 const SPACE = 32;
 const NUMBERS = "(?:(?:halt|cycler|backward) \\d+ \\d+|translated [LR] \\d+ \\d+(?: \\d+ \\d+)?)";
@@ -66,28 +67,31 @@ export function prepared(bytes, { mode, clean, form }) {
 function taken(bytes, read) {
   const numbers = [];
   const places = [];
-  /** @type {Uint8Array[]} */
   const lines = [];
-  let [number, length] = [0, 0];
+  let number = 0;
   for (let from = 0; from < bytes.length; number += 1) {
     const end = endOf(bytes, from);
     const line = read(bytes.subarray(from, end));
     if (line !== null) {
-      lines.push(line);
+      lines.push(line, LINE_END);
       numbers.push(number);
       places.push(from);
-      length += line.length + 1;
     }
     from = end + 1;
   }
-  const made = new Uint8Array(length);
-  lines.reduce((at, line) => {
-    made.set(line, at);
-    made[at + line.length] = NEWLINE;
-    return at + line.length + 1;
-  }, 0);
   const left = number - numbers.length;
-  return { bytes: made, numbers: Uint32Array.from(numbers), places: Uint32Array.from(places), left };
+  return { bytes: joined(lines), numbers: Uint32Array.from(numbers), places: Uint32Array.from(places), left };
+}
+
+/** The bytes of arrays, one after another. */
+export function joined(/** @type {Uint8Array[]} */ arrays) {
+  const bytes = new Uint8Array(arrays.reduce((sum, { length }) => sum + length, 0));
+  let at = 0;
+  for (const array of arrays) {
+    bytes.set(array, at);
+    at += array.length;
+  }
+  return bytes;
 }
 
 /**

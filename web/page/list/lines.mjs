@@ -6,7 +6,6 @@ import { Rows } from "./rows.mjs";
 
 // How the time is called, in the browser's list, at which the page showed its first verdict.
 const FIRST_VERDICT = "first verdict";
-const UNDECIDED = KINDS.indexOf("undecided");
 
 /**
  * @typedef {import("./results.mjs").Results} Results
@@ -170,7 +169,7 @@ export class Lines {
     const { rows } = this.rows;
     const { results } = this.answered();
     let place = this.rows.placeBeside(by);
-    const fits = () => !isUndecided || results.kindOf(rows[place]) === UNDECIDED;
+    const fits = () => !isUndecided || results.isUndecided(rows[place]);
     while (place >= 0 && place < rows.length && !fits()) {
       place += by;
     }

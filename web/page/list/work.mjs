@@ -2,7 +2,6 @@
 import { KINDS, counted } from "../../reader/machine.mjs";
 import { part, setAside, showWords, tellLive } from "../dom.mjs";
 import { larger, refuse } from "../input/fields.mjs";
-import { ListError } from "../input/files.mjs";
 import { makeReady } from "../workers.mjs";
 import { Holdouts, Pieces } from "./pieces.mjs";
 import { Pool } from "./pool.mjs";
@@ -24,19 +23,19 @@ const UNDECIDED = KINDS.indexOf("undecided");
 const FIRST_STEPS = 1_000n;
 const NO_MEMORY =
   "Out of memory. What was decided until then stays. Fewer cells would do, or a browser with more memory.";
-
 const NO_FILE = "It could not be read: a folder, or a file that has changed since. Choose a file again.";
 
 /** What went wrong, in words that say what would do. */
 export function failureWords(/** @type {{error: string, message: string}} */ { error, message }) {
-  if (error === "MemoryError" || error === "RangeError") {
-    return NO_MEMORY;
-  }
-  if (error === ListError.name) {
-    return message;
-  }
-  const isUnread = error === "NotReadableError" || error === "NotFoundError";
-  return isUnread ? NO_FILE : `The engine ended: ${message}`;
+  /** @type {Record<string, string>} */
+  const words = {
+    MemoryError: NO_MEMORY,
+    RangeError: NO_MEMORY,
+    NotReadableError: NO_FILE,
+    NotFoundError: NO_FILE,
+    ListError: message,
+  };
+  return words[error] ?? `The engine ended: ${message}`;
 }
 
 /** Says what went wrong, above the results. */
@@ -161,11 +160,8 @@ export class Work {
   /** What can't be done is said, a refused limit beside its field. */
   failed(/** @type {{error: string, message: string, limit?: string}} */ told) {
     this.ended("Ended");
-    if (told.error === "LimitsError" && told.limit !== undefined) {
-      refuse(told.limit, told.message);
-    } else {
-      tell(failureWords(told));
-    }
+    const { error, message, limit } = told;
+    error === "LimitsError" && limit !== undefined ? refuse(limit, message) : tell(failureWords(told));
   }
 
   stop() {
