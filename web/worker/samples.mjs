@@ -72,11 +72,11 @@ export class Run {
 
   /** How many cells a row up to a step has at most, by the rows that are known. */
   widest(/** @type {number} */ step) {
-    const ofKept = this.kept.flatMap(({ sample: { steps, wide } }) => {
-      return wide[steps.findIndex((one) => one >= step)] ?? [];
+    const ofKept = this.kept.flatMap(({ asked: { from, every }, sample: { wide } }) => {
+      return wide[Math.max(0, Math.ceil((step - from) / every))] ?? [];
     });
-    const ofLast = this.lasts.filter((one) => one.step >= step || one.step < one.upto).map(({ wide }) => wide);
-    return Math.min(step + 1, this.cells, ...ofKept, ...ofLast);
+    const lasts = this.lasts.filter((one) => one.step >= step || one.step < one.upto);
+    return Math.min(step + 1, this.cells, ...ofKept, ...lasts.map(({ wide }) => wide));
   }
 
   /** How many bytes a trace of these rows has at most. */

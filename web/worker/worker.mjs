@@ -64,7 +64,7 @@ function answered(
   const count = starts.length - 1;
   const verdicts = mode === "decide" ? host.decideBytes(given, plan, count).bytes : given;
   const reply = host.checkBytes(verdicts, { steps, cells, depth, nodes }, count).bytes;
-  const lines = readLines(verdicts);
+  const lines = readLines(verdicts, mode === "decide" ? starts : null);
   const answers = readAnswers(reply, count);
   if (mode === "check") {
     refuseUnread(lines.kinds, answers);

@@ -238,7 +238,9 @@ export class Results {
         begun = performance.now();
       }
     }
-    return Float64Array.from(rows, (row) => all[row]);
+    const steps = new Float64Array(rows.length);
+    rows.forEach((row, k) => (steps[k] = all[row]));
+    return steps;
   }
 
   /** All that the program would write, without lines that only the first pass has answered. */
