@@ -9,9 +9,9 @@ const FIRST_VERDICT = "first verdict";
 
 /**
  * @typedef {import("./results.mjs").Results} Results
- * @typedef {{results: Results, form: import("../../reader/prepare.mjs").Form | null, isUnderWay: boolean}} Answered the
- *   answers to a list by now, by which form its lines were read, null where they weren't, and whether more
- *   come
+ * @typedef {import("../../reader/prepare.mjs").Form} Form
+ * @typedef {{results: Results, form: Form | null, isUnderWay: boolean}} Answered the answers to a list by now,
+ *   by which form its lines were read, null where they weren't, and whether more come
  */
 
 export class Lines {

@@ -55,8 +55,8 @@ export class Results {
   }
 
   /**
-   * Takes in a part of the first pass: of what it left undecided, and of backward reasoning, which comes last,
-   * the limits of the list may find another verdict.
+   * Takes in a part of the first pass: of what it left undecided, and of backward reasoning, which comes
+   * last, the limits of the list may find another verdict.
    */
   addFirst(/** @type {Part} */ part, /** @type {number} */ read) {
     const { kinds } = part;

@@ -72,10 +72,10 @@ export class Work {
 
   /**
    * Has workers answer a list.
-   * @param {Blob} blob @param {ArrayBuffer} first its first bytes, as `Pieces` takes them
+   * @param {Blob} blob @param {ArrayBuffer} start its first bytes, as `Pieces` takes them
    * @param {Asked} asked @param {boolean} isText whether it begins as text in UTF-8
    */
-  begin(blob, first, asked, isText) {
+  begin(blob, start, asked, isText) {
     const { mode, plan, clean } = asked;
     const form = clean ? asked.form : null;
     this.run = { mode, plan, form, isText, size: blob.size, begun: performance.now(), taken: 0 };
@@ -84,9 +84,10 @@ export class Work {
     this.results = new Results(plan);
     this.isShown = false;
     part("results").hidden = false;
-    const source = new Pieces(blob, first, workersFor(blob.size));
+    const source = new Pieces(blob, start, workersFor(blob.size));
     const isFirst = mode === "decide" && plan.steps > FIRST_STEPS;
-    this.beginPool(workersFor(blob.size), isFirst ? { ...asked, plan: { ...plan, steps: FIRST_STEPS } } : asked, {
+    const first = { ...asked, plan: { ...plan, steps: FIRST_STEPS } };
+    this.beginPool(workersFor(blob.size), isFirst ? first : asked, {
       piece: () => source.next(),
       part: (one, read) => (isFirst ? this.results.addFirst(one, read) : this.results.add(one, read)),
       end: () => this.decideRows(this.results.openRows(), plan, 0),
