@@ -16,9 +16,9 @@ import sys
 import tempfile
 
 WEB = pathlib.Path(__file__).resolve().parent
-sys.path.insert(0, str(WEB.parent / "tools"))
+sys.path.insert(0, str(WEB.parent))
 
-from build_info import commit_version, output_of  # noqa: E402
+from tools.build_info import commit_version, output_of  # noqa: E402
 
 MODULE = WEB / "out" / "bb.wasm"
 TYPES = "--allowJs --declaration --emitDeclarationOnly --strict --lib es2022,dom --target es2022".split()
