@@ -57,11 +57,6 @@ export function showWords(/** @type {string} */ id, /** @type {string} */ words)
   Object.assign(part(id), { textContent: words, hidden: words === "" });
 }
 
-const number = new Intl.NumberFormat("en");
-
-/** A number as people read it, below 0 with a minus. */
-export const signed = (/** @type {number | bigint} */ value) => number.format(value).replace("-", "−");
-
 export function save(/** @type {Blob} */ blob, /** @type {string} */ name) {
   const url = URL.createObjectURL(blob);
   made("a", { href: url, download: name }).click();

@@ -16,7 +16,10 @@ async function compiled() {
 const url = URL.createObjectURL(new Blob([text("worker")], { type: "text/javascript" }));
 /** @type {Promise<WebAssembly.Module | null>} ends when the module is compiled; null where it isn't */
 export const ready = isSupported() ? compiled() : Promise.resolve(null);
-ready.catch(() => undefined);
+/** Does something with the module once it is compiled; nothing where it can't be. */
+const onceReady = (/** @type {(module: WebAssembly.Module | null) => void} */ act) => {
+  ready.then(act, () => undefined);
+};
 /** @type {Worker[]} workers that wait for a list */
 const idle = [];
 /** @type {WeakSet<Worker>} workers that answered the examples */
@@ -25,10 +28,7 @@ const warmed = new WeakSet();
 /** A new worker, which gets the module before anything that waits for `ready` is sent to it. */
 export function newWorker() {
   const worker = new Worker(url);
-  ready.then(
-    (module) => worker.postMessage({ what: "load", module }),
-    () => undefined,
-  );
+  onceReady((module) => worker.postMessage({ what: "load", module }));
   return worker;
 }
 
@@ -65,10 +65,7 @@ function warm(/** @type {Worker} */ worker) {
   const examples = JSON.parse(text("examples-data"));
   const lists = examples.filter(({ call }) => call === "decide").map(({ lines }) => lines);
   const list = new TextEncoder().encode(lists.join("\n"));
-  ready.then(
-    () => worker.postMessage({ what: "warm", list }),
-    () => undefined,
-  );
+  onceReady(() => worker.postMessage({ what: "warm", list }));
 }
 
 /** What went wrong, as it is said. */
@@ -105,10 +102,7 @@ export class Asker {
 
   /** Tells the worker what has no answer, if there is one. */
   tell(/** @type {Record<string, any>} */ message, /** @type {Transferable[]} */ moved) {
-    ready.then(
-      () => this.worker?.postMessage(message, moved),
-      () => undefined,
-    );
+    onceReady(() => this.worker?.postMessage(message, moved));
   }
 
   /** Ends the worker in the middle of its answer, which isn't handed over. */

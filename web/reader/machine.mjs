@@ -42,6 +42,10 @@ const stateNumber = (/** @type {string} */ letter) => letter.charCodeAt(0) - 65;
 
 export const stateLetter = (/** @type {number} */ state) => state < 0 ? "Z" : String.fromCharCode(65 + state);
 
+/** An entry as machines have it. */
+export const entryText = (/** @type {Entry | null} */ entry) =>
+  entry === null ? "---" : `${entry.write}${entry.move > 0 ? "R" : "L"}${stateLetter(entry.next)}`;
+
 /** @returns {{machine: string, verdict: Verdict}} what a line says that is no verdict line: nothing */
 export const unreadLine = () => ({ machine: "", verdict: NO_VERDICT });
 
@@ -73,8 +77,8 @@ const number = new Intl.NumberFormat("en");
 export const counted = (/** @type {number} */ count, /** @type {string} */ word) =>
   `${number.format(count)} ${word}${count === 1 ? "" : "s"}`;
 
-/** A number as people read it. */
-export const shown = (/** @type {number} */ value) => number.format(value);
+/** A number as people read it, below 0 with a minus. */
+export const shown = (/** @type {number | bigint} */ value) => number.format(value).replace("-", "−");
 
 /** What a verdict says, in plain English. */
 export function sentence(/** @type {Verdict} */ { kind, numbers, side }) {

@@ -3,6 +3,7 @@
  *
  * @typedef {"machines" | "verdicts" | "table" | "text"} Form a machine a line and nothing else; verdict
  *   lines; a table with a column of machines; what people paste, with one machine a line
+ * @typedef {(line: Uint8Array, text: string) => Uint8Array | null} Read gives what is taken of a line
  * @typedef {{bytes: Uint8Array, numbers: Uint32Array | null, places: Uint32Array | null, left: number}}
  *   Prepared what the engine is given; of each of its lines the number among the lines that were given, from
  *   0, and where it begins there, null where all are as they were; and how many lines were left out
@@ -13,6 +14,7 @@ import { isMachine } from "./texts.mjs";
 import { LONGEST_LINE } from "./words.mjs";
 
 const NEWLINE = 10;
+const LINE_END = Uint8Array.of(NEWLINE);
 const RETURN = 13;
 const SPACE = 32;
 const NUMBERS = "(?:(?:halt|cycler|backward) \\d+ \\d+|translated [LR] \\d+ \\d+(?: \\d+ \\d+)?)";
@@ -54,64 +56,67 @@ export const asGiven = (/** @type {Uint8Array} */ bytes) => ({ bytes, numbers: n
  * @returns {Prepared}
  */
 export function prepared(bytes, { mode, clean, form }) {
-  const machine = (/** @type {Uint8Array} */ line) => machineIn(line, form);
+  /** @type {Read} */
+  const machine = (line, text) => machineIn(line, text, form);
   return clean ? taken(bytes, mode === "check" ? claimIn : machine) : asGiven(bytes);
 }
 
-/**
- * The lines that are taken, each as the engine is given it.
- * @param {Uint8Array} bytes @param {(line: Uint8Array) => Uint8Array | null} read null for a line left out
- * @returns {Prepared}
- */
-function taken(bytes, read) {
+/** @returns {Prepared} the lines that are taken, each as the engine is given it */
+function taken(/** @type {Uint8Array} */ bytes, /** @type {Read} */ read) {
+  // Where each byte is a character the lines are cut out of one text: browsers decode short ones slowly.
+  const all = decoder.decode(bytes);
+  const isCut = all.length === bytes.length;
   const numbers = [];
   const places = [];
-  /** @type {Uint8Array[]} */
   const lines = [];
-  let [number, length] = [0, 0];
+  let number = 0;
   for (let from = 0; from < bytes.length; number += 1) {
     const end = endOf(bytes, from);
-    const line = read(bytes.subarray(from, end));
+    const given = bytes.subarray(from, end);
+    const isLong = given.length > LONGEST_LINE;
+    const line = isLong ? given : read(given, isCut ? all.slice(from, end) : decoder.decode(given));
     if (line !== null) {
-      lines.push(line);
+      lines.push(line, LINE_END);
       numbers.push(number);
       places.push(from);
-      length += line.length + 1;
     }
     from = end + 1;
   }
-  const made = new Uint8Array(length);
-  lines.reduce((at, line) => {
-    made.set(line, at);
-    made[at + line.length] = NEWLINE;
-    return at + line.length + 1;
-  }, 0);
   const left = number - numbers.length;
-  return { bytes: made, numbers: Uint32Array.from(numbers), places: Uint32Array.from(places), left };
+  return { bytes: joined(lines), numbers: Uint32Array.from(numbers), places: Uint32Array.from(places), left };
+}
+
+/** The bytes of arrays, one after another. */
+export function joined(/** @type {Uint8Array[]} */ arrays) {
+  const bytes = new Uint8Array(arrays.reduce((sum, { length }) => sum + length, 0));
+  let at = 0;
+  for (const array of arrays) {
+    bytes.set(array, at);
+    at += array.length;
+  }
+  return bytes;
 }
 
 /**
  * The machine of a line, or a line that the engine refuses where it has none; null where it is passed over.
+ * @param {Uint8Array} line @param {string} text @param {Form} form
  */
-function machineIn(/** @type {Uint8Array} */ line, /** @type {Form} */ form) {
-  if (line.length > LONGEST_LINE) {
+function machineIn(line, text, form) {
+  const isWhole = isMachine(text);
+  if (isWhole && form !== "verdicts" && text.length === line.length && text[0] !== "-") {
     return line;
   }
-  const text = decoder.decode(line);
   const reading = readingOf(text, form);
   if (reading.kind === "machine") {
-    return reading.machine === text ? line : encoder.encode(reading.machine);
+    return encoder.encode(reading.machine);
   }
   // A machine that the form doesn't allow there is refused by a space before it.
-  return reading.kind === "nothing" ? null : isMachine(text) ? Uint8Array.of(SPACE, ...line) : line;
+  return reading.kind === "nothing" ? null : isWhole ? Uint8Array.of(SPACE, ...line) : line;
 }
 
-/** A verdict line without the spaces about it; null where the line is passed over. */
-function claimIn(/** @type {Uint8Array} */ line) {
-  if (line.length > LONGEST_LINE) {
-    return line;
-  }
-  const text = decoder.decode(line).replace(/^\ufeff/, "").trim();
+/** @type {Read} a verdict line without the spaces about it; null where the line is passed over */
+function claimIn(line, given) {
+  const text = given.replace(/^\ufeff/, "").trim();
   if (VERDICT.test(text)) {
     return encoder.encode(text.split("\t")[0]);
   }

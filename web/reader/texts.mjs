@@ -14,8 +14,6 @@ const STATES = "ABCDEFGHIJKLMNOPQRSTUVWXY";
 const MOST_SYMBOLS = 10;
 // Of so many states at most H is none, so it may be meant for the halting state.
 const MOST_BEFORE_H = STATES.indexOf("H");
-const GROUP = "(?:[0-9][LR][A-Z]|---){2,10}";
-const WHOLE = new RegExp(`^${GROUP}(?:_${GROUP}){0,24}$`);
 const ENTRY = /^(?:[0-9][LRlr][A-Za-z]|---|\.\.\.)$/;
 const LOST = /^[0-9][LRlr][-_]$/;
 /** What is rewritten, in the order in which it is named, in words. */
@@ -42,23 +40,31 @@ export function cut(/** @type {string} */ given) {
   return text.length <= LONGEST_QUOTED ? text : `${text.slice(0, LONGEST_QUOTED - 2)}..`;
 }
 
+/** @type {Map<number, RegExp>} the machines of so many states and symbols */
+const PATTERNS = new Map();
+
 /** Whether the engine reads a text as a machine. */
 export function isMachine(/** @type {string} */ text) {
-  if (!WHOLE.test(text)) {
+  const size = `${text}_`.indexOf("_");
+  const [symbols, states] = [size / 3, (text.length + 1) / (size + 1)];
+  const isWhole = Number.isInteger(symbols) && Number.isInteger(states);
+  if (!isWhole || symbols < 2 || symbols > MOST_SYMBOLS || states > STATES.length) {
     return false;
   }
-  const groups = text.split("_");
-  const symbols = groups[0].length / 3;
-  const last = STATES[groups.length - 1];
-  const fits = (/** @type {string} */ entry) =>
-    entry === "---" || (Number(entry[0]) < symbols && (entry[2] <= last || entry[2] === "Z"));
-  return groups.every((group) => group.length === 3 * symbols && (group.match(/.../g) ?? []).every(fits));
+  const key = states * (MOST_SYMBOLS + 1) + symbols;
+  const pattern = PATTERNS.get(key) ?? patternOf(states, symbols);
+  PATTERNS.set(key, pattern);
+  return pattern.test(text);
+}
+
+function patternOf(/** @type {number} */ states, /** @type {number} */ symbols) {
+  const group = `(?:[0-${symbols - 1}][LR][A-${STATES[states - 1]}Z]|---){${symbols}}`;
+  return new RegExp(`^${group}(?:_${group}){${states - 1}}$`);
 }
 
 /**
  * The machine whose groups are set apart by `_` in one word, or are these words; or that of one word without
- * `_`,
- * where there is one division into groups that makes one.
+ * `_`, where there is one division into groups that makes one.
  * @returns {Found | Reason}
  */
 export function readWords(/** @type {Word[]} */ words) {

@@ -1,6 +1,6 @@
 /**
- * A line cut into what may be a machine: words of entries, rows of dashes or dots, addresses. Also how much of
- * a line is looked through, kept and shown, and the names of characters that don't show.
+ * A line cut into what may be a machine: words of entries, rows of dashes or dots, addresses. Also how much
+ * of a line is looked through, kept and shown, and the names of characters that don't show.
  *
  * @typedef {{begin: number, text: string}} Word characters that stand together, and how many come before them
  * @typedef {{words: Word[], begin: number, end: number, isAddress: boolean, isLast: boolean,

@@ -1,7 +1,7 @@
 /**
  * Rows of machines' runs as the page keeps them, for `test_page_pictures.py`: a machine, a limit of cells and
  * which rows are asked for, one question after another, in a line of standard input, as JSON; the lines of
- * each question back, as JSON, and how many questions needed no trace.
+ * each question back, as JSON, how many questions needed no trace, and the last row up to some step.
  */
 import { readFileSync } from "node:fs";
 import { createInterface } from "node:readline";
@@ -9,6 +9,7 @@ import { load } from "../lib/bb.mjs";
 import { symbolsOf } from "../worker/sample.mjs";
 import { Run } from "../worker/samples.mjs";
 
+const LAST = 5_000;
 const engine = await load(readFileSync(process.argv[2]));
 
 /** The lines of rows, as the engine writes them. @param {import("../worker/sample.mjs").Sample} sample */
@@ -25,5 +26,6 @@ for await (const line of createInterface({ input: process.stdin })) {
   let traces = 0;
   const counted = { traceInPlace: (...words) => ((traces += 1), engine.traceInPlace(...words)) };
   const lines = asked.map((one) => linesOf(run.rows(counted, { machine, cells, ...one }, true).sample));
-  console.log(JSON.stringify({ lines, known: asked.length - traces }));
+  const { step, low, wide } = new Run(machine, cells).last(engine, LAST);
+  console.log(JSON.stringify({ lines, known: asked.length - traces, last: [step, low, wide] }));
 }

@@ -65,6 +65,23 @@ def test_growth(tab: Page, machine: str, steps: int = 5_000) -> None:
 
 
 @pytest.mark.parametrize(
+    "machine, words",
+    [
+        (HALT, "The run ends, with 4 cells."),
+        (
+            "1RA1RA",
+            "They grow as a line: 656, 6,551, 65,501 after a hundredth, a tenth and all of 65,535 steps;",
+        ),
+    ],
+)
+def test_growth_at_the_default_limits(tab: Page, machine: str, words: str) -> None:
+    """A run ends, or its cells do, long before the steps."""
+    tab.open("#machine=" + machine)
+    tab.until(lambda: "\u2026" not in tab.text("facts"))
+    assert tab.text("fact-growth").startswith(words)
+
+
+@pytest.mark.parametrize(
     "machine, completions, starts",
     [
         (HALT, "no undefined entry", ON_BLANK),

@@ -79,6 +79,8 @@ def test_kept_rows_are_those_of_the_program(bb: str, module: object, rng: random
             steps = range(one["from"], one["upto"] + 1, one["every"])
             wanted = ["%d %s %d %d %s" % run[step] for step in steps if step in run]
             assert found == wanted, (machine, one)
+        end = max(run.values())
+        assert reply["last"] == [end.step, end.low, len(end.cells)], machine
     known = sum(reply["known"] for reply in replies)
     print("%d machines; %d questions needed no trace" % (len(asked), known))
     assert known > 2 * len(asked)

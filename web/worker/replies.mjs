@@ -75,13 +75,18 @@ export function numberAt(/** @type {Uint8Array} */ bytes, /** @type {number} */ 
   return at === from ? -1 : value;
 }
 
-/** @returns {Lines} what is said in verdict lines; those that are none have any kind. */
-export function readLines(/** @type {Uint8Array} */ bytes) {
+/**
+ * What is said in verdict lines; those that are none have any kind. Each line of a reply begins with the line
+ * of its machine, which isn't looked through, where it is known where these begin and the last ends.
+ * @param {Uint8Array} bytes @param {Uint32Array | null} machines @returns {Lines}
+ */
+export function readLines(bytes, machines) {
   const starts = startsOf(bytes).slice();
   const kinds = new Uint8Array(starts.length - 1).fill(REFUSED);
   for (let k = 0; k < kinds.length; k += 1) {
     if (bytes[starts[k]] !== LETTER_R) {
-      kinds[k] = KIND_BY_LETTER[bytes[wordEnd(bytes, starts[k]) + 1]] ?? REFUSED;
+      const skipped = machines === null ? 0 : machines[k + 1] - machines[k] - 1;
+      kinds[k] = KIND_BY_LETTER[bytes[wordEnd(bytes, starts[k] + skipped) + 1]] ?? REFUSED;
     }
   }
   return { starts, kinds };

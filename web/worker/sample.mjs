@@ -1,5 +1,5 @@
 /**
- * Rows of a run, read from the engine's trace, as they are kept, painted and pointed at: their cells are packed.
+ * Rows of a run, read from the engine's trace, as they are kept, painted and pointed at: with packed cells.
  *
  * @typedef {{steps: Float64Array, heads: Int32Array, lows: Int32Array, wide: Int32Array, places: Int32Array,
  *   states: string, cells: Uint8Array, bits: number}} Sample of each row the step, the head, the lowest

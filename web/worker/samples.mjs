@@ -28,7 +28,7 @@ const MOST_AHEAD = 24_000_000;
 const MOST_KEPT = 40_000_000;
 // Below so many steps of a row all steps are taken for closer views, if that isn't too much.
 const ALL_STEPS = 32;
-// A run's last step is looked for among so many rows, then among as many about the last of these.
+// A run's last step is looked for among so many rows, then among as many behind the last of these.
 const PARTS = 64;
 
 export class Run {
@@ -59,12 +59,15 @@ export class Run {
   /** The last row of a run that ends before a step, between ever closer ones. */
   lastBefore(/** @type {Engine} */ engine, /** @type {number} */ upto) {
     const { machine, cells } = this;
+    const parts = Math.max(2, Math.min(PARTS, Math.floor(MOST_BYTES / this.widest(upto))));
     let [from, every] = [0, upto];
     /** @type {Last} */
     let found;
     do {
-      every = Math.ceil(every / PARTS);
-      found = /** @type {Last} */ (lastOf(this.trace(engine, { machine, cells, from, every, upto }), upto));
+      const end = Math.min(upto, from + every);
+      every = Math.ceil(every / parts);
+      const rows = this.trace(engine, { machine, cells, from, every, upto: end });
+      found = /** @type {Last} */ (lastOf(rows, upto));
       from = found.step;
     } while (every > 1);
     return found;
@@ -72,11 +75,11 @@ export class Run {
 
   /** How many cells a row up to a step has at most, by the rows that are known. */
   widest(/** @type {number} */ step) {
-    const ofKept = this.kept.flatMap(({ sample: { steps, wide } }) => {
-      return wide[steps.findIndex((one) => one >= step)] ?? [];
+    const ofKept = this.kept.flatMap(({ asked: { from, every }, sample: { wide } }) => {
+      return wide[Math.max(0, Math.ceil((step - from) / every))] ?? [];
     });
-    const ofLast = this.lasts.filter((one) => one.step >= step || one.step < one.upto).map(({ wide }) => wide);
-    return Math.min(step + 1, this.cells, ...ofKept, ...ofLast);
+    const lasts = this.lasts.filter((one) => one.step >= step || one.step < one.upto);
+    return Math.min(step + 1, this.cells, ...ofKept, ...lasts.map(({ wide }) => wide));
   }
 
   /** How many bytes a trace of these rows has at most. */

@@ -45,7 +45,7 @@ const WARM_PLAN = { steps: 200, cells: 256, depth: 20, nodes: 1_000 };
 const WARM_MACHINE = "1RB1LC_1RC1RB_1RD0LE_1LA1LD_1RZ0LA";
 const WARM_SAMPLE = { steps: 10_000, cells: 256, from: 0, every: 100 };
 
-/** @type {import("../lib/bb.mjs").Engine | undefined} */
+/** @type {Host | undefined} */
 let engine;
 /** @type {Promise<void>} ends when the engine's module is loaded, which comes before anything is asked */
 let loaded = Promise.resolve();
@@ -53,18 +53,17 @@ let size = FIRST_BYTES;
 // Milliseconds that a line of the batch before took; infinite before the first one.
 let pace = Infinity;
 
-/** A batch answered: its lines, what is said of each, and the answer of the checker. */
-function answered(
-  /** @type {Uint8Array} */ given,
-  /** @type {Pick<Asked, "mode" | "plan">} */ { mode, plan },
-  starts = startsOf(given),
-) {
+/**
+ * A batch answered: its lines, which begin there, what is said of each, and the answer of the checker.
+ * @param {Uint8Array} given @param {Pick<Asked, "mode" | "plan">} asked
+ */
+function answered(given, { mode, plan }, starts = startsOf(given).slice()) {
   const { steps, cells, depth, nodes } = plan;
-  const host = /** @type {import("../lib/bb.mjs").Engine} */ (engine);
+  const host = /** @type {Host} */ (engine);
   const count = starts.length - 1;
   const verdicts = mode === "decide" ? host.decideBytes(given, plan, count).bytes : given;
   const reply = host.checkBytes(verdicts, { steps, cells, depth, nodes }, count).bytes;
-  const lines = readLines(verdicts);
+  const lines = readLines(verdicts, mode === "decide" ? starts : null);
   const answers = readAnswers(reply, count);
   if (mode === "check") {
     refuseUnread(lines.kinds, answers);

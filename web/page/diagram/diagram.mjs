@@ -9,24 +9,12 @@
  * @typedef {{machine: string, cells: number, upto: number, last: number, pair: Pair | null}} Shown
  * @typedef {{view: View, home: View, sample: import("../../worker/sample.mjs").Sample, cut: boolean,
  *   every: number, columns: number, image: Uint8ClampedArray, low: number, high: number,
- *   ahead: import("../../worker/samples.mjs").Ahead[]}} Picture `ahead` are the rows of views that may come next
+ *   ahead: import("../../worker/samples.mjs").Ahead[]}} Picture `ahead` are rows of views that may come next
  */
 import { forgetColours, palette, part } from "../dom.mjs";
 import { Asker } from "../workers.mjs";
 import { Painter, sheetOf } from "./paint.mjs";
-import {
-  LEGIBLE,
-  areaOf,
-  isSeen,
-  kept,
-  middleOf,
-  moved,
-  nextPlace,
-  pictureWords,
-  placeAt,
-  placeWords,
-  wayTo,
-} from "./places.mjs";
+import * as places from "./places.mjs";
 import { closeTo, isSame, zoomed } from "./scale.mjs";
 
 // A picture is waited for so long before the next one is begun: what was traced for it is of use.
@@ -38,7 +26,8 @@ export class Diagram {
     this.choose = choose;
     this.canvas = /** @type {HTMLCanvasElement} */ (part("diagram"));
     this.asker = new Asker(PATIENCE_MILLISECONDS);
-    this.ahead = new Ahead(this.asker);
+    // What takes rows of views that may come next.
+    this.ahead = new Asker();
     /** @type {Shown | null} */
     this.shown = null;
     /** @type {Picture | null} */
@@ -71,7 +60,7 @@ export class Diagram {
   }
 
   get area() {
-    return areaOf(this.canvas, this.shown?.last ?? 0);
+    return places.areaOf(this.canvas, this.shown?.last ?? 0);
   }
 
   /** @returns {Scene | null} what the canvas shows; null until something does. */
@@ -94,7 +83,7 @@ export class Diagram {
     this.asked += 1;
     this.canvas.dataset.state = "asked";
     part("diagram-text").textContent = "Drawing …";
-    this.ahead.end();
+    this.ahead.isBusy && this.ahead.end();
   }
 
   /** Shows nothing, where no picture of the next machine has come. */
@@ -113,14 +102,9 @@ export class Diagram {
     }
   }
 
-  fit() {
-    Object.assign(this, { view: null, opens: false, isFitted: true });
-    this.fetch();
-  }
-
-  /** Shows what is marked, as the picture opened. */
-  reopen() {
-    Object.assign(this, { view: null, opens: true, isFitted: true });
+  /** Shows the whole, or what is marked, as the picture opened. */
+  fit(opens = false) {
+    Object.assign(this, { view: null, opens, isFitted: true });
     this.fetch();
   }
 
@@ -170,17 +154,31 @@ export class Diagram {
     this.canvas.dataset.state = isLast ? "taken" : "asked";
     this.draw();
     if (isLast) {
-      const { asked } = this;
-      this.ahead.take(data.ahead, () => asked === this.asked);
+      this.takeAhead(data.ahead, this.asked);
       this.canvas.dispatchEvent(new Event("taken"));
     }
+  }
+
+  /**
+   * Has rows of views that may come next taken by another worker, one after another, and kept by the one that
+   * makes pictures, until another picture is asked for.
+   * @param {import("../../worker/samples.mjs").Ahead[]} ahead @param {number} asked
+   */
+  takeAhead([rows, ...others], asked) {
+    if (rows === undefined || asked !== this.asked) {
+      return;
+    }
+    this.ahead.ask({ what: "ahead", rows }, ({ error, kept }) => {
+      kept && this.asker.tell({ what: "keep", kept }, [kept.sample.cells.buffer]);
+      error || this.takeAhead(others, asked);
+    });
   }
 
   /** Shows a view, or one nearby with something visited, where it isn't the one that is shown. */
   showNear(/** @type {View} */ wanted) {
     const { scene, shown } = this;
     if (scene !== null && shown !== null) {
-      const view = kept({ ...scene, view: wanted }, shown.upto);
+      const view = places.kept({ ...scene, view: wanted }, shown.upto);
       isSame(view, scene.view) || this.show(view);
     }
   }
@@ -194,7 +192,7 @@ export class Diagram {
       const { x, y } = this.area;
       const at = { x: point.x - x, y: point.y - y };
       const view = factor === 1 ? from : zoomed(from, this.data.home, factor, at);
-      this.showNear(moved(view, point.x - goal.x, point.y - goal.y));
+      this.showNear(places.moved(view, point.x - goal.x, point.y - goal.y));
     }
   }
 
@@ -213,7 +211,7 @@ export class Diagram {
 
   /** The place in the canvas at which keys zoom. */
   middle(/** @type {Scene} */ scene) {
-    return middleOf(scene, [this.place, this.chosen]);
+    return places.middleOf(scene, [this.place, this.chosen]);
   }
 
   /** Chooses a step whose head is there; where the view is too far away to see its cells, it comes near. */
@@ -224,7 +222,7 @@ export class Diagram {
       return;
     }
     this.place = closes ? null : this.place;
-    if (closes || (!isSeen(scene, place) && scene.view.high >= LEGIBLE)) {
+    if (closes || (!places.isSeen(scene, place) && scene.view.high >= places.LEGIBLE)) {
       const { width, height } = scene.area;
       this.show(closeTo(width, height, place.step, place.position, scene.view));
     }
@@ -234,11 +232,7 @@ export class Diagram {
   /** The place under a point of the canvas; null where there is none. */
   placeAt(/** @type {number} */ x, /** @type {number} */ y) {
     const { scene } = this;
-    return scene === null ? null : placeAt(scene, { x, y });
-  }
-
-  placeWords(/** @type {Place} */ place) {
-    return placeWords(this.data, place);
+    return scene === null ? null : places.placeAt(scene, { x, y });
   }
 
   /** Moves what the keys point at by cells that are seen, or by so much of the view. */
@@ -247,22 +241,16 @@ export class Diagram {
     if (scene === null || shown === null) {
       return;
     }
-    const from = this.place ?? (isSeen(scene, this.chosen) ? this.chosen : this.placeOfMiddle(scene));
-    this.place = nextPlace(scene, from, { right, down, far }, shown.upto);
-    this.follow(scene, this.place);
-    this.drawSoon();
-  }
-
-  placeOfMiddle(/** @type {Scene} */ scene) {
-    return placeAt(scene, this.middle(scene)) ?? this.chosen;
-  }
-
-  /** Moves the view so that a place is seen. */
-  follow(/** @type {Scene} */ scene, /** @type {Place} */ place) {
-    const { right, down } = wayTo(scene, place);
-    if (right !== 0 || down !== 0) {
-      this.showNear(moved(scene.view, right, down));
+    const isSeen = places.isSeen(scene, this.chosen);
+    const middle = isSeen ? null : places.placeAt(scene, this.middle(scene));
+    const from = this.place ?? middle ?? this.chosen;
+    this.place = places.nextPlace(scene, from, { right, down, far }, shown.upto);
+    // The view follows, so that the place is seen.
+    const way = places.wayTo(scene, this.place);
+    if (way.right !== 0 || way.down !== 0) {
+      this.showNear(places.moved(scene.view, way.right, way.down));
     }
+    this.drawSoon();
   }
 
   drawSoon() {
@@ -286,44 +274,12 @@ export class Diagram {
     this.place !== null && painter.place(this.place);
     const isNew = canvas.dataset.state === "taken" || canvas.dataset.state === "drawn";
     Object.assign(canvas.dataset, { ...scene.view, x: scene.area.x, y: scene.area.y, ratio: painter.ratio });
-    part("diagram-text").textContent = pictureWords(data, scene.area.width);
+    part("diagram-text").textContent = places.pictureWords(data, scene.area.width);
     canvas.dataset.state = isNew ? "drawn" : "asked";
   }
 
   /** @returns {Promise<Blob | null>} the picture as a file */
   async png() {
     return new Promise((done) => this.canvas.toBlob(done, "image/png"));
-  }
-}
-
-/** Rows of views that may come next: a worker takes them, and they are kept where pictures are made. */
-class Ahead {
-  constructor(/** @type {Asker} */ keeper) {
-    this.keeper = keeper;
-    this.asker = new Asker();
-  }
-
-  /** Has rows taken and kept, one after another, as long as they are wanted. */
-  take(
-    /** @type {import("../../worker/samples.mjs").Ahead[]} */ [rows, ...others],
-    /** @type {() => boolean} */ isWanted,
-  ) {
-    if (rows === undefined || !isWanted()) {
-      return;
-    }
-    this.asker.ask({ what: "ahead", rows }, ({ error, kept: taken }) => {
-      if (taken) {
-        this.keeper.tell({ what: "keep", kept: taken }, [taken.sample.cells.buffer]);
-      }
-      if (!error) {
-        this.take(others, isWanted);
-      }
-    });
-  }
-
-  end() {
-    if (this.asker.isBusy) {
-      this.asker.end();
-    }
   }
 }

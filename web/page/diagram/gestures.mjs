@@ -1,6 +1,6 @@
 /** Moving and zooming a diagram by wheel, keys, mouse and fingers, and pointing at its cells. */
 import { part, pressKey } from "../dom.mjs";
-import { beside } from "./places.mjs";
+import { beside, placeWords } from "./places.mjs";
 import { ZOOM } from "./scale.mjs";
 
 const DOUBLE = 8;
@@ -42,7 +42,7 @@ export function listen(diagram, tell) {
 function pointed(/** @type {import("./diagram.mjs").Diagram} */ diagram) {
   const { place, data } = diagram;
   const isShown = place !== null && beside(data, place).step === place.step;
-  return isShown ? diagram.placeWords(place) : "";
+  return isShown ? placeWords(diagram.data, place) : "";
 }
 
 /**
@@ -142,7 +142,7 @@ class Fingers {
   /** Tells what is under the mouse. */
   point(/** @type {PointerEvent} */ event) {
     const place = this.diagram.placeAt(event.offsetX, event.offsetY);
-    this.tell(place === null ? "" : this.diagram.placeWords(place), false);
+    this.tell(place === null ? "" : placeWords(this.diagram.data, place), false);
   }
 
   up(/** @type {PointerEvent} */ event) {
@@ -150,7 +150,7 @@ class Fingers {
     if (fingers.has(event.pointerId) && fingers.size === 1 && this.moved < CLICK_PIXELS) {
       const place = diagram.placeAt(event.offsetX, event.offsetY);
       if (place !== null) {
-        this.tell(diagram.placeWords(place), false);
+        this.tell(placeWords(diagram.data, place), false);
         diagram.choose(place);
       }
       diagram.canvas.focus({ preventScroll: true });

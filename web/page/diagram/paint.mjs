@@ -12,7 +12,7 @@
  */
 import { FRAMED, symbolAt } from "../../worker/sample.mjs";
 import { shown } from "../../reader/machine.mjs";
-import { ink, signed } from "../dom.mjs";
+import { ink } from "../dom.mjs";
 import { cellsOf, stepsOf, ticks } from "./scale.mjs";
 
 const LABEL_PIXELS = 18;
@@ -62,10 +62,14 @@ export class Painter {
     return this.area.x + (position - this.view.left) / cellsOf(this.view);
   }
 
-  /** @param {Box} box @param {string | CanvasGradient | CanvasPattern} style @param {number} line its width */
-  outline({ x, y, wide, high }, style, line) {
+  /**
+   * Outlines a box, so far inside its edges, or outside where that is below 0.
+   * @param {Box} box @param {CanvasRenderingContext2D["strokeStyle"]} style @param {number} line its width
+   * @param {number} inside
+   */
+  outline({ x, y, wide, high }, style, line, inside) {
     Object.assign(this.pen, { strokeStyle: style, lineWidth: line });
-    this.pen.strokeRect(x, y, wide, high);
+    this.pen.strokeRect(x + inside, y + inside, wide - 2 * inside, high - 2 * inside);
   }
 
   /** Paints pixels, which may have been made for another view: they are then scaled. */
@@ -92,16 +96,14 @@ export class Painter {
       return;
     }
     const line = high >= 12 ? 2 : 1.5;
-    const inner = line + 0.5;
     Object.assign(pen, { textAlign: "center", textBaseline: "middle" });
     pen.font = `bold ${Math.round(high * 0.6)}px system-ui, sans-serif`;
     sample.steps.forEach((step, k) => {
       const [x, y] = [this.columnAt(sample.heads[k]), this.rowAt(step)];
       const symbol = symbolAt(sample, k, sample.heads[k]);
       pen.fillStyle = ink(symbol < 0 ? "--text" : `--on${symbol}`);
-      const within = (/** @type {number} */ by) => ({ x: x + by, y: y + by, wide: wide - 2 * by, high: high - 2 * by });
-      this.outline(within(inner), pen.fillStyle, 1);
-      this.outline(within(line / 2), ink("--head"), line);
+      this.outline({ x, y, wide, high }, pen.fillStyle, 1, line + 0.5);
+      this.outline({ x, y, wide, high }, ink("--head"), line, line / 2);
       if (high >= LETTERED && wide >= LETTERED) {
         pen.fillText(sample.states[k], x + wide / 2, y + high / 2 + 1);
       }
@@ -148,7 +150,7 @@ export class Painter {
     for (const position of ticks(view.left, cellsOf(view), area.width, POSITIONS_APART)) {
       const x = this.columnAt(position) + view.wide / 2;
       if (x > area.x + 8 && x < area.x + area.width - 14) {
-        pen.fillText(signed(position), x, area.y - 11);
+        pen.fillText(shown(position), x, area.y - 11);
         pen.fillRect(Math.floor(x), area.y - MARK_PIXELS, 1, MARK_PIXELS);
       }
     }
@@ -156,10 +158,10 @@ export class Painter {
 
   /** Outlines the place that keys point at. */
   place(/** @type {Place} */ { step, position }) {
-    const [wide, high] = [this.view.wide, this.view.high].map((pixels) => Math.max(5, pixels) + 4);
-    const box = { x: this.columnAt(position) - 2, y: this.rowAt(step) - 2, wide, high };
-    this.outline(box, ink("--panel"), 4);
-    this.outline(box, ink("--accent"), 2);
+    const [wide, high] = [this.view.wide, this.view.high].map((pixels) => Math.max(5, pixels));
+    const box = { x: this.columnAt(position), y: this.rowAt(step), wide, high };
+    this.outline(box, ink("--panel"), 4, -2);
+    this.outline(box, ink("--accent"), 2, -2);
   }
 
   /** Outlines what stands behind the verdict, with an arrow from the first band to the second where asked. */
@@ -193,15 +195,16 @@ export class Painter {
    * Outlines a band; a halo about the outline has it seen on each symbol's colour.
    * @param {Box} box @param {string} label @param {number} middle where the label stands
    */
-  band({ x, y, wide, high }, label, middle) {
+  band(box, label, middle) {
     const { pen, area } = this;
-    this.outline({ x: x - 2.5, y: y - 2.5, wide: wide + 5, high: high + 5 }, ink("--panel"), 1);
-    this.outline({ x: x - 1, y: y - 1, wide: wide + 2, high: high + 2 }, ink("--mark"), 2);
+    this.outline(box, ink("--panel"), 1, -2.5);
+    this.outline(box, ink("--mark"), 2, -1);
     Object.assign(pen, { font: "600 12px system-ui, sans-serif", textAlign: "left", textBaseline: "middle" });
     const text = pen.measureText(label).width;
     const end = area.x + area.width;
-    const right = Math.min(x + wide, end);
-    const left = right + text + 16 < end ? right + 6 : Math.max(area.x + 4, Math.min(x, end) - text - 14);
+    const right = Math.min(box.x + box.wide, end);
+    const before = Math.max(area.x + 4, Math.min(box.x, end) - text - 14);
+    const left = right + text + 16 < end ? right + 6 : before;
     pen.fillStyle = ink("--mark");
     pen.fillRect(left, middle - LABEL_PIXELS / 2, text + 8, LABEL_PIXELS);
     pen.fillStyle = ink("--panel");

@@ -11,7 +11,6 @@
  */
 import { counted, shown } from "../../reader/machine.mjs";
 import { symbolAt } from "../../worker/sample.mjs";
-import { signed } from "../dom.mjs";
 import { cellsOf, isSame, stepsOf } from "./scale.mjs";
 
 // The room of the axes: where the canvas is narrow less, but for the digits of as many steps as these.
@@ -175,10 +174,10 @@ export function placeWords(
   }
   const { steps, heads, states } = data.sample;
   const symbol = symbolAt(data.sample, k, position);
-  const head = heads[k] === position ? "the head is here" : `the head is at ${signed(heads[k])}`;
+  const head = heads[k] === position ? "the head is here" : `the head is at ${shown(heads[k])}`;
   const state = states[k] === "Z" ? "halted" : `state ${states[k]}`;
   const cell = symbol < 0 ? "not visited yet" : `symbol ${symbol}`;
-  return `Step ${shown(steps[k])}, ${state}; position ${signed(position)}: ${cell}; ${head}.`;
+  return `Step ${shown(steps[k])}, ${state}; position ${shown(position)}: ${cell}; ${head}.`;
 }
 
 /** What a picture of so many pixels shows, and how it is sampled and scaled. */

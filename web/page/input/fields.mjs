@@ -4,7 +4,9 @@ import { shown } from "../../reader/machine.mjs";
 import { LONGEST_SHOWN } from "../../reader/words.mjs";
 import { made, part } from "../dom.mjs";
 
-/** @type {("steps" | "cells" | "depth" | "nodes")[]} */
+/** @typedef {"steps" | "cells" | "depth" | "nodes"} Name of a limit */
+
+/** @type {Name[]} */
 const NAMES = ["steps", "cells", "depth", "nodes"];
 // What separates digits stands between groups of three.
 const GROUPS = /^\d{1,3}([,\s_])\d{3}(?:\1\d{3})*(?![\d,\s_])/;
@@ -20,13 +22,10 @@ const field = (/** @type {string} */ name) => /** @type {HTMLInputElement} */ (p
 
 export function makeFields() {
   for (const name of NAMES) {
-    const { least, most, usual } = RANGES[name];
-    const range = `${shown(Number(least))} to ${shown(Number(most))}`;
-    const input = made("input", { type: "text", id: name, value: String(usual), inputMode: "numeric" });
-    input.setAttribute("aria-describedby", `${name}-range`);
-    const words = made("p", { class: "hint", id: `${name}-range` }, range);
+    const described = { "aria-describedby": `${name}-range` };
+    const input = made("input", { type: "text", id: name, inputMode: "numeric", ...described });
     const label = made("label", { for: name }, `${name}: ${WHAT[name]}`);
-    part("fields").append(made("div", {}, label, input, words));
+    part("fields").append(made("div", {}, label, input, made("p", { id: `${name}-range` })));
   }
   part("limits").addEventListener("input", tellLimits);
 }
@@ -43,12 +42,8 @@ export function tellLimits() {
 
 /** Sets fields; those that aren't given get their defaults. */
 export function setPlan(/** @type {Record<string, any>} */ plan) {
-  NAMES.forEach((name) => {
-    field(name).value = String(plan[name] ?? RANGES[name].usual);
-  });
-  SWITCHES.forEach((name) => {
-    field(name).checked = plan[name] ?? true;
-  });
+  NAMES.forEach((name) => (field(name).value = String(plan[name] ?? RANGES[name].usual)));
+  SWITCHES.forEach((name) => (field(name).checked = plan[name] ?? true));
   forget();
   tellLimits();
 }
@@ -112,27 +107,25 @@ export function planOf() {
   return plan;
 }
 
+/** The range of a limit, in words. */
+const rangeOf = (/** @type {Name} */ name) =>
+  `${shown(Number(RANGES[name].least))} to ${shown(Number(RANGES[name].most))}`;
+
 /** Takes back what was said of fields. */
 function forget() {
   for (const name of NAMES) {
     field(name).removeAttribute("aria-invalid");
-    const { least, most } = RANGES[name];
-    const words = part(`${name}-range`);
-    words.textContent = `${shown(Number(least))} to ${shown(Number(most))}`;
-    words.className = "hint";
+    Object.assign(part(`${name}-range`), { textContent: rangeOf(name), className: "hint" });
   }
 }
 
 /** Says beside its field that a limit was refused, in the program's words, and what would do. */
 export function refuse(/** @type {string} */ limit, /** @type {string} */ message) {
-  const { least, most } = RANGES[/** @type {"steps"} */ (limit)];
-  const does = message.includes("fit")
-    ? `2 × depth − 1 is at most the cells`
-    : `${shown(Number(least))} to ${shown(Number(most))} would do`;
+  const range = `${rangeOf(/** @type {Name} */ (limit))} would do`;
+  const does = message.includes("fit") ? "2 × depth − 1 is at most the cells" : range;
   /** @type {HTMLDetailsElement} */ (part("limits")).open = true;
   field(limit).setAttribute("aria-invalid", "true");
-  part(`${limit}-range`).textContent = `${message}: ${does}`;
-  part(`${limit}-range`).className = "error";
+  Object.assign(part(`${limit}-range`), { textContent: `${message}: ${does}`, className: "error" });
   field(limit).focus();
 }
 
@@ -162,13 +155,7 @@ export function readLink(/** @type {string} */ hash) {
   if (machine === null) {
     return null;
   }
-  /** @type {Record<string, any>} */
-  const plan = {};
-  NAMES.filter((name) => words.has(name)).forEach((name) => {
-    plan[name] = words.get(name);
-  });
-  SWITCHES.filter((name) => words.get(name) === "off").forEach((name) => {
-    plan[name] = false;
-  });
-  return { machine: machine.slice(0, LONGEST_SHOWN), plan };
+  const limits = NAMES.filter((name) => words.has(name)).map((name) => [name, words.get(name)]);
+  const off = SWITCHES.filter((name) => words.get(name) === "off").map((name) => [name, false]);
+  return { machine: machine.slice(0, LONGEST_SHOWN), plan: Object.fromEntries([...limits, ...off]) };
 }

@@ -13,8 +13,9 @@ const NO_VERDICT_LINE =
 /**
  * @typedef {import("../../reader/machine.mjs").Verdict} Verdict
  * @typedef {import("../../reader/reading.mjs").Reading} Reading
- * @typedef {{text: string | null, number: number, form: import("../../reader/prepare.mjs").Form | null}} Given the line,
- *   null where it is the machine, its number, and the form by which lines are read, null where they aren't
+ * @typedef {import("../../reader/prepare.mjs").Form} Form
+ * @typedef {{text: string | null, number: number, form: Form | null}} Given the line, null where it is the
+ *   machine, its number, and the form by which lines are read, null where they aren't
  */
 
 /** Tells a line's text and, of a refused one, where and why it goes wrong. */

@@ -1,5 +1,5 @@
 /** The list that is given, as a text or a file, and the settings with which it is answered. */
-import { counted } from "../../reader/machine.mjs";
+import { counted, shown } from "../../reader/machine.mjs";
 import { BEGIN_BYTES, firstLines, formOf, hasVerdicts, isUtf8 } from "../../reader/prepare.mjs";
 import { part, setAside, showWords } from "../dom.mjs";
 import { FIRST_BYTES } from "../list/pieces.mjs";
@@ -50,19 +50,22 @@ export class Source {
 
   /** @returns {Form} the form by which the lines of a list are read that begins so */
   formOf(/** @type {Uint8Array} */ start) {
-    const asked = this.form.value;
-    const found = asked === "auto" ? formOf(firstLines(start)) : /** @type {Form} */ (asked);
-    return found ?? "text";
+    const asked = /** @type {Form | "auto"} */ (this.form.value);
+    return asked === "auto" ? formOf(firstLines(start)) ?? "text" : asked;
   }
 
   /** Has the button say what it does with the text, or with a file once its begin is read. */
   nameRun() {
     if (this.file === null) {
-      nameRun(this.modeOf(new TextEncoder().encode(this.list.value.slice(0, BEGIN_BYTES))));
+      this.nameMode(this.modeOf(new TextEncoder().encode(this.list.value.slice(0, BEGIN_BYTES))));
     } else {
       // A file that can't be read is told where it is run.
       this.given(BEGIN_BYTES).catch(() => undefined);
     }
+  }
+
+  nameMode(/** @type {Mode} */ mode) {
+    part("run").textContent = mode === "check" ? "Check" : "Decide";
   }
 
   /**
@@ -77,9 +80,7 @@ export class Source {
     const first = await blob.slice(0, bytes).arrayBuffer();
     const start = new Uint8Array(first, 0, Math.min(first.byteLength, BEGIN_BYTES));
     const mode = this.modeOf(start);
-    if (file === this.file) {
-      nameRun(mode);
-    }
+    file === this.file && this.nameMode(mode);
     return { blob, first, mode, form: this.formOf(start), isText: isUtf8(start) };
   }
 
@@ -116,8 +117,7 @@ export class Source {
   }
 
   tellGone(/** @type {string} */ name) {
-    const words = `${name} isn’t kept over a reload; choose it again.`;
-    showWords("list-gone", words);
+    showWords("list-gone", `${name} isn’t kept over a reload; choose it again.`);
     this.gone = name;
   }
 
@@ -140,9 +140,7 @@ export class Source {
 
   /** Gives the next list the defaults again, where the settings are an example's. */
   forgetExample() {
-    if (this.isExample) {
-      this.toDefaults();
-    }
+    this.isExample && this.toDefaults();
   }
 
   /** The settings are no example's any more; each can be chosen again. */
@@ -151,29 +149,19 @@ export class Source {
     /** @type {HTMLSelectElement} */ (part("examples")).value = "";
   }
 
-  /** Keeps list and settings for a reload. */
+  /** Keeps list and settings for a reload; where the browser keeps nothing, nothing is kept. */
   keep() {
-    const { gone, list, mode, clean, form, isExample } = this;
-    const { hash } = location;
-    const lines = { mode: mode.value, form: form.value, clean: clean.checked };
-    const settings = { plan: planWords(), ...lines, isExample };
-    keep({ text: list.value, gone, ...settings, hash });
-  }
-}
-
-function nameRun(/** @type {Mode} */ mode) {
-  part("run").textContent = mode === "check" ? "Check" : "Decide";
-}
-
-/** Keeps these for a reload; where the browser keeps nothing, nothing is kept. */
-export function keep(/** @type {Kept} */ { text, gone, ...settings }) {
-  const isShort = gone === "" && text.length <= MOST_CHARACTERS;
-  const named = gone || `The list of ${text.length.toLocaleString("en")} characters`;
-  const kept = { text: isShort ? text : "", gone: isShort ? "" : named, ...settings };
-  try {
-    sessionStorage.setItem(KEY, JSON.stringify(kept));
-  } catch {
-    forget();
+    const { list, mode, clean, form, isExample } = this;
+    const isShort = this.gone === "" && list.value.length <= MOST_CHARACTERS;
+    const gone = isShort ? "" : this.gone || `The list of ${shown(list.value.length)} characters`;
+    const lines = { mode: mode.value, form: form.value, clean: clean.checked, isExample };
+    const kept = { text: isShort ? list.value : "", gone, plan: planWords(), ...lines, hash: location.hash };
+    try {
+      sessionStorage.removeItem(KEY);
+      sessionStorage.setItem(KEY, JSON.stringify(kept));
+    } catch {
+      // There is no storage, or no room in it.
+    }
   }
 }
 
@@ -183,13 +171,5 @@ export function kept() {
     return JSON.parse(sessionStorage.getItem(KEY) ?? "null");
   } catch {
     return null;
-  }
-}
-
-export function forget() {
-  try {
-    sessionStorage.removeItem(KEY);
-  } catch {
-    // There is no storage then.
   }
 }

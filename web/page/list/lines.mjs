@@ -6,13 +6,12 @@ import { Rows } from "./rows.mjs";
 
 // How the time is called, in the browser's list, at which the page showed its first verdict.
 const FIRST_VERDICT = "first verdict";
-const UNDECIDED = KINDS.indexOf("undecided");
 
 /**
  * @typedef {import("./results.mjs").Results} Results
- * @typedef {{results: Results, form: import("../../reader/prepare.mjs").Form | null, isUnderWay: boolean}} Answered the
- *   answers to a list by now, by which form its lines were read, null where they weren't, and whether more
- *   come
+ * @typedef {import("../../reader/prepare.mjs").Form} Form
+ * @typedef {{results: Results, form: Form | null, isUnderWay: boolean}} Answered the answers to a list by now,
+ *   by which form its lines were read, null where they weren't, and whether more come
  */
 
 export class Lines {
@@ -170,7 +169,7 @@ export class Lines {
     const { rows } = this.rows;
     const { results } = this.answered();
     let place = this.rows.placeBeside(by);
-    const fits = () => !isUndecided || results.kindOf(rows[place]) === UNDECIDED;
+    const fits = () => !isUndecided || results.isUndecided(rows[place]);
     while (place >= 0 && place < rows.length && !fits()) {
       place += by;
     }

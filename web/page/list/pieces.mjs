@@ -1,5 +1,6 @@
 /** A list, read piece by piece, each of whole lines; and rows of one that are decided again. */
 import { countLines } from "../../lib/memory.mjs";
+import { joined } from "../../reader/prepare.mjs";
 import { BYTES_KEPT } from "../../reader/words.mjs";
 
 const NEWLINE = 10;
@@ -11,10 +12,7 @@ const PIECES_OF_A_WORKER = 12;
 const MOST_LINES = 4_096;
 const encoder = new TextEncoder();
 
-/**
- * A read has so many bytes at first, enough that each of four workers begins at once, then twice as many each
- * time.
- */
+/** The bytes of the first read, enough that each of four workers begins at once; each next one has twice. */
 export const FIRST_BYTES = 2_097_152;
 
 export class Pieces {
@@ -27,10 +25,7 @@ export class Pieces {
     this.size = Math.max(LEAST_BYTES, Math.min(MOST_BYTES, Math.ceil(blob.size / (12 * workers))));
     this.offset = first.byteLength;
     this.wanted = 2 * FIRST_BYTES;
-    /**
-     * What is read while the bytes before it are given out; null where nothing is.
-     * @type {Promise<ArrayBuffer> | null}
-     */
+    /** @type {Promise<ArrayBuffer> | null} what is read while the bytes before it are given out */
     this.ahead = Promise.resolve(first);
     this.held = new Uint8Array(0);
     this.skips = false;
@@ -48,7 +43,8 @@ export class Pieces {
         return this.held.length > 0 ? this.given(this.held.length) : null;
       }
       this.shorten();
-      this.hold(await this.read());
+      const bytes = await this.read();
+      this.held = this.held.length === 0 ? bytes : joined([this.held, bytes]);
     }
   }
 
@@ -97,17 +93,6 @@ export class Pieces {
     const newline = bytes.indexOf(NEWLINE);
     this.skips = newline < 0;
     return newline < 0 ? bytes.subarray(0, 0) : bytes.subarray(newline);
-  }
-
-  hold(/** @type {Uint8Array} */ bytes) {
-    if (this.held.length === 0) {
-      this.held = bytes;
-      return;
-    }
-    const held = new Uint8Array(this.held.length + bytes.length);
-    held.set(this.held);
-    held.set(bytes, this.held.length);
-    this.held = held;
   }
 }
 

@@ -5,8 +5,9 @@
  * @typedef {{bytes: Uint8Array, line: number}} Piece whole lines of a list, and the number of the first one
  * @typedef {Piece & {job: number, begin: number, done: number, nextLine: number}} Given a piece that a worker
  *   has: from which byte on it was sent, which one comes next, and the number of its line
- * @typedef {{worker: Worker, pieces: Given[], note: import("../../worker/worker.mjs").Note | null, since: number,
- *   held: number, taken: number, size: number | undefined}} Hand a worker, its pieces, what it began and
+ * @typedef {import("../../worker/worker.mjs").Note} Note
+ * @typedef {{worker: Worker, pieces: Given[], note: Note | null, since: number, held: number, taken: number,
+ *   size: number | undefined}} Hand a worker, its pieces, what it began and
  *   when, the memory of its engine in bytes, the milliseconds of its last batch, and how many bytes its next
  *   one has, where that is said
  * @typedef {{piece: () => Promise<Piece | null>, part: (part: Part, read: number) => void, end: () => void,

@@ -5,7 +5,7 @@
  * @typedef {{part: Part, line: number}} Place
  */
 import { ANSWERS, KINDS, readLine, unreadLine } from "../../reader/machine.mjs";
-import { lineAt } from "../../reader/prepare.mjs";
+import { joined, lineAt } from "../../reader/prepare.mjs";
 import { BYTES_KEPT, LONGEST_SHOWN } from "../../reader/words.mjs";
 import { startsOf, stepsIn } from "../../worker/replies.mjs";
 
@@ -55,8 +55,8 @@ export class Results {
   }
 
   /**
-   * Takes in a part of the first pass: of what it left undecided, and of backward reasoning, which comes last,
-   * the limits of the list may find another verdict.
+   * Takes in a part of the first pass: of what it left undecided, and of backward reasoning, which comes
+   * last, the limits of the list may find another verdict.
    */
   addFirst(/** @type {Part} */ part, /** @type {number} */ read) {
     const { kinds } = part;
@@ -103,8 +103,7 @@ export class Results {
   }
 
   openRows() {
-    const isOpen = Uint8Array.from([0, 1]);
-    return this.rowsBy((part) => part.plans ?? new Uint8Array(part.kinds.length), isOpen);
+    return this.rowsBy(({ plans }, line) => plans?.[line] === FIRST_PASS);
   }
 
   machineAt(/** @type {number} */ row) {
@@ -142,15 +141,16 @@ export class Results {
     return at < 0 ? -1 : this.begins[at] + line;
   }
 
-  kindOf(/** @type {number} */ row) {
+  /** Whether a row is undecided. */
+  isUndecided(/** @type {number} */ row) {
     const { part, line } = this.place(row);
-    return part.kinds[line];
+    return part.kinds[line] === UNDECIDED;
   }
 
   /** Whether a row is undecided by the first pass, and waits for the second one. */
   isWaiting(/** @type {number} */ row) {
     const { part, line } = this.place(row);
-    return part.plans?.[line] === FIRST_PASS && part.kinds[line] === UNDECIDED;
+    return part.plans?.[line] === FIRST_PASS && this.isUndecided(row);
   }
 
   /** Whether the first line of the list has come: no piece before it has one that comes later. */
@@ -195,31 +195,28 @@ export class Results {
   /** All rows, in order, in a list that is kept. */
   allRows() {
     if (this.numbers.length < this.lines) {
-      this.numbers = numbersTo(Math.max(this.lines, 2 * this.numbers.length));
+      this.numbers = new Uint32Array(Math.max(this.lines, 2 * this.numbers.length)).map((_, k) => k);
     }
     return this.numbers.subarray(0, this.lines);
   }
 
   /** The rows of these kinds, in order. */
   rows(/** @type {Set<number>} */ kinds) {
-    if (this.counts.every((count, kind) => count === 0 || kinds.has(kind))) {
-      return this.allRows();
-    }
-    return this.rowsBy((part) => part.kinds, Uint8Array.from(KINDS, (_, kind) => (kinds.has(kind) ? 1 : 0)));
+    const isAll = this.counts.every((count, kind) => count === 0 || kinds.has(kind));
+    return isAll ? this.allRows() : this.rowsBy(({ kinds: own }, line) => kinds.has(own[line]));
   }
 
-  /**
-   * The rows whose numbers are among those that are shown, in order.
-   * @param {(part: Part) => Uint8Array} numbers of each line of a part
-   * @param {Uint8Array} isShown for each number 1 or 0
-   */
-  rowsBy(numbers, isShown) {
+  /** The rows that are so, in order. */
+  rowsBy(/** @type {(part: Part, line: number) => boolean} */ isIn) {
     const rows = new Uint32Array(this.lines);
-    let [count, begin] = [0, 0];
-    for (const part of this.parts()) {
-      count = addRows(rows, count, numbers(part), begin, isShown);
-      begin += part.kinds.length;
-    }
+    let [count, row] = [0, 0];
+    this.parts().forEach((part) =>
+      part.kinds.forEach((_, line) => {
+        rows[count] = row;
+        row += 1;
+        count += isIn(part, line) ? 1 : 0;
+      }),
+    );
     return rows.subarray(0, count);
   }
 
@@ -241,7 +238,9 @@ export class Results {
         begun = performance.now();
       }
     }
-    return taken(all, rows);
+    const steps = new Float64Array(rows.length);
+    rows.forEach((row, k) => (steps[k] = all[row]));
+    return steps;
   }
 
   /** All that the program would write, without lines that only the first pass has answered. */
@@ -250,37 +249,6 @@ export class Results {
     const bytes = (/** @type {Part} */ part) => (part.plans ? linesOf(part, all) : [part.bytes]);
     return new Blob(this.parts().flatMap(bytes), { type: "text/plain" });
   }
-}
-
-function taken(/** @type {Float64Array} */ numbers, /** @type {Uint32Array} */ places) {
-  const found = new Float64Array(places.length);
-  for (let k = 0; k < places.length; k += 1) {
-    found[k] = numbers[places[k]];
-  }
-  return found;
-}
-
-function numbersTo(/** @type {number} */ count) {
-  const numbers = new Uint32Array(count);
-  for (let k = 0; k < count; k += 1) {
-    numbers[k] = k;
-  }
-  return numbers;
-}
-
-/**
- * Adds the numbers of a part's lines whose kinds are shown, and gives how many there are then.
- * @param {Uint32Array} rows @param {number} count of rows that are there
- * @param {Uint8Array} kinds @param {number} begin number of the part's first line
- * @param {Uint8Array} isShown for each kind 1 or 0
- */
-function addRows(rows, count, kinds, begin, isShown) {
-  let end = count;
-  for (let k = 0; k < kinds.length; k += 1) {
-    rows[end] = begin + k;
-    end += isShown[kinds[k]] ?? 0;
-  }
-  return end;
 }
 
 const rest = () => new Promise((done) => setTimeout(done));
@@ -299,16 +267,6 @@ function linesOf(/** @type {Part} */ part, /** @type {Set<number>} */ kinds) {
     begin = isIn ? (begin < 0 ? k : begin) : -1;
   }
   return found;
-}
-
-function joined(/** @type {Uint8Array[]} */ arrays) {
-  const bytes = new Uint8Array(arrays.reduce((sum, { length }) => sum + length, 0));
-  let at = 0;
-  for (const array of arrays) {
-    bytes.set(array, at);
-    at += array.length;
-  }
-  return bytes;
 }
 
 /**

@@ -2,8 +2,8 @@
  * The table of lines: only the rows that are seen stand in the page, so a list of millions scrolls.
  *
  * @typedef {import("./results.mjs").Results} Results
- * @typedef {{element: HTMLElement, of: import("../../worker/worker.mjs").Part, line: number, bytes: Uint8Array,
- *   isChosen: boolean}} Drawn a row that stands in the page, and of which line of which part it is, with the
+ * @typedef {import("../../worker/worker.mjs").Part} Part
+ * @typedef {{element: HTMLElement, of: Part, line: number, bytes: Uint8Array, isChosen: boolean}} Drawn a row that stands in the page, and of which line of which part it is, with the
  *   bytes that the part had
  */
 import { shown } from "../../reader/machine.mjs";

@@ -1,8 +1,9 @@
 /**
  * How far a list is, in words.
  *
- * @typedef {{mode: "decide" | "check", plan: Record<string, any>, form: import("../../reader/prepare.mjs").Form | null,
- *   isText: boolean, size: number, begun: number, taken: number}} Run a list that is worked on: the form by
+ * @typedef {import("../../reader/prepare.mjs").Form} Form
+ * @typedef {{mode: "decide" | "check", plan: Record<string, any>, form: Form | null, isText: boolean,
+ *   size: number, begun: number, taken: number}} Run a list that is worked on: the form by
  *   which its lines are read, null where they aren't; whether it begins as text in UTF-8; its bytes, the
  *   milliseconds at which the work began, and those that it took; 0 while it is under way
  */

@@ -2,7 +2,6 @@
 import { KINDS, counted } from "../../reader/machine.mjs";
 import { part, setAside, showWords, tellLive } from "../dom.mjs";
 import { larger, refuse } from "../input/fields.mjs";
-import { ListError } from "../input/files.mjs";
 import { makeReady } from "../workers.mjs";
 import { Holdouts, Pieces } from "./pieces.mjs";
 import { Pool } from "./pool.mjs";
@@ -24,19 +23,19 @@ const UNDECIDED = KINDS.indexOf("undecided");
 const FIRST_STEPS = 1_000n;
 const NO_MEMORY =
   "Out of memory. What was decided until then stays. Fewer cells would do, or a browser with more memory.";
-
 const NO_FILE = "It could not be read: a folder, or a file that has changed since. Choose a file again.";
 
 /** What went wrong, in words that say what would do. */
 export function failureWords(/** @type {{error: string, message: string}} */ { error, message }) {
-  if (error === "MemoryError" || error === "RangeError") {
-    return NO_MEMORY;
-  }
-  if (error === ListError.name) {
-    return message;
-  }
-  const isUnread = error === "NotReadableError" || error === "NotFoundError";
-  return isUnread ? NO_FILE : `The engine ended: ${message}`;
+  /** @type {Record<string, string>} */
+  const words = {
+    MemoryError: NO_MEMORY,
+    RangeError: NO_MEMORY,
+    NotReadableError: NO_FILE,
+    NotFoundError: NO_FILE,
+    ListError: message,
+  };
+  return words[error] ?? `The engine ended: ${message}`;
 }
 
 /** Says what went wrong, above the results. */
@@ -73,10 +72,10 @@ export class Work {
 
   /**
    * Has workers answer a list.
-   * @param {Blob} blob @param {ArrayBuffer} first its first bytes, as `Pieces` takes them
+   * @param {Blob} blob @param {ArrayBuffer} start its first bytes, as `Pieces` takes them
    * @param {Asked} asked @param {boolean} isText whether it begins as text in UTF-8
    */
-  begin(blob, first, asked, isText) {
+  begin(blob, start, asked, isText) {
     const { mode, plan, clean } = asked;
     const form = clean ? asked.form : null;
     this.run = { mode, plan, form, isText, size: blob.size, begun: performance.now(), taken: 0 };
@@ -85,9 +84,10 @@ export class Work {
     this.results = new Results(plan);
     this.isShown = false;
     part("results").hidden = false;
-    const source = new Pieces(blob, first, workersFor(blob.size));
+    const source = new Pieces(blob, start, workersFor(blob.size));
     const isFirst = mode === "decide" && plan.steps > FIRST_STEPS;
-    this.beginPool(workersFor(blob.size), isFirst ? { ...asked, plan: { ...plan, steps: FIRST_STEPS } } : asked, {
+    const first = { ...asked, plan: { ...plan, steps: FIRST_STEPS } };
+    this.beginPool(workersFor(blob.size), isFirst ? first : asked, {
       piece: () => source.next(),
       part: (one, read) => (isFirst ? this.results.addFirst(one, read) : this.results.add(one, read)),
       end: () => this.decideRows(this.results.openRows(), plan, 0),
@@ -161,11 +161,8 @@ export class Work {
   /** What can't be done is said, a refused limit beside its field. */
   failed(/** @type {{error: string, message: string, limit?: string}} */ told) {
     this.ended("Ended");
-    if (told.error === "LimitsError" && told.limit !== undefined) {
-      refuse(told.limit, told.message);
-    } else {
-      tell(failureWords(told));
-    }
+    const { error, message, limit } = told;
+    error === "LimitsError" && limit !== undefined ? refuse(limit, message) : tell(failureWords(told));
   }
 
   stop() {

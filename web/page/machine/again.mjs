@@ -4,14 +4,17 @@ import { part, setAside, showWords } from "../dom.mjs";
 import { larger } from "../input/fields.mjs";
 import { Asker } from "../workers.mjs";
 
-/** @typedef {import("./view.mjs").About} About */
+/**
+ * @typedef {import("./view.mjs").About} About
+ * @typedef {import("../../worker/worker.mjs").Part} Part
+ */
 
 const WORDS = "Decide again with larger limits";
 
 export class Again {
   /**
-   * @param {(about: About, by: import("../../worker/worker.mjs").Part) => boolean} done shows the new verdict, and puts
-   *   its line into the list, if it can
+   * @param {(about: About, by: Part) => boolean} done shows the new verdict, and puts its line into the list,
+   *   if it can
    */
   constructor(done) {
     this.done = done;
@@ -49,7 +52,8 @@ export class Again {
       const { verdict } = readLine(answer.line);
       this.about = { machine: about.machine, verdict, answer: answer.answer, plan };
       const isIn = this.done(this.about, answer.part);
-      showWords("again-text", `With ${limits}: ${verdict.text}. ${isIn ? "Its row has it, marked." : "The list stays."}`);
+      const where = isIn ? "Its row has it, marked." : "The list stays.";
+      showWords("again-text", `With ${limits}: ${verdict.text}. ${where}`);
       setAside("again", "hidden", verdict.kind !== "undecided", "copy-text");
     });
   }

@@ -6,8 +6,8 @@
  * @typedef {{machine: string, cells: number, steps: number, verdict: Verdict, isConfirmed: boolean}} About
  * @typedef {{growth: string, steps: number, visited: number[]}} Growth
  */
-import { counted, machineOf, shown, stateLetter } from "../../reader/machine.mjs";
-import { made, part, signed } from "../dom.mjs";
+import { counted, entryText, machineOf, shown } from "../../reader/machine.mjs";
+import { made, part } from "../dom.mjs";
 import { Asker } from "../workers.mjs";
 
 const NORMAL_STEPS = 10_000;
@@ -57,8 +57,7 @@ export function normalOf(/** @type {string} */ text) {
   const order = [...used, ...Array.from({ length: states }, (_, k) => k).filter((k) => !used.includes(k))];
   const groups = order.map((state) =>
     rules.slice(state * symbols, (state + 1) * symbols).map(({ entry }) => {
-      const next = entry === null || entry.next < 0 ? -1 : order.indexOf(entry.next);
-      return entry === null ? "---" : `${entry.write}${entry.move > 0 ? "R" : "L"}${stateLetter(next)}`;
+      return entryText(entry && { ...entry, next: entry.next < 0 ? -1 : order.indexOf(entry.next) });
     }),
   );
   const form = groups.map((entries) => entries.join("")).join("_");
@@ -150,7 +149,7 @@ function askLater(/** @type {About} */ about) {
     }
     part("fact-completions").textContent = completionsWords(about, row.state);
     const isWithout = kind === "translated" && numbers[2] === undefined;
-    const place = `state ${row.state}, head at ${signed(BigInt(row.head) + farther)}`;
+    const place = `state ${row.state}, head at ${shown(BigInt(row.head) + farther)}`;
     const later = kind === "halt" ? "It halted before." : isWithout ? "The line has no shift." : `${place}.`;
     part("fact-later").textContent = later;
   });

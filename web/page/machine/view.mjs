@@ -1,5 +1,5 @@
 /** The view of one machine: its verdict in words, diagram, tape and table, and what stands behind. */
-import { machineOf, sentence, stateLetter } from "../../reader/machine.mjs";
+import { entryText, machineOf, sentence, stateLetter } from "../../reader/machine.mjs";
 import { Diagram } from "../diagram/diagram.mjs";
 import { listen } from "../diagram/gestures.mjs";
 import { ZOOM } from "../diagram/scale.mjs";
@@ -54,7 +54,7 @@ export class View {
       "zoom-in": () => diagram.zoom(ZOOM),
       "zoom-out": () => diagram.zoom(1 / ZOOM),
       fit: () => diagram.fit(),
-      marked: () => diagram.reopen(),
+      marked: () => diagram.fit(true),
       png: async () => save(/** @type {Blob} */ (await diagram.png()), `${this.about?.machine}.png`),
       "copy-png": () => copyPicture(diagram.png(), part("copy-png")),
       "copy-text": () => copy(this.about?.machine ?? "", part("copy-text")),
@@ -77,7 +77,6 @@ export class View {
     part("machine").hidden = false;
     part("machine-text").textContent = machine;
     part("machine-says").textContent = `${doubtOf(about)}${sentence(verdict)}`;
-    part("machine-says").classList.toggle("doubted", isMachine && doubtOf(about) !== "");
     tellGiven(given, verdict);
     document.querySelectorAll(".picture, .columns, #tape, #about, #machine-links").forEach((box) => {
       /** @type {HTMLElement} */ (box).hidden = !isMachine;
@@ -187,17 +186,13 @@ function tableOf(/** @type {import("../../reader/machine.mjs").Machine} */ machi
   const head = made("tr", {}, made("td", { "aria-label": "state and symbol" }), ...symbols);
   const rows = Array.from({ length: machine.states }, (_, state) => {
     const entries = machine.rules.slice(state * machine.symbols, (state + 1) * machine.symbols);
-    const cells = entries.map(({ symbol, entry }) => {
-      const given = { "data-entry": `${stateLetter(state)}${symbol}` };
-      return made("td", given, entry === null ? "---" : entryText(entry));
-    });
+    const cells = entries.map(({ symbol, entry }) =>
+      made("td", { "data-entry": `${stateLetter(state)}${symbol}` }, entryText(entry)),
+    );
     return made("tr", {}, made("th", { scope: "row" }, stateLetter(state)), ...cells);
   });
   return made("table", {}, head, ...rows);
 }
-
-const entryText = (/** @type {import("../../reader/machine.mjs").Entry} */ { write, move, next }) =>
-  `${write}${move > 0 ? "R" : "L"}${stateLetter(next)}`;
 
 function legendOf(/** @type {import("../../reader/machine.mjs").Machine} */ { symbols }) {
   const names = Array.from({ length: symbols }, (_, symbol) => [`s${symbol}`, String(symbol)]);

@@ -7,6 +7,7 @@ import { cellOf, entryAt, markEntry, wordsOf } from "./taperow.mjs";
 
 /**
  * @typedef {import("../../worker/traced.mjs").Row} Row
+ * @typedef {import("../diagram/places.mjs").Place} Place
  * @typedef {{machine: string, cells: number, last: number}} About `last` is the last step that may be shown
  */
 
@@ -17,7 +18,7 @@ const CELL_PIXELS = 26;
 const PACE_MILLISECONDS = 250;
 
 export class Tape {
-  /** @param {(place: import("../diagram/diagram.mjs").Place, closes: boolean) => void} went follows a step's change */
+  /** @param {(place: Place, closes: boolean) => void} went follows a step's change */
   constructor(went) {
     this.went = went;
     this.asker = new Asker();

@@ -3,8 +3,8 @@
  *
  * @typedef {import("../../worker/traced.mjs").Row} Row
  */
-import { machineOf, shown, stateLetter } from "../../reader/machine.mjs";
-import { made, signed } from "../dom.mjs";
+import { entryText, machineOf, shown, stateLetter } from "../../reader/machine.mjs";
+import { made } from "../dom.mjs";
 
 const symbolOf = (/** @type {Row} */ { cells, head, low }) => cells[head - low] ?? 0;
 
@@ -31,17 +31,16 @@ export function markEntry(/** @type {Row} */ row) {
 export function wordsOf(/** @type {Row} */ row, /** @type {string} */ machine) {
   const head = `Step ${shown(row.step)}: `;
   if (row.state === "Z") {
-    return `${head}halted, at position ${signed(row.head)}.`;
+    return `${head}halted, at position ${shown(row.head)}.`;
   }
   const entry = entryAt(row, machine);
-  const now = `${head}state ${row.state} reads ${symbolOf(row)} at position ${signed(row.head)}`;
+  const now = `${head}state ${row.state} reads ${symbolOf(row)} at position ${shown(row.head)}`;
   if (entry === null) {
     return `${now}; no entry is defined there, so it halts.`;
   }
   const { write, move, next } = entry;
-  const code = `${write}${move > 0 ? "R" : "L"}${stateLetter(next)}`;
   const goes = next < 0 ? "halts" : `goes to ${stateLetter(next)}`;
-  return `${now}; ${code}: it writes ${write}, moves ${move > 0 ? "right" : "left"} and ${goes}.`;
+  return `${now}; ${entryText(entry)}: it writes ${write}, moves ${move > 0 ? "right" : "left"} and ${goes}.`;
 }
 
 /** A cell of the tape with its symbol's colour; the head's has the state above it. */
@@ -55,6 +54,6 @@ export function cellOf(/** @type {Row} */ row, /** @type {number} */ at) {
     cell.style.background = `var(--s${symbol})`;
     cell.style.color = `var(--on${symbol})`;
   }
-  const position = made("span", { class: "position" }, at % 5 === 0 ? signed(at) : "");
+  const position = made("span", { class: "position" }, at % 5 === 0 ? shown(at) : "");
   return made("span", { class: isHead ? "cell head" : "cell", "data-at": at }, state, cell, position);
 }
