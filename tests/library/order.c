@@ -1,5 +1,5 @@
-/* Calls `bb_trace` with parameters in the order of the header, which TRACE_PARAMETERS has, and reads each count
- * of `bb_look` by its name. The arguments: a machine, four numbers, a list and replies to it. */
+/* Calls `bb_trace` with parameters in the order of the header, which TRACE_PARAMETERS has, and prints each
+ * count of `bb_look` by its name. The arguments: a machine, four numbers, a list and replies to it. */
 #include <stdio.h>
 #include <stdlib.h>
 #include <string.h>
@@ -7,6 +7,7 @@
 #include "bb.h"
 
 #define ROOM 4096
+#define PRINT(count) printf(#count " %d\n", (int)counts[count])
 
 static const uint8_t *bytes(const char *text) { return (const uint8_t *)text; }
 
@@ -29,13 +30,13 @@ static void print_counts(const char *list, const char *replies) {
         printf("not clean\n");
         return;
     }
-    printf("BB_COUNT_HALT %d\n", (int)counts[BB_COUNT_HALT]);
-    printf("BB_COUNT_CYCLER %d\n", (int)counts[BB_COUNT_CYCLER]);
-    printf("BB_COUNT_TRANSLATED %d\n", (int)counts[BB_COUNT_TRANSLATED]);
-    printf("BB_COUNT_BACKWARD %d\n", (int)counts[BB_COUNT_BACKWARD]);
-    printf("BB_COUNT_UNDECIDED_STEPS %d\n", (int)counts[BB_COUNT_UNDECIDED_STEPS]);
-    printf("BB_COUNT_UNDECIDED_CELLS %d\n", (int)counts[BB_COUNT_UNDECIDED_CELLS]);
-    printf("BB_COUNT_REFUSED %d\n", (int)counts[BB_COUNT_REFUSED]);
+    PRINT(BB_COUNT_HALT);
+    PRINT(BB_COUNT_CYCLER);
+    PRINT(BB_COUNT_TRANSLATED);
+    PRINT(BB_COUNT_BACKWARD);
+    PRINT(BB_COUNT_UNDECIDED_STEPS);
+    PRINT(BB_COUNT_UNDECIDED_CELLS);
+    PRINT(BB_COUNT_REFUSED);
 }
 
 int main(int argc, char **argv) {
