@@ -39,8 +39,8 @@ cover: crates/cover/out/proved ## prove and build the program that checks whethe
 lister: tools/out/tree_normal_form ## build the program that lists machines in tree normal form
 
 tools/out/tree_normal_form: tools/tree_normal_form.rs
-	@mkdir -p tools/out; part=$$(mktemp -d tools/out/XXXXXX); trap 'rm -rf "$$part"' EXIT; \
-	MAKEFLAGS= rustc -O --edition 2021 -o "$$part/lister" $< && mv "$$part/lister" $@
+	@mkdir -p tools/out
+	rustc -O --edition 2021 -o $@ $<
 
 ## The library
 
