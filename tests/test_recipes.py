@@ -15,12 +15,12 @@ import signal
 import subprocess
 import sys
 import time
-from typing import Dict, List, Tuple, Union
+from typing import Callable, Dict, List, Tuple, Union
 
 import pytest
 from support import TOP, require, restore_signals
 from support.machines import mixed
-from support.program import GREATEST, Ended, ended, options, options_of_pass
+from support.program import GREATEST, Ended, as_lines, ended, options, options_of_pass
 
 # How many blocks of commands stand under each heading.
 COUNTS = {
@@ -320,10 +320,9 @@ def test_publishing_what_was_decided(folder: Folder) -> None:
 
 
 @pytest.fixture(scope="module")
-def long_list(bb: str) -> bytes:
+def long_list(bb: str, list_machines: Callable[..., List[str]]) -> bytes:
     """Some two megabytes of machines that halt, and a line that is refused."""
-    machines = (TOP / "examples" / "three_states" / "lines.txt").read_bytes()
-    verdicts = ended([bb, "decide", "--steps=1000"], machines).output.splitlines()
+    verdicts = ended([bb, "decide", "--steps=1000"], as_lines(list_machines(3))).output.splitlines()
     halts = [line.split()[0] for line in verdicts if line.split()[1] == b"halt"]
     return b"".join(line + b"\n" for line in halts * 60 + [b"x"] + halts)
 
