@@ -35,7 +35,7 @@ IN = re.compile(r"(%s)(?: of %s)? in `([^` ]+\.\w+)`" % (LIST, LIST))
 FORMER = r"`[^`]+` is gone|`[^`]+` is (?=`)|\(it was `[^`]+`\)|in place of `[^`]+`|constants `[^`]+` are"
 VERDICT = r"(?:<machine> |[\dA-Z_-]+ )?([a-z]+)(?: [LR])?(?: (?:\d+|<[\w ]+>|steps|cells))+"
 FILE = r"[\w./-]*/[\w./-]*|[\w.-]*\.(?:rt|antt|edit|md|py|mjs|html|h|c|rs|v|ml|txt|png|svg|wasm|a|so)"
-COMMAND = r"\./\w+ |(?:bb|budlarem|make) |(?:coq|tools|benchmarks|scripts)/\S+ "
+COMMAND = r"\./\w+ |(?:bb|budlarem|make(?! -)) |(?:coq|tools|benchmarks|scripts)/\S+ "
 VERSION = r'^(?:#define BB_VERSION "|VERSION = "|## |.*(?:\.version\("|"bb ))([0-9.]+)'
 VERSIONED = """crates/bb_command/src/command.rt crates/cover/src/command.rt crates/bb/src/tests.rt docs/bb.1
     include/bb.h python/src/budlarem/_version.py CHANGELOG.md""".split()
