@@ -16,6 +16,7 @@ from typing import Dict, List, Tuple
 import pytest
 from support import TOP
 from support.program import Ended, ended
+from support.simulation import insert_low
 
 HEADER = (TOP / "include" / "bb.h").read_text(encoding="utf-8")
 SOURCES = TOP / "tests" / "library"
@@ -76,7 +77,7 @@ def right(bb: str) -> bytes:
     whole = ended([bb, "trace", *limits, "--", MACHINE])
     lines = whole.output.splitlines(keepends=True)[GIVEN["from"] :: GIVEN["every"]]
     counts = "".join("%s %d\n" % (name, count) for count, name in enumerate(KINDS, 1))
-    return b"".join(lines) + b"status %d\n" % whole.status + counts.encode()
+    return insert_low(MACHINE, b"".join(lines)) + b"status %d\n" % whole.status + counts.encode()
 
 
 @pytest.mark.needs("gcc")

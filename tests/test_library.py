@@ -12,7 +12,7 @@ import budlarem
 import pytest
 from support import TOP, require
 from support.program import as_lines, begins_modulo_64, ended, replies
-from support.simulation import compare_lines
+from support.simulation import compare_lines, insert_low
 
 LIMITS = ["--steps", "1000", "--cells", "200", "--depth", "60"]
 SMALL = ["--steps", "1000", "--cells", "64", "--depth", "30", "--nodes", "1000"]
@@ -109,7 +109,8 @@ def test_example_decides_all_machines_of_two_states(bb: str, compile_source: Com
 def test_example_traces(bb: str, compile_source: Compile) -> None:
     require("valgrind")
     command = [*VALGRIND, compile_source("examples/c/trace.c")]
-    assert ended([*command, MACHINES[0], "5"]) == ended([bb, "trace", "--upto", "5", MACHINES[0]])
+    whole = ended([bb, "trace", "--upto", "5", MACHINES[0]]).output
+    assert ended([*command, MACHINES[0], "5"]) == (0, insert_low(MACHINES[0], whole), b"")
     assert ended([*command, "", "5", "2"]) == (1, b"refused 1\n", b"")
     assert ended([*command, MACHINES[0], "5", "0"])[:2] == (2, b"")
 

@@ -13,7 +13,7 @@ static const char LIST[] = "1RB1LB_1LA1RZ\n1RA1RA\n\n0RB---_0LA---";
 static const char VERDICTS[] =
     "1RB1LB_1LA1RZ halt 6 4\n1RA1RA translated R 1 2 1 1\nrefused 1\n0RB---_0LA--- cycler 2 4\n";
 static const char ANSWERS[] = "ok\nok\nopen\nok\n";
-static const char MACHINE[] = "1RB1LB_1LA1RZ", THREE[] = "0 A 0 0\n3 B -1 011\n6 Z 0 1111\n";
+static const char MACHINE[] = "1RB1LB_1LA1RZ", THREE[] = "0 A 0 0 0\n3 B -1 -1 011\n6 Z 0 -2 1111\n";
 
 /* What each call writes to, and the count that it gives. */
 static __thread uint8_t out[ROOM];
@@ -104,13 +104,13 @@ static void require_traces(void) {
     REQUIRE(lacked(trace(MACHINE, 0, 3, 0), whole));
     REQUIRE(wrote(trace(MACHINE, 7, 1, ROOM), BB_CLEAN, ""));
     REQUIRE(wrote(trace(MACHINE, UINT64_MAX, 9, 0), BB_CLEAN, ""));
-    REQUIRE(wrote(trace(MACHINE, 2, UINT64_MAX, ROOM), BB_CLEAN, "2 A 0 11\n"));
+    REQUIRE(wrote(trace(MACHINE, 2, UINT64_MAX, ROOM), BB_CLEAN, "2 A 0 0 11\n"));
     REQUIRE(wrote(trace("1RZ---\n", 9, 9, ROOM), BB_NOT_CLEAN, "refused 7\n"));
     REQUIRE(wrote(trace(MACHINE, 0, 0, ROOM), BB_LIMITS, ""));
     REQUIRE(wrote(trace("", 0, 0, ROOM), BB_LIMITS, ""));
     reset();
     uint32_t cut = bb_trace(9, 2, 1, 1, bytes("1RA1RA"), 6, out, ROOM, &count);
-    REQUIRE(wrote(cut, BB_NOT_CLEAN, "1 A 1 10\n"));
+    REQUIRE(wrote(cut, BB_NOT_CLEAN, "1 A 1 0 10\n"));
 }
 
 /* Whether a call refused its limits, counted nothing and wrote nothing. */

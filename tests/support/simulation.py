@@ -39,6 +39,13 @@ def simulate(
             low, high = min(low, head), max(high, head)
 
 
+def insert_low(machine: str, trace: bytes) -> bytes:
+    """Turn lines of the program's trace into the library's, which have the window's lowest position too."""
+    rows = [line.split(b" ") for line in trace.splitlines()]
+    lows = [now.low for now in simulate(machine, int(rows[-1][0]))]
+    return b"".join(b" ".join([*row[:3], b"%d" % lows[int(row[0])], *row[3:]]) + b"\n" for row in rows)
+
+
 def compare_lines(
     name: str, found: Sequence[str], expected: Sequence[str], given: Sequence[str] = ()
 ) -> None:
