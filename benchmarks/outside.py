@@ -20,9 +20,9 @@ from typing import Any, Callable, Dict, Iterator, List, Optional, Tuple
 
 sys.path.insert(0, str(pathlib.Path(__file__).resolve().parents[1]))
 
-import budlarem  # noqa: E402
 from benchmarks.measuring import NULL, TOP, Table, clock, has, list_machines, make, parser  # noqa: E402
 from benchmarks.measuring import program_of, run, use_library  # noqa: E402
+import budlarem  # noqa: E402
 from budlarem._library import Room, look  # noqa: E402
 from support.browser import Page  # noqa: E402
 from support.examples import README  # noqa: E402
