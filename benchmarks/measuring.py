@@ -75,7 +75,7 @@ def run(*commands: Command) -> Cost:
     began, used, processes = time.monotonic(), 0.0, []
     for command, given, written in commands:
         with open(given, "rb") as stdin, open(written, "wb") as stdout:
-            processes.append(subprocess.Popen(command, stdin=stdin, stdout=stdout))
+            processes.append(subprocess.Popen(command, stdin=stdin, stdout=stdout, stderr=subprocess.DEVNULL))
     for process in processes:
         _, status, usage = os.wait4(process.pid, 0)
         process.returncode = os.waitstatus_to_exitcode(status)

@@ -3,9 +3,8 @@
 
     benchmarks/runner.py [PROGRAM] [--threads N] [--runs N] [--lines N] [--part PART]...
 
-The lists are the machines of four states in tree normal form, and 200,000 random ones of five (--lines takes
-fewer of each). Ways that write verdicts must write the same; the least of the runs counts, on a quiet
-machine. It takes some minutes. The status is 1 where a figure doesn't hold its bar. The parts:
+The lists are the machines of four states in tree normal form, and 200,000 random ones of five. Ways that write
+verdicts must write the same; the least of the runs counts. The status is 1 where a bar doesn't hold. The parts:
 
 - `memory`: of the runner over a list, and over one of ten times as many lines.
 - `bars`: beside the program, processes of it, and GNU parallel, over all of four states twenty times; what
@@ -197,7 +196,7 @@ def measure_waiting(bench: Bench, folder: pathlib.Path, share: float) -> None:
 def main() -> int:
     words = parser(__doc__, runs=5, parts=PARTS)
     words.add_argument("--threads", type=int, default=os.cpu_count(), help="default: all cores")
-    words.add_argument("--lines", type=int, default=10**6, help="of each list at most")
+    words.add_argument("--lines", type=int, default=10**6, help="of each list, at most")
     asked = words.parse_args()
     if not has("the runner", "parallel", "rustc", modules=("distributed",)):
         return 1
