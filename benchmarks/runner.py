@@ -3,8 +3,8 @@
 
     benchmarks/runner.py [PROGRAM] [--threads N] [--runs N] [--lines N] [--part PART]...
 
-The lists are the machines of four states in tree normal form, and 200,000 random ones of five. Ways that write
-verdicts must write the same; the least of the runs counts. The status is 1 where a bar doesn't hold. The parts:
+The lists are the machines of four states in tree normal form, and 200,000 random ones of five. Ways that
+write verdicts must write the same; the least of the runs counts. The status is 1 where a bar fails. The parts:
 
 - `memory`: of the runner over a list, and over one of ten times as many lines.
 - `bars`: beside the program, processes of it, and GNU parallel, over all of four states twenty times; what

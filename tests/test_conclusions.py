@@ -1,9 +1,9 @@
 """Conclusions from verdicts: about mirrored, renamed and completed machines, later steps and other starts.
 
 The machines are those of two states and two symbols: every seventh, or all. A renaming keeps A and 0, so
-machines are padded to three states and symbols first. What only looks alike is tried too, and must differ for
-some machine: a renaming that moves A or 0, a completion that fills the `---` on which the machine halts, h - 1
-steps where a tree has h levels, and the tree of a completion.
+machines are padded to three states and symbols first. What only looks alike is tried too, and must differ
+for some machine: a renaming that moves A or 0, a completion that fills the `---` on which the machine halts,
+h - 1 steps where a tree has h levels, and the tree of a completion.
 """
 
 from __future__ import annotations

@@ -65,8 +65,8 @@ def test_list_of_one_line_covers_one_state(cover: str) -> None:
     assert ended([cover], as_lines([line])) == (0, summarize(1, 2, [line]).encode(), b"")
 
 
-# Each makes a change at a line, counted from 0, and returns the list and the line, counted from 1, at which it
-# isn't a walk any more.
+# Each makes a change at a line, counted from 0, and returns the list and the line, counted from 1, at which
+# it isn't a walk any more.
 
 
 def leave_out(lines: List[str], at: int, _: random.Random) -> Changed:

@@ -1,4 +1,4 @@
-"""Machines in few cells, whose verdicts are derived anew by the definitions of a run, a halt, a span and a cycle.
+"""Machines in few cells, whose verdicts are derived anew by the definitions of run, halt, span and cycle.
 
 A machine of q states and k symbols has q * S * k^S configurations in S cells. With three times as many steps
 none may be `undecided steps`.

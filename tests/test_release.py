@@ -23,7 +23,7 @@ pytestmark = pytest.mark.slow
 
 @pytest.fixture(scope="module")
 def releases(tmp_path_factory: pytest.TempPathFactory) -> List[pathlib.Path]:
-    """Two folders, each built at this commit in a clone of its own; minutes, or a build of all crates each."""
+    """Two folders, each built at this commit in a clone of its own, which may prove all crates."""
     require("rt", "rustc", "esbuild", "tsc", "npm")
     top = tmp_path_factory.mktemp("release")
     commit = subprocess.run(

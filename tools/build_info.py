@@ -1,4 +1,4 @@
-"""What the builds of the packages and of the release share: commands, the version, what a built file needs."""
+"""What the builds of packages and of the release share: commands, the version, what a built file needs."""
 
 from __future__ import annotations
 

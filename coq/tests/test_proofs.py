@@ -74,7 +74,7 @@ WRONG = [
 
 
 def copy_folder(to: pathlib.Path, built: bool = False) -> pathlib.Path:
-    """Copy `coq/`, with or without what is built; the proofs take two packages of Debian's and nothing else."""
+    """Copy `coq/`, with or without what is built; the proofs need nothing else of the repository."""
     skipped = shutil.ignore_patterns("tests", *(() if built else ("out",)))
     return pathlib.Path(shutil.copytree(COQ, to / "coq", ignore=skipped))
 
