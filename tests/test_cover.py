@@ -19,7 +19,7 @@ LARGE = [(2, 4), (4, 2)]
 # Each machine of these lists that leads to others halts within so many steps.
 STEPS = 200
 LIMITS = options((STEPS, 512, 40, 1_000))
-# How many times as long as `bb check` `cover` may take on a quiet machine, and how far above that a test fails.
+# How many times as long as `bb check` `cover` may take on a quiet machine; how far above that is a failure.
 BAR, FAR = 1.5, 3
 Decide = Callable[[int, int], List[str]]
 Changed = Tuple[List[str], int]
