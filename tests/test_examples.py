@@ -1,12 +1,17 @@
-"""The examples write what stands beside them."""
+"""The examples write what stands beside them, or what has the sha256 that does."""
+
+import hashlib
+import subprocess
+from typing import List
 
 import pytest
 from support import TOP
 from support.examples import Example, read_examples
 from support.program import ended
 
-
 EXAMPLES = list(read_examples())
+# Of each line a sha256, and the commands whose output has it.
+PIPELINES = [line.split("  ", 1) for line in (TOP / "examples/three_states/sha256").read_text().splitlines()]
 
 
 @pytest.mark.parametrize("example", EXAMPLES, ids=[example.name for example in EXAMPLES])
@@ -14,3 +19,12 @@ def test_example_writes_its_expected_output(bb: str, example: Example) -> None:
     found = ended([bb, *example.words], example.given, cwd=str(TOP))
     assert found.output.splitlines() == example.expected.splitlines()
     assert (found.output, found.status) == (example.expected, example.status)
+
+
+@pytest.mark.usefixtures("bb", "list_machines")
+@pytest.mark.parametrize("digest, commands", PIPELINES)
+def test_pipeline_writes_what_has_its_sha256(digest: str, commands: str) -> None:
+    words: List[str] = ["bash", "-o", "pipefail", "-c", commands]
+    output = subprocess.run(words, cwd=TOP, stdout=subprocess.PIPE, check=True).stdout
+    assert output.count(b"\n") == 5_417
+    assert hashlib.sha256(output).hexdigest() == digest

@@ -3,9 +3,10 @@ verdicts become when something is changed, and claims of pairs and trees that ar
 
 import itertools
 import random
-from typing import Dict, Iterable, Iterator, List, NamedTuple, Optional, Sequence, Tuple
+from typing import Iterable, Iterator, List, Sequence, Tuple
 
-from .machines import LETTERS, SWAPPED, table_of
+from .machines import SWAPPED, table_of
+from .simulation import simulate
 
 KINDS = ("halt", "cycler", "translated L", "translated R", "backward", "undecided", "refused")
 # Numbers that no verdict has, or that are none.
@@ -27,36 +28,10 @@ CHARACTERS = "0123456789LRABCDEYZ-_ \r\t\0\x7f\x80\xff"
 LONG = 1_023
 
 
-class Now(NamedTuple):
-    """A machine's state, or None in Z, its head's position, and the outermost positions so far."""
-
-    state: Optional[int]
-    head: int
-    low: int
-    high: int
-
-
-def followed(text: str, steps: int) -> Iterator[Now]:
-    """Where a machine is at each step, up to so many."""
-    table = table_of(text)
-    tape: Dict[int, int] = {}
-    now = Now(0, 0, 0, 0)
-    yield now
-    for _ in range(steps):
-        entry = "---" if now.state is None else table[now.state][tape.get(now.head, 0)]
-        if entry == "---":
-            return
-        tape[now.head] = int(entry[0])
-        head = now.head + (1 if entry[1] == "R" else -1)
-        state = None if entry[2] == "Z" else LETTERS.index(entry[2])
-        now = Now(state, head, min(now.low, head), max(now.high, head))
-        yield now
-
-
 def pairs_of(text: str, steps: int) -> Iterator[str]:
     """Claims of each pair of records of a side, and of each pair of steps at one position, whose states are
     the same: the cells alone tell which hold."""
-    run = list(followed(text, steps))
+    run = list(simulate(text, steps))
     for side, out in (("R", 1), ("L", -1)):
         tops = [max(0, *(out * now.head for now in run[:n])) if n else 0 for n in range(len(run))]
         made = [n for n, now in enumerate(run) if out * now.head > tops[n]]
@@ -180,12 +155,12 @@ def last_step(line: str) -> int:
 
 def tight(line: str) -> Iterator[Tuple[Sequence[int], str]]:
     """A line of a run, with limits that are just enough and just not: of steps, and of cells with and without
-    the one that a step into Z leads to."""
+    one more, to which a step into Z may lead."""
     last = last_step(line)
     if last < 0:
         return
-    run = list(followed(line.split(" ")[0], last))
-    wide = run[-1].high - run[-1].low + 1
-    for steps, cells in ((last, wide), (last, wide - 1), (last, wide - 2), (last - 1, wide)):
+    *_, end = simulate(line.split(" ")[0], last)
+    wide = end.high - end.low + 1
+    for steps, cells in ((last, wide), (last, wide + 1), (last, wide - 1), (last - 1, wide)):
         if steps >= 0 and cells >= 1:
             yield (steps, cells, 0, 0), line

@@ -1,0 +1,240 @@
+#!/usr/bin/python3
+"""Compare the program with `peer`, a plain Rust program that does the same work.
+
+    benchmarks/measure.py [PROGRAM] [--runs N] [--seed N]
+
+It builds the peer by `rustc -O` (1.65 or later), makes its lists from a seed, requires that both write the
+same bytes and end with the same status, runs both in turn, and prints the least times and their ratio, of a
+search the spread of single runs too. The peer has two forms: in one run, and in turn. The instructions a step
+are those that `valgrind --tool=callgrind` counts, which other work on the machine doesn't change. It takes
+about ten minutes, with `--runs 1` about five.
+"""
+
+import functools
+import pathlib
+import random
+import re
+import subprocess
+import sys
+import tempfile
+from typing import List, NamedTuple, Sequence, Tuple
+
+sys.path.insert(0, str(pathlib.Path(__file__).resolve().parents[1]))
+
+from benchmarks.measuring import TOP, Cost, Table, has, list_machines, parser  # noqa: E402
+from benchmarks.measuring import program_of, run, take_turns  # noqa: E402
+from support.machines import CHAMPION, halting_once, uniform  # noqa: E402
+from support.program import MAX_CELLS, SIMULATION, as_lines, begins_modulo_64, ended  # noqa: E402
+from support.program import kind_of, replies  # noqa: E402
+
+CHAMPION_LIST = CHAMPION + "\n"
+LIMITS = ["--steps", "1000", "--cells", "200", "--depth", "60"]
+LIST, DRAWN, HALTING_LIST, REFUSED_BYTES = 100_000, 800_000, 1_000_000, 50_000_000
+TREES, CHECKED, RANDOM, KINDS, OPEN_LONG = 4_000, 2_000, 10_000, 3_000, 300
+
+
+class Case(NamedTuple):
+    """The name, the options and the list of a measurement, and the switch that turns its search off."""
+
+    name: str
+    options: List[str]
+    lines: str
+    switch: str = ""
+
+
+def halting_machines(source: random.Random, count: int, states: int) -> str:
+    """Draw machines of so many states, each with one entry that halts."""
+    return as_lines(halting_once(source, states) for _ in range(count)).decode()
+
+
+def uniform_machines(source: random.Random, count: int) -> str:
+    """Draw machines of five states uniformly."""
+    return as_lines(uniform(source, 5) for _ in range(count)).decode()
+
+
+def refused_lines(source: random.Random) -> str:
+    """Draw lines of 1 to 60 bytes that are no machines: of any letters, or machines cut short or spoilt."""
+    lines: List[str] = []
+    size = 0
+    while size < REFUSED_BYTES:
+        line, kind = halting_once(source, 4), source.randrange(3)
+        if kind == 0:
+            line = line[: source.randrange(1, 27)]
+            line = line if len(line) % 7 != 6 else line[:-1] + "x"
+        elif kind == 1:
+            at = source.randrange(27)
+            line = line[:at] + "x" + line[at + 1 :]
+        else:
+            line = "x" * source.randrange(1, 61)
+        lines.append(line)
+        size += len(line) + 1
+    return "\n".join(lines) + "\n"
+
+
+def cases_in_turn(seed: int) -> List[Case]:
+    """Return what measures the simulation, reading, backward reasoning, and all deciders at once.
+
+    Of backward reasoning no machine makes a step, so nearly all time goes into the walks.
+    """
+    source = random.Random(seed)
+    four, halting = halting_machines(source, LIST, 4), "------\n" * HALTING_LIST
+    at_once = "%d machines that halt at once" % HALTING_LIST
+    trees = ["--no-cyclers", "--no-translated", "--steps", "0", "--cells", "2000", "--depth", "1000"]
+    walked = halting_machines(random.Random(seed), TREES, 5)
+    drawn, widest = uniform_machines(random.Random(seed), RANDOM), ["--cells", str(MAX_CELLS)]
+    return [
+        Case("the five-state champion", [*SIMULATION, "--steps", "50000000"], CHAMPION_LIST),
+        Case("%d machines of four states" % LIST, [*SIMULATION, *LIMITS], four),
+        Case("the same, without a step", [*SIMULATION, "--steps", "0", *LIMITS[2:]], four),
+        Case(at_once + ", 64 cells", [*SIMULATION, "--cells", "64", "--depth", "10"], halting),
+        Case("%s, %d cells" % (at_once, MAX_CELLS), [*SIMULATION, *widest], halting),
+        Case("%d bytes of refused lines" % REFUSED_BYTES, SIMULATION, refused_lines(source)),
+        Case("backward reasoning over %d machines of five states" % TREES, trees, walked),
+        Case("%d machines of five states, all deciders, default limits" % RANDOM, [], drawn),
+    ]
+
+
+def cases_in_one_run(program: str, source: random.Random) -> List[Case]:
+    """Return what measures deciding in one run."""
+    four = list_machines(4).decode()
+    limits = [*LIMITS, "--nodes", "2000"]
+    left = undecided(program, limits, four).splitlines(keepends=True)
+    few = "".join(left[:: max(1, len(left) // OPEN_LONG)])
+    kinds = "%d machines of five states, %%s, default limits" % KINDS
+    few_name = "%d undecided machines of four states, default limits" % few.count("\n")
+    return [
+        Case("all %d machines of four states" % four.count("\n"), limits, four),
+        Case(kinds % "one halting entry", [], halting_machines(source, KINDS, 5)),
+        Case(kinds % "uniformly drawn", [], uniform_machines(source, KINDS)),
+        Case(kinds % "one undefined entry", [], halting_machines(source, KINDS, 5).replace("1RZ", "---")),
+        Case("the champion, all deciders", ["--steps", "50000000"], CHAMPION_LIST),
+        Case(few_name + ", without the tree", ["--no-backward"], few),
+        Case(few_name, [], few),
+    ]
+
+
+def undecided(program: str, options: Sequence[str], lines: str) -> str:
+    """Return the lines on whose machines nothing is found: there all ways make the same steps."""
+    found = replies([program, "decide", *options], lines.splitlines())
+    return as_lines(line.split()[0] for line in found if kind_of(line) == "undecided").decode()
+
+
+def searches(program: str, source: random.Random) -> List[Case]:
+    """Return what measures a search. The champion doesn't halt within 40,000,000 steps, nor does a search end
+    in them. Of all machines a search makes fewer steps than the simulation, since it ends at its pair."""
+    long, cycles = ["--steps", "40000000"], ["--no-translated", "--no-backward"]
+    records = ["--no-cyclers", "--no-backward"]
+    four = halting_machines(source, LIST, 4)
+    steps = "cyclers over the champion's first 40,000,000 steps"
+    cases = [
+        Case(steps, [*long, *cycles], CHAMPION_LIST, "--no-cyclers"),
+        Case("cyclers over %d machines of four states" % LIST, [*LIMITS, *cycles], four, "--no-cyclers"),
+        Case("translated over the same steps", [*long, *records], CHAMPION_LIST, "--no-translated"),
+    ]
+    for states in (4, 5):
+        kept = undecided(program, [*LIMITS, *records], halting_machines(source, DRAWN, states))
+        name = "translated over %d machines of %d states that it doesn't find" % (kept.count("\n"), states)
+        cases.append(Case(name, [*LIMITS, *records], kept, "--no-translated"))
+    return cases
+
+
+def count_instructions(program: str, *form: str) -> str:
+    """Count the instructions a step of the simulation, of each search alone, and of the single-pass run."""
+    plans = {
+        "simulation": SIMULATION,
+        "cyclers alone": ["--no-translated", "--no-backward"],
+        "translated alone": ["--no-cyclers", "--no-backward"],
+        "both in one run": ["--no-backward"],
+    }
+    counting = ["valgrind", "--tool=callgrind", "--callgrind-out-file=/dev/null", program, "decide"]
+    figures = []
+    for what, options in plans.items():
+        commands = [[*counting, "--steps", str(steps), *options, *form] for steps in (10**6, 2 * 10**6)]
+        errors = [ended(command, CHAMPION_LIST.encode()).error for command in commands]
+        counts = [int(re.findall(rb"Collected : (\d+)", error)[0]) for error in errors]
+        figures.append("%s %.1f" % (what, (counts[1] - counts[0]) / 10**6))
+    return ", ".join(figures)
+
+
+class Bench:
+    """The program, its peer, the table, and the file of the list."""
+
+    def __init__(self, table: Table, program: str, peer: str, folder: pathlib.Path) -> None:
+        self.table, self.program, self.peer, self.list = table, program, peer, folder / "list"
+
+    def costs(self, lines: str, commands: Sequence[Sequence[str]], is_same: bool) -> List[List[Cost]]:
+        """Return what the runs of each command over a list cost; all may have to write the same."""
+        self.list.write_text(lines, encoding="ascii")
+        outputs = {
+            str(at): self.list.with_name("out-%d" % (at * (not is_same))) for at in range(len(commands))
+        }
+        pairs = [(command, self.list, output) for command, output in zip(commands, outputs.values())]
+        ways = {name: functools.partial(run, pair) for name, pair in zip(outputs, pairs)}
+        return list(take_turns(self.table.runs, ways, outputs).values())
+
+    def clocks(self, lines: str, commands: Sequence[Sequence[str]]) -> List[float]:
+        """Return the least times by the clock; all must write the same."""
+        return [min(costs).clock for costs in self.costs(lines, commands, True)]
+
+    def processors(self, lines: str, commands: Sequence[Sequence[str]]) -> List[List[float]]:
+        """Return the processor time of each run; all must end with status 0."""
+        costs = self.costs(lines, commands, False)
+        assert all(cost.status == 0 for row in costs for cost in row), "a line is refused, or not confirmed"
+        return [[cost.processor for cost in row] for row in costs]
+
+
+def measure_search(bench: Bench, case: Case) -> None:
+    """Print what a search takes beside the simulation of the same lines, in processor time."""
+    command = [bench.program, "decide", *case.options]
+    without, searching = bench.processors(case.lines, [[*command, case.switch], command])
+    ratios = [search / run for run, search in zip(without, searching)]
+    what = "%s, beside the simulation (%.2f to %.2f in single runs)" % (case.name, min(ratios), max(ratios))
+    bench.table.ratio(what, min(searching), min(without))
+
+
+def measure(bench: Bench, seed: int) -> None:
+    """Make each measurement."""
+    program, peer, table = bench.program, bench.peer, bench.table
+    table.head("Beside the plain Rust program")
+    for case in cases_in_turn(seed):
+        commands = [[each, "decide", *case.options] for each in (program, peer)]
+        ours, theirs = bench.clocks(case.lines, commands)
+        table.ratio(case.name, ours, theirs)
+    for case in cases_in_one_run(program, random.Random(seed)):
+        in_turn = [peer, "decide", *case.options]
+        commands = [[program, "decide", *case.options], [*in_turn, "--one-run"], in_turn]
+        ours, one, turn = bench.clocks(case.lines, commands)
+        table.ratio(case.name + ", the peer in one run", ours, one)
+        table.ratio(case.name + ", the peer in turn", ours, turn)
+    if has("where the single-pass run begins", "nm"):
+        table.row("where the single-pass run begins, modulo 64", str(begins_modulo_64(program)))
+    if has("instructions a step", "valgrind"):
+        table.row("instructions a step of the program", count_instructions(program))
+        table.row("instructions a step of plain Rust", count_instructions(peer, "--one-run"))
+    table.head("Searches and checking, in processor time")
+    for case in searches(program, random.Random(seed)):
+        measure_search(bench, case)
+    machines = halting_machines(random.Random(seed), CHECKED, 5)
+    verdicts = as_lines(replies([program, "decide"], machines.splitlines())).decode()
+    (checking,), (deciding,) = (
+        bench.processors(lines, [[program, word]])
+        for word, lines in (("check", verdicts), ("decide", machines))
+    )
+    what = "checking the lines of %d machines of five states, beside deciding them" % CHECKED
+    table.ratio(what, min(checking), min(deciding))
+
+
+def main() -> None:
+    words = parser(__doc__, runs=5)
+    words.add_argument("--seed", type=int, default=1962, metavar="S", help="of the lists (default: 1962)")
+    asked = words.parse_args()
+    if not has("the comparison", "rustc"):
+        sys.exit(1)
+    with tempfile.TemporaryDirectory() as folder:
+        peer, source = folder + "/peer", str(TOP / "benchmarks" / "peer" / "main.rs")
+        subprocess.run(["rustc", "-O", "-C", "codegen-units=1", "-o", peer, source], check=True)
+        measure(Bench(Table(asked.runs), program_of(asked), peer, pathlib.Path(folder)), asked.seed)
+
+
+if __name__ == "__main__":
+    main()

@@ -1,0 +1,165 @@
+"""The proofs in Coq: none assumes anything, a wrong checker fails them, and lines notice a wrong checker."""
+
+from __future__ import annotations
+
+import pathlib
+import random
+import re
+import shutil
+import subprocess
+from typing import Callable, List, NamedTuple, Tuple
+
+import pytest
+from support.program import ended
+from support.second_checker import COQ, Claims, answer, quick_claims
+
+CLOSED = "Closed under the global context"
+UNPROVED = re.compile(
+    r"\b(Axioms?|Admitted|admit|Parameters?|Conjecture|Unset Guard Checking|bypass_check)\b"
+)
+# An environment in which nothing but the system's programs is found.
+PLAIN = {"PATH": "/usr/bin:/bin"}
+
+
+class Edit(NamedTuple):
+    """A wrong checker: what is wrong with it, and the change of a line that makes it."""
+
+    name: str
+    file: str
+    old: str
+    new: str
+
+
+WRONG = [
+    Edit(
+        "compares no cells",
+        "Check.v",
+        "then same_first (back y) (behind z) (behind y) else false",
+        "then true else false",
+    ),
+    Edit(
+        "compares no cells behind the head",
+        "Check.v",
+        "if same_cells (behind z) (behind y) then same_cells (ahead z) (ahead y) else false",
+        "same_cells (ahead z) (ahead y)",
+    ),
+    Edit("forgets the start", "Check.v", "else if matches_start b then None", "else if false then None"),
+    Edit(
+        "takes a record that is none",
+        "Check.v",
+        "if is_nil (ahead z) then if is_nil (ahead y) then Some y else None else None",
+        "if is_nil (ahead y) then Some y else None",
+    ),
+    Edit("counts a node twice", "Check.v", "(N.pred k) (match h'", "(N.pred (N.pred k)) (match h'"),
+    Edit(
+        "00 is a number",
+        "Lines.v",
+        "then if String.eqb (decimal n) s then Some n else None else None",
+        "then Some n else None",
+    ),
+    Edit(
+        "takes the score before the halting step",
+        "Check.v",
+        "if is_stop (zstep M z) then N.eqb (score z) w else false",
+        "if is_stop (zstep M z) then match run M (N.pred n) zstart with More y | Stop y => N.eqb (score y) w"
+        " end else false",
+    ),
+    Edit(
+        "counts the cell that a step into Z leads to",
+        "Lines.v",
+        "let M := map (map without_Z) M in",
+        "let M := M in",
+    ),
+]
+
+
+def copy_folder(to: pathlib.Path, built: bool = False) -> pathlib.Path:
+    """Copy `coq/`, with or without what is built; the proofs need nothing else of the repository."""
+    skipped = shutil.ignore_patterns("tests", *(() if built else ("out",)))
+    return pathlib.Path(shutil.copytree(COQ, to / "coq", ignore=skipped))
+
+
+def replace_once(path: pathlib.Path, old: str, new: str) -> None:
+    """Replace a text that a file must have once."""
+    text = path.read_text(encoding="utf-8")
+    assert text.count(old) == 1, old
+    path.write_text(text.replace(old, new), encoding="utf-8")
+
+
+def test_every_theorem_assumes_nothing(checker: str) -> None:
+    names = re.findall(r"^Theorem (\w+)", (COQ / "Statements.v").read_text(encoding="utf-8"), flags=re.M)
+    status, output, _ = ended(["make", "-s", "--no-print-directory", "-C", str(COQ)])
+    assert status == 0 and names
+    assert output.decode().splitlines() == [CLOSED] * len(names) + ["checker: " + checker]
+
+
+@pytest.mark.parametrize("path", sorted(COQ.glob("**/*.v")), ids=lambda path: str(path.relative_to(COQ)))
+def test_source_leaves_nothing_unproved(path: pathlib.Path) -> None:
+    assert not UNPROVED.search(path.read_text(encoding="utf-8"))
+
+
+@pytest.mark.usefixtures("checker")
+def test_assumed_theorem_fails_the_build(tmp_path: pathlib.Path) -> None:
+    """Also again, where all else is up to date."""
+    folder = copy_folder(tmp_path, built=True)
+    source = folder / "Statements.v"
+    (proof,) = re.findall(
+        r"Theorem reply_ok .*?\n(Proof\..*?Qed\.)", source.read_text(encoding="utf-8"), re.S
+    )
+    replace_once(source, proof, "Admitted.")
+    (folder / "out" / "checker").unlink()
+    for _ in range(2):
+        done = ended(["make", "-C", str(folder)])
+        assert done.status != 0 and b"assumes" in done.error
+        assert "Axioms:\nreply_ok" in (folder / "out" / "Statements.printed").read_text(encoding="utf-8")
+
+
+@pytest.mark.slow
+@pytest.mark.needs("coqc", "coqchk", "ocamlfind")
+def test_copy_is_built_and_checked_elsewhere(tmp_path: pathlib.Path) -> None:
+    """`coqchk` looks at the proofs where nothing else of the repository is."""
+    status, output, error = ended(["make", "-C", str(copy_folder(tmp_path)), "check"], cwd="/", env=PLAIN)
+    assert status == 0, error.decode()
+    assert b"* Axioms: <none>" in output + error
+
+
+@pytest.fixture(scope="module")
+def batches(bb: str, list_machines: Callable[..., List[str]]) -> List[Tuple[Claims, bytes]]:
+    """Lines under their limits, and the program's answers."""
+    claims = [batch for _, batch in quick_claims(bb, list_machines, random.Random(1))]
+    return [(batch, answer([bb, "check"], batch).output) for batch in claims]
+
+
+def build_without_proofs(folder: pathlib.Path) -> str:
+    """Build the checker of a folder without its proofs."""
+    out = folder / "unproved"
+    out.mkdir()
+    for name in ("Machines", "Answers", "Check", "Lines", "Extract"):
+        command = ["coqc", "-q", "-noglob", "-Q", ".", "Budlarem", "-o", name + ".vo", "../%s.v" % name]
+        subprocess.run(command, cwd=out, check=True, stdout=subprocess.DEVNULL)
+    shutil.copy(folder / "main.ml", out)
+    command = ["ocamlfind", "ocamlopt", "checker.mli", "checker.ml", "main.ml", "-o", "checker"]
+    subprocess.run(command, cwd=out, check=True)
+    return str(out / "checker")
+
+
+@pytest.mark.slow
+@pytest.mark.needs("coqc", "coqchk", "ocamlfind")
+@pytest.mark.parametrize("edit", WRONG, ids=[edit.name for edit in WRONG])
+def test_wrong_checker_is_noticed(
+    tmp_path: pathlib.Path, batches: List[Tuple[Claims, bytes]], edit: Edit
+) -> None:
+    """A proof fails; built without its proofs, it answers some line otherwise."""
+    folder = copy_folder(tmp_path)
+    replace_once(folder / edit.file, edit.old, edit.new)
+    done = ended(["make", "-C", str(folder)])
+    failed = re.search(r"Proofs/\w+\.v", done.error.decode())
+    assert done.status != 0 and failed
+    made = build_without_proofs(folder)
+    wrong = sum(
+        one != another
+        for claims, expected in batches
+        for one, another in zip(answer([made], claims).output.splitlines(), expected.splitlines())
+    )
+    assert wrong > 0
+    print("%s: %s fails, %d lines notice it" % (edit.name, failed[0], wrong))

@@ -1,0 +1,75 @@
+"""Theorems that `coq/theorem` makes of lines: of one line each, true and false ones, and of many."""
+
+from __future__ import annotations
+
+import pathlib
+import random
+import subprocess
+from typing import List
+
+import pytest
+from support.machines import CHAMPION, mixed
+from support.program import kind_of
+from support.second_checker import COQ, LIMITS, decide
+
+# How many lines become one theorem.
+LINES = 1_000
+HOLDS, FAILS = "accepts that it holds", "accepts that it doesn't hold"
+
+
+def require_end(folder: pathlib.Path, words: List[str], status: int, sentence: str) -> None:
+    """Require `coq/theorem` to end with a status and a sentence; a file is kept where the claim holds."""
+    made = folder / "Made.v"
+    done = subprocess.run(
+        [str(COQ / "theorem"), *words, str(made)], capture_output=True, text=True, timeout=300
+    )
+    assert done.returncode == status and sentence in done.stdout + done.stderr, words
+    assert made.exists() == (status == 0)
+    made.unlink(missing_ok=True)
+
+
+@pytest.fixture(scope="module")
+def claims(bb: str, checker: str) -> List[str]:
+    """Verdicts of random machines that claim something; the proofs are built."""
+    lines = decide(bb, LIMITS, list(mixed(4 * LINES, 1)))
+    return random.Random(1).sample([line for line in lines if kind_of(line) != "undecided"], LINES)
+
+
+@pytest.mark.usefixtures("checker")
+@pytest.mark.parametrize("numbers", ["100000000000 4", "1000001 4", "2 100000001", "18446744073709551615 1"])
+def test_tree_that_the_kernel_cannot_walk_is_refused_at_once(numbers: str) -> None:
+    command = [str(COQ / "theorem"), "0RB---_0LA--- backward " + numbers]
+    done = subprocess.run(command, capture_output=True, timeout=10)
+    assert done.returncode == 2 and b"this tree has more than" in done.stderr
+
+
+@pytest.mark.parametrize("kind", ["halt", "cycler", "translated", "backward"])
+def test_theorem_of_a_line(claims: List[str], tmp_path: pathlib.Path, kind: str) -> None:
+    line = next(line for line in claims if kind_of(line) == kind)
+    require_end(tmp_path, [line], 0, HOLDS)
+    rest, _, number = line.rpartition(" ")
+    require_end(tmp_path, ["%s %d" % (rest, int(number) + 1)], 1, FAILS)
+
+
+@pytest.mark.usefixtures("checker")
+@pytest.mark.parametrize(
+    "line, sentence",
+    [("1RA1RA undecided steps", "claims nothing"), ("1RC1RA halt 0 0", "no line of a claim")],
+)
+def test_line_of_no_claim_is_refused(tmp_path: pathlib.Path, line: str, sentence: str) -> None:
+    require_end(tmp_path, [line], 2, sentence)
+
+
+@pytest.mark.slow
+@pytest.mark.usefixtures("checker")
+def test_theorem_of_the_champion(tmp_path: pathlib.Path) -> None:
+    require_end(tmp_path, [CHAMPION + " halt 47176870 4098"], 0, HOLDS)
+
+
+def test_theorem_of_many_lines(claims: List[str], tmp_path: pathlib.Path) -> None:
+    listed = tmp_path / "lines.txt"
+    listed.write_text("".join(line + "\n" for line in [*claims, "refused 3"]))
+    require_end(tmp_path, ["--list", str(listed)], 0, "%d lines: coqc accepts that all hold" % LINES)
+    with open(listed, "a", encoding="ascii") as file:
+        file.write("1RB1LB_1LA1RZ halt 6 5\n")
+    require_end(tmp_path, ["--list", str(listed)], 1, "1RB1LB_1LA1RZ halt 6 5: false")

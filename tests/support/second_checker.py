@@ -1,0 +1,119 @@
+"""Lines that the program's checker and the second one, in Coq, must answer alike, most of them false."""
+
+from __future__ import annotations
+
+import random
+import re
+from typing import Callable, Dict, Iterable, Iterator, List, Sequence, Tuple
+
+from . import TOP
+from .claims import forged, pairs_of, refusals, tight, trees_of
+from .machines import all_machines, machine, random_machines, seldom_halting
+from .program import Ended, ended, options, replies
+
+COQ = TOP / "coq"
+DEFAULT = (1_000_000, 65_536, 300, 1_000_000)
+LIMITS = (1_000, 1_024, 40, 10_000)
+SMALL = (40, 9, 5, 12)
+LARGE = (20_000, 4_096, 100, 10_000)
+# Limits at which the whole list of four states is decided and checked.
+WHOLE = ((200, 256, 20, 1_000), LIMITS, LARGE)
+# Other lists: the states, and words for the program that lists machines.
+LISTS = (("5", "--steps", "1000", "--every", "900"), ("2", "--symbols", "3"), ("2", "--symbols", "4"))
+# Limits of steps, cells, levels and nodes, and lines.
+Claims = Tuple[Sequence[int], List[str]]
+ListMachines = Callable[..., List[str]]
+
+
+def decide(bb: str, limits: Sequence[int], machines: Sequence[str]) -> List[str]:
+    """Return the program's verdict lines."""
+    return replies([bb, "decide", *options(limits)], machines)
+
+
+def answer(checker: Sequence[str], claims: Claims) -> Ended:
+    """Run a checker over lines under their limits; a character is a byte."""
+    limits, lines = claims
+    return ended([*checker, *options(limits)], "".join(line + "\n" for line in lines).encode("latin-1"))
+
+
+def compare_answers(bb: str, checker: str, what: str, claims: Claims) -> None:
+    """Require both checkers to answer each line alike and to end alike; print how many lines there were."""
+    ours, theirs = answer([bb, "check"], claims), answer([checker], claims)
+    assert (ours.status, ours.error) == (theirs.status, theirs.error), what
+    pairs = list(zip(claims[1], ours.output.split(b"\n"), theirs.output.split(b"\n")))
+    wrong = [pair for pair in pairs if pair[1] != pair[2]]
+    assert not wrong, "%s under %s: %s" % (what, claims[0], wrong[:10])
+    assert ours.output == theirs.output and ours.output.count(b"\n") == len(claims[1]) > 0
+    print("%s: %d lines compared" % (what, len(claims[1])))
+
+
+def group_by_limits(claims: Iterable[Tuple[Sequence[int], str]]) -> List[Claims]:
+    """Put lines of the same limits together."""
+    lines: Dict[Sequence[int], List[str]] = {}
+    for limits, line in claims:
+        lines.setdefault(limits, []).append(line)
+    return list(lines.items())
+
+
+def worked_lines() -> List[str]:
+    """Return the lines of `coq/Rows.v`."""
+    return re.findall(r"\"([^\"]*)\"[;\]]", (COQ / "Rows.v").read_text(encoding="utf-8"))
+
+
+def halting_machines(bb: str, source: random.Random, count: int) -> List[str]:
+    """Return machines of one state, and so many of two, that halt."""
+    machines = [*all_machines(1, 2), *source.sample(list(all_machines(2, 2)), count)]
+    return [line.split(" ")[0] for line in decide(bb, SMALL, machines) if " halt " in line]
+
+
+def made_claims(bb: str, source: random.Random, verdicts: Sequence[str], count: int) -> Iterator[Claims]:
+    """Yield claims that are made by changes of verdicts and by plain runs."""
+    yield LIMITS, list(forged(source, verdicts, count))
+    yield SMALL, list(forged(source, verdicts, count // 4))
+    yield LIMITS, list(refusals([*range(20), *range(770, 780), 2**64 - 1, 2**64]))
+    machines = [machine(source, 1 + k % 4, 2 + k % 3) for k in range(count // 100)]
+    yield LIMITS, [line for text in machines for line in pairs_of(text, 30)]
+    inside = halting_machines(bb, source, count // 200)
+    yield LIMITS, [line for text in inside for line in trees_of(text, 4, 7)]
+    outside = [line.split(" ")[0] for line in verdicts if " backward " in line][: count // 1_000]
+    yield LIMITS, [line for text in outside for line in trees_of(text, 4, 7)]
+
+
+def tight_claims(source: random.Random, verdicts: Sequence[str], count: int) -> List[Claims]:
+    """Return claims of runs, and as many of halts, with limits that are just enough and just not."""
+    short = [line for line in verdicts if len(line) < 80]
+    halts = [line for line in short if " halt " in line]
+    lines = [line for kind in (short, halts) for line in source.sample(kind, min(count, len(kind)))]
+    return group_by_limits(one for line in lines for one in tight(line))
+
+
+def quick_claims(bb: str, list_machines: ListMachines, source: random.Random) -> Iterator[Tuple[str, Claims]]:
+    """Yield the lines that are always compared, each batch with its name."""
+    yield "worked lines", (DEFAULT, worked_lines())
+    verdicts = decide(bb, LIMITS, list_machines(4, "--every", "10"))
+    yield "every tenth machine of four states", (LIMITS, verdicts)
+    mixture = decide(bb, LIMITS, random_machines(5_000, source))
+    yield "random machines", (LIMITS, mixture)
+    sample = [*source.sample(verdicts, 20_000), *mixture]
+    yield from (("made claims", claims) for claims in made_claims(bb, source, sample, 70_000))
+    yield from (("tight limits", claims) for claims in tight_claims(source, sample, 300))
+
+
+def long_claims(bb: str, list_machines: ListMachines, source: random.Random) -> Iterator[Tuple[str, Claims]]:
+    """Yield lines of whole lists and samples, and a million made ones."""
+    machines = list_machines(4)
+    for limits in WHOLE:
+        verdicts = decide(bb, limits, machines)
+        yield "all machines of four states", (limits, verdicts)
+    yield "all machines of four states, where less is allowed", (SMALL, verdicts)
+    sample = source.sample(verdicts, 50_000)
+    for states, *words in LISTS:
+        machines = list_machines(int(states), *words)
+        verdicts = decide(bb, LARGE, source.sample(machines, min(200_000, len(machines))))
+        yield "machines of %s" % " ".join([states, *words]), (LARGE, verdicts)
+        sample += source.sample(verdicts, min(20_000, len(verdicts)))
+    mixture = decide(bb, LIMITS, random_machines(50_000, source))
+    yield "random machines", (LIMITS, mixture)
+    sample += mixture + decide(bb, LIMITS, [seldom_halting(source, 3, 3) for _ in range(20_000)])
+    yield from (("made claims", claims) for claims in made_claims(bb, source, sample, 800_000))
+    yield from (("tight limits", claims) for claims in tight_claims(source, sample, 3_000))

@@ -1,0 +1,61 @@
+"""Runs of machines by the definition of a step alone, and whole lists compared."""
+
+from __future__ import annotations
+
+from typing import Dict, Iterator, NamedTuple, Optional, Sequence
+
+from .machines import LETTERS, table_of
+
+
+class Configuration(NamedTuple):
+    """A machine's state (None in Z), its head's position, the outermost positions so far outside Z, and its
+    tape."""
+
+    state: Optional[int]
+    head: int
+    low: int
+    high: int
+    tape: Dict[int, int]
+
+
+def simulate(
+    text: str, steps: int, state: Optional[int] = 0, tape: Optional[Dict[int, int]] = None
+) -> Iterator[Configuration]:
+    """Yield a machine's configurations at step 0, 1, .., `steps`, or until it halts.
+
+    All of them share the tape, which changes with each step; it is written in place where one is given.
+    """
+    table, cells = table_of(text), {} if tape is None else tape
+    head = low = high = 0
+    for _ in range(steps + 1):
+        yield Configuration(state, head, low, high, cells)
+        entry = "---" if state is None else table[state][cells.get(head, 0)]
+        if entry == "---":
+            return
+        cells[head] = int(entry[0])
+        head += 1 if entry[1] == "R" else -1
+        state = None if entry[2] == "Z" else LETTERS.index(entry[2])
+        if state is not None:
+            low, high = min(low, head), max(high, head)
+
+
+def insert_low(machine: str, trace: bytes) -> bytes:
+    """Turn lines of the program's trace into the library's, which have the window's lowest position too."""
+    rows = [line.split(b" ") for line in trace.splitlines()]
+    lows = [now.low for now in simulate(machine, int(rows[-1][0]))]
+    return b"".join(b" ".join([*row[:3], b"%d" % lows[int(row[0])], *row[3:]]) + b"\n" for row in rows)
+
+
+def compare_lines(
+    name: str, found: Sequence[str], expected: Sequence[str], given: Sequence[str] = ()
+) -> None:
+    """Require two lists to be the same, and print how many lines were compared.
+
+    A failure names the first lines that differ, each with the line of `given` that it is the reply to.
+    """
+    assert len(found) == len(expected), "%s: %d lines, not %d" % (name, len(found), len(expected))
+    wrong = [k for k, pair in enumerate(zip(found, expected)) if pair[0] != pair[1]]
+    shown = ["%s%r, not %r" % (given and given[k] + ": ", found[k], expected[k]) for k in wrong[:10]]
+    assert not wrong, "%s: %d lines differ:\n%s" % (name, len(wrong), "\n".join(shown))
+    assert found, "%s: no line to compare" % name
+    print("%s: %d lines compared" % (name, len(found)))

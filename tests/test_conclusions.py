@@ -1,0 +1,233 @@
+"""Conclusions from verdicts: about mirrored, renamed and completed machines, later steps and other starts.
+
+The machines are those of two states and two symbols: every seventh, or all. A renaming keeps A and 0, so
+machines are padded to three states and symbols first. What only looks alike is tried too, and must differ
+for some machine: a renaming that moves A or 0, a completion that fills the `---` on which the machine halts,
+h - 1 steps where a tree has h levels, and the tree of a completion.
+"""
+
+from __future__ import annotations
+
+import itertools
+import random
+from typing import Iterator, List, NamedTuple, Optional, Sequence, Tuple
+
+import pytest
+from support.machines import LETTERS, SWAPPED, all_machines, entries_of, grouped, machine, table_of, text_of
+from support.program import PLANS, options, replies, verdict_of
+from support.simulation import compare_lines, simulate
+
+LIMITS = options((1_000, 64, 20, 1_000))
+TREES_ALONE = ["--no-cyclers", "--no-translated"]
+# The limits of random machines, and how many there are under each.
+RANDOM_LIMITS = (options((50, 9, 5, 20)), LIMITS)
+BATCH = 250
+# How many steps of a run are simulated, and how many more than a tree has levels.
+FOLLOWED, BEYOND = 60, 20
+
+
+@pytest.fixture(scope="module", params=[7, pytest.param(1, marks=pytest.mark.slow)], ids="every {}".format)
+def machines(request: pytest.FixtureRequest) -> List[str]:
+    """Every seventh machine of two states and two symbols, or all 28,561."""
+    return list(all_machines(2, 2))[:: request.param]
+
+
+def decide(
+    bb: str, machines: Sequence[str], plan: Sequence[str] = (), limits: Sequence[str] = LIMITS
+) -> List[str]:
+    """Return the verdict on each machine, without its text."""
+    verdicts = [verdict_of(line) for line in replies([bb, "decide", *limits, *plan], machines)]
+    assert len(verdicts) == len(machines) > 0
+    return verdicts
+
+
+def check(
+    bb: str, machines: Sequence[str], claims: Sequence[str], limits: Sequence[str] = LIMITS
+) -> List[str]:
+    """Return the checker's answers to claims about these machines."""
+    return replies([bb, "check", *limits], ["%s %s" % pair for pair in zip(machines, claims)])
+
+
+class Change(NamedTuple):
+    """Whether left and right are swapped, and the new name of each state and each symbol."""
+
+    mirrored: bool
+    states: Sequence[int]
+    symbols: Sequence[int]
+
+    def entry(self, entry: str) -> str:
+        """Change one entry."""
+        if entry == "---":
+            return entry
+        move = entry[1].translate(SWAPPED) if self.mirrored else entry[1]
+        state = entry[2] if entry[2] == "Z" else LETTERS[self.states[LETTERS.index(entry[2])]]
+        return "%d%s%s" % (self.symbols[int(entry[0])], move, state)
+
+    def machine(self, text: str) -> str:
+        """Change a machine: each entry moves to the new names of its state and symbol."""
+        old = table_of(text)
+        new = [["---"] * len(group) for group in old]
+        for state, symbol in itertools.product(range(len(old)), range(len(old[0]))):
+            new[self.states[state]][self.symbols[symbol]] = self.entry(old[state][symbol])
+        return text_of(new)
+
+    def verdict(self, verdict: str) -> str:
+        """Change a verdict: the side of a translated cycler may be the other one."""
+        kind, _, rest = verdict.partition(" ")
+        turned = kind == "translated" and self.mirrored
+        return "%s %s%s" % (kind, rest[0].translate(SWAPPED), rest[1:]) if turned else verdict
+
+
+MIRROR = Change(True, (0, 1), (0, 1))
+
+
+def compare_changed(
+    bb: str,
+    machines: Sequence[str],
+    changes: Sequence[Change],
+    plan: Sequence[str] = (),
+    limits: Sequence[str] = LIMITS,
+) -> None:
+    """Compare verdicts of machines and changed ones, and the answers to their claims, true and false."""
+    changed = [change.machine(text) for text, change in zip(machines, changes)]
+    verdicts = decide(bb, machines, plan, limits)
+    expected = [change.verdict(verdict) for verdict, change in zip(verdicts, changes)]
+    compare_lines("verdicts", decide(bb, changed, plan, limits), expected, machines)
+    for claims in (verdicts, [*verdicts[1:], verdicts[0]]):
+        theirs = [change.verdict(claim) for claim, change in zip(claims, changes)]
+        answers = check(bb, machines, claims, limits), check(bb, changed, theirs, limits)
+        compare_lines("answers", answers[1], answers[0], machines)
+
+
+def test_mirrored_machines_have_mirrored_verdicts(bb: str, machines: List[str]) -> None:
+    compare_changed(bb, machines, [MIRROR] * len(machines))
+
+
+@pytest.mark.parametrize("plan", [[], TREES_ALONE], ids=["all deciders", "trees alone"])
+@pytest.mark.parametrize("mirrored", [False, True])
+def test_renamed_machines_have_the_same_verdicts(
+    bb: str, machines: List[str], mirrored: bool, plan: List[str]
+) -> None:
+    padded = ["_".join(group + "---" for group in text.split("_")) + "_---------" for text in machines]
+    compare_changed(bb, padded, [Change(mirrored, (0, 2, 1), (0, 2, 1))] * len(machines), plan)
+
+
+@pytest.mark.parametrize("count", [1_500, pytest.param(12_000, marks=pytest.mark.slow)])
+def test_random_machines_changed_at_random(bb: str, rng: random.Random, count: int) -> None:
+    for case in range(count // BATCH):
+        plan, limits = PLANS[case % len(PLANS)], RANDOM_LIMITS[case // len(PLANS) % len(RANDOM_LIMITS)]
+        sizes = [(rng.randint(1, 6), rng.randint(2, 5)) for _ in range(BATCH)]
+        names = [[(0, *rng.sample(range(1, n), n - 1)) for n in size] for size in sizes]
+        changes = [Change(rng.random() < 0.5, *pair) for pair in names]
+        compare_changed(bb, [machine(rng, *size) for size in sizes], changes, plan, limits)
+
+
+@pytest.mark.parametrize("change", [Change(False, (1, 0), (0, 1)), Change(False, (0, 1), (1, 0))])
+def test_renaming_a_or_0_changes_some_verdict(bb: str, machines: List[str], change: Change) -> None:
+    assert decide(bb, [change.machine(text) for text in machines]) != decide(bb, machines)
+
+
+def completions(text: str) -> Iterator[Tuple[str, Tuple[int, ...]]]:
+    """Yield the machines that a machine of two symbols becomes where some `---` are filled, and the entries
+    that are: state and symbol in one number."""
+    old = [entry for group in table_of(text) for entry in group]
+    choices = [entries_of(len(old) // 2, 2) if entry == "---" else [entry] for entry in old]
+    for new in itertools.product(*choices):
+        filled = tuple(k for k, entry in enumerate(new) if entry != old[k])
+        if filled:
+            yield grouped(new, 2), filled
+
+
+def undefined_met(text: str, verdict: str) -> Optional[int]:
+    """Return the `---` on which a machine halts, as state and symbol in one number; None where it doesn't."""
+    if not verdict.startswith("halt "):
+        return None
+    *_, last = simulate(text, int(verdict.split(" ")[1]))
+    return None if last.state is None else 2 * last.state + last.tape.get(last.head, 0)
+
+
+@pytest.mark.parametrize("fills_met", [False, True])
+def test_completions_keep_halts_and_pairs(bb: str, machines: List[str], fills_met: bool) -> None:
+    """A filled `---` that the run doesn't meet keeps the verdict; the one that it halts on changes it."""
+    cases = [
+        (verdict, other)
+        for text, verdict in zip(machines, decide(bb, machines))
+        if verdict.split(" ")[0] in ("halt", "cycler", "translated")
+        for other, filled in completions(text)
+        if (undefined_met(text, verdict) in filled) == fills_met
+    ]
+    verdicts, others = [verdict for verdict, _ in cases], [other for _, other in cases]
+    found = decide(bb, others)
+    if not fills_met:
+        compare_lines("verdicts of completions", found, verdicts, others)
+    assert not fills_met or not any(now == verdict for now, verdict in zip(found, verdicts))
+    answers = check(bb, others, verdicts)
+    compare_lines("answers", answers, ["bad" if fills_met else "ok"] * len(cases), others)
+
+
+def test_no_completion_halts_where_a_tree_ends(bb: str, machines: List[str]) -> None:
+    cases = [
+        (verdict, other)
+        for text, verdict in zip(machines, decide(bb, machines, TREES_ALONE))
+        if verdict.startswith("backward ")
+        for other, _ in completions(text)
+    ]
+    others = [other for _, other in cases]
+    assert not [now for now in decide(bb, others) if now.startswith("halt ")]
+    assert [verdict for verdict, _ in cases] != decide(bb, others, TREES_ALONE)
+    print("%d completions by a tree" % len(cases))
+
+
+def predict(
+    verdict: str, first_places: Sequence[Tuple[Optional[int], int]]
+) -> List[Tuple[Optional[int], int]]:
+    """Predict the state and the head's position at each step from a pair, by those up to its second step."""
+    kind, *rest = verdict.split(" ")
+    moved = kind == "translated"
+    first, second = map(int, rest[1:3] if moved else rest)
+    shift = int(rest[3]) * (1 if rest[0] == "R" else -1) if moved else 0
+    places = []
+    for step in range(FOLLOWED + 1):
+        times, part = divmod(max(step - first, 0), second - first)
+        state, head = first_places[min(step, first) + part]
+        places.append((state, head + times * shift))
+    return places
+
+
+def test_pairs_predict_later_steps(bb: str, machines: List[str]) -> None:
+    count = 0
+    for text, verdict in zip(machines, decide(bb, machines)):
+        if verdict.startswith(("cycler ", "translated ")):
+            places = [(now.state, now.head) for now in simulate(text, FOLLOWED)]
+            assert predict(verdict, places) == places, (text, verdict)
+            count += 1
+    assert count
+    print("%d machines, %d steps each" % (count, FOLLOWED))
+
+
+def latest_halt(text: str, levels: int) -> int:
+    """Return the most steps that any start of a machine of two symbols makes to a halt, -1 where none halts.
+
+    It tries all tapes as far as `levels` steps reach, with 0 and with 1 beyond, for some steps more.
+    """
+    latest, most = -1, levels + BEYOND
+    near = range(-levels, levels + 1)
+    starts = itertools.product(
+        (0, 1), range(len(table_of(text))), itertools.product((0, 1), repeat=len(near))
+    )
+    for beyond, state, cells in starts:
+        tape = {**dict.fromkeys(range(-most, most + 1), beyond), **dict(zip(near, cells))}
+        steps = sum(1 for _ in simulate(text, most, state, tape)) - 1
+        latest = max(latest, steps) if steps < most else latest
+    return latest
+
+
+def test_no_start_halts_later_than_its_tree_has_levels(bb: str, machines: List[str]) -> None:
+    levels_and_halts = []
+    for text, verdict in zip(machines, decide(bb, machines, TREES_ALONE)):
+        if verdict.startswith("backward "):
+            levels = int(verdict.split(" ")[1])
+            levels_and_halts.append((levels, latest_halt(text, levels)))
+            assert levels_and_halts[-1][1] in (levels - 1, levels), (text, verdict)
+    assert any(levels == latest > 0 for levels, latest in levels_and_halts)
+    print("%d trees that end" % len(levels_and_halts))

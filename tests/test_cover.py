@@ -1,0 +1,193 @@
+"""`cover` over whole lists, and over lists with a line left out, doubled, swapped or changed."""
+
+from __future__ import annotations
+
+import pathlib
+import random
+import re
+import subprocess
+from typing import Callable, Dict, List, Optional, Sequence, Tuple
+
+import pytest
+from support import TOP
+from support.program import Ended, as_lines, ended, options, processor_time
+from support.terminals import on_terminal
+
+# States and symbols of whole lists.
+SIZES = [(1, 2), (2, 2), (3, 2), (1, 3), (2, 3), (1, 4), (1, 10)]
+LARGE = [(2, 4), (4, 2)]
+# Each machine of these lists that leads to others halts within so many steps.
+STEPS = 200
+LIMITS = options((STEPS, 512, 40, 1_000))
+# How many times as long as `bb check` `cover` may take on a quiet machine; how far above that is a failure.
+BAR, FAR = 1.5, 3
+Decide = Callable[[int, int], List[str]]
+Changed = Tuple[List[str], int]
+
+
+@pytest.fixture(scope="module")
+def decide_all(bb: str, list_machines: Callable[..., List[str]]) -> Decide:
+    """A function that returns the verdict lines of a whole list."""
+    lists: Dict[Tuple[int, int], List[str]] = {}
+
+    def decide(states: int, symbols: int) -> List[str]:
+        if (states, symbols) not in lists:
+            machines = list_machines(states, "--symbols", str(symbols), "--steps", str(STEPS))
+            output = ended([bb, "decide", *LIMITS], as_lines(machines)).output
+            lists[states, symbols] = output.decode().splitlines()
+        return lists[states, symbols]
+
+    return decide
+
+
+def summarize(states: int, symbols: int, lines: Sequence[str]) -> str:
+    """Return the line that `cover` prints for a whole list."""
+    undecided = [line for line in lines if " undecided " in line]
+    wide = sum(line.count("---") > 1 for line in undecided)
+    size = "%d %s %d symbols" % (states, "state" if states == 1 else "states", symbols)
+    word = "line" if len(lines) == 1 else "lines"
+    counts = "%d undecided, %d of them with more than one ---" % (len(undecided), wide)
+    return "covers %s: %d %s, %s\n" % (size, len(lines), word, counts)
+
+
+@pytest.mark.parametrize(
+    "states, symbols", [*SIZES, *(pytest.param(*size, marks=pytest.mark.slow) for size in LARGE)]
+)
+def test_whole_lists_cover_their_sizes(cover: str, decide_all: Decide, states: int, symbols: int) -> None:
+    lines = decide_all(states, symbols)
+    assert lines
+    expected = Ended(0, summarize(states, symbols, lines).encode(), b"")
+    assert ended([cover], as_lines(lines)) == expected
+
+
+def test_list_of_one_line_covers_one_state(cover: str) -> None:
+    line = "------ undecided steps"
+    assert ended([cover], as_lines([line])) == (0, summarize(1, 2, [line]).encode(), b"")
+
+
+# Each makes a change at a line, counted from 0, and returns the list and the line, counted from 1, at which
+# it isn't a walk any more.
+
+
+def leave_out(lines: List[str], at: int, _: random.Random) -> Changed:
+    return lines[:at] + lines[at + 1 :], at + 1
+
+
+def double(lines: List[str], at: int, _: random.Random) -> Changed:
+    return lines[: at + 1] + lines[at:], at + 2
+
+
+def swap(lines: List[str], at: int, source: random.Random) -> Changed:
+    other = source.choice([place for place in range(len(lines)) if place != at])
+    changed = list(lines)
+    changed[at], changed[other] = changed[other], changed[at]
+    return changed, min(at, other) + 1
+
+
+def renumber(lines: List[str], at: int, source: random.Random) -> Changed:
+    """Add one to a number of the next line that has some: none of these claims holds then."""
+    while not re.search(r" \d+$", lines[at]):
+        at = (at + 1) % len(lines)
+    fields = lines[at].split(" ")
+    place = source.choice([k for k in range(2, len(fields)) if fields[k].isdecimal()])
+    fields[place] = str(int(fields[place]) + 1)
+    return [*lines[:at], " ".join(fields), *lines[at + 1 :]], at + 1
+
+
+@pytest.mark.parametrize("change", [leave_out, double, swap, renumber])
+@pytest.mark.parametrize("count", [25, pytest.param(250, marks=pytest.mark.slow)])
+def test_changed_lists_are_refused_at_their_line(
+    cover: str,
+    decide_all: Decide,
+    rng: random.Random,
+    count: int,
+    change: Callable[[List[str], int, random.Random], Changed],
+) -> None:
+    lines = decide_all(3, 2)
+    for _ in range(count):
+        changed, line = change(lines, rng.randrange(len(lines)), rng)
+        status, output, error = ended([cover, *LIMITS], as_lines(changed))
+        assert (status, error) == (1, b"") and output.startswith(b"line %d: " % line)
+
+
+def test_what_is_wrong_with_a_list_is_named(cover: str, decide_all: Decide) -> None:
+    lines = decide_all(2, 2)
+    root, first = lines[0].split(" ")[0], lines[1].split(" ")[0]
+    rows: List[Tuple[List[str], str]] = [
+        ([], "line 1: a machine with no entry expected, the list ends"),
+        (lines[1:], "line 1: a machine with no entry expected, found %s" % first),
+        ([lines[0], ""], "line 2: it is no verdict line"),
+        ([lines[0], "refused 1"], "line 2: it is no verdict line"),
+        ([lines[0], lines[0]], "line 2: %s expected, found %s" % (first, root)),
+        ([lines[0]], "line 2: %s expected, the list ends" % first),
+        (lines + ["x"], "line %d: no line expected, all machines were visited" % (len(lines) + 1)),
+        ([root + " halt 0 1"], "line 1: the claim on %s doesn't hold" % root),
+        ([root + " halt 201 1"], "line 1: the claim on %s needs more than the limits" % root),
+    ]
+    for given, sentence in rows:
+        assert ended([cover, *LIMITS], as_lines(given)) == (1, sentence.encode() + b"\n", b"")
+
+
+@pytest.mark.parametrize(
+    "words, status, error",
+    [
+        ("--steps 1000000000001", 2, b"cover: steps out of range\n"),
+        ("--cells 0", 2, b"cover: cells out of range\n"),
+        ("--depth 10001", 2, b"cover: depth out of range\n"),
+        ("--nodes 1000000000001", 2, b"cover: nodes out of range\n"),
+        ("--cells 1 --depth 2", 2, b"cover: depth does not fit in cells\n"),
+        ("/no/such/file", 3, b"cover: read failed\n"),
+        ("--stepz 1", 2, None),
+        ("a b", 2, None),
+    ],
+)
+def test_wrong_words(cover: str, words: str, status: int, error: Optional[bytes]) -> None:
+    done = ended([cover, *words.split()])
+    assert (done.status, done.output) == (status, b"") and done.error
+    assert error is None or done.error == error
+
+
+@pytest.mark.parametrize("word", ["--help", "--version"])
+def test_help_and_version(cover: str, word: str) -> None:
+    status, output, error = ended([cover, word])
+    assert status == 0 and output and not error
+
+
+def test_failed_write(cover: str, decide_all: Decide) -> None:
+    given = as_lines(decide_all(2, 2))
+    with open("/dev/full", "wb") as full:
+        done = subprocess.run([cover], input=given, stdout=full, stderr=subprocess.PIPE)
+        status, shown = on_terminal([cover, *LIMITS], given, full)
+    assert (done.returncode, done.stderr) == (3, b"cover: write failed\n")
+    cause = "cover: write failed\nstandard output: No space left on device (os error 28)\n"
+    assert status == 3 and shown.endswith(cause)
+
+
+def test_progress_on_a_terminal(cover: str, decide_all: Decide, tmp_path: pathlib.Path) -> None:
+    (tmp_path / "list").write_bytes(as_lines(decide_all(3, 2)))
+    status, shown = on_terminal([cover, *LIMITS, str(tmp_path / "list")], b"", subprocess.DEVNULL)
+    assert status == 0 and re.match(r"\r0% 0 lines\x1b\[K(\r\d+% \d+ lines\x1b\[K)*\r\x1b\[K$", shown)
+
+
+@pytest.mark.parametrize(
+    "path, cause",
+    [("/no/such/file", "No such file or directory (os error 2)\n"), (str(TOP), "Is a directory")],
+)
+def test_failed_read_on_a_terminal(cover: str, path: str, cause: str) -> None:
+    status, shown = on_terminal([cover, *LIMITS, path], b"", subprocess.DEVNULL)
+    assert status == 3 and "cover: read failed\n%s: %s" % (path, cause) in shown
+
+
+@pytest.mark.timing
+def test_cover_takes_little_longer_than_a_check(bb: str, cover: str, decide_all: Decide) -> None:
+    """Compares processor times, the least of three runs each."""
+    given = as_lines(decide_all(4, 2))
+
+    def time(*command: str) -> float:
+        before = processor_time()
+        ended([*command, *LIMITS], given)
+        return processor_time() - before
+
+    check, covering = (min(time(*command) for _ in range(3)) for command in ([bb, "check"], [cover]))
+    print("check %.2f s, cover %.2f s: %.2f (bar: %.1f)" % (check, covering, covering / check, BAR))
+    assert covering <= FAR * BAR * check

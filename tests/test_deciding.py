@@ -1,0 +1,83 @@
+"""Random machines: the checker confirms each verdict, larger limits lose none, and a plain program agrees."""
+
+from __future__ import annotations
+
+import pathlib
+import random
+import subprocess
+from typing import List, Sequence, Set
+
+import pytest
+from support import TOP, require
+from support.machines import machine, random_machines
+from support.program import PLANS, ROWS, SIMULATION, as_lines, ended, kind_of, options, replies
+from support.simulation import compare_lines
+
+KINDS = {"halt", "cycler", "translated", "backward", "undecided"}
+BATCH = 100
+
+
+def is_kept(before: str, after: str) -> bool:
+    """Tell whether larger limits kept a verdict; one by backward reasoning may become a cycler's."""
+    turned = kind_of(before) == "backward" and kind_of(after) in ("cycler", "translated")
+    return before == after or turned or kind_of(before) == "undecided"
+
+
+@pytest.mark.parametrize("plan", PLANS, ids=" ".join)
+def test_checker_confirms_verdicts_and_larger_limits_keep_them(
+    bb: str, rng: random.Random, plan: List[str]
+) -> None:
+    machines = random_machines(10_000, rng)
+    runs: List[List[str]] = []
+    for limits in ROWS:
+        lines = replies([bb, "decide", *options(limits), *plan], machines)
+        assert [line.split(" ")[0] for line in lines] == machines
+        expected = ["open" if kind_of(line) == "undecided" else "ok" for line in lines]
+        answers = replies([bb, "check", *options(limits)], lines)
+        compare_lines("answers under %s" % (limits,), answers, expected, lines)
+        for earlier, before in zip(ROWS, runs):
+            if all(a <= b for a, b in zip(earlier, limits)):
+                assert [pair for pair in zip(before, lines) if not is_kept(*pair)] == [], (earlier, limits)
+        runs.append(lines)
+    assert any(kind_of(line) != "undecided" for lines in runs for line in lines)
+
+
+@pytest.fixture(scope="session")
+def peer(tmp_path_factory: pytest.TempPathFactory) -> str:
+    """The plain Rust program that simulates, then searches, each by itself. It takes rustc 1.65 or later."""
+    require("rustc")
+    built = str(tmp_path_factory.mktemp("peer") / "peer")
+    source = str(TOP / "benchmarks" / "peer" / "main.rs")
+    subprocess.run(["rustc", "-O", "-C", "codegen-units=1", "--cfg", "wide", "-o", built, source], check=True)
+    return built
+
+
+def draw_machine(source: random.Random) -> str:
+    """Draw a machine: half of them have 2 symbols, seven of ten at most 5 states."""
+    states = source.randint(1, 5) if source.random() < 0.7 else source.randint(1, 25)
+    return machine(source, states, 2 if source.random() < 0.5 else source.randint(2, 10))
+
+
+def draw_options(source: random.Random) -> List[str]:
+    """Draw limits and a plan, as words; the depth is one that the cells allow."""
+    steps = source.choice([0, 1, 2, source.randint(0, 100), source.randint(0, 3_000)])
+    cells = source.choice([1, 2, 5, 20, 100, 599, 2_000])
+    depth, nodes = source.randint(0, min(300, (cells + 1) // 2)), source.choice([0, 1, 10, 500])
+    off = [switch for switch in SIMULATION if source.random() < 0.25]
+    return [word for limit in options((steps, cells, depth, nodes)) for word in limit.split("=")] + off
+
+
+@pytest.mark.parametrize("count", [2_000, pytest.param(100_000, marks=pytest.mark.slow)])
+def test_plain_program_writes_the_same_bytes(bb: str, peer: str, rng: random.Random, count: int) -> None:
+    """Also where the plain program decides in one run, with keys that make fingerprints agree by chance."""
+    kinds: Set[str] = set()
+    for _ in range(count // BATCH):
+        given, words = as_lines(draw_machine(rng) for _ in range(BATCH)), draw_options(rng)
+        ours, theirs = ended([bb, "decide", *words], given), ended([peer, "decide", *words], given)
+        in_one_run = ended([peer, "decide", *words, "--one-run", "--weak-keys"], given)
+        assert ours[:2] == theirs[:2] == in_one_run[:2], words
+        lines = ours.output.decode().splitlines()
+        assert len(lines) == BATCH
+        kinds.update(map(kind_of, lines))
+    assert KINDS <= kinds
+    print("%d lines compared" % count)

@@ -1,0 +1,179 @@
+"""The library for other languages and its examples, against the program."""
+
+from __future__ import annotations
+
+import os
+import pathlib
+import subprocess
+import sys
+from typing import Callable, List
+
+import budlarem
+import pytest
+from support import TOP, require
+from support.program import as_lines, begins_modulo_64, ended, replies
+from support.simulation import compare_lines, insert_low
+
+LIMITS = ["--steps", "1000", "--cells", "200", "--depth", "60"]
+SMALL = ["--steps", "1000", "--cells", "64", "--depth", "30", "--nodes", "1000"]
+MACHINES = ["1RB1LB_1LA1RZ", "1RA1RA", "1rB1LB", "", "0RB---_0LA---"]
+CLAIMS = """1RB1LB_1LA1RZ halt 6 4
+1RB1LB_1LA1RZ halt 6 5
+1RA1RA translated R 18446744073709551615 1
+1RA1RA cycler 1 65536
+1RZ--- backward 1 2
+------ halt 00 0
+1RA1RA undecided cells
+refused 14
+
+0RB---_0LA--- backward 2 4
+""".splitlines()
+CALLS = ["bb_check", "bb_check_line", "bb_decide", "bb_decide_line", "bb_look", "bb_trace"]
+C, CPP = ["gcc", "-std=c99"], ["g++", "-x", "c++"]
+C_WORDS = ["-Wall", "-Wextra", "-Werror", "-O2", "-pthread", "-I", str(TOP / "include")]
+VALGRIND = ["valgrind", "-q", "--error-exitcode=9", "--leak-check=full"]
+LONG = b"1RB1LB_1LA1RZ" * 100_000
+Compile = Callable[..., str]
+
+
+@pytest.fixture
+def compile_source(library: pathlib.Path, tmp_path: pathlib.Path) -> Compile:
+    """A function that compiles a source of the repository with the library, and returns the program."""
+    archive = str(library.with_suffix(".a"))
+
+    def compile_source(source: str, compiler: List[str] = C) -> str:
+        require(compiler[0])
+        path, made = str(TOP / source), str(tmp_path / pathlib.Path(source).stem)
+        command = [*compiler, *C_WORDS, path, "-x", "none", archive, "-o", made]
+        if compiler == ["rustc"]:
+            command = ["rustc", "-O", path, "-L", str(library.parent), "-l", "static=bb", "-o", made]
+        subprocess.run(command, check=True)
+        return made
+
+    return compile_source
+
+
+@pytest.fixture(scope="module")
+def machines(list_machines: Callable[..., List[str]]) -> List[str]:
+    """The first 100,000 machines of four states in tree normal form."""
+    return list_machines(4)[:100_000]
+
+
+@pytest.fixture
+def limits(library: pathlib.Path, monkeypatch: pytest.MonkeyPatch) -> budlarem.Limits:
+    """The limits of the calls from Python, over the library that is built here."""
+    monkeypatch.setenv("BB_LIBRARY", str(library))
+    return budlarem.Limits(steps=1000, cells=200, depth=60)
+
+
+@pytest.mark.needs("nm")
+def test_library_exports_its_calls_alone(library: pathlib.Path) -> None:
+    symbols = ended(["nm", "-D", "--defined-only", str(library)]).output.decode().split()[2::3]
+    assert sorted(symbols) == CALLS
+
+
+@pytest.mark.needs("nm")
+def test_single_pass_run_begins_at_a_multiple_of_64(library: pathlib.Path) -> None:
+    assert begins_modulo_64(str(library)) == [0]
+
+
+@pytest.mark.parametrize("compiler", [C, CPP], ids=" ".join)
+def test_calls_keep_their_contracts(compile_source: Compile, compiler: List[str]) -> None:
+    """Also under valgrind, which finds nothing wrong."""
+    require("valgrind")
+    made = compile_source("tests/library/calls.c", compiler)
+    assert ended([made]) == ended([*VALGRIND, made]) == (0, b"", b"")
+
+
+@pytest.mark.parametrize(
+    "source, words",
+    [("examples/c/decide.c", C), ("examples/c/decide.c", VALGRIND), ("examples/rust/decide.rs", ["rustc"])],
+    ids=["C", "C under valgrind", "Rust"],
+)
+def test_examples_decide_words(bb: str, compile_source: Compile, source: str, words: List[str]) -> None:
+    under = words if words == VALGRIND else []
+    require(*under[:1])
+    command = [*under, compile_source(source, C if under else words)]
+    assert ended([*command, *MACHINES])[:2] == ended([bb, "decide"], as_lines(MACHINES))[:2]
+    assert ended([*command, "1RZ---"]) == (0, b"1RZ--- halt 1 1\n", b"")
+
+
+def test_example_decides_all_machines_of_two_states(bb: str, compile_source: Compile) -> None:
+    output = ended([compile_source("examples/c/two_states.c"), "lines"]).output.decode()
+    lines = output.splitlines()[:-5]
+    machines = [line.split()[0] for line in lines]
+    assert len(lines) == 28_561
+    compare_lines("two states", lines, replies([bb, "decide", *SMALL], machines))
+
+
+def test_example_traces(bb: str, compile_source: Compile) -> None:
+    require("valgrind")
+    command = [*VALGRIND, compile_source("examples/c/trace.c")]
+    whole = ended([bb, "trace", "--upto", "5", MACHINES[0]]).output
+    assert ended([*command, MACHINES[0], "5"]) == (0, insert_low(MACHINES[0], whole), b"")
+    assert ended([*command, "", "5", "2"]) == (1, b"refused 1\n", b"")
+    assert ended([*command, MACHINES[0], "5", "0"])[:2] == (2, b"")
+
+
+@pytest.mark.parametrize("threads", ["1", "4", "9"])
+def test_many_cores_write_what_one_does(
+    bb: str, compile_source: Compile, machines: List[str], threads: str
+) -> None:
+    made = compile_source("examples/rust/many_cores.rs", ["rustc"])
+    lists = [b"", b"1RZ---", b"\n", as_lines(MACHINES), LONG + b"\n1RZ---\n" + LONG]
+    for given in [*lists, b"1RB1LB_1LA1RZ\n" * 99_999, as_lines(machines)]:
+        found = ended([made, *LIMITS, "--threads", threads], given)
+        assert found[:2] == ended([bb, "decide", *LIMITS], given)[:2]
+
+
+@pytest.mark.parametrize("words", ["--steps", "--cells 0", "--levels 3", "--steps many"])
+def test_many_cores_refuse_wrong_words(compile_source: Compile, words: str) -> None:
+    made = compile_source("examples/rust/many_cores.rs", ["rustc"])
+    assert ended([made, *words.split()])[:2] == (2, b"")
+
+
+def test_example_in_python(library: pathlib.Path) -> None:
+    environment = {**os.environ, "BB_LIBRARY": str(library), "PYTHONPATH": str(TOP / "python" / "src")}
+    command = [sys.executable, str(TOP / "examples" / "python" / "list.py")]
+    output = ended(command, b"1RZ---\nx\n", env=environment).output
+    assert output == b"ok 1RZ--- halt 1 1\nopen refused 1\n"
+
+
+def test_package_decides_and_checks(bb: str, limits: budlarem.Limits, machines: List[str]) -> None:
+    verdicts = replies([bb, "decide", *LIMITS], machines)
+    assert len(verdicts) == 100_000
+    compare_lines("verdicts", [str(verdict) for verdict in budlarem.decide(machines, limits)], verdicts)
+    for lines in (CLAIMS, verdicts):
+        expected = replies([bb, "check", *LIMITS], lines)
+        compare_lines("answers", [str(answer) for answer in budlarem.check(lines, limits)], expected, lines)
+
+
+def trace(bb: str, machine: str, upto: int, cells: int) -> List[str]:
+    """Return the lines of the program's trace."""
+    words = ["--upto", str(upto), "--cells", str(cells), "--", machine]
+    return ended([bb, "trace", *words]).output.decode().splitlines()
+
+
+@pytest.mark.parametrize("cells", [200, 5])
+@pytest.mark.parametrize("count", [5, pytest.param(100, marks=pytest.mark.slow)])
+@pytest.mark.usefixtures("limits")
+def test_package_traces(bb: str, machines: List[str], cells: int, count: int) -> None:
+    """At every first step and every distance up to 50."""
+    for machine in machines[:: len(machines) // count]:
+        whole = trace(bb, machine, 120, cells)
+        for start in range(51):
+            for every in range(1, 51):
+                found = [str(now) for now in budlarem.trace(machine, 120, cells, start, every)]
+                assert found == whole[start::every], (machine, start, every)
+
+
+@pytest.mark.usefixtures("limits")
+def test_package_traces_a_long_run(bb: str) -> None:
+    expected = trace(bb, MACHINES[1], 3000, 65_536)
+    assert [str(now) for now in budlarem.trace(MACHINES[1], 3000)] == expected
+
+
+@pytest.mark.usefixtures("limits")
+def test_package_refuses_to_trace_no_machine() -> None:
+    with pytest.raises(budlarem.MachineError):
+        next(budlarem.trace("1RZ", 9, start=2**64 - 1))

@@ -1,0 +1,494 @@
+"""The recipes of docs/recipes.md, run out of the document itself, on lists that try to break them.
+
+Each block of commands that one computer can run is run by `sh -e` in a folder of its own; what it leaves is
+compared with one run of the program. Processes are killed and interrupted by their ids.
+"""
+
+from __future__ import annotations
+
+import collections
+import gzip
+import os
+import pathlib
+import re
+import signal
+import subprocess
+import sys
+import time
+from typing import Callable, Dict, List, Tuple, Union
+
+import pytest
+from support import TOP, require, restore_signals
+from support.machines import mixed
+from support.program import GREATEST, Ended, as_lines, ended, options, options_of_pass
+
+# How many blocks of commands stand under each heading.
+COUNTS = {
+    "Preparing a list": 3,
+    "Counting a step more": 1,
+    "Deciding again what was left": 2,
+    "Counting verdicts": 1,
+    "Finding wrong claims": 3,
+    "Judging what others publish": 2,
+    "Publishing what was decided": 2,
+    "More than one core": 2,
+    "Is the list whole": 1,
+    "Lists of any length": 2,
+    "Many cores without Python": 1,
+    "A picture": 2,
+    "Running it elsewhere": 1,
+    "After an interruption": 1,
+    "Machines that another program makes": 1,
+}
+# A line of a list, and the machine that is taken out of it, or why there is none; None for a line that is
+# passed over in silence.
+TAKEN: List[Tuple[bytes, Union[bytes, None, str]]] = [
+    (b"1RB1LB_1LA1RZ", b"1RB1LB_1LA1RZ"),
+    (b"\t 1RB1LB_1LA1RZ  # a comment, with 1RA1RA", "two different machines"),
+    (b"\t 1RB1LB_1LA1RZ  # a comment", b"1RB1LB_1LA1RZ"),
+    (b"12,1RA1RA,translated", b"1RA1RA"),
+    (b"1RB1LB_1LA1RZ halt 6 4\r", b"1RB1LB_1LA1RZ"),
+    (b"1RB1LB_1LA1RH", b"1RB1LB_1LA1RZ"),
+    (b"\xff 1RA1RB_1LB1RA \xfe\x80", b"1RA1RB_1LB1RA"),
+    (b"\"1RA1RA\";'$(exit 3)' `exit 4` %s \\n", b"1RA1RA"),
+    (b"------", "a row of dashes is a rule"),
+    (b"0RB---_0LA---", b"0RB---_0LA---"),
+    (b"0RB---2LA_0LA------", b"0RB---2LA_0LA------"),
+    (b"1RB1LB_1LA1RC", "entry 4 names state C"),
+    (b"# nothing but 1RA1RA", "a machine in a line that begins as a comment"),
+    (b"# a comment", None),
+    (b"```", None),
+    (b"", None),
+    (b" \t ", None),
+    (b"1RB1LB 1LA1RZ", b"1RB1LB_1LA1RZ"),
+    (b"1RA1RA,1RA1RA,1RA1RA", "each of 3 words is a machine by itself"),
+    (b"1rB1LB", "entry 1 names state B"),
+    (b"x1RA1RA", "entry 1 is no entry: x1R"),
+    (b"1RA1RA_", "group 2 is empty"),
+    (b"1RA1RA__1RA1RA", "group 2 is empty"),
+    (b"1RA1RA-old", "entry 3 is no entry: -ol"),
+    (b"1RA", "1 entry can't be divided"),
+    (b"----------", "a row of dashes"),
+    (b"a name", "no machine in this line"),
+    (b"1RZ1RZ", b"1RZ1RZ"),
+]
+DECIDED = b"1RB1LB_1LA1RZ\n0RB---_0LA---\n1RA1RA\n------\n"
+UNDECIDED = b"1RB1LC_1RC1RB_1RD0LE_1LA1LD_1RZ0LA\n"
+ANYTHING = (
+    b"1RA1RA\n\n  \n1rB1LB\n1RB1LB_1LA1RZ\r\n'$HOME' \"\\n\" `exit 3`; %s undecided\n"
+    b"undecided steps\nrefused 1\n1RA1RA undecided cells\n\xff\xfe\n------\n1RA1RA\n"
+    b"1RB0LA_0RC---_1RD0LD_1LA1RB\n" + UNDECIDED + b"x" * 100_000 + b"\n1RA1RA"
+)
+LISTS = {
+    "empty": b"",
+    "no newline at its end": b"1RB1LB_1LA1RZ",
+    "decided": DECIDED,
+    "undecided": UNDECIDED * 3,
+    "anything": ANYTHING,
+}
+each_list = pytest.mark.parametrize("content", LISTS.values(), ids=list(LISTS))
+# It halts after 41,709 steps.
+LONG_HALT = b"1RB0LB_1RC1LB_1LD0RE_1LD1LA_---0RD\n"
+CLAIMS_ELSEWHERE = b"""1RB1LB_1LA--- halt 6 4
+0RB---_0LA--- cycler 2 4
+0RB---_0LA--- backward 2 4
+------ halt 1 1
+1RA1RA translated R 1 2
+1RB1LB_1LA--- halt 5 4
+"""
+# Programs as recipes find them: the package's command, and a `bb` that is killed in the middle of the piece
+# with the line `x`.
+BUDLAREM = "#!/bin/sh\nPYTHONPATH='%s' exec '%s' -m budlarem \"$@\"\n"
+KILLED = """#!%s
+import os, signal, subprocess, sys
+
+program, words = %r, sys.argv[1:]
+source = open(words.pop(), "rb") if os.path.isfile(words[-1]) else sys.stdin.buffer
+lines = source.read()
+is_killed = b"\\nx\\n" in lines
+given = lines[:5000] if is_killed else lines
+command = subprocess.run([program, *words], input=given, stdout=subprocess.PIPE)
+sys.stdout.buffer.write(command.stdout[:4321] if is_killed else command.stdout)
+sys.stdout.flush()
+if is_killed:
+    os.kill(os.getpid(), signal.SIGKILL)
+"""
+
+
+def read_recipes() -> Dict[str, List[str]]:
+    """Read the blocks of commands of the document, by the heading above them."""
+    found: Dict[str, List[str]] = {}
+    document = (TOP / "docs" / "recipes.md").read_text(encoding="utf-8")
+    for section in re.split(r"^#+ ", document, flags=re.M)[1:]:
+        heading, _, text = section.partition("\n")
+        blocks = re.findall(r"(?:^    .*\n(?:\n(?=    ))?)+", text, flags=re.M)
+        if blocks:
+            found[heading] = [re.sub("^    ", "", block, flags=re.M).rstrip("\n") for block in blocks]
+    return found
+
+
+RECIPES = read_recipes()
+
+
+class Folder:
+    """A folder in which recipes run: the program and the repository's folders stand in it as in the top."""
+
+    def __init__(self, path: pathlib.Path, bb: str) -> None:
+        self.path, self.bb = path, bb
+        (path / "crates" / "bb" / "out").mkdir(parents=True)
+        self.place_program(bb)
+        for name in ("scripts", "tools", "examples", "crates/bb_c"):
+            (path / name).symlink_to(TOP / name)
+
+    def place_program(self, program: str) -> None:
+        """Put a program where the recipes look for `bb`, `./bb` and `crates/bb/out/bb`."""
+        for link in (self.path / "bb", self.path / "crates" / "bb" / "out" / "bb"):
+            link.unlink(missing_ok=True)
+            link.symlink_to(program)
+
+    def write(self, name: str, content: bytes) -> None:
+        (self.path / name).write_bytes(content)
+
+    def write_script(self, name: str, text: str) -> None:
+        (self.path / name).write_text(text)
+        (self.path / name).chmod(0o755)
+
+    def read(self, name: str) -> bytes:
+        return (self.path / name).read_bytes()
+
+    def run(self, commands: str) -> Ended:
+        """Run commands, and return their status and what they write."""
+        environment = dict(os.environ, PATH="%s:%s" % (self.path, os.environ["PATH"]))
+        return ended(["sh", "-e", "-c", commands], cwd=str(self.path), env=environment)
+
+    def decide(self, content: bytes, *words: str) -> bytes:
+        """Return what one run of the program writes to a list."""
+        return ended([self.bb, "decide", *words], content).output
+
+
+@pytest.fixture
+def folder(bb: str, tmp_path: pathlib.Path) -> Folder:
+    """A folder whose name has a space."""
+    return Folder(tmp_path / "a folder", bb)
+
+
+@pytest.fixture
+def package(folder: Folder, library: pathlib.Path) -> None:
+    """The package's command, where the recipes look for it; it takes the library that is built."""
+    assert library.exists()
+    folder.write_script("budlarem", BUDLAREM % (TOP / "python" / "src", sys.executable))
+
+
+def test_each_block_has_its_test() -> None:
+    assert {heading: len(blocks) for heading, blocks in RECIPES.items()} == COUNTS
+
+
+@each_list
+def test_refused_lines_are_shown(folder: Folder, content: bytes) -> None:
+    folder.write("machines.txt", content)
+    lines = folder.decide(content).splitlines()
+    shown = [b"%d: %s\n" % pair for pair in enumerate(lines, 1) if pair[1].startswith(b"refused")]
+    assert folder.run(RECIPES["Preparing a list"][2]) == (0, b"".join(shown), b"")
+
+
+def require_reasons(error: List[str]) -> None:
+    """Require a sentence for each line that isn't taken, and for each that is rewritten."""
+    for number, (line, found) in enumerate(TAKEN, 1):
+        begin = "list.txt:%d: " % number
+        rows = [row for row in error if row.startswith(begin)]
+        if isinstance(found, str):
+            assert rows[0].startswith(begin + "refused: " + found)
+        else:
+            assert len(rows) == (found is not None and found not in line), (line, rows)
+
+
+@pytest.mark.usefixtures("package")
+@pytest.mark.parametrize("lead, ending", [(b"", b"\n"), (b"\xef\xbb\xbf", b"")])
+@pytest.mark.parametrize("pack", [bytes, gzip.compress], ids=["plain", "gzip"])
+def test_machines_are_taken_out_of_lines(folder: Folder, lead: bytes, ending: bytes, pack: type) -> None:
+    folder.write("list.txt", pack(lead + b"\n".join(line for line, _ in TAKEN) + ending))
+    status, output, error = folder.run(RECIPES["Preparing a list"][0])
+    expected = b"".join(machine + b"\n" for _, machine in TAKEN if isinstance(machine, bytes))
+    assert (status, output, folder.read("machines.txt")) == (0, b"", expected)
+    require_reasons(error.decode().splitlines())
+
+
+@pytest.mark.usefixtures("package")
+def test_empty_list_and_another_halting_letter(folder: Folder) -> None:
+    take, spell, _ = RECIPES["Preparing a list"]
+    folder.write("list.txt", b"")
+    assert folder.run(take)[:2] == (0, b"") and folder.read("machines.txt") == b""
+    folder.write("list.txt", b"1RB1LB_1LA1RX\n")
+    assert folder.run(spell).status == 0 and folder.read("machines.txt") == b"1RB1LB_1LA1RZ\n"
+
+
+def test_counting_a_step_more(folder: Folder) -> None:
+    machines = [machine.encode() for machine in mixed(2_000, 5)]
+    folder.write("machines.txt", b"\n".join(machines) + b"\n1RB1LB_1LA---\n")
+    assert folder.run(RECIPES["Counting a step more"][0]).status == 0
+    limits = ["--cells=1000", "--depth=20", "--nodes=1000"]
+    before = folder.decide(folder.read("machines.txt"), "--steps=1000", *limits).splitlines()
+    after = folder.decide(folder.read("counted.txt"), "--steps=1001", *limits).splitlines()
+    assert len(before) == len(after) == 2_001
+    assert (before[-1][14:], after[-1][14:]) == (b"halt 5 4", b"halt 6 4")
+    more = [int(b.split()[2]) - int(a.split()[2]) for a, b in zip(before, after) if a.split()[1] == b"halt"]
+    assert set(more) == {0, 1}
+    others = [(a.split()[1:], b.split()[1:]) for a, b in zip(before, after) if b"halt" not in a + b]
+    assert all(a == b or b"undecided" in a for a, b in others)
+    assert {b"cycler", b"translated", b"backward"} <= {a[0] for a, _ in others}
+
+
+@each_list
+def test_deciding_again_what_was_left(folder: Folder, content: bytes) -> None:
+    folder.write("machines.txt", content)
+    for block in RECIPES["Deciding again what was left"]:
+        assert folder.run(block).status == 0
+    once, lines = folder.decide(content).splitlines(), folder.read("verdicts.txt").splitlines()
+    assert len(once) == len(lines)
+    for a, b in zip(once, lines):
+        assert a == b or (b" backward " in b and a.split()[1] in (b"cycler", b"translated"))
+    parts = folder.read("decided.txt") + folder.read("second.txt")
+    assert sorted(parts.splitlines()) == sorted(lines)
+
+
+@each_list
+def test_counting_verdicts(folder: Folder, content: bytes) -> None:
+    folder.write("verdicts.txt", folder.decide(content))
+    fields = [line.split() for line in folder.read("verdicts.txt").splitlines()]
+    kinds = collections.Counter(f[0] if f[0] == b"refused" else f[1] for f in fields)
+    status, output, _ = folder.run(RECIPES["Counting verdicts"][0])
+    assert status == 0
+    assert sorted(output.splitlines()) == sorted(b"%d %s" % (count, kind) for kind, count in kinds.items())
+
+
+def test_wrong_claims_are_shown(folder: Folder) -> None:
+    """The limits are those of the example's command, under which one claim is over."""
+    claims = TOP / "examples" / "claims"
+    lines, answers = (claims / "lines.txt").read_bytes(), (claims / "expected.txt").read_bytes().splitlines()
+    folder.write("verdicts.txt", lines)
+    command = "bb " + (claims / "command").read_text().strip()
+    status, output, _ = folder.run(RECIPES["Finding wrong claims"][0].replace("bb check", command))
+    pairs = zip(range(1, len(answers) + 1), answers, lines.splitlines())
+    expected = b"".join(b"%d: %s %s\n" % row for row in pairs if row[1] not in (b"ok", b"open"))
+    assert status == 0 and output == expected != b""
+
+
+def test_claims_that_count_a_step_more(folder: Folder) -> None:
+    confirmed, _, counted = RECIPES["Finding wrong claims"]
+    folder.write("verdicts.txt", CLAIMS_ELSEWHERE)
+    assert [line[:6] for line in folder.run(confirmed).output.splitlines()] == [b"1: bad", b"4: bad"]
+    assert folder.run(counted)[:2] == (0, b"6: bad 1RB1LB_1LA1RZ halt 5 4\n")
+
+
+@each_list
+def test_no_wrong_claim_in_verdicts(folder: Folder, content: bytes) -> None:
+    folder.write("verdicts.txt", folder.decide(content))
+    assert folder.run(RECIPES["Finding wrong claims"][0]) == (0, b"", b"")
+
+
+@pytest.mark.usefixtures("package")
+def test_package_answers_claims(folder: Folder) -> None:
+    lines = (TOP / "examples" / "claims" / "lines.txt").read_bytes()
+    folder.write("verdicts.txt", lines)
+    assert folder.run(RECIPES["Finding wrong claims"][1]).status == 0
+    expected = ended([folder.bb, "check", *options(GREATEST)], lines).output
+    assert folder.read("answers.txt") == expected
+
+
+@pytest.mark.usefixtures("package")
+def test_judging_what_others_publish(folder: Folder) -> None:
+    judge, look = RECIPES["Judging what others publish"]
+    folder.write("machines.txt", b"1RB1LB_1LA1RZ\n1RA1RA\n0RB---_0LA---\n")
+    folder.write("theirs.txt", b"1LB1RB_1RA1LZ halt 6 4\n1RA1RA halt 6 4\nx\n1RZ1RZ halt 1 1\n")
+    assert folder.run(judge).status == 0
+    words = b"confirmed contradicted unreadable confirmed no-line not-listed".split()
+    rows = [tuple(line.split(b"\t")[:2]) for line in folder.read("judged.txt").splitlines()]
+    assert rows == list(zip(words, b"1 2 3 4 3 4".split()))
+    shown = [row.split(b"\t")[0] for row in folder.run(look).output.splitlines()]
+    assert shown == [words[1], words[2], words[4], words[5]]
+
+
+@pytest.mark.usefixtures("package")
+def test_publishing_what_was_decided(folder: Folder) -> None:
+    publish, look = RECIPES["Publishing what was decided"]
+    folder.write("machines.txt", b"1RB1LB_1LA1RZ\n1RA1RA\n0RB---_0LA---\n")
+    folder.run("budlarem run machines.txt --out decided")
+    status, output, _ = folder.run(publish)
+    assert status == 0 and output.endswith(b"  decided.tar\n")
+    page = folder.run(look).output
+    assert page.startswith(b"Verdicts on 3 machines\n") and b"python3 again.py" in page
+
+
+@pytest.fixture(scope="module")
+def long_list(bb: str, list_machines: Callable[..., List[str]]) -> bytes:
+    """Some two megabytes of machines that halt, and a line that is refused."""
+    verdicts = ended([bb, "decide", "--steps=1000"], as_lines(list_machines(3))).output.splitlines()
+    halts = [line.split()[0] for line in verdicts if line.split()[1] == b"halt"]
+    return b"".join(line + b"\n" for line in halts * 60 + [b"x"] + halts)
+
+
+(IS_WHOLE,) = RECIPES["Is the list whole"]
+
+
+@each_list
+def test_whole_list_is_found_whole(folder: Folder, content: bytes) -> None:
+    folder.write("machines.txt", content)
+    folder.write("verdicts.txt", folder.decide(content, "--steps=1000"))
+    assert folder.run(IS_WHOLE) == (0, b"", b"")
+
+
+def test_list_that_is_not_whole_is_noticed(folder: Folder) -> None:
+    folder.write("machines.txt", ANYTHING)
+    lines = folder.decide(ANYTHING, "--steps=1000").splitlines(keepends=True)
+    broken: Dict[str, List[bytes]] = {
+        "nothing": [],
+        "a gap": lines[:4] + lines[8:],
+        "a line left out": lines[:-1],
+        "a line cut": lines[:-1] + [lines[-1][:-1]],
+        "a line cut in the middle": lines[:10] + [lines[10][:9]] + lines[11:],
+        "a line too many": lines + [lines[-1]],
+        "another order": lines[1:] + lines[:1],
+    }
+    for name, rows in broken.items():
+        folder.write("verdicts.txt", b"".join(rows))
+        status, output, _ = folder.run(IS_WHOLE)
+        assert status == 1 and output.count(b"\n") == 1, name
+
+
+def limits_of(commands: str) -> List[str]:
+    """Return the words for limits in a recipe's commands."""
+    return " ".join(re.findall(r"--(?:steps|cells|depth|nodes) \d+", commands)).split()
+
+
+@pytest.mark.parametrize("way", ["parallel", "split"])
+def test_list_in_pieces_is_decided_as_in_one_process(folder: Folder, long_list: bytes, way: str) -> None:
+    require(way)
+    commands = next(block for block in RECIPES["More than one core"] if way + " -" in block)
+    words = limits_of(commands)
+    for content in [*LISTS.values(), long_list]:
+        folder.write("machines.txt", content)
+        assert folder.run(commands).error == b""
+        assert folder.read("verdicts.txt") == folder.decide(content, *words)
+        assert folder.run(IS_WHOLE).status == 0
+    folder.write_script("killed", KILLED % (sys.executable, folder.bb))
+    folder.place_program(str(folder.path / "killed"))
+    folder.run(commands)
+    status, output, _ = folder.run(IS_WHOLE)
+    assert len(folder.read("verdicts.txt")) < len(folder.decide(long_list, *words))
+    assert status == 1 and output
+
+
+def test_fewer_pieces_than_before(folder: Folder) -> None:
+    commands = RECIPES["More than one core"][1]
+    folder.write("machines.txt", ANYTHING)
+    for text in (commands, commands.replace("l/4", "l/2")):
+        folder.run(text)
+    assert folder.read("verdicts.txt") == folder.decide(ANYTHING, *limits_of(commands))
+    assert folder.run(IS_WHOLE).status == 0
+
+
+@pytest.mark.usefixtures("package")
+@each_list
+def test_runner_decides_lists_of_any_length(folder: Folder, content: bytes) -> None:
+    run, keep = RECIPES["Lists of any length"]
+    first, second = re.findall(r"--pass (\S+)", run)
+    content = DECIDED * 3 + content
+    folder.write("machines.txt", content)
+    assert folder.run(run).status == 0
+    expected = b""
+    for line in folder.decide(content, *options_of_pass(first)).splitlines(keepends=True):
+        is_left = b" undecided " in line
+        expected += folder.decide(line.split()[0], *options_of_pass(second)) if is_left else line
+    assert folder.read("decided/verdicts.txt") == expected
+    content += b"\n" + LONG_HALT
+    folder.write("machines.txt", content)
+    assert folder.run(keep).status == 0
+    words = b" undecided ", b"refused ", LONG_HALT.strip() + b" halt "
+    lines = folder.decide(content).splitlines(keepends=True)
+    kept = b"".join(line for line in lines if any(word in line for word in words))
+    assert folder.read("left/verdicts.txt") == kept and kept.endswith(b" halt 41709 161\n")
+
+
+@pytest.mark.usefixtures("package")
+def test_runner_refuses_a_list_in_other_forms(folder: Folder) -> None:
+    folder.write("machines.txt", ANYTHING)
+    status, _, error = folder.run(RECIPES["Lists of any length"][0])
+    assert status != 0 and b"budlarem read" in error and not (folder.path / "decided").exists()
+
+
+@pytest.mark.needs("rustc")
+@pytest.mark.usefixtures("library")
+@each_list
+def test_many_cores_without_python(folder: Folder, content: bytes) -> None:
+    folder.write("machines.txt", content)
+    assert folder.run(RECIPES["Many cores without Python"][0]).status == 0
+    assert folder.read("verdicts.txt") == folder.decide(content, "--steps", "100000")
+
+
+@pytest.mark.needs(modules=("PIL",))
+@pytest.mark.usefixtures("package")
+@pytest.mark.parametrize("at, name", enumerate(["four_state_champion.png", "five_state_champion.png"]))
+def test_pictures_are_those_of_the_documents(folder: Folder, at: int, name: str) -> None:
+    from PIL import Image
+
+    assert folder.run(RECIPES["A picture"][at]).status == 0
+    found, expected = (Image.open(path) for path in (folder.path / "picture.png", TOP / "docs" / name))
+    assert found.size == expected.size
+    assert found.convert("RGB").tobytes() == expected.convert("RGB").tobytes()
+
+
+def test_program_is_copied_from_where_it_is(bb: str) -> None:
+    """What needs another computer isn't run."""
+    (command,) = RECIPES["Running it elsewhere"]
+    assert command == "scp %s host:bin/" % pathlib.Path(bb).relative_to(TOP)
+
+
+def interrupt(folder: Folder, content: bytes) -> int:
+    """Decide a list, and interrupt the program once something is written; return its status.
+
+    The list comes by a pipe whose last lines are held back, so the program can't have ended before.
+    """
+    folder.write("machines.txt", content)
+    written, pipe = folder.path / "verdicts.txt", subprocess.PIPE
+    command = [folder.bb, "decide"]
+    with open(written, "wb") as output, subprocess.Popen(
+        command, stdin=pipe, stdout=output, preexec_fn=restore_signals
+    ) as process:
+        assert process.stdin
+        process.stdin.write(content[: -len(content) // 10])
+        process.stdin.flush()
+        while written.stat().st_size == 0 and process.poll() is None:
+            time.sleep(0.01)
+        process.send_signal(signal.SIGINT)
+        process.wait()
+    return process.returncode
+
+
+(RESUME,) = RECIPES["After an interruption"]
+
+
+def test_interrupted_run_is_resumed(folder: Folder) -> None:
+    content = DECIDED * 2_000 + UNDECIDED * 30
+    assert interrupt(folder, content) == -signal.SIGINT
+    whole, written = folder.decide(content), folder.read("verdicts.txt")
+    assert whole.startswith(written) and 0 < len(written) < len(whole)
+    assert folder.run(RESUME).status == 0 and folder.read("verdicts.txt") == whole
+
+
+@each_list
+def test_cut_verdicts_are_completed_twice(folder: Folder, content: bytes) -> None:
+    whole = folder.decide(content)
+    folder.write("machines.txt", content)
+    for size in sorted({0, 1, len(whole) // 3, len(whole) // 2, len(whole)}):
+        folder.write("verdicts.txt", whole[:size])
+        assert folder.run(RESUME).status == 0 and folder.read("verdicts.txt") == whole
+        folder.write("verdicts.txt", whole[: size + 20])
+        assert folder.run(RESUME).status == 0 and folder.read("verdicts.txt") == whole
+
+
+@pytest.mark.usefixtures("library")
+def test_machines_that_another_program_makes(folder: Folder) -> None:
+    environment = {**os.environ, "PYTHONPATH": str(TOP / "python" / "src")}
+    (program,) = RECIPES["Machines that another program makes"]
+    output = ended([sys.executable, "-c", program], cwd=str(folder.path), env=environment).output
+    assert output == folder.decide(b"1RB1LB_1LA1RZ\n1RA1RA\n")

@@ -1,0 +1,128 @@
+"""The programs with one allocation refused at a time: each ends as ever, or with status 3 and its cause.
+
+The k-th call of malloc, calloc or realloc answers null, up to the first k that no call reaches. The last
+calls make the tapes and the path, before a byte is read: where one of them is refused, nothing is written and
+memory is the cause. Those before them read the words. Opening FILE allocates nothing, so no read fails.
+"""
+
+from __future__ import annotations
+
+import os
+import pathlib
+import subprocess
+from typing import Dict, List, Tuple
+
+import pytest
+from support import require
+from support.program import Ended, ended
+
+REFUSER = r"""
+#define _GNU_SOURCE
+#include <dlfcn.h>
+#include <stdlib.h>
+#include <unistd.h>
+
+#define NEXT(name, result, ...) \
+    static result (*next)(__VA_ARGS__); \
+    if (!next) next = dlsym(RTLD_NEXT, #name)
+
+static long calls;
+static int refused(void) {
+    const char *at = getenv("REFUSE_AT");
+    if (at && ++calls == atol(at)) {
+        const char *trace = getenv("REFUSE_TRACE");
+        if (trace) { int ignored = symlink("refused", trace); (void)ignored; }
+        return 1;
+    }
+    return 0;
+}
+void *__libc_calloc(size_t n, size_t size);
+void *calloc(size_t n, size_t size) { return refused() ? 0 : __libc_calloc(n, size); }
+void *malloc(size_t n) { NEXT(malloc, void *, size_t); return refused() ? 0 : next(n); }
+void *realloc(void *p, size_t n) { NEXT(realloc, void *, void *, size_t); return refused() ? 0 : next(p, n); }
+void *aligned_alloc(size_t a, size_t n) {
+    NEXT(aligned_alloc, void *, size_t, size_t);
+    return refused() ? 0 : next(a, n);
+}
+int posix_memalign(void **p, size_t a, size_t n) {
+    NEXT(posix_memalign, int, void **, size_t, size_t);
+    return refused() ? 12 : next(p, a, n);
+}
+"""
+# Standard input, and the files that the words name.
+INPUTS = {
+    "list": b"1RB1LB_1LA1RZ\n1RB0RA_1LA---\n0RB---_0LA---\n",
+    "claims": b"1RB1LB_1LA1RZ halt 6 4\n1RB0RA_1LA--- translated R 4 8 2 1\n"
+    b"0RB---_0LA--- backward 2 4\n0RB---_0LA--- cycler 2 4\n",
+    # A list of two states that ends too soon.
+    "begun": b"------_------ halt 0 0\n0RA---_------ translated R 1 2 1 1\n",
+}
+# What ends a program early, but for a read that failed.
+FAULTS = (b"out of memory", b"write failed")
+LIMITS = "--steps=1000 --cells=64 --depth=10 --nodes=100"
+# The command, its standard input, and how many allocations the tapes and the path take.
+RUNS = [
+    ("bb decide", "list", 4),
+    ("bb decide " + LIMITS, "list", 4),
+    ("bb decide %s list" % LIMITS, "list", 4),
+    ("bb decide --no-cyclers --no-translated " + LIMITS, "list", 4),
+    ("bb decide --cells=4", "list", 0),
+    ("bb decide --steps=x", "list", 0),
+    ("bb check", "claims", 3),
+    ("bb check " + LIMITS, "claims", 3),
+    ("bb check %s claims" % LIMITS, "claims", 3),
+    ("bb check --cells=4", "claims", 0),
+    ("bb check --steps=x", "claims", 0),
+    ("bb trace --upto=10 1RB1LB_1LA1RZ", "list", 1),
+    ("bb trace --upto=10 --cells=2 1RA1RA", "list", 1),
+    ("bb trace --upto=10 1RB1LB_1LA1RC", "list", 1),
+    ("bb trace --upto=10", "list", 0),
+    ("bb --help", "list", 0),
+    ("cover " + LIMITS, "begun", 4),
+    ("cover %s begun" % LIMITS, "begun", 4),
+    ("cover --cells=4", "begun", 0),
+    ("cover --steps=x", "begun", 0),
+    ("cover --help", "begun", 0),
+]
+
+
+@pytest.fixture(scope="module")
+def folder(tmp_path_factory: pytest.TempPathFactory) -> pathlib.Path:
+    """A folder with the inputs and the library that refuses allocations."""
+    require("cc")
+    folder = tmp_path_factory.mktemp("refused")
+    for name, content in {**INPUTS, "refuser.c": REFUSER.encode()}.items():
+        (folder / name).write_bytes(content)
+    command = ["cc", "-shared", "-fPIC", "-O1", "-o", "refuser.so", "refuser.c", "-ldl"]
+    subprocess.run(command, cwd=folder, check=True)
+    return folder
+
+
+def refuse_in_turn(command: List[str], given: bytes, folder: pathlib.Path) -> List[Ended]:
+    """Run a command with each of its allocations refused in turn, and return how it ends."""
+    ends: List[Ended] = []
+    trace = folder / "trace"
+    while True:
+        refusal = {"LD_PRELOAD": str(folder / "refuser.so"), "REFUSE_TRACE": str(trace)}
+        environment = {**os.environ, **refusal, "REFUSE_AT": str(len(ends) + 1)}
+        end = ended(command, given, cwd=str(folder), env=environment)
+        if not trace.is_symlink():
+            return ends
+        trace.unlink()
+        ends.append(end)
+
+
+@pytest.mark.parametrize("run", RUNS, ids=[run[0] for run in RUNS])
+def test_refused_allocation(bb: str, cover: str, folder: pathlib.Path, run: Tuple[str, str, int]) -> None:
+    programs: Dict[str, str] = {"bb": bb, "cover": cover}
+    name, *words = run[0].split()
+    command, given = [programs[name], *words], INPUTS[run[1]]
+    ends, whole = refuse_in_turn(command, given, folder), ended(command, given, cwd=str(folder))
+    faults = [b"%s: %s\n" % (name.encode(), fault) for fault in FAULTS]
+    before_tapes = len(ends) - run[2]
+    assert before_tapes > 0
+    assert ends[before_tapes:] == [(3, b"", faults[0])] * run[2]
+    for end in ends[:before_tapes]:
+        is_fault = end.status == 3 and whole.output.startswith(end.output) and end.error in faults
+        assert end == whole or is_fault
+    print("%d allocations refused in turn" % len(ends))

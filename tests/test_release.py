@@ -1,0 +1,91 @@
+"""The folder of the release, built twice from nothing in two clones of different names: the same bytes."""
+
+from __future__ import annotations
+
+import hashlib
+import pathlib
+import re
+import subprocess
+from typing import List
+
+import pytest
+from support import TOP, require
+
+PROGRAMS = ["bb", "cover", "many_cores", "tree_normal_form"]
+ALWAYS = {
+    *PROGRAMS,
+    *"CONTENTS README.txt bb.1 bb.h decide.c libbb.a libbb.so bb.wasm bb.html bb.mjs".split(),
+}
+ALWAYS |= {"%s.%s" % (name, shell) for name in ("bb", "budlarem") for shell in ("bash", "zsh", "fish")}
+
+pytestmark = pytest.mark.slow
+
+
+@pytest.fixture(scope="module")
+def releases(tmp_path_factory: pytest.TempPathFactory) -> List[pathlib.Path]:
+    """Two folders, each built at this commit in a clone of its own, which may prove all crates."""
+    require("rt", "rustc", "esbuild", "tsc", "npm")
+    top = tmp_path_factory.mktemp("release")
+    commit = subprocess.run(
+        ["git", "rev-parse", "HEAD"], cwd=TOP, stdout=subprocess.PIPE, check=True, text=True
+    )
+    folders = [top / "one", top / "another folder"]
+    for folder in folders:
+        subprocess.run(["git", "clone", "--quiet", str(TOP), str(folder)], check=True)
+        command = ["git", "checkout", "--quiet", "--detach", commit.stdout.strip()]
+        subprocess.run(command, cwd=folder, check=True)
+        subprocess.run(["make", "-s", "release"], cwd=folder, check=True)
+    return [folder / "dist" for folder in folders]
+
+
+@pytest.fixture(scope="module")
+def release(releases: List[pathlib.Path]) -> pathlib.Path:
+    """The first of the two."""
+    return releases[0]
+
+
+def test_contents_has_each_file_with_its_sha256(release: pathlib.Path) -> None:
+    text = (release / "CONTENTS").read_text(encoding="utf-8")
+    digests = {name: digest for digest, name in re.findall(r"^(\S+)  (\S+)$", text, flags=re.M)}
+    files = {path.name: path for path in release.iterdir() if path.name != "CONTENTS"}
+    assert digests == {name: hashlib.sha256(path.read_bytes()).hexdigest() for name, path in files.items()}
+    assert "\nkit " in text and text.startswith("commit ")
+    assert ALWAYS <= {*files, "CONTENTS"}
+    assert len(list(release.glob("budlarem-*.whl"))) == len(list(release.glob("budlarem-*.tgz"))) == 1
+
+
+def test_readme_has_each_file_and_the_command_that_checks_them(release: pathlib.Path) -> None:
+    page = (release / "README.txt").read_text(encoding="utf-8").splitlines()
+    assert {path.name for path in release.iterdir()} - {"README.txt"} <= set(page)
+    assert any("`grep '  ' CONTENTS | sha256sum" in line for line in page)
+    subprocess.run("grep '  ' CONTENTS | sha256sum --check --quiet", shell=True, cwd=release, check=True)
+
+
+@pytest.mark.parametrize("name", PROGRAMS)
+def test_program_prints_its_help(release: pathlib.Path, name: str) -> None:
+    done = subprocess.run([str(release / name), "--help"], capture_output=True, text=True)
+    assert done.returncode == 0 and name in done.stdout
+
+
+@pytest.mark.parametrize(
+    "command, output",
+    [
+        ("cc -I. decide.c libbb.a -o ../decide && ../decide 1RB1LB_1LA1RZ", "1RB1LB_1LA1RZ halt 6 4\n"),
+        ("./tree_normal_form --states 2 | ./bb decide | ./cover", "covers 2 states 2 symbols: "),
+    ],
+)
+def test_files_work_together(release: pathlib.Path, command: str, output: str) -> None:
+    done = subprocess.run(command, shell=True, cwd=release, stdout=subprocess.PIPE, text=True)
+    assert done.stdout.startswith(output)
+
+
+def content_of(path: pathlib.Path) -> bytes:
+    """Read a file, without the date in CONTENTS."""
+    content = path.read_bytes()
+    return re.sub(rb"(?m)^date .*\n", b"", content) if path.name == "CONTENTS" else content
+
+
+def test_both_folders_have_the_same_bytes_but_for_the_date(releases: List[pathlib.Path]) -> None:
+    one, another = ({path.name: content_of(path) for path in folder.iterdir()} for folder in releases)
+    assert one.keys() == another.keys()
+    assert [name for name in one if one[name] != another[name]] == []

@@ -1,0 +1,277 @@
+"""What the program prints where standard error is a terminal: causes of faults, hints, and progress."""
+
+from __future__ import annotations
+
+import gzip
+import os
+import pathlib
+import pty
+import re
+import select
+import subprocess
+import threading
+import time
+from typing import Callable, Iterator, List, Optional, Sequence, Tuple
+
+import pytest
+from support.program import kind_of
+from support.terminals import on_terminal
+
+LIST = b"1RB1LB_1LA1RZ\n0RB---_0LA---\n1RA1RA\n1rB1LB\n1RB---_1LA---\n"
+UNDECIDED = b"1RB0LA_0RC---_1RD0LD_1LA1RZ\n1RB1LC_1RC1RB_1RD0LE_1LA1LD_1RZ0LA\n"
+# A list that takes a second, in several reads.
+LONG = (LIST + UNDECIDED) * 200
+SLOW = ["--steps", "300000", "--cells", "4096"]
+# How the line of progress names the kinds of verdicts, and the answers of `check`.
+KINDS = {
+    "halt": "halt",
+    "cycler": "cycler",
+    "translated": "transl",
+    "backward": "back",
+    "undecided": "undec",
+    "refused": "ref",
+}
+ANSWERS = ["ok", "bad", "over", "open", "unread"]
+# For so many seconds a list is fed until what is waited for shows; then it counts as lost.
+PATIENCE = 1_800
+# A list is so many times as long as before where it was decided before two lines of progress were shown.
+LONGER, LONGEST = 4, 4**6
+MOST = 10**12
+ABOVE = "%d is not within 0 to %d" % (MOST + 1, MOST)
+# Words, and the whole of standard error. FOLDER stands for a folder.
+REFUSED = [
+    ("decide --steps %d" % (MOST + 1), "steps out of range", "--steps " + ABOVE),
+    ("decide --cells 0", "cells out of range", "--cells 0 is not within 1 to 67108864"),
+    ("decide --depth 10001", "depth out of range", "--depth 10001 is not within 0 to 10000"),
+    ("decide --nodes %d" % (MOST + 1), "nodes out of range", "--nodes " + ABOVE),
+    (
+        "decide --cells 256",
+        "depth does not fit in cells",
+        "--depth 300 needs --cells 599 or more; with --cells 256 a depth up to 128",
+    ),
+    ("trace --upto %d 1RA1RA" % (MOST + 1), "steps out of range", "--upto " + ABOVE),
+]
+UNREADABLE = [
+    ("check FOLDER/missing", "FOLDER/missing: No such file or directory (os error 2)"),
+    (
+        "decide -",
+        "-: No such file or directory (os error 2); - is no file name here, and without FILE standard input"
+        " is read",
+    ),
+    ("decide FOLDER", "FOLDER: Is a directory (os error 21)"),
+]
+MACHINE = b"1RB1LB_1LA1RZ"
+CARRIAGE_RETURN = "line 1 ends in a carriage return: remove them all first, by tr -d '\\r'\n"
+HINTS = [
+    ("decide", gzip.compress(MACHINE), "the input is compressed by gzip: unpack it first, by gzip -dc\n"),
+    (
+        "decide",
+        MACHINE.decode().encode("utf-16"),
+        "the input is UTF-16: convert it first, by iconv -f UTF-16 -t UTF-8\n",
+    ),
+    ("decide", MACHINE + b"\r\n", CARRIAGE_RETURN),
+    ("check", MACHINE + b" halt 6 4\r\n", CARRIAGE_RETURN),
+    ("decide", MACHINE + b"\n1RA1RA\r\n", ""),
+]
+
+
+def last_shown(command: Sequence[str], given: bytes, output: str = os.devnull) -> Tuple[int, str]:
+    """Return the status of a command, and what its terminal shows after the last line of progress."""
+    with open(output, "wb") as file:
+        status, shown = on_terminal(command, given, file)
+    return status, shown.rpartition("\x1b[K")[2]
+
+
+@pytest.mark.parametrize("words, fault, advice", REFUSED)
+def test_refused_limits_are_explained(bb: str, words: str, fault: str, advice: str) -> None:
+    assert last_shown([bb, *words.split()], b"") == (2, "bb: %s\n%s\n" % (fault, advice))
+
+
+@pytest.mark.parametrize("words, cause", UNREADABLE)
+def test_failed_reads_are_explained(bb: str, tmp_path: pathlib.Path, words: str, cause: str) -> None:
+    named, expected = (text.replace("FOLDER", str(tmp_path)) for text in (words, cause))
+    assert last_shown([bb, *named.split()], b"") == (3, "bb: read failed\n%s\n" % expected)
+
+
+@pytest.mark.parametrize(
+    "word, cause",
+    [("check", "standard output: No space left on device (os error 28)\n"), ("--help", "")],
+)
+def test_failed_writes_are_explained(bb: str, word: str, cause: str) -> None:
+    expected = (3, "bb: write failed\n" + cause)
+    assert last_shown([bb, word], b"1RA1RA halt 1 1\n", "/dev/full") == expected
+
+
+def test_closed_pipe_leaves_the_fixed_line_alone(bb: str) -> None:
+    reader, writer = os.pipe()
+    os.close(reader)
+    status, shown = on_terminal([bb, "decide", "--steps", "9"], LIST, writer)
+    os.close(writer)
+    assert status == 3 and shown.endswith("bb: write failed\n") and "standard output" not in shown
+
+
+@pytest.mark.parametrize("command, given, hint", HINTS)
+def test_first_bytes_of_an_input_give_a_hint(bb: str, command: str, given: bytes, hint: str) -> None:
+    assert last_shown([bb, command], given) == (1, hint)
+    plain = subprocess.run([bb, command], input=given, capture_output=True)
+    assert plain.stderr == b"", "the hint is shown on a terminal alone"
+
+
+@pytest.mark.parametrize(
+    "word, number", [("1,000,000", "1000000"), ("1_000", "1000"), ("1'000", "1000"), ("1e6", "1000000")]
+)
+def test_number_with_separators_gives_a_hint(bb: str, word: str, number: str) -> None:
+    status, shown = last_shown([bb, "decide", "--steps", word], b"")
+    assert status == 2 and shown.endswith("%s: write the number as %s\n" % (word, number))
+
+
+@pytest.mark.parametrize("word", [",1", "1x", "e6", "1e99"])
+def test_other_words_give_no_hint(bb: str, word: str) -> None:
+    status, shown = last_shown([bb, "decide", "--steps", word], b"")
+    assert status == 2 and "write the number" not in shown
+
+
+def parse(form: str, text: str) -> List[str]:
+    """Return the groups of a form that a whole text has, '' for those that it lacks."""
+    found = re.fullmatch(form, text)
+    assert found is not None, "%r isn't of the form %s" % (text, form)
+    return list(found.groups(default=""))
+
+
+def progress_lines(shown: str, names: Sequence[str]) -> Iterator[Tuple[Optional[int], List[int]]]:
+    """Yield the lines of progress that a terminal showed: the percent, if any, and each count."""
+    for line in re.findall(r"\r([^\r\x1b]+)\x1b\[K", shown):
+        percent, what = parse(r"(?:(\d+)% ?)?(.*)", line)
+        counts = dict.fromkeys(names, 0)
+        for part in what.split(", ") if what else []:
+            count, name = parse(r"([1-9]\d*) (\w+)", part)
+            counts[name] += int(count)
+        yield (int(percent) if percent else None), list(counts.values())
+
+
+@pytest.fixture(scope="module")
+def progress(bb: str, tmp_path_factory: pytest.TempPathFactory) -> Tuple[int, str, bytes, pathlib.Path]:
+    """The status, what the terminal shows, and the output over a file, so long that it shows two lines."""
+    listed = tmp_path_factory.mktemp("progress") / "list"
+    times, shown = 1, ""
+    while len(list(progress_lines(shown, list(KINDS.values())))) < 2 and times <= LONGEST:
+        listed.write_bytes(LONG * times)
+        with open(listed.with_name("out"), "wb") as output:
+            status, shown = on_terminal([bb, "decide", *SLOW, str(listed)], b"", output)
+        times *= LONGER
+    return status, shown, listed.with_name("out").read_bytes(), listed
+
+
+def test_progress_changes_neither_output_nor_status(
+    bb: str, progress: Tuple[int, str, bytes, pathlib.Path]
+) -> None:
+    status, _, output, listed = progress
+    plain = subprocess.run([bb, "decide", *SLOW, str(listed)], capture_output=True)
+    assert (plain.returncode, plain.stdout, plain.stderr) == (status, output, b"")
+
+
+def test_progress_over_a_file(progress: Tuple[int, str, bytes, pathlib.Path]) -> None:
+    _, shown, output, listed = progress
+    lines = list(progress_lines(shown, list(KINDS.values())))
+    assert len(lines) >= 2
+    assert all(sum(a[1]) <= sum(b[1]) for a, b in zip(lines, lines[1:]))
+    kinds = [kind_of(reply) for reply in output.decode().splitlines()]
+    for _, counts in lines:
+        assert counts == [kinds[: sum(counts)].count(name) for name in KINDS]
+    sizes = [len(line) for line in listed.read_bytes().splitlines(keepends=True)]
+    answered = [100 * sum(sizes[: sum(counts)]) // sum(sizes) for _, counts in lines]
+    assert all(percent is not None and percent <= most for (percent, _), most in zip(lines, answered))
+    assert shown.endswith("\r\x1b[K") and "\n" not in shown
+    assert max(map(len, re.split(r"[\r\x1b]", shown))) <= 79
+
+
+def feed(command: Sequence[str], batch: bytes, is_enough: Callable[[bytes], object]) -> Tuple[bytes, int]:
+    """Feed a command by a pipe, batch after batch, until what its terminal shows is enough.
+
+    Returns what was shown, and how many batches there were. Standard output is the null device.
+    """
+    reader, terminal = pty.openpty()
+    shown, batches, end = b"", 0, time.monotonic() + PATIENCE
+
+    def read(wait: float) -> bytes:
+        found = b""
+        while select.select([reader], [], [], wait)[0]:
+            found += os.read(reader, 4096)
+        return found
+
+    with subprocess.Popen(
+        command, stdin=subprocess.PIPE, stdout=subprocess.DEVNULL, stderr=terminal
+    ) as process:
+        assert process.stdin is not None
+        while not is_enough(shown) and time.monotonic() < end:
+            process.stdin.write(batch)
+            process.stdin.flush()
+            batches += 1
+            shown += read(0)
+        process.stdin.close()
+        while process.poll() is None:
+            shown += read(0.01)
+    os.close(terminal)
+    os.close(reader)
+    return shown, batches
+
+
+def shows_two_lines(shown: bytes) -> bool:
+    """Tell whether two lines with a count of some kind were shown."""
+    return len(re.findall(rb"\r\d[^\r\x1b]*\x1b", shown)) >= 2
+
+
+def test_progress_over_a_pipe_has_no_percent(bb: str) -> None:
+    shown, batches = feed([bb, "decide", *SLOW], LONG, shows_two_lines)
+    lines = list(progress_lines(shown.decode(), list(KINDS.values())))
+    assert len(lines) >= 2 and 0 < sum(lines[-1][1]) <= batches * LONG.count(b"\n")
+    assert all(percent is None for percent, _ in lines)
+
+
+def test_progress_of_a_check_counts_answers(bb: str) -> None:
+    """The fourth claim takes 100,000 steps, so fewer than 100,000 of a kind come between two lines."""
+    hard = UNDECIDED.split()[1]
+    claims = [hard + b" halt 47176870 4098", b"1RZ--- halt 1 1", hard + b" undecided steps"]
+    claims += [hard + b" halt 100000 1", b"x"]
+    answers = ["over", "ok", "open", "bad", "unread"]
+    batch = b"\n".join(claims * 40) + b"\n"
+    shown, batches = feed([bb, "check", "--steps", "100000"], batch, shows_two_lines)
+    lines = list(progress_lines(shown.decode(), ANSWERS))
+    first = answers * (batches * 40)
+    expected = [[first[: sum(counts)].count(answer) for answer in ANSWERS] for _, counts in lines]
+    assert len(lines) >= 2 and [counts for _, counts in lines] == expected
+
+
+def test_large_counts_are_in_thousands_and_millions(bb: str) -> None:
+    batch = b"------\n" * 100_000
+    shown, batches = feed([bb, "decide", "--steps", "1"], batch, lambda shown: b"M halt" in shown)
+    counts = re.findall(rb"\r(\d+)([kM]?) halt\x1b", shown)
+    units = {unit: [int(count) for count, other in counts if other == unit] for unit in (b"", b"k", b"M")}
+    assert units[b"k"] and 100 <= min(units[b"k"]) and max(units[b"k"]) < 10_000
+    assert units[b"M"] and 10 <= min(units[b"M"]) <= batches // 10
+    assert max(units[b""], default=0) < 100_000
+
+
+def test_no_progress_where_standard_output_is_a_pipe(bb: str) -> None:
+    reader, writer = os.pipe()
+    with open(reader, "rb") as end:
+        listening = threading.Thread(target=end.read)
+        listening.start()
+        _, shown = on_terminal([bb, "decide", *SLOW], LONG[:4000], writer)
+        os.close(writer)
+        listening.join()
+    assert shown == ""
+
+
+def test_no_progress_where_standard_output_is_a_device(bb: str) -> None:
+    with open("/dev/full", "wb") as output:
+        assert on_terminal([bb, "decide", *SLOW], LONG[:4000], output)[1].startswith("bb: write failed\n")
+
+
+def test_no_progress_where_standard_output_is_a_terminal(bb: str) -> None:
+    reader, terminal = pty.openpty()
+    subprocess.run([bb, "decide", "--steps", "9"], input=LIST, stdout=terminal, stderr=terminal)
+    shown = os.read(reader, 65_536)
+    os.close(reader)
+    os.close(terminal)
+    assert b"%" not in shown and b"\x1b" not in shown
