@@ -1,35 +1,23 @@
 """The calls and types of the package, which `budlarem` imports at their first use."""
 
 from ._library import LibraryError
-from .engine import (
-    Configuration,
-    MachineError,
-    Trace,
-    check,
-    check_bytes,
-    decide,
-    decide_bytes,
-    trace,
-)
-from .claims import WORDS, Said, Word
+from .claims import Said, WORDS, Word
+from .engine import Configuration, MachineError, Trace, check, check_bytes, decide, decide_bytes, trace
 from .judging import Judged, Judgement, Judging, judge
 from .later import Place, at
 from .limits import Limits, LimitsError, Plan
-from .pictures import Picture, PictureError, picture
 from .lists import (
     Agreement,
     Carried,
     Comparison,
-    Growth,
     Normal,
-    Triage,
     compare,
     decide_carried,
     distinct,
     normal,
-    triage,
 )
-from .publishing import Published, PublishError, UnconfirmedError, publish
+from .pictures import Picture, PictureError, picture
+from .publishing import PublishError, Published, UnconfirmedError, publish
 from .reading import (
     Columns,
     EncodingError,
@@ -57,68 +45,14 @@ from .verdicts import (
     parse,
 )
 
+# fmt: off
 __all__ = [
-    "Agreement",
-    "Answer",
-    "Backward",
-    "Carried",
-    "Columns",
-    "Comparison",
-    "Configuration",
-    "Cycler",
-    "EncodingError",
-    "EndlessLineError",
-    "Extent",
-    "Form",
-    "Growth",
-    "Halt",
-    "Judged",
-    "Judgement",
-    "Judging",
-    "LibraryError",
-    "Limits",
-    "LimitsError",
-    "MachineError",
-    "Normal",
-    "Passed",
-    "Picture",
-    "PictureError",
-    "Place",
-    "Plan",
-    "PublishError",
-    "Published",
-    "Reading",
-    "Readings",
-    "Reason",
-    "Refused",
-    "Report",
-    "ReportError",
-    "Rewriting",
-    "Said",
-    "Trace",
-    "Translated",
-    "Triage",
-    "UnconfirmedError",
-    "Undecided",
-    "Verdict",
-    "WORDS",
-    "Word",
-    "at",
-    "check",
-    "check_bytes",
-    "compare",
-    "decide",
-    "decide_bytes",
-    "decide_carried",
-    "distinct",
-    "is_machine",
-    "judge",
-    "normal",
-    "parse",
-    "picture",
-    "publish",
-    "read",
-    "report",
-    "trace",
-    "triage",
+    "Agreement", "Answer", "Backward", "Carried", "Columns", "Comparison", "Configuration", "Cycler",
+    "EncodingError", "EndlessLineError", "Extent", "Form", "Halt", "Judged", "Judgement", "Judging",
+    "LibraryError", "Limits", "LimitsError", "MachineError", "Normal", "Passed", "Picture", "PictureError",
+    "Place", "Plan", "PublishError", "Published", "Reading", "Readings", "Reason", "Refused", "Report",
+    "ReportError", "Rewriting", "Said", "Trace", "Translated", "UnconfirmedError", "Undecided", "Verdict",
+    "WORDS", "Word", "at", "check", "check_bytes", "compare", "decide", "decide_bytes", "decide_carried",
+    "distinct", "is_machine", "judge", "normal", "parse", "picture", "publish", "read", "report", "trace",
 ]
+# fmt: on

@@ -6,7 +6,7 @@ import collections
 import dataclasses
 from typing import Callable, Counter, Iterator, List, Optional, Tuple
 
-from ._batches import BinaryReader
+from ._calls import BinaryReader
 from .engine import checked, decide
 from .limits import Limits, Plan
 from .verdicts import Answer, Backward, Cycler, Halt, Refused, Translated, Undecided, Verdict, parse

@@ -5,16 +5,14 @@ from __future__ import annotations
 import collections
 import dataclasses
 import re
-from typing import Counter, Dict, Iterator, List, Optional, Tuple
+from typing import Counter, Dict, Iterator, Optional, Tuple
 
-from ._words import Words
+from ._text import Words, shown
 from .numbers import number_of, numbers_in
 from .reading import Form, ListForm, Passed, Reading
 from .reading.files import Numbered
 from .reading.forms import passed_kind, reading_of
-from .reading.lines import read_line
 from .reading.tables import Layout
-from .reading.texts import shown
 from .reading.words import SPACES
 from .verdicts import Halt, Refused, Undecided, Verdict, parse, verdict_of, whole_number
 

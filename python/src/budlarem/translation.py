@@ -6,9 +6,9 @@ import collections
 import dataclasses
 from typing import Counter, Dict, Iterable, Iterator, List, Tuple
 
+from ._text import shown
 from .claims import WORDS, Said, Word, plain_word
 from .reading.tables import Layout
-from .reading.texts import shown
 
 # The names of the meanings, as a file of words has them.
 MEANINGS: Dict[str, Word] = {

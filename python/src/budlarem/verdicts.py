@@ -5,10 +5,9 @@ from __future__ import annotations
 import dataclasses
 import functools
 import re
-from typing import Callable, ClassVar, Dict, List, Optional, Pattern, Tuple, Union
+from typing import Callable, ClassVar, Dict, Iterable, Iterator, List, Optional, Pattern, Tuple, Union
 
-from ._lengths import LONGEST_SHOWN, LONGEST_VALUE
-from ._words import Words
+from ._text import LONGEST_SHOWN, LONGEST_VALUE, Words
 from .limits import whole
 
 __all__ = [
@@ -294,3 +293,15 @@ def parse(line: str) -> Verdict:
         return verdict_of(machine, words, whole_number)
     except ValueError:
         raise ValueError("no verdict line: %.*r" % (LONGEST_SHOWN, line)) from None
+
+
+def verdicts_of(items: Iterable[Union[str, Verdict]], name: str) -> Iterator[Verdict]:
+    """The verdicts of verdicts and lines, which may have fields behind a tab. Raises ValueError, TypeError, with
+    the place in the list, which is called so."""
+    for place, item in enumerate(items):
+        if not isinstance(item, VERDICTS):
+            try:
+                item = parse(item.rstrip("\r\n").partition("\t")[0] if isinstance(item, str) else item)
+            except (TypeError, ValueError) as error:
+                raise type(error)("%s[%d]: %s" % (name, place, error)) from None
+        yield item

@@ -14,15 +14,15 @@ import os
 import sys
 from typing import List, NoReturn, Optional
 
-from .. import __version__
-from ..escaping import escape_controls
+from .._version import VERSION
+from .._text import escape_controls
 from ..reports import ReportError
-from ..runner.command import add_command as add_run
 from .checking import add_check
 from .claims import add_claims
 from .judging import add_judge
 from .machines import add_machines
 from .publishing import add_publish
+from .run import add_command as add_run
 from .runs import add_runs
 
 __all__ = ["main", "run", "words"]
@@ -31,7 +31,7 @@ __all__ = ["main", "run", "words"]
 def words() -> argparse.ArgumentParser:
     """The reader of the command line."""
     parser = argparse.ArgumentParser(prog="budlarem", description="What people do with lists of machines.")
-    parser.add_argument("--version", action="version", version="budlarem " + __version__)
+    parser.add_argument("--version", action="version", version="budlarem " + VERSION)
     commands = parser.add_subparsers(required=True, metavar="COMMAND")
     add_machines(commands)
     add_check(commands)

@@ -6,14 +6,12 @@ import argparse
 import contextlib
 import sys
 
-from .._lengths import LONGEST_SHOWN
+from .._text import LONGEST_SHOWN, escape_controls
 from ..checking import Checked, answers_to, why
-from ..escaping import escape_controls
 from ..numbers import option_number
 from ..reading.files import BytesFile
-from ..runner.progress import count_of
+from ..runner.progress import TerminalLine, count_of
 from ..verdicts import Answer
-from .progress import Progress
 from .shared import add_command, add_file, add_greatest_limits, greatest_limits, source_of
 
 _HELP = """Checks verdict lines, whoever wrote them, and writes an answer to each line, the bytes of bb check:
@@ -35,7 +33,7 @@ def do_check(asked: argparse.Namespace) -> int:
     """Writes the checker's answers."""
     limits = greatest_limits(asked)
     name = "standard input" if asked.file in (None, "-") else asked.file
-    found, progress = Checked(), Progress()
+    found, progress = Checked(), TerminalLine()
 
     def tell(found: Checked) -> None:
         progress.tell(lambda: counts_text(found))

@@ -7,22 +7,13 @@ import collections
 import sys
 from typing import Counter, Sequence
 
-from ..judging import GREATEST, Judgement, Judging, judge
+from ..judging import Judgement, Judging, judge
 from ..judging.lists import Placed
-from ..limits import Limits, Plan
+from ..limits import GREATEST, Limits, Plan
 from ..numbers import option_number
-from ..runner.progress import count_of
+from ..runner.progress import TerminalLine, count_of
 from ..translation import read_words
-from .progress import Progress
-from .shared import (
-    ListReader,
-    add_claims_form,
-    add_command,
-    add_limits,
-    columns_of,
-    form_of,
-    limits_of,
-)
+from .shared import ListReader, add_claims_form, add_command, add_limits, columns_of, form_of, limits_of
 
 _HELP = """Judges a list of what others claim, by the form of the list (`budlarem help read`). verdicts: each
 line claims its verdict. table: the words of a column say whether a machine halts, by a translation that is
@@ -55,7 +46,7 @@ def do_judge(asked: argparse.Namespace) -> int:
     """Judges a list of claims."""
     if asked.theirs == "-" == asked.list:
         raise ValueError("THEIRS and LIST can't both be standard input")
-    progress = Progress()
+    progress = TerminalLine()
     reader = ListReader(asked.theirs, progress, form_of(asked), columns_of(asked))
     highest = asked.check_steps
     checker = GREATEST if highest is None else Limits(highest, GREATEST.cells, GREATEST.depth, GREATEST.nodes)

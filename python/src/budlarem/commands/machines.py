@@ -1,4 +1,4 @@
-"""The commands over lists of machines: `read`, `decide`, `normal`, `triage`."""
+"""The commands over lists of machines: `read`, `decide`, `normal`."""
 
 from __future__ import annotations
 
@@ -6,7 +6,7 @@ import argparse
 import sys
 
 from ..limits import Limits, Plan
-from ..lists import carried, distinct, triage
+from ..lists import carried, distinct
 from ..numbers import option_number
 from .shared import (
     LIST_HELP,
@@ -35,12 +35,6 @@ _DECIDE = (
 _NORMAL = (
     """Writes the normal form of each machine of a list: states in the order of their first use, and
 mirrored, so that the first move is to the right.
-
-%s Status 1 where a line was refused."""
-    % LIST_HELP
-)
-_TRIAGE = (
-    """Writes how the cells of each machine of a list grow.
 
 %s Status 1 where a line was refused."""
     % LIST_HELP
@@ -81,14 +75,6 @@ def do_normal(asked: argparse.Namespace) -> int:
     return reader.status
 
 
-def do_triage(asked: argparse.Namespace) -> int:
-    """Writes how the cells of each machine grow."""
-    reader = reader_of(asked)
-    for machine in reader.machines():
-        sys.stdout.write("%s\n" % triage(machine, steps=asked.steps, cells=asked.cells))
-    return reader.status
-
-
 def add_machines(commands: "argparse._SubParsersAction[argparse.ArgumentParser]") -> None:
     """Adds these commands to a reader of command lines."""
     columns = [("machine", "as bb reads it")]
@@ -124,11 +110,3 @@ def _add_forms(commands: "argparse._SubParsersAction[argparse.ArgumentParser]") 
         "--steps", type=option_number, default=10_000, metavar="N", help="of the run (default: 10,000)"
     )
     add_limits(normal, ["cells"])
-    columns = [("machine", "as it was read"), ("growth", "stays, logarithm, root, line or halts")]
-    columns += [("steps", "how many were made")]
-    columns += [("cells", "visited after a hundredth of the steps, a tenth and all; three numbers")]
-    growth = add_command(commands, "triage", "how the cells of machines grow", _TRIAGE, columns)
-    growth.set_defaults(do=do_triage)
-    add_file(growth)
-    add_form(growth)
-    add_limits(growth, ["steps", "cells"])

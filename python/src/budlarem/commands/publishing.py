@@ -9,14 +9,12 @@ import sys
 from types import FrameType
 from typing import Optional
 
-from ..escaping import escape_controls
-from ..limits import Limits
+from .._text import escape_controls
+from ..limits import Limits, limits_of
 from ..numbers import option_number
 from ..publishing import UnconfirmedError, publish
 from ..runner.errors import RunError
-from ..runner.folder import limits_of
-from ..runner.progress import count_of
-from .progress import Progress
+from ..runner.progress import TerminalLine, count_of
 from .shared import add_command
 
 _HELP = """Writes one archive of a decided list, which whoever gets it can check again: the list, the
@@ -44,7 +42,7 @@ def do_publish(asked: argparse.Namespace) -> int:
     for number in (signal.SIGINT, signal.SIGTERM, signal.SIGHUP):
         if signal.getsignal(number) is not signal.SIG_IGN:
             signal.signal(number, _end_by)
-    progress = Progress(is_beside=False)
+    progress = TerminalLine(is_beside=False)
     most = {name: highest for name, (_, highest) in Limits.RANGES.items()}
     try:
         try:

@@ -5,9 +5,8 @@ from __future__ import annotations
 import dataclasses
 from typing import Optional
 
-from .._words import Words
+from .._text import Words, escape_controls
 from ..claims import Said
-from ..escaping import escape_controls
 from ..verdicts import Verdict
 
 

@@ -4,7 +4,7 @@ from __future__ import annotations
 
 from typing import Optional
 
-from .._lengths import LONGEST_UNENDED
+from .._text import LONGEST_UNENDED
 
 # The first bytes of encodings and formats, and their names. UTF-32 comes before UTF-16, whose mark begins
 # that of UTF-32.

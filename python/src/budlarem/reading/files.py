@@ -9,7 +9,7 @@ import os
 import zlib
 from typing import Any, BinaryIO, Callable, Iterable, Iterator, Tuple, Union
 
-from .._lengths import BYTES_KEPT, LONGEST_UNENDED, LONGEST_VALUE
+from .._text import BYTES_KEPT, LONGEST_UNENDED, LONGEST_VALUE
 from .encodings import EndlessLineError, require_utf8
 
 GZIP = b"\x1f\x8b"
@@ -20,19 +20,30 @@ Numbered = Tuple[int, str]
 Source = Union[str, "os.PathLike[str]", BinaryIO, Iterable[str], Iterable[bytes]]
 
 
-class _Raw(io.RawIOBase):
-    """A file of bytes of any kind as one that can be buffered, and so looked into before it is read."""
+class Blocks(io.RawIOBase):
+    """Bytes as a file that can be buffered: `more` gives the next ones, about as many as it is asked for, and
+    none at the end. `held` are those that are to be read yet."""
 
-    def __init__(self, file: Any) -> None:
-        self._read = getattr(file, "read1", file.read)
+    def __init__(self, more: Callable[[int], bytes]) -> None:
+        self._more, self.held = more, b""
 
     def readable(self) -> bool:
         return True
 
+    def first(self, size: int) -> bytes:
+        """So many bytes from the begin on, or all where there are fewer. They are read again."""
+        while len(self.held) < size:
+            block = self._more(size - len(self.held))
+            if not block:
+                break
+            self.held += block
+        return self.held[:size]
+
     def readinto(self, buffer: Any) -> int:
-        block: bytes = self._read(len(buffer))
-        buffer[: len(block)] = block
-        return len(block)
+        self.held = self.held or self._more(len(buffer))
+        count = min(len(buffer), len(self.held))
+        buffer[:count], self.held = self.held[:count], self.held[count:]
+        return count
 
 
 class Lines(Iterator[Numbered]):
@@ -129,7 +140,9 @@ class BytesFile:
     def __init__(self, source: Any) -> None:
         self._is_ours = isinstance(source, (str, os.PathLike))
         self.name = os.fspath(source) if self._is_ours else _name_of(source)
-        raw = io.FileIO(self.name) if self._is_ours else _Raw(source)
+        raw: Any = (
+            io.FileIO(self.name) if self._is_ours else Blocks(getattr(source, "read1", None) or source.read)
+        )
         self._file: Any = io.BufferedReader(raw, BLOCK)
         self._opened: Any = None
         # Newlines that `read` has given, and bytes since the last one.

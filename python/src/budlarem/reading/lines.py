@@ -6,11 +6,10 @@ import re
 import string
 from typing import List, Optional, Sequence, Tuple
 
-from .._lengths import LONGEST_LINE
+from .._text import LONGEST_LINE, is_hidden, name_of, shown
 from ..verdicts import Refused, Verdict, is_machine, parse
-from .hidden import is_hidden, name_of
 from .passing import is_comment_of_machine, passed_over
-from .texts import Found, Outcome, Word, read_arrays, read_entries, read_words, shown
+from .texts import Found, Outcome, Word, read_arrays, read_entries, read_words
 from .values import Form, Reading, Reason, Rewriting
 from .words import SPACES, Parts, Text, parts_of, row_beside
 

@@ -1,8 +1,9 @@
-"""Reading a list as a stream, and cutting it between lines."""
+"""A list as a run reads it: as a stream that is cut between lines, and of the right form, a machine a line."""
 
 from __future__ import annotations
 
 import errno
+import functools
 import gzip
 import io
 import itertools
@@ -10,14 +11,17 @@ import os
 import select
 import stat
 import zlib
-from typing import Any, Callable, Iterator, List, Optional, Protocol, Tuple
+from typing import Callable, Iterator, List, Optional, Protocol, Tuple, Union
 
-from .._lengths import LONGEST_GIVEN, LONGEST_UNENDED
-from .errors import RunError
+from .._text import LONGEST_GIVEN, LONGEST_SHOWN, LONGEST_UNENDED, LONGEST_VALUE
+from ..engine import column_of
+from ..reading import Reading
+from ..reading.files import BLOCK, GZIP, Blocks
+from ..reading.lines import read_line
+from ..verdicts import is_machine
+from .errors import FolderError, RunError
 
 STANDARD_INPUT = "standard input"
-BLOCK = 1 << 19
-_GZIP = b"\x1f\x8b"
 # How many seconds without a byte are a pause.
 _PAUSE = 1.0
 # So few lines are found one by one.
@@ -44,12 +48,9 @@ class Lines:
         self._batches = _whole_lines(blocks)
         self._held, self._begin = b"", 0
         self._ended = False
-        # How many bytes and lines were taken.
         self.taken, self.taken_lines = 0, 0
 
     def take(self, lines: int, size: int) -> bytes:
-        """The next lines: so many at most, of so many bytes together, but one at least; no bytes at the
-        end."""
         end, left = _end_of(self._held, self._begin, lines)
         while end is None and not self._ended and len(self._held) - self._begin < size:
             batch = next(self._batches, None)
@@ -78,9 +79,8 @@ class Lines:
             end = last if last > begin else self._held.find(b"\n", begin) + 1
         self._begin = end
         cut = self._held[begin:end]
-        self.taken, self.taken_lines = self.taken + len(cut), self.taken_lines + (
-            lines if is_whole else cut.count(b"\n")
-        )
+        self.taken += len(cut)
+        self.taken_lines += lines if is_whole else cut.count(b"\n")
         return cut
 
 
@@ -93,8 +93,6 @@ class PlainLines:
         self.taken, self.taken_lines = 0, 0
 
     def take(self, lines: int, size: int) -> bytes:
-        """The next lines: so many at most, of so many bytes together, but one at least; no bytes at the
-        end."""
         read = min(size, BLOCK)
         while True:
             held = os.pread(self._number, read, self._place)
@@ -183,52 +181,21 @@ def shortened(lines: bytes) -> bytes:
     return lines
 
 
-class _Waiting(io.RawIOBase):
-    """The bytes of an open file. A read waits until there are some, also where the file says that there are
+def _poll(number: int, milliseconds: Optional[float] = None) -> bool:
+    """Whether an open file has bytes or an end by then."""
+    waiting = select.poll()
+    waiting.register(number, select.POLLIN)
+    return bool(waiting.poll(milliseconds))
+
+
+def _read_waiting(number: int, size: int) -> bytes:
+    """The next bytes of an open file. It waits until there are some, also where the file says that there are
     none yet (O_NONBLOCK); so no bytes come at the end alone."""
-
-    def __init__(self, number: int) -> None:
-        super().__init__()
-        self._number, self._first = number, b""
-
-    def readable(self) -> bool:
-        return True
-
-    def first(self, size: int) -> bytes:
-        """So many bytes from the begin on, however they come, or all where there are fewer. They are read
-        again."""
-        while len(self._first) < size:
-            read = bytearray(size - len(self._first))
-            count = self._read(read)
-            if not count:
-                break
-            self._first += read[:count]
-        return self._first
-
-    def readinto(self, buffer: Any) -> int:
-        if not self._first:
-            return self._read(buffer)
-        size = min(len(buffer), len(self._first))
-        buffer[:size], self._first = self._first[:size], self._first[size:]
-        return size
-
-    def _read(self, buffer: Any) -> int:
-        while True:
-            try:
-                return os.readv(self._number, [buffer])
-            except BlockingIOError:
-                waiting = select.poll()
-                waiting.register(self._number, select.POLLIN)
-                waiting.poll()
-
-    def pauses(self, seconds: float) -> bool:
-        """Whether so long nothing comes, and no end."""
-        waiting = select.poll()
-        waiting.register(self._number, select.POLLIN)
-        return not self._first and not waiting.poll(1_000 * seconds)
-
-    def tell(self) -> int:
-        return os.lseek(self._number, 0, os.SEEK_CUR)
+    while True:
+        try:
+            return os.read(number, size)
+        except BlockingIOError:
+            _poll(number)
 
 
 class ListFile:
@@ -242,12 +209,15 @@ class ListFile:
         self._number = 0 if path == "-" else os.open(path, os.O_RDONLY | os.O_CLOEXEC)
         self._begin = os.fstat(self._number)
         self.is_regular = stat.S_ISREG(self._begin.st_mode)
-        self._raw = _Waiting(self._number)
+        self._raw = Blocks(functools.partial(_read_waiting, self._number))
         # Where it begins: standard input may be a file of which something was read.
-        self._start = self._raw.tell() if self.is_regular else 0
-        self.is_compressed = self._raw.first(len(_GZIP)) == _GZIP
+        self._start = self._tell() if self.is_regular else 0
+        self.is_compressed = self._raw.first(len(GZIP)) == GZIP
         self._file = io.BufferedReader(self._raw, BLOCK)
         self._blocks = self._read_blocks()
+
+    def _tell(self) -> int:
+        return os.lseek(self._number, 0, os.SEEK_CUR)
 
     @property
     def size(self) -> Optional[int]:
@@ -264,7 +234,7 @@ class ListFile:
         can't."""
         if not self.size:
             return None
-        return min((self._raw.tell() if self.is_compressed else taken) / self.size, 1.0)
+        return min((self._tell() if self.is_compressed else taken) / self.size, 1.0)
 
     def first_lines(self, most: int) -> List[bytes]:
         """Its first lines, so many at most, none longer than LONGEST_GIVEN bytes; `lines` and `blocks` give
@@ -278,7 +248,7 @@ class ListFile:
                 break
             held.append(block)
             count, size = count + block.count(b"\n"), size + len(block)
-            is_paused = count < most and self._raw.pauses(_PAUSE)
+            is_paused = count < most and not self._raw.held and not _poll(self._number, 1_000 * _PAUSE)
         self._blocks = itertools.chain(held, self._blocks)
         lines = [] if is_paused else b"".join(held).split(b"\n")
         return [line[:LONGEST_GIVEN] for line in (lines if lines and lines[-1] else lines[:-1])[:most]]
@@ -287,18 +257,18 @@ class ListFile:
         """Its lines. Taking them raises RunError where it can't be read, or changed meanwhile; OSError."""
         if self.is_regular and not self.is_compressed:
             return PlainLines(self._number, self._start, self.hold_unchanged)
-        return Lines(self.blocks())
+        return Lines(self._blocks)
 
     def blocks(self) -> Iterator[bytes]:
         """Its bytes, cut anywhere. Raises RunError where it can't be read, or changed meanwhile."""
         return self._blocks
 
     def _read_blocks(self) -> Iterator[bytes]:
-        opened: io.BufferedIOBase = self._file
+        opened: Union[gzip.GzipFile, io.BufferedReader] = self._file
         if self.is_compressed:
             opened = gzip.GzipFile(fileobj=self._file)
         try:
-            yield from self._ending(_read(opened))
+            yield from self._ending(_blocks_of(opened))
         except (OSError, EOFError, zlib.error) as error:
             kind = "as gzip" if self.is_compressed else "to its end"
             raise RunError("%s can't be read %s: %s" % (self.name, kind, error)) from error
@@ -331,9 +301,55 @@ class ListFile:
             os.close(self._number)
 
 
-def _read(file: io.BufferedIOBase) -> Iterator[bytes]:
-    """What is there, as it comes, in blocks of at most BLOCK bytes."""
+def _blocks_of(file: Union[gzip.GzipFile, io.BufferedReader]) -> Iterator[bytes]:
+    """The bytes of a file as they come, in blocks of at most BLOCK."""
     block = file.read1(BLOCK)
     while block:
         yield block
         block = file.read1(BLOCK)
+
+
+# So many lines are looked at before anything is decided.
+LOOKED_AT = 1_000
+
+
+def hold_form(source: ListFile) -> None:
+    """Raises FolderError where more than half of the first lines would be refused, which says why the first
+    of them would be. Raises RunError where the list can't be read."""
+    lines = source.first_lines(LOOKED_AT)
+    refused: List[Tuple[int, str]] = []
+    for number, line in enumerate(lines, 1):
+        text = line.decode("utf-8", "surrogateescape")
+        if not is_machine(text):
+            refused.append((number, text))
+    if 2 * len(refused) <= len(lines):
+        return
+    number, text = refused[0]
+    raise FolderError(
+        "%d of the first %d lines of %s would be refused, so nothing was decided; line %d: %.*r: %s."
+        " `budlarem read LIST` writes the machines of a list in other forms"
+        % (len(refused), len(lines), source.name, number, LONGEST_SHOWN, text, why_refused(number, text))
+    )
+
+
+def why_refused(number: int, line: str) -> str:
+    """Why `bb` refuses a line, in words."""
+    reading = read_line(number, line)
+    if reading is None:
+        return "it has no machine"
+    if reading.reason is not None:
+        return str(reading.reason)
+    if reading.rewritten:
+        why = "it is to be rewritten: " + "; ".join(kind.sentence for kind in reading.rewritten)
+    else:
+        why = "it has more than the machine, " + _more(line, reading)
+    return "bb refuses it at column %s, since %s" % (column_of(line), why)
+
+
+def _more(line: str, reading: Reading) -> str:
+    """What stands beside a machine."""
+    if reading.fields:
+        return "%.*r" % (LONGEST_VALUE, reading.fields)
+    if line.endswith("\r"):
+        return "a carriage return at its end"
+    return "a byte order mark at its begin" if line.startswith("\ufeff") else "spaces or signs about it"

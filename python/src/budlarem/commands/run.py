@@ -15,21 +15,17 @@ import sys
 from types import FrameType
 from typing import List, Optional
 
-from ..escaping import escape_controls
-from ..limits import Limits
+from .._text import escape_controls
+from ..limits import Limits, limits_of
 from ..numbers import option_number
-from .cutting import HERE, SENT
-from .errors import CheckError, FolderError, ListError, MovedError, RunError, WordsError
-from .folder import Folder, hold_apart, limits_of
-from .forms import hold_form
-from .keeping import keep_of
-from .list_run import run
-from .own_files import VERDICTS
-from .passes import Manner, sentence_of
-from .progress import Progress
-from .source import ListFile
-from .tasks import identity
-from .workplace import Threads, Workplace
+from ..runner.chunks import identity, keep_of
+from ..runner.errors import CheckError, FolderError, ListError, MovedError, RunError, WordsError, sentence_of
+from ..runner.folder import Folder, hold_apart
+from ..runner.input import ListFile, hold_form
+from ..runner.journal import VERDICTS
+from ..runner.list_run import run
+from ..runner.passes import HERE, SENT, Manner, Threads, Workplace
+from ..runner.progress import Progress
 
 _HELP = """Decides a list of any length in pieces, on all cores of this computer or by dask's workers. FOLDER
 gets verdicts.txt, with a line for each line of LIST in its order, and summary.json. Whatever ended it, the
@@ -123,7 +119,7 @@ def _workplace(asked: argparse.Namespace, progress: Progress) -> Workplace:
         for name, path in files.items():
             _hold_readable(name, path)
         # Its imports take a while.
-        from .cluster import ClusterPlace
+        from ..runner.dask import ClusterPlace
 
         security = {_SECURITY[name]: path for name, path in files.items()}
         return ClusterPlace(asked.scheduler, security, progress.print_line)

@@ -1,4 +1,5 @@
-"""An open directory, through whose handle files in it are opened, written, renamed and removed.
+"""Files that are written whole or not at all, through the handles of their directories, and checksums of what is
+written.
 
 A path may lead somewhere else from one moment to the next: a folder is moved, removed, or a link is pointed
 elsewhere. The handle stays with the directory that was opened.
@@ -7,13 +8,26 @@ elsewhere. The handle stays with the directory that was opened.
 from __future__ import annotations
 
 import contextlib
+import dataclasses
 import errno
 import os
 import stat
-from typing import Callable, Iterable, Iterator, List, Optional, Tuple
+import zlib
+from typing import Any, Callable, Dict, Iterable, Iterator, List, Mapping, Optional, Tuple, Union
 
-from .._errors import naming
-from .errors import MovedError
+from .runner.errors import MovedError
+
+
+@contextlib.contextmanager
+def naming(path: Union[str, "os.PathLike[str]"]) -> Iterator[None]:
+    """Gives an error of a file that is written or read here its name: that of a full disk has none."""
+    try:
+        yield
+    except OSError as error:
+        if error.filename is not None or error.errno is None:
+            raise
+        raise OSError(error.errno, error.strerror, os.fspath(path)) from None
+
 
 PART = ".part"
 # A file, whatever its name: the numbers of its device and of its inode.
@@ -70,6 +84,14 @@ def write_blocks(number: int, blocks: Iterable[bytes]) -> None:
             left = left[os.write(number, left) :]
 
 
+def write_to(number: int, data: bytes, place: int) -> None:
+    """Writes all bytes to a place of an open file. Raises OSError."""
+    left = memoryview(data)
+    while left:
+        count = os.pwrite(number, left, place)
+        left, place = left[count:], place + count
+
+
 class Directory:
     """A directory that is open. `path` is the path that it was opened by. Files in it are regular ones: a
     link is never followed. Methods raise OSError with the whole path, KindError for other kinds."""
@@ -123,10 +145,6 @@ class Directory:
         status = self.status(name)
         return None if status is None else id_of(status)
 
-    def require_file(self, name: str) -> None:
-        """Raises KindError where a name leads to no regular file; it may lead nowhere."""
-        self._require_kind(self.status(name), name, stat.S_IFREG)
-
     def pin(self, name: str) -> Optional[Pin]:
         """The file that has a name; None where it isn't there."""
         with _errors_at(self.at(name)), contextlib.suppress(FileNotFoundError):
@@ -139,16 +157,16 @@ class Directory:
             try:
                 number = os.open(name, flags | _OPEN, dir_fd=self.handle)
             except OSError:
-                self._require_kind(self.status(name), name, stat.S_IFREG)
+                self.require_kind(self.status(name), name, stat.S_IFREG)
                 raise
         try:
-            self._require_kind(os.fstat(number), name, stat.S_IFREG)
+            self.require_kind(os.fstat(number), name, stat.S_IFREG)
         except KindError:
             os.close(number)
             raise
         return number
 
-    def _require_kind(self, status: Optional[os.stat_result], name: str, kind: int) -> None:
+    def require_kind(self, status: Optional[os.stat_result], name: str, kind: int) -> None:
         """Raises KindError where something of another kind is there."""
         if status is not None and stat.S_IFMT(status.st_mode) != kind:
             wanted = "a folder" if kind == stat.S_IFDIR else "a file"
@@ -187,7 +205,7 @@ class Directory:
             try:
                 handle = os.open(name, _OPEN_DIRECTORY | os.O_NOFOLLOW, dir_fd=self.handle)
             except OSError:
-                self._require_kind(self.status(name), name, stat.S_IFDIR)
+                self.require_kind(self.status(name), name, stat.S_IFDIR)
                 raise
         return Directory(self.at(name), handle)
 
@@ -265,7 +283,7 @@ class FileTarget:
         self.over: Optional[Pin] = None
         try:
             self.over = self._directory.pin(self._name)
-            self._directory.require_file(self._name)
+            self._directory.require_kind(self._directory.status(self._name), self._name, stat.S_IFREG)
         except BaseException:
             self.close()
             raise
@@ -294,3 +312,63 @@ def write_whole(path: str, blocks: Iterable[bytes]) -> None:
     OSError; nothing is left then."""
     with contextlib.closing(FileTarget(path)) as target:
         target.write(lambda number: write_blocks(number, blocks))
+
+
+# The polynomial of CRC-32, its coefficients in the order in which zlib has them: x^0 is the highest bit.
+_POLYNOMIAL = 0xEDB88320
+_ONE = 1 << 31
+
+
+def _product(first: int, second: int) -> int:
+    """The product of two polynomials of degree below 32, modulo the polynomial of CRC-32."""
+    product = 0
+    while first:
+        if first & _ONE:
+            product ^= second
+        first = first << 1 & 0xFFFFFFFF
+        second = second >> 1 ^ (_POLYNOMIAL if second & 1 else 0)
+    return product
+
+
+# x to the powers 8, 16, 32 and so on: what 1, 2, 4 and so on bytes more make of a CRC-32.
+_POWERS = [_ONE >> 8]
+while len(_POWERS) < 64:
+    _POWERS.append(_product(_POWERS[-1], _POWERS[-1]))
+
+
+def _shifted(crc32: int, size: int) -> int:
+    """The share of bytes with this CRC-32 in that of the same bytes and `size` more."""
+    for bit in range(size.bit_length()):
+        if size >> bit & 1:
+            crc32 = _product(_POWERS[bit], crc32)
+    return crc32
+
+
+@dataclasses.dataclass(frozen=True)
+class Checksum:
+    """How many bytes there are, and their CRC-32."""
+
+    size: int = 0
+    crc32: int = 0
+
+    @classmethod
+    def of_fields(cls, fields: Mapping[str, Any]) -> Checksum:
+        """That of the fields that `fields` gives. Raises KeyError, TypeError, ValueError."""
+        return cls(int(fields["bytes"]), int(fields["crc32"], 16))
+
+    def fields(self) -> Dict[str, Any]:
+        """The fields of a summary."""
+        return {"bytes": self.size, "crc32": "%08x" % self.crc32}
+
+    def followed_by(self, data: bytes) -> Checksum:
+        """That of these bytes and then others."""
+        return Checksum(self.size + len(data), zlib.crc32(data, self.crc32))
+
+    def joined_with(self, other: Checksum) -> Checksum:
+        """That of these bytes and then those of another checksum.
+
+        >>> begin, end = Checksum().followed_by(b"1RB1LB"), Checksum().followed_by(b"_1LA1RZ")
+        >>> begin.joined_with(end) == Checksum().followed_by(b"1RB1LB_1LA1RZ")
+        True
+        """
+        return Checksum(self.size + other.size, _shifted(self.crc32, other.size) ^ other.crc32)

@@ -11,12 +11,10 @@ from typing import Iterator, List, Optional
 from .._library import CLEAN, Room
 from ..engine import checking, deciding
 from ..limits import Plan
-from .cutting import Piece
+from .chunks import look_at_verdicts
 from .errors import RunError
-from .passes import Pass, PassRun
-from .reply_checks import counts_by_library
-from .source import Cuttable
-from .workplace import Threads
+from .input import Cuttable
+from .passes import Pass, PassRun, Piece, Threads
 
 
 class ThreadsRun(PassRun):
@@ -85,7 +83,7 @@ class ThreadsRun(PassRun):
             self._decide_lines(room, piece.given)
             piece.seconds = time.monotonic() - began
             piece.written = room.reply().text
-            piece.counts = counts_by_library(piece.given, piece.written, piece.lines)
+            piece.counts = look_at_verdicts(piece.given, piece.written)
             with self._pace:
                 self._cutter.pace.took(piece.lines, piece.seconds, self._threads.width())
         if self._is_to_be_checked(piece) and piece.written is not None:

@@ -21,9 +21,8 @@ import warnings
 from concurrent.futures import CancelledError, Future
 from typing import Any, Callable, Deque, Dict, Mapping, Optional
 
+from .chunks import Job, Numbers, Task, halved
 from .errors import RunError
-from .splitting import Job, halved
-from .tasks import Numbers, Task
 
 # Seconds between two looks at the scheduler, and how many it has to answer one.
 _OFTEN, _PATIENCE = 1.0, 10.0

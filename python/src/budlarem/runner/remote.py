@@ -7,13 +7,10 @@ import time
 from concurrent.futures import CancelledError, Future, ThreadPoolExecutor
 from typing import Any, Dict, Iterator, List, Optional
 
-from .cutting import SENT, Piece
-from .errors import DeadlyError, ReplyError, RunError
-from .passes import Pass, PassRun, sentence_of
-from .reply_checks import look_at_verdicts, opened, shown
-from .source import Cuttable
-from .tasks import CHECK, DECIDE, check_piece, decide_piece, question
-from .workplace import Executing
+from .chunks import CHECK, DECIDE, check_piece, decide_piece, look_at_verdicts, opened, question, shown
+from .errors import DeadlyError, ReplyError, RunError, sentence_of
+from .input import Cuttable
+from .passes import SENT, Executing, Pass, PassRun, Piece
 
 TRIES = 3
 # How many threads look at what comes back and write it, and how many pieces are with them at most.
@@ -137,7 +134,7 @@ class HandingRun(PassRun):
         if piece.written is None:
             asked = question(DECIDE, limits)
             written, seconds = opened(reply, self._manner.identity, asked, piece.given)
-            piece.counts = look_at_verdicts(piece.given, written, piece.lines)
+            piece.counts = look_at_verdicts(piece.given, written)
             piece.written, piece.seconds = written, min(seconds, most)
         elif not self._manner.is_checked_here:
             self._look_at_reply(piece, piece.written, reply)
