@@ -5,7 +5,7 @@ import itertools
 import random
 from typing import Dict, Iterable, Iterator, List, NamedTuple, Optional, Sequence, Tuple
 
-from machines import LETTERS, SWAPPED, table_of
+from .machines import LETTERS, SWAPPED, table_of
 
 KINDS = ("halt", "cycler", "translated L", "translated R", "backward", "undecided", "refused")
 # Numbers that no verdict has, or that are none.

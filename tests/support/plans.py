@@ -4,7 +4,7 @@ import itertools
 import random
 from typing import Any, Dict, Iterator
 
-from program import GREATEST, LIMITS, ROWS, SWITCHES
+from .program import GREATEST, LIMITS, ROWS, SWITCHES
 
 # Those of the list of all machines of four states, and the greatest limits.
 FOUR = {"steps": 200, "cells": 256, "depth": 20, "nodes": 1_000}

@@ -2,8 +2,7 @@
 
 import resource
 import subprocess
-import sys
-from typing import Iterable, List, Mapping, NamedTuple, Optional, Sequence
+from typing import Any, Dict, Iterable, List, Mapping, NamedTuple, Optional, Sequence
 
 LIMITS = ("steps", "cells", "depth", "nodes")
 SWITCHES = ("cyclers", "translated", "backward")
@@ -70,10 +69,9 @@ def as_lines(lines: Iterable[str]) -> bytes:
 
 def replies(command: Sequence[str], lines: Iterable[str]) -> List[str]:
     """The lines that a command of the program answers to these. It must end with status 0, or with 1 as where
-    an answer isn't clean, and say nothing on standard error; else this process ends with status 1."""
+    an answer isn't clean, and say nothing on standard error."""
     status, output, error = ended(command, as_lines(lines))
-    if status not in (0, 1) or error:
-        sys.exit("failed: %s: status %d, %r" % (" ".join(command[1:]), status, error))
+    assert status in (0, 1) and not error, "%s: status %d, %r" % (" ".join(command[1:]), status, error)
     return output.decode().splitlines()
 
 
@@ -100,3 +98,20 @@ def begins_modulo_64(built: str) -> List[int]:
     `nm`; FileNotFoundError where there is none."""
     symbols = ended(["nm", built]).output.decode("utf-8", "replace").splitlines()
     return [int(symbol.split()[0], 16) % 64 for symbol in symbols if "watching::watch::" in symbol]
+
+
+def plan_of(words: List[str]) -> Dict[str, Any]:
+    """Read limits and switches by name from words such as `--steps 5 --no-cyclers`."""
+    plan: Dict[str, Any] = {}
+    waiting: Optional[str] = None
+    for word in words:
+        if waiting:
+            plan[waiting], waiting = int(word), None
+        elif word.startswith("--no-"):
+            plan[word[5:]] = False
+        elif "=" in word:
+            name, value = word[2:].split("=")
+            plan[name] = int(value)
+        else:
+            waiting = word[2:]
+    return plan

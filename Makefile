@@ -1,0 +1,111 @@
+# Builds what the repository makes. `make` alone lists the targets.
+
+MAKEFLAGS += --no-builtin-rules
+.SUFFIXES:
+.DELETE_ON_ERROR:
+# Crates that don't stand on each other are proved side by side.
+ifeq ($(filter -j%,$(MAKEFLAGS)),)
+MAKEFLAGS += -j3
+endif
+
+python := /usr/bin/python3
+pytest := $(python) -m pytest -q
+
+.PHONY: help
+help: ## list the targets
+	@sed -n 's/^\([a-z-]*\):.*## \(.*\)/\1\t\2/p' $(MAKEFILE_LIST) | sort | expand -t 16
+
+## Crates: a rule for each line of crates.txt. A crate is proved after those that it stands on.
+
+sources := $(shell find crates/*/src crates/*/specs crates/*/proofs -type f ! -name 'tests*' 2>/dev/null)
+lines := $(shell sed -n 's/^\([a-z_]*\)[^:]*: */\1:/; s/ /,/g; /^[a-z_]*:/p' crates.txt)
+crates := $(foreach line,$(lines),$(firstword $(subst :, ,$(line))))
+goals := $(or $(MAKECMDGOALS),all)
+comma := ,
+
+define crate_rule
+needs_of_$(1) := $(filter $(crates),$(subst $(comma), ,$(2)))
+crates/$(1)/out/proved: $$(patsubst %,crates/%/out/proved,$$(needs_of_$(1))) $(filter crates/$(1)/%,$(sources))
+	@tools/prove $(1) --goals "$(goals)"
+	@touch $$@
+endef
+$(foreach line,$(lines),$(eval $(call crate_rule,$(firstword $(subst :, ,$(line))),$(word 2,$(subst :, ,$(line))))))
+
+## Programs
+
+.PHONY: bb cover lister
+bb: crates/bb/out/proved ## prove and build the program, crates/bb/out/bb
+cover: crates/cover/out/proved ## prove and build the program that checks whether a list is complete
+lister: tools/out/tree_normal_form ## build the program that lists machines in tree normal form
+
+tools/out/tree_normal_form: tools/tree_normal_form.rs
+	@mkdir -p tools/out
+	rustc -O --edition 2021 -o $@ $<
+
+## The library
+
+built := crates/bb_c/out
+
+.PHONY: library
+library: $(built)/libbb.so ## prove and link the library for other languages: libbb.so, libbb.a, include/bb.h
+
+# On some processors the branches of the single-pass run, and of the search for records, are slow unless they
+# begin at a multiple of 32 (docs/speed_tried.md).
+$(built)/libbb.so: $(built)/proved Makefile
+	@echo "linking libbb.so" >&2
+	@set -e; parts=$$(mktemp -d); trap 'rm -rf "$$parts"' EXIT; \
+	top=$$PWD; kit=$$(dirname "$$(rt doc)"); cd "$$parts"; \
+	ar x "$$top/$(built)/libbb_c.a"; ar x "$$kit/c/liblibc_c.a"; ld -r -o bb.o ./*.o; \
+	objcopy --wildcard --keep-global-symbol='bb_*' \
+	    --set-section-alignment '.text.bb_decide::watching::watch*=64' \
+	    --set-section-alignment '.text.bb_decide::translation::seek_translation*=32' bb.o; \
+	rm -f "$$top/$(built)/libbb.a"; ar rcs "$$top/$(built)/libbb.a" bb.o; \
+	cc -shared -Wl,-soname,libbb.so -Wl,-z,noexecstack -o libbb.so bb.o; \
+	mv libbb.so "$$top/$@"
+
+## Packages and the page
+
+package := $(shell find python/src python/pyproject.toml python/setup.py python/README.md -type f \
+    ! -name '*.pyc' ! -name libbb.so 2>/dev/null)
+page := $(shell find web -type f ! -path 'web/out/*' ! -path 'web/tests/*' ! -path '*/node_modules/*' 2>/dev/null)
+
+.PHONY: wheel web npm
+wheel: python/dist/built ## build the wheel of the Python package, in python/dist
+web: web/out/bb.html ## build the engine as WebAssembly and the page, in web/out
+npm: web/out/built ## build the npm package, in web/out
+
+python/dist/built: $(built)/libbb.so $(package) python/build_wheel.py
+	$(python) python/build_wheel.py --library $(built)/libbb.so
+	@touch $@
+
+web/out/bb.wasm: $(built)/proved web/build_module.sh web/narrow.py
+	web/build_module.sh
+
+web/out/bb.html: web/out/bb.wasm $(page) $(wildcard examples/*/*)
+	$(python) web/bundle.py
+
+web/out/built: web/out/bb.wasm $(page)
+	$(python) web/package.py
+	@touch $@
+
+## The second checker
+
+.PHONY: coq coq-check
+coq: ## build the second checker and its proofs by Coq, coq/out/checker
+	@$(MAKE) --no-print-directory -C coq
+coq-check: ## let coqchk look at the second checker's proofs too
+	@$(MAKE) --no-print-directory -C coq check
+
+## All of it
+
+.PHONY: release test test-all bench clean
+release: bb cover library web npm lister ## build the folder that runs without the repository, dist/
+	tools/release
+test: ## the gate, the build and the tests, without the slow ones
+	./test
+test-all: ## the gate, the build and all tests
+	./test --all
+bench: bb ## compare the program's times with those of its peers
+	benchmarks/measure.py
+clean: ## remove what was built, but for the proofs
+	rm -rf web/out python/dist coq/out tools/out dist

@@ -1,0 +1,104 @@
+"""Fixtures, options and the closing line of all tests."""
+
+from __future__ import annotations
+
+import pathlib
+import random
+import subprocess
+from typing import Callable, List
+
+import pytest
+from support import TOP, build, require
+
+
+def pytest_addoption(parser: pytest.Parser) -> None:
+    parser.addoption("--seed", type=int, default=1, help="seed of the random machines and lists (default: 1)")
+
+
+def pytest_runtest_setup(item: pytest.Item) -> None:
+    for mark in item.iter_markers("needs"):
+        require(*mark.args, modules=mark.kwargs.get("modules", ()))
+
+
+def pytest_unconfigure(config: pytest.Config) -> None:
+    """Print `N passed, M failed, K skipped` as the last line, which `./test` adds up."""
+    reporter = config.pluginmanager.get_plugin("terminalreporter")
+    if reporter is None or hasattr(config, "workerinput") or config.option.collectonly:
+        return
+
+    def count(*outcomes: str) -> int:
+        return sum(len(reporter.stats.get(outcome, [])) for outcome in outcomes)
+
+    passed, failed, skipped = count("passed"), count("failed", "error"), count("skipped")
+    print("%d passed, %d failed, %d skipped" % (passed, failed, skipped))
+
+
+@pytest.fixture
+def rng(request: pytest.FixtureRequest) -> random.Random:
+    """A source of random numbers that depends on `--seed` alone."""
+    return random.Random(request.config.getoption("--seed"))
+
+
+@pytest.fixture(scope="session")
+def bb() -> str:
+    """The path of the program."""
+    return str(build("bb", "crates/bb/out/bb"))
+
+
+@pytest.fixture(scope="session")
+def cover() -> str:
+    """The path of the program that checks whether a list is complete."""
+    return str(build("cover", "crates/cover/out/cover"))
+
+
+@pytest.fixture(scope="session")
+def library() -> pathlib.Path:
+    """The path of libbb.so; libbb.a is beside it."""
+    return build("library", "crates/bb_c/out/libbb.so")
+
+
+@pytest.fixture(scope="session")
+def wheel() -> pathlib.Path:
+    """The path of the wheel of the Python package."""
+    require("pip3", modules=("setuptools", "wheel"))
+    build("wheel", "python/dist")
+    return max((TOP / "python" / "dist").glob("*.whl"), key=lambda path: path.stat().st_mtime)
+
+
+@pytest.fixture(scope="session")
+def module() -> pathlib.Path:
+    """The path of the engine as WebAssembly."""
+    return build("web", "web/out/bb.wasm")
+
+
+@pytest.fixture(scope="session")
+def page() -> pathlib.Path:
+    """The path of the page, which has the engine inside."""
+    require("chromium", "chromedriver", modules=("selenium",))
+    return build("web", "web/out/bb.html")
+
+
+@pytest.fixture(scope="session")
+def checker() -> str:
+    """The path of the second checker, which Coq extracts."""
+    require("coqc", "coqchk", "ocamlfind")
+    return str(build("coq", "coq/out/checker"))
+
+
+@pytest.fixture(scope="session")
+def list_machines() -> Callable[..., List[str]]:
+    """A function that lists the machines of so many states in tree normal form; more words are passed on."""
+    require("rustc")
+    program = build("lister", "tools/out/tree_normal_form")
+
+    def listed(states: int, *words: str) -> List[str]:
+        command = [str(program), "--states", str(states), *words]
+        return subprocess.run(command, stdout=subprocess.PIPE, check=True, text=True).stdout.splitlines()
+
+    return listed
+
+
+@pytest.fixture(scope="session")
+def four_states(list_machines: Callable[..., List[str]]) -> List[str]:
+    """All machines of four states in tree normal form."""
+    return list_machines(4)

@@ -1,0 +1,70 @@
+"""Helpers that tests in several folders share."""
+
+from __future__ import annotations
+
+import fcntl
+import functools
+import importlib.util
+import pathlib
+import shutil
+import signal
+import subprocess
+from typing import List, Sequence
+
+import pytest
+
+TOP = pathlib.Path(__file__).resolve().parents[2]
+
+
+def debian_package(program: str) -> str:
+    """Name the Debian package of a program, as `.ci/packages.txt` lists it."""
+    rows = [line.split("#")[0].split() for line in (TOP / ".ci" / "packages.txt").read_text().splitlines()]
+    return next((row[0] for row in rows if program in row[1:]), "no package")
+
+
+def missing_requirements(programs: Sequence[str], modules: Sequence[str] = ()) -> List[str]:
+    """List the programs and Python modules that aren't installed, each with its Debian package."""
+    missing = [
+        "%s isn't installed (Debian: %s)" % (program, debian_package(program))
+        for program in programs
+        if shutil.which(program) is None
+    ]
+    for module in modules:
+        if importlib.util.find_spec(module) is None:
+            missing.append("Python has no %s (Debian: python3-%s, for /usr/bin/python3)" % (module, module))
+    return missing
+
+
+def require(*programs: str, modules: Sequence[str] = ()) -> None:
+    """Skip the running test where a program or Python module isn't installed."""
+    missing = missing_requirements(programs, modules)
+    if missing:
+        pytest.skip("; ".join(missing))
+
+
+@functools.lru_cache(maxsize=None)
+def build(target: str, path: str) -> pathlib.Path:
+    """Build a target of the Makefile where it is out of date, and return its file.
+
+    `path` is relative to the top. Without the proof kit a file that is already built is taken as it is; where
+    there is none, the running test is skipped. Processes build one after another.
+    """
+    built = TOP / path
+    if shutil.which("rt") is None:
+        if not built.exists():
+            pytest.skip("%s isn't built, and there is no kit to build it" % path)
+        return built
+    with open(TOP / "Makefile", encoding="utf-8") as lock:
+        fcntl.flock(lock, fcntl.LOCK_EX)
+        done = subprocess.run(["make", "-s", target], cwd=TOP, capture_output=True, text=True)
+    assert done.returncode == 0, "make %s failed:\n%s%s" % (target, done.stdout, done.stderr)
+    return built
+
+
+def restore_signals() -> None:
+    """Let this process end by SIGINT and SIGHUP, which processes started by `&` or `nohup` ignore.
+
+    It is the `preexec_fn` of processes that a test interrupts.
+    """
+    for number in (signal.SIGINT, signal.SIGHUP):
+        signal.signal(number, signal.SIG_DFL)

@@ -1,0 +1,53 @@
+"""The folders of `examples/` that hold one command each.
+
+`command` has the program's words, `lines.txt` its standard input (none: it is empty), `expected.txt` what it
+writes, and `status` the status that it ends with (none: 0). Words that name files are read from the top.
+"""
+
+from __future__ import annotations
+
+import dataclasses
+import pathlib
+from typing import Any, Dict, Iterator, List
+
+from . import TOP
+from .program import plan_of
+
+# The first list of the README.
+README = b"1RB1LB_1LA1RZ\n1RA1RA\n1rB1LB\n"
+
+
+def content(path: pathlib.Path, default: bytes = b"") -> bytes:
+    """Return what a file has, where there is one."""
+    return path.read_bytes() if path.exists() else default
+
+
+@dataclasses.dataclass(frozen=True)
+class Example:
+    """A command with its input, and what it must write and end with."""
+
+    name: str
+    words: List[str]
+    given: bytes
+    expected: bytes
+    status: int
+
+    @property
+    def plan(self) -> Dict[str, Any]:
+        """Limits and switches by name."""
+        return plan_of([word for word in self.words[1:] if not word.startswith("examples/")])
+
+    @property
+    def lines(self) -> bytes:
+        """The lines that the command reads, from standard input or a file."""
+        files = [word for word in self.words if word.startswith("examples/")]
+        return content(TOP / files[0]) if files else self.given
+
+
+def read_examples(*commands: str) -> Iterator[Example]:
+    """Read the examples, or those of some commands, as `decide`."""
+    for folder in sorted(path.parent for path in (TOP / "examples").glob("*/command")):
+        words = content(folder / "command").decode().split()
+        if not commands or words[0] in commands:
+            given, expected = content(folder / "lines.txt"), (folder / "expected.txt").read_bytes()
+            yield Example(folder.name, words, given, expected, int(content(folder / "status", b"0")))
