@@ -25,7 +25,10 @@ from __future__ import annotations
 
 import importlib
 
-from ._version import COMMIT, VERSION as __version__
+from ._version import COMMIT as COMMIT
+from ._version import VERSION
+
+__version__ = VERSION
 
 # `typing` takes long to import, and the command is to heed signals before.
 TYPE_CHECKING = False

@@ -25,7 +25,7 @@ from .publishing import add_publish
 from .run import add_command as add_run
 from .runs import add_runs
 
-__all__ = ["main", "run", "words"]
+__all__ = ["main", "run_and_exit", "words"]
 
 
 def words() -> argparse.ArgumentParser:
@@ -87,7 +87,7 @@ def _print_error(sentence: str) -> None:
     print("budlarem: %s" % escape_controls(sentence), file=sys.stderr)
 
 
-def run() -> NoReturn:
+def run_and_exit() -> NoReturn:
     """The command: ends the process. What a thread is at then ends with it."""
     try:
         status = main()

@@ -83,7 +83,8 @@ class Journal:
         self._path, self._key = folder.at(JOURNAL), key
         opened = folder.open_file(JOURNAL, os.O_RDONLY) if is_read_only else folder.open_or_create(JOURNAL)
         self._number = opened
-        self._length = os.fstat(self._number).st_size // WIDTH
+        # How many pieces it may have lines of.
+        self.length = os.fstat(self._number).st_size // WIDTH
         self._room = 0
         # Between these two pieces none had a record that stands when the second one was looked for.
         self._empty = (0, 0)
@@ -93,7 +94,7 @@ class Journal:
 
     def end(self) -> int:
         """Where what is kept of the pieces ends."""
-        records = (self.read(index) for index in range(self._length))
+        records = (self.read(index) for index in range(self.length))
         return max((record.place + record.kept[0] for record in records if record is not None), default=0)
 
     def make_room(self, index: int) -> None:
@@ -106,7 +107,7 @@ class Journal:
 
     def _words(self, index: int) -> List[str]:
         """The words of a line; none where no line stands there."""
-        if index >= self._length:
+        if index >= self.length:
             return []
         line = os.pread(self._number, WIDTH, index * WIDTH).decode("ascii", "replace")
         words = line.split()
@@ -133,11 +134,11 @@ class Journal:
     def _write(self, index: int, line: bytes) -> None:
         with naming(self._path):
             write_to(self._number, line, index * WIDTH)
-        self._length = max(self._length, index + 1)
+        self.length = max(self.length, index + 1)
 
     def rename_mark(self) -> Optional[int]:
         """Behind how many pieces it says that their file was renamed; None where it doesn't."""
-        lines = (index for index in reversed(range(self._length)) if self._words(index)[:1] == [RENAMED])
+        lines = (index for index in reversed(range(self.length)) if self._words(index)[:1] == [RENAMED])
         return next(lines, None)
 
     def put_rename_mark(self, pieces: int) -> None:
@@ -164,10 +165,10 @@ class Journal:
         begin, end = self._empty
         if not begin <= index < end:
             begin, end = index, index + 1
-        while end < self._length and self.read(end) is None:
+        while end < self.length and self.read(end) is None:
             end += 1
         self._empty = begin, end
-        for later in range(end, self._length):
+        for later in range(end, self.length):
             record = self.read(later)
             if record is not None and record.first - first >= later - index:
                 return later - index, record.first - first

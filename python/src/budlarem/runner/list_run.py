@@ -155,9 +155,8 @@ class FinishedRun:
 
     def require_verdicts(self, checksum: Checksum, counts: Dict[str, int]) -> None:
         """Raises FolderError where verdicts with this checksum, of which there are so many of each kind,
-        aren't those that the summary is of. The undecided ones are one kind here."""
-        said = dict(self.summary.counts)
-        said["undecided"] = said.pop("undecided steps") + said.pop("undecided cells")
+        aren't those that the summary is of."""
+        said = self.summary.counts
         other = next((kind for kind in said if said[kind] != counts.get(kind, 0)), None)
         why = ""
         if other is not None:

@@ -3,19 +3,16 @@ wrongly or late."""
 
 from __future__ import annotations
 
+import contextlib
 import io
-import os
 import pathlib
-import tempfile
-import unittest
 from concurrent.futures import Executor, Future
-from typing import Any, Callable, List, Sequence
+from typing import Any, Callable, Dict, List, Sequence
 
 import budlarem
 from budlarem import Limits
-from budlarem.runner import folder as folders
-from budlarem.runner import journal, keeping, list_run, passes, pieces, progress, source, tasks, workplace
-
+from budlarem.counts import KINDS as KINDS_OF_VERDICTS, VerdictCounts
+from budlarem.runner import chunks, folder, input, journal, list_run, passes, progress
 
 # Two that halt, a cycler, two translated cyclers, three that small limits leave, one of which larger ones
 # decide, and two that are no machines.
@@ -25,8 +22,8 @@ KINDS = (
     b"1RB0LA_0RC---_1RD0LD_1LA1RB\n"
 )
 LIST = KINDS * 37
-# Files there need no disk, so that the tests take no time for it.
-MEMORY = "/dev/shm"
+
+
 SMALL, MIDDLE = Limits(30, 16, 3, 5), Limits(1_000, 128, 20, 100)
 PASSES = (SMALL, MIDDLE)
 
@@ -40,7 +37,7 @@ class ExecutorPlace:
     def width(self) -> int:
         return 2 * self._workers
 
-    def submit(self, task: tasks.Task, lines: bytes, limits: tasks.Numbers) -> Future[Any]:
+    def submit(self, task: chunks.Task, lines: bytes, limits: chunks.Numbers) -> Future[Any]:
         return self._executor.submit(task, lines, limits)
 
     def tend(self) -> None:
@@ -62,16 +59,16 @@ def expected(given: bytes, limits: Sequence[Limits] = PASSES) -> bytes:
     return b"".join(lines)
 
 
-def resealed(reply: tasks.PieceReply, written: bytes) -> tasks.PieceReply:
+def resealed(reply: chunks.PieceReply, written: bytes) -> chunks.PieceReply:
     """A reply with other bytes, and the digest of these."""
-    return (written, *reply[1:7], tasks.digest_of(written))
+    return (written, *reply[1:7], chunks.digest_of(written))
 
 
 class Answering(Executor):
     """An executor whose answer to a task a function changes; it is given the reply and how many came
     before."""
 
-    def __init__(self, change: Callable[[tasks.PieceReply, int], Any]) -> None:
+    def __init__(self, change: Callable[[chunks.PieceReply, int], Any]) -> None:
         self.change, self.count = change, 0
 
     def submit(self, function: Any, /, *given: Any, **named: Any) -> Any:
@@ -108,14 +105,12 @@ class KeptProgress(progress.Progress):
         super().__init__(self.kept)
 
 
-class RunnerTest(unittest.TestCase):
-    """A list and a folder, and a run over them."""
+class RunCase(contextlib.ExitStack):
+    """A list and a folder, and runs over them."""
 
-    def setUp(self) -> None:
-        kept = tempfile.TemporaryDirectory(dir=MEMORY if os.path.isdir(MEMORY) else None)
-        self.addCleanup(kept.cleanup)
-        self.top = pathlib.Path(kept.name)
-        self.list, self.out = self.top / "list.txt", self.top / "out"
+    def __init__(self, top: pathlib.Path) -> None:
+        super().__init__()
+        self.top, self.list, self.out = top, top / "list.txt", top / "out"
         self.list.write_bytes(LIST)
         self.progress = KeptProgress()
         self.seen: List[bytes] = []
@@ -128,19 +123,17 @@ class RunnerTest(unittest.TestCase):
         check: bool = False,
         path: str = "",
         here: bool = False,
-        keep: keeping.Keep = keeping.Keep(),
+        keep: chunks.Keep = chunks.Keep(),
     ) -> list_run.Outcome:
         """A run, by an executor or by two threads."""
-        place: workplace.Workplace = workplace.Threads(2)
+        place: passes.Workplace = passes.Threads(2)
         if executor is not None:
             place = ExecutorPlace(executor, 2)
-        listed = source.ListFile(path or str(self.list))
-        try:
-            opened = folders.Folder(str(self.out))
-            try:
+        with contextlib.closing(input.ListFile(path or str(self.list))) as listed:
+            with contextlib.closing(folder.Folder(str(self.out))) as opened:
                 manner = passes.Manner(
                     place,
-                    tasks.identity(),
+                    chunks.identity(),
                     self.progress,
                     listed.name,
                     most,
@@ -151,27 +144,28 @@ class RunnerTest(unittest.TestCase):
                     self.seen.append,
                 )
                 return list_run.run(opened, listed, limits, manner)
-            finally:
-                opened.close()
-        finally:
-            listed.close()
 
     def verdicts(self) -> bytes:
         return (self.out / "verdicts.txt").read_bytes()
 
-    def opened(self, limits: Sequence[Limits], keep: keeping.Keep = keeping.Keep()) -> pieces.PassFolder:
+    def opened(self, limits: Sequence[Limits], keep: chunks.Keep = chunks.Keep()) -> journal.PassFolder:
         """The last of these passes, which is whole."""
-        top = folders.Folder(str(self.out))
-        try:
-            found = top.open_pass(limits, keep, tasks.identity())
-        finally:
-            top.close()
-        self.addCleanup(found.close)
-        found.pieces = found.journal.length()
+        with contextlib.closing(folder.Folder(str(self.out))) as top:
+            found = top.open_pass(limits, keep, chunks.identity())
+        self.callback(found.close)
+        found.pieces = found.journal.length
         return found
 
     def records(self, limits: Sequence[Limits]) -> List[journal.Record]:
         """What the journal of the last of these passes has."""
         found = self.opened(limits).journal
-        records = map(found.read, range(found.length()))
+        records = map(found.read, range(found.length))
         return [record for record in records if record is not None]
+
+
+def counts_of(verdicts: bytes) -> Dict[str, int]:
+    """How many verdict lines there are of each kind."""
+    counts = VerdictCounts()
+    for line in verdicts.decode().splitlines():
+        counts.add(line)
+    return {kind: counts.kinds[kind] for kind in KINDS_OF_VERDICTS}

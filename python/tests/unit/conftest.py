@@ -1,0 +1,28 @@
+"""Fixtures of the package's unit tests."""
+
+from __future__ import annotations
+
+import os
+import pathlib
+import pytest
+import tempfile
+from support import TOP
+from support.runner import RunCase
+from typing import Iterator
+
+# Files there need no disk, so that the tests take no time for it.
+MEMORY = "/dev/shm"
+
+
+@pytest.fixture(scope="session", autouse=True)
+def library_of_package(library: pathlib.Path) -> None:
+    """The package of this repository finds the built library, in processes that tests start too."""
+    os.environ.update(BB_LIBRARY=str(library), PYTHONPATH=str(TOP / "python" / "src"))
+
+
+@pytest.fixture
+def case() -> Iterator[RunCase]:
+    """A list and a folder, and runs over them."""
+    with tempfile.TemporaryDirectory(dir=MEMORY if os.path.isdir(MEMORY) else None) as top:
+        with RunCase(pathlib.Path(top)) as made:
+            yield made
