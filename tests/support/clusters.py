@@ -1,14 +1,18 @@
-"""Schedulers and workers of dask on this machine, as the checks of `budlarem run --scheduler` use them."""
+"""Schedulers and workers of dask on this machine."""
+
+from __future__ import annotations
 
 import contextlib
 import pathlib
+import os
 import shutil
 import socket
 import subprocess
 import sys
 from typing import Dict, Iterator, List, Optional, Tuple
 
-from runs import SOURCE, Process, environment, folder, seen
+from . import TOP
+from .runs import Process, seen
 
 
 class Cluster:
@@ -30,13 +34,15 @@ class Cluster:
     def _start(self, what: str, asked: List[str], variables: Dict[str, str]) -> Process:
         command = [sys.executable, "-m", "distributed.cli.dask_" + what, *asked, *self.more]
         with open(self.top / "dask.txt", "ab") as log:
-            return subprocess.Popen(command, stdout=log, stderr=log, cwd=self.top, env=variables)
+            return subprocess.Popen(
+                command, stdout=log, stderr=log, cwd=self.top, env={**os.environ, **variables}
+            )
 
     def start_scheduler(self) -> None:
         """Starts a scheduler at the address, and waits until it listens."""
         asked = ["--host", self.address.rpartition(":")[0], "--port", str(self.port)]
         asked += ["--dashboard-address", "127.0.0.1:0"]
-        self.scheduler = self._start("scheduler", asked, environment())
+        self.scheduler = self._start("scheduler", asked, {})
         seen(self.scheduler, self._listens)
 
     def _listens(self) -> bool:
@@ -46,7 +52,7 @@ class Cluster:
     def start_worker(self, variables: Optional[Dict[str, str]] = None, threads: int = 1) -> Process:
         asked = [self.address, "--nthreads", str(threads), "--no-nanny", "--no-dashboard"]
         asked += ["--local-directory", str(self.top / "scratch")]
-        self.workers.append(self._start("worker", asked, variables or environment()))
+        self.workers.append(self._start("worker", asked, variables or {}))
         return self.workers[-1]
 
     def kill_workers(self) -> None:
@@ -67,27 +73,26 @@ class Cluster:
 
 
 @contextlib.contextmanager
-def cluster(
-    workers: int, top: Optional[pathlib.Path] = None, more: Tuple[str, ...] = ()
-) -> Iterator[Cluster]:
-    """A scheduler with so many workers."""
-    with contextlib.ExitStack() as kept:
-        found = Cluster(top or kept.enter_context(folder()), list(more))
-        kept.callback(found.end)
+def cluster(workers: int, top: pathlib.Path, more: Tuple[str, ...] = ()) -> Iterator[Cluster]:
+    """A scheduler with so many workers, whose files stand in a folder."""
+    found = Cluster(top, list(more))
+    try:
         found.start_scheduler()
         for _ in range(workers):
             found.start_worker()
         yield found
+    finally:
+        found.end()
 
 
 def changed_package(top: pathlib.Path, file: str, changes: List[Tuple[str, str]]) -> Dict[str, str]:
-    """The environment of a process with a package in which something is changed."""
+    """The variables of a process with a package in which something is changed."""
     source = top / "source"
-    shutil.copytree(SOURCE, source, ignore=shutil.ignore_patterns("__pycache__"))
+    shutil.copytree(TOP / "python" / "src", source, ignore=shutil.ignore_patterns("__pycache__"))
     path = source / "budlarem" / file
     text = path.read_text(encoding="utf-8")
     for before, after in changes:
         assert before in text
         text = text.replace(before, after)
     path.write_text(text, encoding="utf-8")
-    return {**environment(), "PYTHONPATH": str(source)}
+    return {"PYTHONPATH": str(source)}

@@ -1,7 +1,10 @@
-"""What the checks of the Python package share: lists and what must come of them, runs as processes, and
-interruptions."""
+"""Runs of `budlarem run` as processes: lists and their verdicts, interruptions and kills.
 
-import contextlib
+The package and its library are found by the environment, as python/tests/conftest.py sets it.
+"""
+
+from __future__ import annotations
+
 import os
 import pathlib
 import random
@@ -9,16 +12,13 @@ import shutil
 import signal
 import subprocess
 import sys
-import tempfile
 import time
-from typing import Any, Callable, Dict, Iterator, List, Optional, Sequence, Tuple
+from typing import Any, Callable, Dict, List, Optional, Sequence, Tuple
 
-from built import LIBRARY
-from machines import CHAMPION, mixed
-from program import LIMITS, MAX_CELLS, MAX_STEPS, as_lines, ended, options
-from tally import TOP, Tally, heed_interruption
+from . import restore_signals
+from .machines import CHAMPION, mixed
+from .program import LIMITS, MAX_CELLS, MAX_STEPS, as_lines, ended, options
 
-SOURCE = os.path.join(TOP, "python", "src")
 PASSES = ((300, 64, 10, 100), (20_000, 1_024, 40, 10_000))
 # It grows as the root of its steps, and no decider finds anything.
 LONG_MACHINE = b"0RB1LD_0RC1RD_0RD---_1LA0RB\n"
@@ -43,18 +43,6 @@ else:
 }
 # How long something may take that must come, in seconds, before it is called missing.
 PATIENCE = 600
-
-
-@contextlib.contextmanager
-def folder() -> Iterator[pathlib.Path]:
-    """A folder that goes with what is in it."""
-    with tempfile.TemporaryDirectory() as name:
-        yield pathlib.Path(name)
-
-
-def environment() -> Dict[str, str]:
-    """The environment of a process that uses the package out of the repository."""
-    return {**os.environ, "PYTHONPATH": SOURCE, "BB_LIBRARY": LIBRARY}
 
 
 def words_of(limits: Sequence[int]) -> str:
@@ -98,16 +86,16 @@ class Case:
         self,
         *more: str,
         words: Optional[List[str]] = None,
-        more_environment: Optional[Dict[str, str]] = None,
+        variables: Optional[Dict[str, str]] = None,
         **how: Any,
     ) -> Process:
         """Starts a run, which heeds interruptions; standard error is a file."""
-        how.setdefault("preexec_fn", heed_interruption)
+        how.setdefault("preexec_fn", restore_signals)
         command = [sys.executable, "-m", "budlarem", "run", "--out", str(self.out)]
         command += [*(self.words if words is None else words), *(more or [str(self.list)])]
         with open(self.errors, "wb") as errors:
-            variables = {**environment(), **(more_environment or {})}
-            return subprocess.Popen(command, stdout=errors, stderr=errors, env=variables, **how)
+            both = {**os.environ, **(variables or {})}
+            return subprocess.Popen(command, stdout=errors, stderr=errors, env=both, **how)
 
     def run(self, *more: str, **how: Any) -> int:
         """The status of a whole run."""
@@ -150,18 +138,17 @@ def killed(case: Case, more: int, *words: str) -> bool:
     return was_seen and process.returncode == -signal.SIGKILL and not (case.out / "verdicts.txt").exists()
 
 
-def hold_interrupted(tally: Tally, case: Case, process: Process) -> None:
-    """SIGINT ends a run at once, with its status and a sentence."""
+def require_interrupted(case: Case, process: Process) -> None:
+    """SIGINT ends a run soon, with its status and a sentence."""
     began = time.monotonic()
     process.send_signal(signal.SIGINT)
     try:
-        status = process.wait(PATIENCE)
-    except subprocess.TimeoutExpired:
+        status = process.wait(30)
+    finally:
         process.kill()
-        status = process.wait()
-    tally.within("SIGINT ends a run", time.monotonic() - began, 1.0)
-    tally.hold("SIGINT: status %d: %s" % (status, case.said()), status == 130)
-    tally.hold("its sentence: %s" % case.said(), "interrupted; the same command goes on" in case.said())
+    print("SIGINT ended the run after %.3f s" % (time.monotonic() - began))
+    assert status == 130, case.said()
+    assert "interrupted; the same command goes on" in case.said()
 
 
 def kill_often(case: Case, count: int, chance: random.Random, *words: str) -> int:
@@ -215,9 +202,7 @@ def interrupted(where: str) -> Tuple[int, bytes, float]:
     it said, and after how many seconds."""
     command = [sys.executable, "-c", WAITS, where, LONG_MACHINE.decode().strip()]
     pipe = subprocess.PIPE
-    with subprocess.Popen(
-        command, preexec_fn=heed_interruption, stdout=pipe, stderr=pipe, env=environment()
-    ) as process:
+    with subprocess.Popen(command, preexec_fn=restore_signals, stdout=pipe, stderr=pipe) as process:
         assert process.stdout is not None
         process.stdout.readline()
         if where == "list":

@@ -1,31 +1,20 @@
-#!/usr/bin/python3
-"""Tests how the command `budlarem` begins and what it prints, as processes.
+"""How the command `budlarem` begins and what it prints, as processes."""
 
-    scripts/tests/package/startup.py crates/bb/out/bb [--quick]
+from __future__ import annotations
 
-SIGINT, SIGTERM and SIGHUP are sent after each tenth of the modules that a command imports, and later: it ends
-as by a later signal, with no traceback. A library that was cut short, at any length, is refused with a
-sentence by each command. Control characters of lists are printed as escapes. It uses
-`crates/bb_c/out/libbb.so`, and runs `scripts/library` where that isn't there. It takes a minute; `--quick`,
-with fewer signals and lengths, some seconds. The last line is `N passed, M failed`; the status is 1 where any
-failed.
-"""
-
+import itertools
 import os
 import pathlib
+import pytest
 import re
 import signal
 import subprocess
 import sys
 import time
+from support import restore_signals
+from support.program import MAX_CELLS, MAX_STEPS
+from support.runs import LONG_MACHINE
 from typing import Dict, List, Optional, Tuple
-
-sys.path.insert(0, os.path.join(os.path.dirname(os.path.abspath(__file__)), "..", "..", "lib"))
-
-from built import LIBRARY, has_library  # noqa: E402
-from program import MAX_CELLS, MAX_STEPS  # noqa: E402
-from runs import LONG_MACHINE, environment, folder  # noqa: E402
-from tally import Tally, end_with, heed_interruption, words  # noqa: E402
 
 LONG_PASS = "steps=%d,cells=%d" % (MAX_STEPS, MAX_CELLS)
 ENDLESS = LONG_MACHINE[:-1] + b" halt %d 1\n" % MAX_STEPS
@@ -43,14 +32,14 @@ _SENTENCES = {
 }
 
 
-def commands(top: pathlib.Path) -> Dict[str, List[str]]:
+def commands(tmp_path: pathlib.Path) -> Dict[str, List[str]]:
     """Commands that take hours, by name."""
-    listed, verdicts = top / "list.txt", top / "verdicts.txt"
+    listed, verdicts = tmp_path / "list.txt", tmp_path / "verdicts.txt"
     listed.write_bytes(LONG_MACHINE)
     verdicts.write_bytes(ENDLESS)
     return {
-        "run": ["run", str(listed), "--out", str(top / "out"), "--pass", LONG_PASS],
-        "publish": ["publish", str(top / "out.tar"), "--verdicts", str(verdicts)],
+        "run": ["run", str(listed), "--out", str(tmp_path / "out"), "--pass", LONG_PASS],
+        "publish": ["publish", str(tmp_path / "out.tar"), "--verdicts", str(verdicts)],
         "check": ["check", str(verdicts)],
     }
 
@@ -69,7 +58,7 @@ def result_after_signal(
     on, or after the last one, and then so many seconds; and what it says."""
     command = [sys.executable, "-X", "importtime", "-m", "budlarem", *more]
     with open(log, "wb") as file, subprocess.Popen(
-        command, stdout=file, stderr=file, env=environment(), preexec_fn=heed_interruption
+        command, stdout=file, stderr=file, preexec_fn=restore_signals
     ) as process:
         before, since = 0, time.monotonic()
         while before < imports and time.monotonic() - since < (QUIET if before else PATIENCE):
@@ -80,95 +69,81 @@ def result_after_signal(
         process.send_signal(number)
         try:
             process.wait(PATIENCE)
-        except subprocess.TimeoutExpired:
+        finally:
             process.kill()
-            raise
     lines = log.read_text(errors="replace").splitlines(keepends=True)
     return process.returncode, "".join(line for line in lines if not line.startswith(_IMPORT))
 
 
-def test_signals(tally: Tally, top: pathlib.Path, step: int) -> None:
+@pytest.mark.parametrize("step", [40, pytest.param(15, marks=pytest.mark.slow)])
+@pytest.mark.parametrize(
+    "name, number", [*itertools.product(("run", "publish"), _STATUSES), ("check", signal.SIGINT)]
+)
+def test_signals(tmp_path: pathlib.Path, name: str, number: signal.Signals, step: int) -> None:
     """Signals among the imports, and some moments later."""
     moments = [(imports, 0.0) for imports in range(1, 160, step)]
     moments += [(1_000, 0.01 * hundredths) for hundredths in range(0, 20, max(step // 2, 1))]
-    for name, more in commands(top).items():
-        for number, (imports, seconds) in [(number, one) for number in _STATUSES for one in moments]:
-            if name == "check" and number != signal.SIGINT:
-                continue
-            status, said = result_after_signal(more, number, imports, seconds, top / "log")
-            is_right = status == _STATUSES[number] and re.fullmatch(_SENTENCES[name], said)
-            what = "%s, %s after %d imports and %.2f s" % (name, number.name, imports, seconds)
-            tally.hold("%s: status %d: %s" % (what, status, said), is_right)
+    for imports, seconds in moments:
+        more = commands(tmp_path)[name]
+        status, said = result_after_signal(more, number, imports, seconds, tmp_path / "log")
+        assert status == _STATUSES[number] and re.fullmatch(_SENTENCES[name], said), (imports, seconds, said)
 
 
 def result_of(more: List[str], library: Optional[pathlib.Path] = None) -> Tuple[int, bytes]:
     """The status of a command over a library, and what it says and writes."""
-    variables = environment() if library is None else {**environment(), "BB_LIBRARY": str(library)}
+    variables = dict(os.environ) if library is None else {**os.environ, "BB_LIBRARY": str(library)}
     how = subprocess.run([sys.executable, "-m", "budlarem", *more], env=variables, capture_output=True)
     return how.returncode, how.stdout + how.stderr
 
 
-def test_library(tally: Tally, top: pathlib.Path, step: int) -> None:
+@pytest.mark.parametrize("step", [1, pytest.param(4, marks=pytest.mark.slow)])
+def test_cut_library(library: pathlib.Path, tmp_path: pathlib.Path, step: int) -> None:
     """A library that was cut short is refused by each command, and never called."""
-    cut, listed = top / "libbb.so", top / "machines.txt"
+    cut, listed = tmp_path / "libbb.so", tmp_path / "machines.txt"
     listed.write_bytes(b"1RB1LB_1LA1RZ\n")
-    whole = pathlib.Path(LIBRARY).read_bytes()
+    whole = library.read_bytes()
     asked = {
         "decide": ["decide", str(listed)],
         "check": ["check", str(listed)],
-        "run": ["run", str(listed), "--out", str(top / "cut")],
+        "run": ["run", str(listed), "--out", str(tmp_path / "cut")],
         "trace": ["trace", "1RB1LB_1LA1RZ", "--upto", "6"],
     }
     lengths = [*range(64, len(whole), len(whole) // (4 * step)), len(whole) - 1]
     for length, (name, more) in [(length, one) for length in lengths for one in asked.items()]:
         cut.write_bytes(whole[:length])
         status, said = result_of(more, cut)
-        what = "%s by a library of %d bytes: status %d: %r" % (name, length, status, said)
-        tally.hold(what, status == 3 and b"was cut short" in said and said.count(b"\n") == 1)
+        assert status == 3 and b"was cut short" in said and said.count(b"\n") == 1, (name, length)
     cut.write_bytes(whole)
     status, said = result_of(asked["decide"], cut)
-    is_decided = status == 0 and b"1RB1LB_1LA1RZ halt 6 4" in said.splitlines()
-    tally.hold("a whole library: %d: %r" % (status, said), is_decided)
+    assert status == 0 and b"1RB1LB_1LA1RZ halt 6 4" in said.splitlines()
 
 
-def test_controls(tally: Tally, top: pathlib.Path) -> None:
+def test_controls(tmp_path: pathlib.Path) -> None:
     """Lines with control characters, in lists and in the names of files."""
     odd = b"\x1b[31mred\x07\x9b1m\xc2\x9b2m\x7f\x00\r"
-    listed, verdicts, named = top / "odd.txt", top / "odd-verdicts.txt", top / "na\x1b[31mme.txt"
+    listed, verdicts, named = (
+        tmp_path / "odd.txt",
+        tmp_path / "odd-verdicts.txt",
+        tmp_path / "na\x1b[31mme.txt",
+    )
+    (tmp_path / "list.txt").write_bytes(LONG_MACHINE)
     listed.write_bytes((odd + b"\n") * 3)
     verdicts.write_bytes(b"1RB1LB_1LA1RZ halt 6 4 " + odd + b"\n")
     named.write_bytes(b"1RB1LB_1LA1RZ halt 6 4\n1RB1LB_1LA1RZ halt 7 4\n")
     asked = {
-        "run": ["run", str(listed), "--out", str(top / "odd")],
-        "run of an odd name": ["run", str(named), "--out", str(top / "odd")],
-        "run in an odd name": ["run", str(top / "list.txt"), "--out", str(named)],
+        "run": ["run", str(listed), "--out", str(tmp_path / "odd")],
+        "run of an odd name": ["run", str(named), "--out", str(tmp_path / "odd")],
+        "run in an odd name": ["run", str(tmp_path / "list.txt"), "--out", str(named)],
         "check": ["check", str(verdicts)],
         "check of an odd name": ["check", str(named)],
-        "publish": ["publish", str(top / "odd.tar"), "--verdicts", str(verdicts)],
-        "publish of an odd name": ["publish", str(top / "odd.tar"), "--verdicts", str(named)],
+        "publish": ["publish", str(tmp_path / "odd.tar"), "--verdicts", str(verdicts)],
+        "publish of an odd name": ["publish", str(tmp_path / "odd.tar"), "--verdicts", str(named)],
         "publish into an odd name": ["publish", str(named), "--verdicts", str(verdicts)],
         "trace": ["trace", "1RB1LB\x1b[31m", "--upto", "3"],
-        "report": ["report", str(verdicts), "--out", str(top / "no" / "na\x1b[31mme.html")],
+        "report": ["report", str(verdicts), "--out", str(tmp_path / "no" / "na\x1b[31mme.html")],
     }
     for name, more in asked.items():
         status, said = result_of(more)
         raw = [byte for byte in said if byte < 32 and byte != 10 or byte == 127]
         raw += [ord(sign) for sign in said.decode("utf-8", "replace") if "\x80" <= sign <= "\x9f"]
-        what = "%s: status %d: %r" % (name, status, said)
-        tally.hold(what, status in (1, 2, 3) and not raw and (b"\\x1b" in said or name == "trace"))
-
-
-def main() -> int:
-    asked = words(__doc__, quick="fewer signals, and fewer lengths").parse_args()
-    tally = Tally()
-    if not has_library(tally, "the command's begin"):
-        return tally.end()
-    with folder() as top:
-        test_signals(tally, top, 40 if asked.quick else 15)
-        test_library(tally, top, 1 if asked.quick else 4)
-        test_controls(tally, top)
-    return tally.end()
-
-
-if __name__ == "__main__":
-    end_with(main)
+        assert status in (1, 2, 3) and not raw and (b"\\x1b" in said or name == "trace"), said

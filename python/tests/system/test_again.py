@@ -1,34 +1,21 @@
-#!/usr/bin/python3
-"""Holds `again.py`, the package's checker in plain Python, against the built program's checker.
+"""`again.py`, the package's checker in plain Python, beside the program's checker."""
 
-    scripts/tests/package/again.py crates/bb/out/bb [--quick] [--machines N] [--seed S]
-
-It says `true` to every verdict on the machines of four states, and to forged lines what `bb check` does: on
-random machines of all sizes, of which many have 3 and 4 symbols, with numbers, words and bytes changed. It
-imports `sys` alone, has 150 lines at most, and takes no more memory for more steps. It takes two minutes;
-`--quick`, with a tenth of the machines of four states and of the forged lines, a quarter of one. The last
-line is `N passed, M failed`, with `, K skipped` where something isn't installed; the status is 1 where any
-failed.
-"""
+from __future__ import annotations
 
 import ast
 import collections
 import os
 import pathlib
+import pytest
 import random
 import subprocess
 import sys
-import tempfile
-from typing import Counter, Iterator, List, Tuple
+from support import TOP
+from support.machines import mixed, seldom_halting
+from support.program import as_lines, ended, options
+from typing import Callable, Counter, Iterator, List, Tuple
 
-sys.path.insert(0, os.path.join(os.path.dirname(os.path.abspath(__file__)), "..", "..", "lib"))
-
-from built import has_lister, listed  # noqa: E402
-from machines import mixed, seldom_halting  # noqa: E402
-from program import ended, options  # noqa: E402
-from tally import TOP, Tally, end_with, words  # noqa: E402
-
-AGAIN = os.path.join(TOP, "python", "src", "budlarem", "again.py")
+AGAIN = str(TOP / "python" / "src" / "budlarem" / "again.py")
 # What it may have of lines.
 MOST = 150
 # The limits by which the machines of four states are decided, and what the first ones leave.
@@ -45,16 +32,16 @@ def said(*more: str, given: bytes = b"") -> Tuple[int, List[bytes], bytes]:
     return done.status, done.output.split(b"\n")[:-1], done.error
 
 
-def hold_form(tally: Tally) -> None:
+def test_form() -> None:
     """It is short, and imports `sys` alone."""
     text = pathlib.Path(AGAIN).read_text(encoding="utf-8")
-    tally.hold("again.py has %d lines" % text.count("\n"), text.count("\n") <= MOST)
+    assert text.count("\n") <= MOST
     nodes = [node for node in ast.walk(ast.parse(text)) if isinstance(node, (ast.Import, ast.ImportFrom))]
     names = [ast.unparse(node) for node in nodes]
-    tally.hold("again.py has %s" % names, names == ["import sys"])
+    assert names == ["import sys"]
 
 
-def hold_words(tally: Tally) -> None:
+def test_words() -> None:
     """Its words, bounds and statuses."""
     halt = b"1RB1LB_1LA1RZ halt 6 4\n"
     cases: List[Tuple[List[str], bytes, int, bytes]] = [
@@ -68,58 +55,50 @@ def hold_words(tally: Tally) -> None:
     ]
     for more, given, status, answer in cases:
         found = said(*more, given=given)
-        tally.hold("%s, %r: %r" % (more, given, found), found[:2] == (status, [answer]))
-        tally.hold("the count: %s" % found[2].decode(), b"1 " + answer in found[2])
+        assert found[:2] == (status, [answer])
+        assert b"1 " + answer in found[2]
     for more in (["--steps"], ["--steps", "x"], ["--help"], ["one", "two"]):
         status, _, error = said(*more)
-        tally.hold("%s: status %d, %r" % (more, status, error), status == 2 and b"--steps N" in error)
-    status, _, error = said(os.path.join(TOP, "no such file"))
-    tally.hold("a file that isn't there: %d, %r" % (status, error), status == 3 and b"no such file" in error)
+        assert status == 2 and b"--steps N" in error, (more, status, error)
+    status, _, error = said(str(TOP / "no such file"))
+    assert status == 3 and b"no such file" in error, (status, error)
     with open("/dev/full", "wb") as full:
         command = [sys.executable, AGAIN]
         done = subprocess.run(command, input=halt, stdout=full, stderr=subprocess.PIPE)
     right = done.returncode == 3 and b"No space left" in done.stderr
-    tally.hold("a full disk: %d, %s" % (done.returncode, done.stderr.decode()), right)
+    assert right, (done.returncode, done.stderr.decode())
 
 
-def memory_for(steps: int) -> int:
+def memory_for(steps: int, path: pathlib.Path) -> int:
     """The most memory that a run of so many steps in two cells takes, in KiB."""
-    line = "0RB---_0LA--- cycler 0 %d\n" % steps
-    command = [sys.executable, AGAIN, "--steps", str(steps)]
-    with tempfile.TemporaryFile() as file:
-        file.write(line.encode())
-        file.seek(0)
-        with subprocess.Popen(
-            command, stdin=file, stdout=subprocess.DEVNULL, stderr=subprocess.DEVNULL
-        ) as process:
-            _, status, used = os.wait4(process.pid, 0)
-            process.returncode = os.waitstatus_to_exitcode(status)
-    return int(used.ru_maxrss) if process.returncode == 0 else 0
+    path.write_text("0RB---_0LA--- cycler 0 %d\n" % steps)
+    with subprocess.Popen([sys.executable, AGAIN, "--steps", str(steps), str(path)]) as process:
+        _, status, used = os.wait4(process.pid, 0)
+        process.returncode = os.waitstatus_to_exitcode(status)
+    assert process.returncode == 0
+    return int(used.ru_maxrss)
 
 
-def hold_memory(tally: Tally) -> None:
+def test_memory(tmp_path: pathlib.Path) -> None:
     """It keeps nothing for a step."""
-    few, many = memory_for(2), memory_for(2_000_000)
-    tally.hold(
-        "memory: %d KiB for 2 steps, %d for 2,000,000" % (few, many), 0 < few and 0 < many < few + 1_024
-    )
+    few, many = (memory_for(steps, tmp_path / "claim.txt") for steps in (2, 2_000_000))
+    assert 0 < few and 0 < many < few + 1_024, (few, many)
 
 
-def hold_four_states(tally: Tally, program: str, quick: bool) -> None:
+@pytest.mark.parametrize("every", ["10", pytest.param("1", marks=pytest.mark.slow)])
+def test_verdicts_on_four_states(bb: str, list_machines: Callable[..., List[str]], every: str) -> None:
     """Every verdict on the machines of four states is true."""
-    if not has_lister(tally, "the machines of four states"):
-        return
-    machines = listed(4, *(["--every", "10"] if quick else []))
-    first = ended([program, "decide", *options(FIRST)], machines).output.splitlines(keepends=True)
+    machines = as_lines(list_machines(4, "--every", every))
+    first = ended([bb, "decide", *options(FIRST)], machines).output.splitlines(keepends=True)
     left = b"".join(line.split(b" ")[0] + b"\n" for line in first if b" undecided " in line)
-    later = ended([program, "decide", *options(LATER)], left).output.splitlines(keepends=True)
+    later = ended([bb, "decide", *options(LATER)], left).output.splitlines(keepends=True)
     lines = b"".join([line for line in first if b" undecided " not in line] + later)
     status, answers, error = said("--steps", str(LATER[0]), "--nodes", str(LATER[3]), given=lines)
-    tally.hold("again.py over four states: status %d, %r" % (status, error), status == 0)
+    assert status == 0
     expected = [b"no claim" if b" undecided " in line else b"true" for line in lines.split(b"\n")[:-1]]
-    tally.hold("verdicts on machines of four states", len(expected) > 80_000)
-    wrong = sum(answer != right for answer, right in zip(answers, expected))
-    tally.hold("%d of %d answers are others" % (wrong, len(expected)), answers == expected)
+    assert len(expected) > 80_000
+    assert answers == expected
+    print("%d lines compared" % len(lines))
 
 
 def machines_of(count: int, source: random.Random) -> Iterator[str]:
@@ -177,33 +156,20 @@ def is_right(line: bytes, printed: bytes, answer: bytes) -> bool:
     return answer.decode() == WORDS[printed.decode()]
 
 
-def hold_forged(tally: Tally, program: str, count: int, seed: int) -> None:
+@pytest.mark.parametrize("count", [4_000, pytest.param(40_000, marks=pytest.mark.slow)])
+def test_forged_lines(bb: str, count: int, rng: random.Random) -> None:
     """Verdicts on random machines, and what is forged of them, are answered as by the program."""
-    source = random.Random(seed)
-    machines = "".join(machine + "\n" for machine in machines_of(count, source)).encode()
-    verdicts = ended([program, "decide", *options(LIMITS)], machines).output.split(b"\n")[:-1]
+    source = rng
+    machines = as_lines(machines_of(count, source))
+    verdicts = ended([bb, "decide", *options(LIMITS)], machines).output.split(b"\n")[:-1]
     lines = [*verdicts, *(forged(source, line) for line in verdicts), b"refused 775", b"refused 776", b""]
     given = b"".join(line + b"\n" for line in lines) + b"1RA1RA undecided steps"
     lines.append(b"1RA1RA undecided steps")
-    printed = ended([program, "check", *options(LIMITS)], given).output.split(b"\n")[:-1]
+    printed = ended([bb, "check", *options(LIMITS)], given).output.split(b"\n")[:-1]
     _, answers, _ = said("--steps", str(STEPS), "--nodes", str(NODES), given=given)
-    tally.hold("an answer to each of %d lines" % len(lines), len(lines) == len(printed) == len(answers))
+    assert len(lines) == len(printed) == len(answers)
     counts: Counter[bytes] = collections.Counter(printed)
-    tally.hold("each answer comes: %r" % counts, len(counts) == 5 and min(counts.values()) >= 20)
-    for line, word, answer in zip(lines, printed, answers):
-        tally.hold("%r: bb says %r, again.py %r" % (line, word, answer), is_right(line, word, answer))
-
-
-def main() -> int:
-    asked = words(__doc__, quick="a tenth of the machines", machines=40_000, seed=1).parse_args()
-    tally = Tally()
-    hold_form(tally)
-    hold_words(tally)
-    hold_memory(tally)
-    hold_forged(tally, asked.program, asked.machines // 10 if asked.quick else asked.machines, asked.seed)
-    hold_four_states(tally, asked.program, asked.quick)
-    return tally.end()
-
-
-if __name__ == "__main__":
-    end_with(main)
+    assert len(counts) == 5 and min(counts.values()) >= 20, counts
+    wrong = [row for row in zip(lines, printed, answers) if not is_right(*row)]
+    assert not wrong
+    print("%d lines compared" % len(lines))
