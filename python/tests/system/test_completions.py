@@ -1,29 +1,16 @@
-"""Holds what completes the command lines of `bb` and `budlarem` in bash, zsh and fish.
-
-    scripts/tests/completions.py crates/bb/out/bb
-
-Each shell is asked for what may stand at a place of a command line; the commands and options must be those of
-the programs' own help, and files must come where a file is asked for. It takes some seconds. The last line is
-`N passed, M failed`, with `, K skipped` where a shell isn't installed; the status is 1 where any failed.
-"""
+"""Completion of the command lines of `bb` and `budlarem` in bash, zsh and fish: each shell is asked."""
 
 from __future__ import annotations
 
-import pytest
-
 import os
 import pathlib
+import pytest
 import re
 import subprocess
 import sys
-import tempfile
-from typing import Dict, Iterator, List, Sequence, Set
+from support import TOP, require
+from typing import List, Sequence, Set
 
-
-from support import TOP
-
-SCRIPT = os.path.join(TOP, "scripts", "completions")
-SOURCE = os.path.join(TOP, "python", "src")
 # It completes the last word of a command line, in bash by the function that was given for its first word.
 BASH = """
 source "$1"
@@ -50,16 +37,14 @@ complete_here "$@"
 
 def helped(command: Sequence[str]) -> str:
     """The help of a program or a command."""
-    variables = {**os.environ, "PYTHONPATH": SOURCE, "COLUMNS": "200"}
+    variables = {**os.environ, "COLUMNS": "200"}
     return subprocess.run([*command, "--help"], stdout=subprocess.PIPE, text=True, env=variables).stdout
 
 
-def commands_of(bb: str, command: Sequence[str]) -> List[str]:
+def commands_of(program: str, command: Sequence[str]) -> Set[str]:
     """The commands that a program's help names."""
-    page = helped(command)
-    part = page.partition("Commands:" if program == "bb" else "COMMAND\n")[2].partition("\n\n")[0]
-    names = re.findall(r"^ {2,4}([a-z]+) ", part, re.MULTILINE)
-    return sorted({*names, "help"})
+    page = helped(command).partition("Commands:" if program == "bb" else "COMMAND\n")[2].partition("\n\n")[0]
+    return {*re.findall(r"^ {2,4}([a-z]+) ", page, re.MULTILINE), "help"}
 
 
 def options_of(command: Sequence[str]) -> Set[str]:
@@ -91,52 +76,44 @@ class Shell:
         return {re.split(r"[\t\[:]", row)[0] for row in self.at(*line)} - {""}
 
 
-def test_program(shell: Shell, bb: str, command: Sequence[str]) -> None:
-    """The commands and options are those of the program's help."""
-    names = commands_of(bb, command)
+@pytest.fixture(params=["bash", "zsh", "fish"])
+def shell(request: pytest.FixtureRequest, bb: str, tmp_path: pathlib.Path) -> Shell:
+    require(request.param)
+    folder, files = tmp_path / "here", tmp_path / "files"
+    folder.mkdir()
+    (folder / "a list.txt").touch()
+    subprocess.run([sys.executable, str(TOP / "tools" / "completions"), str(files), "--bb", bb], check=True)
+    return Shell(request.param, files, folder)
+
+
+@pytest.mark.parametrize("program", ["bb", "budlarem"])
+def test_commands_and_options(bb: str, shell: Shell, program: str) -> None:
+    """They are those of the program's help; the shell reads the file without a word."""
+    file = str(shell.files / ("%s.%s" % (program, shell.name)))
+    done = subprocess.run([shell.name, "-n", file], capture_output=True, text=True)
+    assert done.returncode == 0 and not done.stderr
+    command = [bb] if program == "bb" else [sys.executable, "-m", "budlarem"]
+    names = commands_of(program, command)
     assert len(names) > 3
-    found = shell.words_at(bb, "") - {"--help", "--version"}
-    assert found == set(names)
+    assert shell.words_at(program, "") - {"--help", "--version"} == names
     for name in names:
-        options = options_of([*command, name]) if (bb, name) != ("bb", "help") else set()
-        rows = shell.words_at(bb, name, "--")
-        found = {row for row in rows if row.startswith("--")}
-        what = "%s: options of %s %s" % (shell.name, bb, name)
-        assert found == options
+        options = options_of([*command, name]) if (program, name) != ("bb", "help") else set()
+        assert {row for row in shell.words_at(program, name, "--") if row.startswith("--")} == options, name
 
 
 def test_files(shell: Shell) -> None:
     """Files come where one is asked for, and no others where none is."""
-    cases = [
+    if shell.name == "zsh":
+        rows = shell.at("budlarem", "publish", "--list", "")
+        assert [row for row in rows if row.startswith("--list[") and row.endswith(":LIST:_files")]
+        return
+    for line, wanted in (
         (("bb", "decide", "a li"), True),
         (("budlarem", "publish", "--list", "a li"), True),
         (("budlarem", "run", "--out", "a li"), True),
         (("bb", "decide", "--steps", ""), False),
         (("budlarem", "publish", "--threads", ""), False),
-    ]
-    for line, wanted in cases:
-        shown = tuple(word.replace(" ", "\\ ") if shell.name == "fish" else word for word in line)
+    ):
+        shown = (word.replace(" ", "\\ ") if shell.name == "fish" else word for word in line)
         found = shell.at(*shown)
-        has = any("a list.txt" in row.replace("\\ ", " ") for row in found)
-        assert has == wanted
-
-
-def test_shell(shell: Shell, programs: Dict[str, List[str]]) -> None:
-    for bb, command in programs.items():
-        file = str(shell.files / ("%s.%s" % (bb, shell.name)))
-        done = subprocess.run([shell.name, "-n", file], capture_output=True, text=True)
-        assert done.returncode == 0 and not done.stderr, (shell.name, done.stderr)
-        test_program(shell, bb, command)
-    if shell.name != "zsh":
-        test_files(shell)
-    else:
-        rows = shell.at("budlarem", "publish", "--list", "")
-        named = [row for row in rows if row.startswith("--list[") and row.endswith(":LIST:_files")]
-        assert named, rows
-
-
-def shells() -> Iterator[str]:
-    """The shells that are installed."""
-    for name in ("bash", "zsh", "fish"):
-        if tally.has("completion in %s" % name, name):
-            yield name
+        assert any("a list.txt" in row.replace("\\ ", " ") for row in found) == wanted, line
