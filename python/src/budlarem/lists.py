@@ -26,16 +26,7 @@ from .verdicts import (
     verdicts_of,
 )
 
-__all__ = [
-    "Agreement",
-    "Carried",
-    "Comparison",
-    "Normal",
-    "compare",
-    "decide_carried",
-    "distinct",
-    "normal",
-]
+__all__ = ["Agreement", "Carried", "Comparison", "Normal", "compare", "decide_carried", "distinct", "normal"]
 
 
 @dataclasses.dataclass(frozen=True)

@@ -255,11 +255,5 @@ def picture(
         is_cut = len(chosen) > rows
         del chosen[rows:]
     return drawn(
-        chosen,
-        apart,
-        is_cut,
-        columns=columns,
-        left=positions["left"],
-        right=positions["right"],
-        scale=scale,
+        chosen, apart, is_cut, columns=columns, left=positions["left"], right=positions["right"], scale=scale
     )

@@ -187,12 +187,7 @@ def publish(
 
 
 def _published_run(
-    out: str,
-    folder: str,
-    listed: Optional[Input],
-    limits: Limits,
-    threads: int,
-    tell: Callable[[int], None],
+    out: str, folder: str, listed: Optional[Input], limits: Limits, threads: int, tell: Callable[[int], None]
 ) -> Published:
     """Publishes the verdicts of a run. Raises PublishError, FolderError where summary, verdicts and journals
     aren't of one run, OSError."""

@@ -199,11 +199,7 @@ def is_ended(case: RunCase, after: int, limits: Sequence[Limits]) -> bool:
 
 
 def test_each_call(case: RunCase) -> None:
-    cases: List[Tuple[List[Limits], List[Limits]]] = [
-        ([], [SMALL]),
-        ([SMALL], [*PASSES]),
-        ([], [*PASSES]),
-    ]
+    cases: List[Tuple[List[Limits], List[Limits]]] = [([], [SMALL]), ([SMALL], [*PASSES]), ([], [*PASSES])]
     for before, limits in cases:
         after, was_ended = 0, True
         while was_ended:
@@ -251,11 +247,7 @@ def test_a_folder_without_what_it_was_begun_with(case: RunCase) -> None:
 
 
 def test_what_a_killed_run_left_is_removed(case: RunCase) -> None:
-    for name, text in (
-        ("run.json", b""),
-        ("summary.json", b'{\n  "li'),
-        ("README.txt", b"Verdicts on the"),
-    ):
+    for name, text in (("run.json", b""), ("summary.json", b'{\n  "li'), ("README.txt", b"Verdicts on the")):
         case.out.mkdir(exist_ok=True)
         (case.out / (name + ".part")).write_bytes(text)
     (case.out / "verdicts.txt.2.part").write_bytes(expected(LIST)[:50])

@@ -55,12 +55,7 @@ def test_verdicts_in_many_forms() -> None:
 
 
 def test_numbers_with_groups_of_three_digits() -> None:
-    for text, number in (
-        ("47,176,870", 47_176_870),
-        ("1'000", 1_000),
-        ("4 098", 4_098),
-        ("1_000", 1_000),
-    ):
+    for text, number in (("47,176,870", 47_176_870), ("1'000", 1_000), ("4 098", 4_098), ("1_000", 1_000)):
         assert number_of(text) == number
         assert said("1RA1RA halt %s 7" % text).claim == Halt("1RA1RA", number, 7)
     for text in (">3932964", "1,00", "1,000'000", "07", "", "1.5", "-1", "1,0000", "0,100", "1e6"):
@@ -111,10 +106,7 @@ def test_a_file_of_words(tmp_path: pathlib.Path) -> None:
     assert (words["yes"], words["itdoes"]) == (Word.HALTS, Word.HALTS)
     assert (words["no"], words["loop"]) == (Word.NEVER_HALTS, Word.UNDECIDED)
     assert words["halt"] == Word.HALTS
-    for text, error in (
-        ("yes\n", ":1: a line begins"),
-        ("halting: a\nnothing: a\n", ":2: a has two"),
-    ):
+    for text, error in (("yes\n", ":1: a line begins"), ("halting: a\nnothing: a\n", ":2: a has two")):
         with open(path, "w", encoding="utf-8") as file:
             file.write(text)
         with pytest.raises(ValueError, match=error):

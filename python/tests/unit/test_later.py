@@ -11,11 +11,7 @@ from budlarem import Cycler, Extent, Limits, LimitsError, Place, Translated, at,
 
 CHAMPION = "1RB1LB_1LA1RZ"
 # Two translated cyclers with a shift above 1, to the left and to the right, and a cycler.
-FAR = [
-    "1RB0LA_0RC---_1RD0LD_1LA1RB",
-    "1LB0RA_0LC---_1LD0RD_1RA1LB",
-    "1LB1RB_1RA1LA",
-]
+FAR = ["1RB0LA_0RC---_1RD0LD_1LA1RB", "1LB0RA_0LC---_1LD0RD_1RA1LB", "1LB1RB_1RA1LA"]
 
 
 def plain(machine: str, steps: int) -> Iterator[Tuple[str, int]]:

@@ -67,13 +67,7 @@ def test_steps_counted_for_undefined_entries() -> None:
 
 
 def test_any_order_and_what_one_lacks() -> None:
-    first = [
-        "1RA1RA cycler 1 2",
-        "------ halt 0 0",
-        "refused 3",
-        "1RZ--- halt 1 1\tmore",
-        "1RZ--- halt 1 1",
-    ]
+    first = ["1RA1RA cycler 1 2", "------ halt 0 0", "refused 3", "1RZ--- halt 1 1\tmore", "1RZ--- halt 1 1"]
     second = ["1RZ--- halt 1 1", CHAMPION + " halt 6 4", "1RA1RA cycler 1 2"]
     found = [(str(one.agreement), one.machine) for one in budlarem.compare(first, second)]
     assert sorted(found[:2]) == [("agree", "1RA1RA"), ("agree", "1RZ---")]
@@ -231,12 +225,7 @@ def test_it_is_shown_and_saved(tmp_path: pathlib.Path) -> None:
     assert path.read_bytes() == picture.png
 
 
-LINES = [
-    CHAMPION + " halt 6 4",
-    "1RA1RA translated R 1 2 1 1",
-    UNDECIDED + " undecided steps",
-    "refused 2",
-]
+LINES = [CHAMPION + " halt 6 4", "1RA1RA translated R 1 2 1 1", UNDECIDED + " undecided steps", "refused 2"]
 
 
 def test_bars() -> None:

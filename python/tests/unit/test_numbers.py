@@ -113,13 +113,7 @@ def command(*given: str) -> "subprocess.CompletedProcess[str]":
 
 
 def test_commands(tmp_path: pathlib.Path) -> None:
-    every = [
-        ["read"],
-        ["decide"],
-        ["normal"],
-        ["judge", "-"],
-        ["compare", "/dev/null", "-"],
-    ]
+    every = [["read"], ["decide"], ["normal"], ["judge", "-"], ["compare", "/dev/null", "-"]]
     every.append(["check", "--cells", "1000"])
     if all(importlib.util.find_spec(name) for name in ("numpy", "matplotlib")):
         every.append(["report", "--out", str(tmp_path / "report.html")])

@@ -320,11 +320,7 @@ def test_verdicts_that_were_changed_in_place(case: RunCase) -> None:
 def test_a_folder_whose_verdicts_are_a_second_name(case: RunCase) -> None:
     """So an earlier version of this package left it."""
     case.run_over(limits=[SMALL])
-    pieces, verdicts, kept = (
-        case.out / "pass-1" / "pieces",
-        case.out / "verdicts.txt",
-        case.top / "kept",
-    )
+    pieces, verdicts, kept = (case.out / "pass-1" / "pieces", case.out / "verdicts.txt", case.top / "kept")
     for change in (None, b"x" * 100):
         os.link(verdicts, pieces)
         os.link(verdicts, kept)

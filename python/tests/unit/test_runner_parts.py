@@ -169,15 +169,7 @@ def test_what_is_wrong() -> None:
     good = expected(KINDS)
     chunks.look_at_verdicts(KINDS, good)
     lines = good.splitlines(keepends=True)
-    for changed in (
-        b"",
-        good[:-1],
-        good + lines[0],
-        good[len(lines[0]) :],
-        good + b"x",
-        good[::-1],
-        KINDS,
-    ):
+    for changed in (b"", good[:-1], good + lines[0], good[len(lines[0]) :], good + b"x", good[::-1], KINDS):
         wrong(KINDS, changed)
     for place, line in itertools.product(range(len(lines)), lines):
         if line != lines[place]:
@@ -186,15 +178,7 @@ def test_what_is_wrong() -> None:
 
 def test_lines_that_are_no_verdict_lines() -> None:
     machine = b"1RB1LB_1LA1RZ"
-    for text in (
-        b"halt 6",
-        b"halt 06 4",
-        b"halt 6 4 ",
-        b" halt 6 4",
-        b"",
-        b"open",
-        b"\x00",
-    ):
+    for text in (b"halt 6", b"halt 06 4", b"halt 6 4 ", b" halt 6 4", b"", b"open", b"\x00"):
         wrong(machine + b"\n", machine + b" " + text + b"\n")
     for text in (b"refused 3", b"refused 0", b"refused 2 ", b"refused", b"refused 2\n"):
         wrong(b"1rB1LB\n", text + b"\n")

@@ -137,9 +137,7 @@ def _read(line: str, parts: Parts) -> "List[Read] | Reason":
         row = row_beside(line, text, parts.rows) if isinstance(outcome, Found) else None
         if row is not None and "_" not in text.written:
             return Reason(
-                "rule-or-group",
-                "%s may be a rule or a group of the machine" % shown(row.text),
-                row.begin + 1,
+                "rule-or-group", "%s may be a rule or a group of the machine" % shown(row.text), row.begin + 1
             )
     return _one(found)
 
