@@ -6,7 +6,8 @@ from .engine import Configuration, MachineError, Trace, check, check_bytes, deci
 from .judging import Judged, Judgement, Judging, judge
 from .later import Place, at
 from .limits import Limits, LimitsError, Plan
-from .lists import Agreement, Carried, Comparison, Normal, compare, decide_carried, distinct, normal
+from .lists import Agreement, Carried, Comparison, compare, decide_carried
+from .normal_forms import Normal, distinct, normal
 from .pictures import Picture, PictureError, picture
 from .publishing import PublishError, Published, UnconfirmedError, publish
 from .reading import (

@@ -7,13 +7,12 @@ import dataclasses
 from typing import Deque, Dict, Iterable, Iterator, List, Optional, Tuple, Union
 
 from ._text import Words, escape_controls
-from .engine import MachineError, decide, trace
+from .engine import decide
 from .limits import Limits, Plan
+from .normal_forms import form_of, turned
 from .reading import Columns, Form, Reading, read
 from .reading.files import Source
-from .same import form_of, turned
 from .verdicts import (
-    STATES,
     Backward,
     Cycler,
     Halt,
@@ -227,80 +226,3 @@ def _compared_by_form(
         yield Comparison(kind, machine, verdict, other)
     left = (other for pairs in waiting.values() for other, _ in pairs) if first else iter(second)
     yield from (Comparison(Agreement.ONLY_SECOND, other.machine, None, other) for other in left)
-
-
-@dataclasses.dataclass(frozen=True)
-class Normal:
-    """A machine in normal form. `states` has, for each of its states in order, which state of the machine it
-    is; `mirrored` says that left and right were exchanged."""
-
-    machine: str
-    normal: str
-    states: str
-    mirrored: bool
-
-    def __str__(self) -> str:
-        return "%s\t%s\t%s\t%s" % (self.normal, self.machine, self.states, "L" if self.mirrored else "R")
-
-
-def _first_uses(machine: str, count: int, steps: int, cells: int) -> str:
-    """The states in the order in which a run of so many steps comes to them."""
-    found, upto = "A", 64
-    while True:
-        upto = min(upto, steps)
-        rows = trace(machine, upto, cells)
-        states = [now.state for now in rows]
-        found = "".join(dict.fromkeys(state for state in states if state != "Z"))
-        if len(found) == count or upto == steps or len(states) <= upto:
-            return found
-        upto *= 8
-
-
-def normal(machine: str, *, steps: int = 10_000, cells: int = 65_536) -> Normal:
-    """The normal form of a machine: its states in the order of their first use in its run of so many steps,
-    those that aren't reached after them as they stand; mirrored where its first move is to the left.
-
-    Raises what `trace` does.
-
-    >>> print(normal("1LC1RZ_1RB---_1RA1LA").normal)
-    1RB1LZ_1LA1RA_1LC---
-    """
-    if not is_machine(machine):
-        next(trace(machine, 0, cells))
-    groups = machine.split("_")
-    used = _first_uses(machine, len(groups), steps, cells)
-    order = used + "".join(state for state in STATES[: len(groups)] if state not in used)
-    mirrored = machine[1] == "L"
-    names = {old: new for new, old in zip(STATES, order)}
-    names["Z"] = "Z"
-    moves = {"L": "R", "R": "L"} if mirrored else {"L": "L", "R": "R"}
-
-    def entry(text: str) -> str:
-        return text if text == "---" else text[0] + moves[text[1]] + names[text[2]]
-
-    ordered = (groups[STATES.index(old)] for old in order)
-    written = ("".join(entry(group[k : k + 3]) for k in range(0, len(group), 3)) for group in ordered)
-    return Normal(machine, "_".join(written), order, mirrored)
-
-
-def distinct(
-    machines: Iterable[str], *, steps: int = 10_000, cells: int = 65_536
-) -> Iterator[Tuple[Normal, Optional[str]]]:
-    """The normal form of each machine, and the first machine before it that has the same one, or None.
-
-    What is held are the normal forms that were met. Raises what `trace` does, with the place of the item.
-
-    >>> [(form.machine, before) for form, before in distinct(["1RA---", "1LA---"])]
-    [('1RA---', None), ('1LA---', '1RA---')]
-    """
-    met: Dict[str, str] = {}
-    for place, machine in enumerate(machines):
-        if not isinstance(machine, str):
-            raise TypeError("machines[%d] is of type %s, not str" % (place, type(machine).__name__))
-        try:
-            form = normal(machine, steps=steps, cells=cells)
-        except MachineError as error:
-            raise MachineError(machine, error.column, "machines[%d]" % place) from None
-        before = met.get(form.normal)
-        met.setdefault(form.normal, machine)
-        yield form, before

@@ -129,8 +129,11 @@ def pieces_in(out: pathlib.Path) -> int:
 
 
 def is_left(group: int) -> bool:
-    """Whether something is left of a group of processes, which is ended then."""
+    """Whether something is left of a group of processes some seconds later, which is ended then."""
     try:
+        for _ in range(50):
+            os.killpg(group, 0)
+            time.sleep(0.1)
         os.killpg(group, signal.SIGKILL)
     except ProcessLookupError:
         return False

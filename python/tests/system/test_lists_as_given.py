@@ -19,7 +19,7 @@ from typing import Dict, Iterator, List, Sequence, Tuple
 
 import budlarem
 from budlarem import Form, Halt, Judgement, Limits, Undecided, Verdict
-from budlarem.same import form_of
+from budlarem.normal_forms import form_of
 
 FORMS = json.loads((TOP / "tests" / "support" / "forms.json").read_text(encoding="utf-8"))
 DOCUMENT = TOP / "docs" / "python.md"

@@ -17,7 +17,7 @@ from budlarem.claims import said_by
 from budlarem.judging import sources
 from budlarem.numbers import number_of, numbers_in
 from budlarem.reading.files import Source
-from budlarem.same import form_of
+from budlarem.normal_forms import form_of
 from budlarem.translation import read_words
 
 CHAMPION = "1RB1LB_1LA1RZ"

@@ -6,7 +6,8 @@ import argparse
 import sys
 
 from ..limits import Limits, Plan
-from ..lists import carried, distinct
+from ..lists import carried
+from ..normal_forms import distinct
 from ..numbers import option_number
 from .shared import (
     LIST_HELP,

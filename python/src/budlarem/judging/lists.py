@@ -5,7 +5,7 @@ from __future__ import annotations
 from typing import Callable, Container, Dict, Iterable, Iterator, List, Set, Tuple, TypeVar
 
 from ..reading import Reading
-from ..same import form_of
+from ..normal_forms import form_of
 
 # The number of a line, and its machine.
 Placed = Tuple[int, str]

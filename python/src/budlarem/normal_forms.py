@@ -1,13 +1,102 @@
-"""Machines that the laws of verdicts make the same: mirrored, or with other names for states and symbols."""
+"""The two normal forms of machines.
+
+`normal` runs a machine: its states are named in the order of their first use in that run, and its first move
+is to the right, as machines are published. Symbols keep their names, and a state that the run doesn't reach
+keeps its place. Machines with one normal form behave alike in that many steps.
+
+`form_of` runs nothing: states and symbols are named in the order in which they are met in the table. Machines
+of one form are the same up to names and sides, so the laws of verdicts give them one verdict: `compare` and
+`judge` take them for one.
+"""
 
 from __future__ import annotations
 
 import dataclasses
-from typing import Dict, List, NamedTuple, Tuple
+from typing import Dict, Iterable, Iterator, List, NamedTuple, Optional, Tuple
 
-from .verdicts import STATES, Translated, Verdict
+from .engine import MachineError, trace
+from .verdicts import STATES, Translated, Verdict, is_machine
 
-__all__ = ["Form", "form_of", "turned"]
+__all__ = ["Form", "Normal", "distinct", "form_of", "normal", "turned"]
+
+_TURNED = {"L": "R", "R": "L"}
+
+
+@dataclasses.dataclass(frozen=True)
+class Normal:
+    """A machine in normal form. `states` has, for each of its states in order, which state of the machine it
+    is; `mirrored` says that left and right were exchanged."""
+
+    machine: str
+    normal: str
+    states: str
+    mirrored: bool
+
+    def __str__(self) -> str:
+        return "%s\t%s\t%s\t%s" % (self.normal, self.machine, self.states, "L" if self.mirrored else "R")
+
+
+def _first_uses(machine: str, count: int, steps: int, cells: int) -> str:
+    """The states in the order in which a run of so many steps comes to them."""
+    found, upto = "A", 64
+    while True:
+        upto = min(upto, steps)
+        rows = trace(machine, upto, cells)
+        states = [now.state for now in rows]
+        found = "".join(dict.fromkeys(state for state in states if state != "Z"))
+        if len(found) == count or upto == steps or len(states) <= upto:
+            return found
+        upto *= 8
+
+
+def normal(machine: str, *, steps: int = 10_000, cells: int = 65_536) -> Normal:
+    """The normal form of a machine: its states in the order of their first use in its run of so many steps,
+    those that aren't reached after them as they stand; mirrored where its first move is to the left.
+
+    Raises what `trace` does.
+
+    >>> print(normal("1LC1RZ_1RB---_1RA1LA").normal)
+    1RB1LZ_1LA1RA_1LC---
+    """
+    if not is_machine(machine):
+        next(trace(machine, 0, cells))
+    groups = machine.split("_")
+    used = _first_uses(machine, len(groups), steps, cells)
+    order = used + "".join(state for state in STATES[: len(groups)] if state not in used)
+    mirrored = machine[1] == "L"
+    names = {old: new for new, old in zip(STATES, order)}
+    names["Z"] = "Z"
+    moves = _TURNED if mirrored else {"L": "L", "R": "R"}
+
+    def entry(text: str) -> str:
+        return text if text == "---" else text[0] + moves[text[1]] + names[text[2]]
+
+    ordered = (groups[STATES.index(old)] for old in order)
+    written = ("".join(entry(group[k : k + 3]) for k in range(0, len(group), 3)) for group in ordered)
+    return Normal(machine, "_".join(written), order, mirrored)
+
+
+def distinct(
+    machines: Iterable[str], *, steps: int = 10_000, cells: int = 65_536
+) -> Iterator[Tuple[Normal, Optional[str]]]:
+    """The normal form of each machine, and the first machine before it that has the same one, or None.
+
+    What is held are the normal forms that were met. Raises what `trace` does, with the place of the item.
+
+    >>> [(form.machine, before) for form, before in distinct(["1RA---", "1LA---"])]
+    [('1RA---', None), ('1LA---', '1RA---')]
+    """
+    met: Dict[str, str] = {}
+    for place, machine in enumerate(machines):
+        if not isinstance(machine, str):
+            raise TypeError("machines[%d] is of type %s, not str" % (place, type(machine).__name__))
+        try:
+            form = normal(machine, steps=steps, cells=cells)
+        except MachineError as error:
+            raise MachineError(machine, error.column, "machines[%d]" % place) from None
+        before = met.get(form.normal)
+        met.setdefault(form.normal, machine)
+        yield form, before
 
 
 class Form(NamedTuple):
@@ -16,9 +105,6 @@ class Form(NamedTuple):
 
     text: str
     mirrored: bool
-
-
-_TURNED = {"L": "R", "R": "L"}
 
 
 def form_of(machine: str) -> Form:
