@@ -25,15 +25,14 @@ from __future__ import annotations
 
 import importlib
 
-from ._version import COMMIT as COMMIT
-from ._version import VERSION
+from ._version import COMMIT as COMMIT, VERSION
 
 __version__ = VERSION
 
 # `typing` takes long to import, and the command is to heed signals before.
 TYPE_CHECKING = False
 if TYPE_CHECKING:
-    from ._api import *  # noqa: F401, F403
+    from ._api import *
 else:
 
     def __getattr__(name: str) -> object:

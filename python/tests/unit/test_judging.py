@@ -13,12 +13,11 @@ from unittest import mock
 
 import budlarem
 from budlarem import WORDS, Columns, Form, Halt, Judgement, Limits, Said, Word
-from budlarem.claims import said_by
+from budlarem.claims import read_words, said_by
 from budlarem.judging import sources
+from budlarem.normal_forms import form_of
 from budlarem.numbers import number_of, numbers_in
 from budlarem.reading.files import Source
-from budlarem.normal_forms import form_of
-from budlarem.translation import read_words
 
 CHAMPION = "1RB1LB_1LA1RZ"
 CYCLER = "0RB---_0LA---"

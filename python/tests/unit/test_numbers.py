@@ -17,7 +17,7 @@ from budlarem.commands import words
 from budlarem.limits import limits_of
 from budlarem.numbers import whole_number
 from budlarem.reading import files
-from budlarem.reading.encodings import EndlessLineError
+from budlarem.reading.files import EndlessLineError
 
 CHAMPION = "1RB1LB_1LA1RZ"
 MILLION = ("1000000", "1,000,000", "1_000_000", "1e6", "1E+6", "10^6", "+1000000", "1.0e6")

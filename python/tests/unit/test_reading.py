@@ -16,7 +16,7 @@ from typing import Any, Dict, Iterator, List
 import budlarem
 from budlarem import Columns, EncodingError, Form, Passed, Reading, Rewriting
 from budlarem._text import LONGEST_LINE
-from budlarem.reading.encodings import find_encoding
+from budlarem.reading.files import find_encoding
 from budlarem.reading.values import ADVICE
 
 CHAMPION = "1RB1LB_1LA1RZ"

@@ -14,16 +14,13 @@ import os
 import sys
 from typing import List, NoReturn, Optional
 
-from .._version import VERSION
 from .._text import escape_controls
+from .._version import VERSION
 from ..reports import ReportError
-from .checking import add_check
-from .claims import add_claims
-from .judging import add_judge
-from .machines import add_machines
-from .publishing import add_publish
+from .checking import add_check, add_publish
+from .claims import add_claims, add_judge
+from .machines import add_machines, add_runs
 from .run import add_command as add_run
-from .runs import add_runs
 
 __all__ = ["main", "run_and_exit", "words"]
 

@@ -7,19 +7,17 @@ import time
 from typing import Counter, Deque, Dict, Iterator, List, Optional, Tuple, Union
 
 from .._text import shown
-from ..claims import Said, Sayings, WORDS, Word
+from ..checking import answers_of
+from ..claims import Said, Sayings, Translation, WORDS, Word, translation_of
 from ..engine import decide
 from ..limits import GREATEST, Limits, Plan
 from ..lists import Agreement, agreement
 from ..reading import Columns, Form, ListForm, Passed, Readings, read
 from ..reading.files import Source
-from ..translation import Translation, translation_of
 from ..verdicts import Answer, Halt, Refused, Undecided, Verdict
-from .answers import answers_of
-from .lists import Lists, Tell, counted
 from .sources import Twice
 from .undefined import as_steps, counts_undefined_steps, stepped_halt
-from .values import Judged, Judgement
+from .values import Judged, Judgement, Lists, Tell, counted
 
 __all__ = ["Judged", "Judgement", "Judging", "judge"]
 

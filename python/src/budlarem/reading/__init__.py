@@ -9,8 +9,7 @@ from __future__ import annotations
 
 from typing import Optional
 
-from .encodings import EncodingError, EndlessLineError
-from .files import Source
+from .files import EncodingError, EndlessLineError, Source
 from .forms import ListForm, Readings
 from .tables import Columns, Layout
 from .values import Form, Passed, Reading, Reason, Rewriting

@@ -8,10 +8,9 @@ from typing import List, Optional, Sequence, Tuple
 
 from .._text import LONGEST_LINE, is_hidden, name_of, shown
 from ..verdicts import Refused, Verdict, is_machine, parse
-from .passing import is_comment_of_machine, passed_over
 from .texts import Found, Outcome, Word, read_arrays, read_entries, read_words
 from .values import Form, Reading, Reason, Rewriting
-from .words import SPACES, Parts, Text, parts_of, row_beside
+from .words import SPACES, Parts, Text, is_comment_of_machine, parts_of, passed_over, row_beside
 
 _PAIRS = (
     "``", '""', "''", "()", "[]", "{}", "<>", "**", "~~", "\u201c\u201d", "\u2018\u2019", "\u00ab\u00bb"
