@@ -10,32 +10,11 @@ from .lists import Agreement, Carried, Comparison, compare, decide_carried
 from .normal_forms import Normal, distinct, normal
 from .pictures import Picture, PictureError, picture
 from .publishing import PublishError, Published, UnconfirmedError, publish
-from .reading import (
-    Columns,
-    EncodingError,
-    EndlessLineError,
-    Form,
-    Passed,
-    Reading,
-    Readings,
-    Reason,
-    Rewriting,
-    read,
-)
+from .reading import Columns, EncodingError, EndlessLineError, Form, Passed, Reading, Readings, Reason
+from .reading import Rewriting, read
 from .reports import Report, ReportError, report
-from .verdicts import (
-    Answer,
-    Backward,
-    Cycler,
-    Extent,
-    Halt,
-    Refused,
-    Translated,
-    Undecided,
-    Verdict,
-    is_machine,
-    parse,
-)
+from .verdicts import Answer, Backward, Cycler, Extent, Halt, Refused, Translated, Undecided, Verdict
+from .verdicts import is_machine, parse
 
 # fmt: off
 __all__ = [

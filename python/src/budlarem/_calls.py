@@ -9,21 +9,8 @@ import queue
 import threading
 import time
 from concurrent.futures import Future
-from typing import (
-    Any,
-    Callable,
-    Deque,
-    Generic,
-    Iterable,
-    Iterator,
-    List,
-    Optional,
-    Protocol,
-    Tuple,
-    TypeVar,
-    Union,
-    runtime_checkable,
-)
+from typing import Any, Callable, Deque, Generic, Iterable, Iterator, List, Optional, Protocol, Tuple, TypeVar
+from typing import Union, runtime_checkable
 
 from ._fork import forbid_fork
 from ._library import Reply, Room

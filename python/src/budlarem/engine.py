@@ -5,17 +5,8 @@ from __future__ import annotations
 import dataclasses
 from typing import Callable, Iterable, Iterator, List, Optional, Sequence, Tuple, Union
 
-from ._calls import (
-    MOST_BYTES,
-    MOST_LINES,
-    Batch,
-    BatchPace,
-    BinaryReader,
-    Blocks,
-    in_order,
-    of_bytes,
-    of_texts,
-)
+from ._calls import MOST_BYTES, MOST_LINES, Batch, BatchPace, BinaryReader, Blocks, in_order, of_bytes
+from ._calls import of_texts
 from ._fork import forbid_fork
 from ._library import NOT_CLEAN, SHORT, Reply, Room, loaded
 from ._text import LONGEST_GIVEN, LONGEST_SHOWN, LONGEST_VALUE

@@ -12,18 +12,8 @@ from .limits import Limits, Plan
 from .normal_forms import form_of, turned
 from .reading import Columns, Form, Reading, read
 from .reading.files import Source
-from .verdicts import (
-    Backward,
-    Cycler,
-    Halt,
-    OfMachine,
-    Refused,
-    Translated,
-    Undecided,
-    Verdict,
-    is_machine,
-    verdicts_of,
-)
+from .verdicts import Backward, Cycler, Halt, OfMachine, Refused, Translated, Undecided, Verdict, is_machine
+from .verdicts import verdicts_of
 
 __all__ = ["Agreement", "Carried", "Comparison", "Normal", "compare", "decide_carried", "distinct", "normal"]
 

@@ -13,19 +13,8 @@ import time
 from support.clusters import Cluster, changed_package, cluster
 from support.machines import CHAMPION
 from support.program import MAX_CELLS, MAX_STEPS, as_lines
-from support.runs import (
-    LONG_MACHINE,
-    PASSES,
-    Case,
-    Process,
-    decided,
-    expected,
-    is_at_work,
-    kill_often,
-    random_list,
-    require_interrupted,
-    seen,
-)
+from support.runs import LONG_MACHINE, PASSES, Case, Process, decided, expected, is_at_work, kill_often
+from support.runs import random_list, require_interrupted, seen
 from typing import Dict, Iterator, List, Tuple
 
 pytestmark = pytest.mark.needs(modules=("distributed",))

@@ -14,20 +14,9 @@ import signal
 import subprocess
 import time
 from support.program import MAX_CELLS, MAX_STEPS
-from support.runs import (
-    LONG_MACHINE,
-    PASSES,
-    Case,
-    expected,
-    is_at_work,
-    kill_often,
-    killed,
-    most_memory,
-    random_list,
-    require_interrupted,
-    seen,
-)
-from typing import Callable, Dict, List, Tuple
+from support.runs import LONG_MACHINE, PASSES, Case, expected, is_at_work, kill_often, killed, most_memory
+from support.runs import random_list, require_interrupted, seen
+from typing import Callable, List, Tuple
 
 # Limits at which a line costs nothing to speak of.
 QUICK_PASS = (50, 64, 3, 10)
@@ -113,48 +102,30 @@ def test_full_disk(bb: str, tmp_path: pathlib.Path) -> None:
 
 
 @pytest.mark.slow
-def test_growing_list(bb: str, tmp_path: pathlib.Path) -> None:
-    """The list grows while it is read. The process is stopped meanwhile, so that it can't be at the end."""
+@pytest.mark.parametrize("grows", [True, False])
+def test_list_that_changes(bb: str, tmp_path: pathlib.Path, grows: bool) -> None:
+    """The list grows while it is read, or other machines stand in its later half; then it is as it was. The
+    process is stopped meanwhile, so that it can't be at the end."""
     given = random_list(60_000, 6)
     right = expected(bb, given, [QUICK_PASS])
-    case = Case(tmp_path / "growing", given, [QUICK_PASS])
+    case = Case(tmp_path / "changing", given, [QUICK_PASS])
     case.words += SLOWLY
+    half = given.index(b"\n", len(given) // 2) + 1
     with case.start() as process:
         was_seen = seen(process, lambda: case.pieces() > 0)
         process.send_signal(signal.SIGSTOP)
-        is_within = not (case.out / "verdicts.txt").exists() and was_seen
-        with open(case.list, "ab") as file:
-            file.write(b"1RZ---\n")
+        is_within = was_seen and not (case.out / "verdicts.txt").exists()
+        with open(case.list, "r+b") as file:
+            file.seek(0 if grows else half, os.SEEK_END if grows else os.SEEK_SET)
+            file.write(b"1RZ---\n" if grows else (b"1RZ---\n" * len(given))[: len(given) - half - 1] + b"\n")
         process.send_signal(signal.SIGCONT)
         status = process.wait()
-    said = case.said()
-    os.truncate(case.list, len(given))
-    case.errors.write_text(said)
     assert is_within
+    case.list.write_bytes(given)
     require_after_fault(case, status, "changed while it was read", right)
     with open(case.list, "ab") as file:
         file.write(b"1RZ---\n")
-    status = case.run()
-    assert status == 2 and "bytes" in case.said(), case.said()
-
-
-@pytest.mark.slow
-def test_changed_files(bb: str, tmp_path: pathlib.Path, rng: random.Random) -> None:
-    """Files of a begun folder are cut and changed."""
-    chance = rng
-    given = random_list(3_000, rng.randrange(10**9))
-    right = expected(bb, given, PASSES)
-    case = Case(tmp_path / "changed", given)
-    case.words += ["--piece", "100"]
-    killed(case, 12)
-    for _ in range(12):
-        files = sorted(path for path in case.out.rglob("*") if path.is_file() and path.name != "run.json")
-        for path in chance.sample(files, min(5, len(files))):
-            data = path.read_bytes()
-            place = chance.randrange(len(data) + 1)
-            path.write_bytes(data[:place] + (b"" if chance.random() < 0.5 else b"?" + data[place + 1 :]))
-        status = case.run()
-        assert status == 1 and case.verdicts() == right, case.said()
+    assert case.run() == 2 and "bytes" in case.said()
 
 
 @pytest.mark.slow
@@ -205,67 +176,6 @@ def test_signals(tmp_path: pathlib.Path, number: signal.Signals) -> None:
 
 
 @pytest.mark.slow
-def test_changing_list(bb: str, tmp_path: pathlib.Path) -> None:
-    """Other machines stand in the list's later half while it is read; then the old ones again. The process is
-    stopped meanwhile."""
-    given = random_list(60_000, 8)
-    right = expected(bb, given, [QUICK_PASS])
-    case = Case(tmp_path / "changing", given, [QUICK_PASS])
-    case.words += SLOWLY
-    half = given.index(b"\n", len(given) // 2) + 1
-    with case.start() as process:
-        was_seen = seen(process, lambda: case.pieces() > 0)
-        process.send_signal(signal.SIGSTOP)
-        with open(case.list, "r+b") as file:
-            file.seek(half)
-            file.write((b"1RZ---\n" * len(given))[: len(given) - half - 1] + b"\n")
-        process.send_signal(signal.SIGCONT)
-        status = process.wait()
-    assert was_seen
-    said = case.said()
-    case.list.write_bytes(given)
-    case.errors.write_text(said)
-    require_after_fault(case, status, "changed while it was read", right)
-
-
-def require_refused(case: Case, sentence: str, *more: str) -> None:
-    """A run is refused by a sentence, and all files of its folder are as they were."""
-
-    def kept() -> Dict[pathlib.Path, bytes]:
-        return {path: path.read_bytes() for path in case.out.rglob("*") if path.is_file()}
-
-    before = kept()
-    status = case.run(*more)
-    said = case.said()
-    assert status == 2 and sentence in said, said
-    assert kept() == before
-
-
-@pytest.mark.slow
-def test_foreign_files(tmp_path: pathlib.Path) -> None:
-    """The list is one of the files that the run writes; a folder has somebody else's files; what a folder was
-    begun with has one bit changed."""
-    case = Case(tmp_path / "foreign", random_list(300, 9))
-    case.out.mkdir()
-    for name in ("verdicts.txt", "summary.json", "README.txt", "letters"):
-        (case.out / name).write_text("kept\n")
-        require_refused(case, "other files in it, as %s" % name)
-        (case.out / name).unlink()
-    case.run()
-    for path in ("verdicts.txt", "run.json", "pass-1/journal"):
-        listed = str(case.out / path)
-        require_refused(case, "which a run in that folder writes", listed)
-    begun = case.out / "run.json"
-    data = begun.read_bytes()
-    for place in range(0, len(data), 29):
-        begun.write_bytes(data[:place] + bytes([data[place] ^ 1 << place % 8]) + data[place + 1 :])
-        require_refused(case, "run.json: it")
-    begun.write_bytes(data[: len(data) // 2])
-    status = case.run()
-    assert status == 1, case.said()
-
-
-@pytest.mark.slow
 def test_slow_input(bb: str, tmp_path: pathlib.Path) -> None:
     """Standard input that is empty for a while, and says so (O_NONBLOCK); a compressed list by a pipe, whose
     first bytes come one by one."""
@@ -305,7 +215,9 @@ def test_keep(bb: str, tmp_path: pathlib.Path, rng: random.Random) -> None:
     assert size < len(b"".join(right)) // 2
     summary = json.loads((case.out / "summary.json").read_text())
     assert summary["lines"] == len(right) and summary["kept"] == "left", summary
-    require_refused(case, "before they were checked", "--check", str(case.list))
+    before = {path: path.read_bytes() for path in case.out.rglob("*") if path.is_file()}
+    assert case.run("--check", str(case.list)) == 2 and "before they were checked" in case.said()
+    assert {path: path.read_bytes() for path in case.out.rglob("*") if path.is_file()} == before
 
 
 @pytest.mark.slow

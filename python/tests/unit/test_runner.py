@@ -17,20 +17,8 @@ import shutil
 import unittest.mock
 import zlib
 from concurrent.futures import Executor, Future
-from support.runner import (
-    KINDS,
-    LIST,
-    MIDDLE,
-    PASSES,
-    SMALL,
-    Answering,
-    KeptProgress,
-    Late,
-    RunCase,
-    counts_of,
-    expected,
-    resealed,
-)
+from support.runner import KINDS, LIST, MIDDLE, PASSES, SMALL, Answering, KeptProgress, Late, RunCase
+from support.runner import counts_of, expected, resealed
 from typing import Any, Callable, List, Sequence, Tuple
 
 import budlarem

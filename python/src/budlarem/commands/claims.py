@@ -19,16 +19,8 @@ from ..reading import Passed
 from ..reports import report
 from ..runner.progress import TerminalLine, count_of
 from ..verdicts import Verdict
-from .shared import (
-    ListReader,
-    add_claims_form,
-    add_command,
-    add_file,
-    add_limits,
-    columns_of,
-    form_of,
-    limits_of,
-)
+from .shared import ListReader, add_claims_form, add_command, add_file, add_limits, columns_of, form_of
+from .shared import limits_of
 
 _CLAIMS = """A list has one of the forms of `budlarem help read`: verdict lines; a table of which a column
 has verdicts, or words for halting with columns of steps and scores, by a translation that is printed first;

@@ -11,17 +11,8 @@ from ..lists import carried
 from ..normal_forms import distinct
 from ..numbers import option_number
 from ..pictures import picture
-from .shared import (
-    LIST_HELP,
-    ListReader,
-    add_command,
-    add_file,
-    add_form,
-    add_limits,
-    columns_of,
-    form_of,
-    limits_of,
-)
+from .shared import LIST_HELP, ListReader, add_command, add_file, add_form, add_limits, columns_of, form_of
+from .shared import limits_of
 
 _READ = (
     """Writes the machine of each line of a list, as bb reads it.

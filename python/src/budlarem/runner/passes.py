@@ -11,21 +11,8 @@ import dataclasses
 import threading
 import time
 from concurrent.futures import Future
-from typing import (
-    Any,
-    Callable,
-    Counter,
-    Dict,
-    Iterator,
-    List,
-    NamedTuple,
-    Optional,
-    Protocol,
-    Sequence,
-    Set,
-    Tuple,
-    Union,
-)
+from typing import Any, Callable, Counter, Dict, Iterator, List, NamedTuple, Optional, Protocol, Sequence, Set
+from typing import Tuple, Union
 
 from .._files import Checksum
 from ..limits import Limits
