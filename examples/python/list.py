@@ -5,7 +5,7 @@
     python3 examples/python/list.py < machines
 
 Prints each verdict line, and the checker's answer before it. It uses all cores, and holds only some lines at
-a time. Without the wheel, after `scripts/library`, the package is found by `PYTHONPATH=python/src`.
+a time. Without the wheel, after `make library`, the package is found by `PYTHONPATH=python/src`.
 """
 
 import itertools

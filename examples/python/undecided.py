@@ -3,7 +3,7 @@
 
     python3 examples/python/undecided.py
 
-Prints how many verdicts there are of each kind, and each undecided machine with how its cells grow. Of the
+Prints how many verdicts there are of each kind, and each undecided machine with its cells. Of the
 machines that are one another's mirror, or another order of states, only the first is asked for.
 """
 
@@ -28,7 +28,8 @@ def main() -> None:
     for verdict in budlarem.decide(machines(), LIMITS):
         counts[verdict.kind] += 1
         if isinstance(verdict, budlarem.Undecided):
-            print(budlarem.triage(verdict.machine, steps=1_000))
+            (now,) = budlarem.trace(verdict.machine, 1_000, start=1_000)
+            print("%s: %d cells after 1,000 steps" % (verdict.machine, len(now.cells)))
     for kind, count in counts.most_common():
         print(count, kind)
 

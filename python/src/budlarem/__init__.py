@@ -15,7 +15,7 @@ The calls, of which `help(budlarem.decide)` and so on say more:
     parse, is_machine                       a verdict out of its line; whether a text is a machine
     read                                    the machines of a list as people have them
     judge, compare                          what others claim, or two lists, beside each other
-    normal, distinct, triage                the normal form of machines; how their cells grow
+    normal, distinct                        the normal form of machines
     trace, picture, at                      the run of a machine, drawn too, and its later steps
     report                                  a page on a list of verdicts
     publish                                 an archive of a list, which others can check
@@ -25,21 +25,23 @@ from __future__ import annotations
 
 import importlib
 
-from . import _fork  # noqa: F401
-from ._version import COMMIT
-from ._version import VERSION as __version__
+from ._version import COMMIT as COMMIT, VERSION
+
+__version__ = VERSION
 
 # `typing` takes long to import, and the command is to heed signals before.
 TYPE_CHECKING = False
 if TYPE_CHECKING:
-    from ._api import *  # noqa: F401, F403
+    from ._api import *
 else:
 
     def __getattr__(name: str) -> object:
         """A call, a type or a module of the package. All are imported at the first use of any, so that the
         command can heed signals before. Raises AttributeError."""
-        if name in __all__ or not name.startswith("_"):
+        if name == "__all__" or not name.startswith("_"):
             api = importlib.import_module("budlarem._api")
+            if name == "__all__":
+                return sorted([*api.__all__, "COMMIT", "__version__"])
             if name in api.__all__:
                 return getattr(api, name)
             if name in globals():
@@ -48,73 +50,4 @@ else:
 
 
 def __dir__() -> list[str]:
-    return sorted({*globals(), *__all__})
-
-
-__all__ = [
-    "Agreement",
-    "Answer",
-    "Backward",
-    "COMMIT",
-    "Carried",
-    "Columns",
-    "Comparison",
-    "Configuration",
-    "Cycler",
-    "EncodingError",
-    "EndlessLineError",
-    "Extent",
-    "Form",
-    "Growth",
-    "Halt",
-    "Judged",
-    "Judgement",
-    "Judging",
-    "LibraryError",
-    "Limits",
-    "LimitsError",
-    "MachineError",
-    "Passed",
-    "Normal",
-    "Picture",
-    "PictureError",
-    "Place",
-    "Plan",
-    "PublishError",
-    "Published",
-    "Reading",
-    "Readings",
-    "Reason",
-    "Refused",
-    "Report",
-    "ReportError",
-    "Rewriting",
-    "Said",
-    "Trace",
-    "Translated",
-    "Triage",
-    "UnconfirmedError",
-    "Undecided",
-    "Verdict",
-    "WORDS",
-    "Word",
-    "__version__",
-    "at",
-    "check",
-    "check_bytes",
-    "compare",
-    "decide",
-    "decide_bytes",
-    "decide_carried",
-    "distinct",
-    "is_machine",
-    "judge",
-    "normal",
-    "parse",
-    "picture",
-    "publish",
-    "read",
-    "report",
-    "trace",
-    "triage",
-]
+    return sorted({*globals(), *importlib.import_module("budlarem._api").__all__})

@@ -56,11 +56,11 @@ def main() -> NoReturn:
     """The command: ends the process."""
     command = sys.argv[1] if len(sys.argv) > 1 else ""
     _heed_signals(command)
-    from .commands import run
+    from .commands import run_and_exit
 
     if command not in _ENDS and _signal.getsignal(_signal.SIGINT) != _signal.SIG_IGN:
         _signal.signal(_signal.SIGINT, _signal.default_int_handler)
-    run()
+    run_and_exit()
 
 
 if __name__ == "__main__":

@@ -1,124 +1,29 @@
 """The calls and types of the package, which `budlarem` imports at their first use."""
 
 from ._library import LibraryError
-from .engine import (
-    Configuration,
-    MachineError,
-    Trace,
-    check,
-    check_bytes,
-    decide,
-    decide_bytes,
-    trace,
-)
-from .claims import WORDS, Said, Word
+from .claims import Said, WORDS, Word
+from .engine import Configuration, MachineError, Trace, check, check_bytes, decide, decide_bytes, trace
 from .judging import Judged, Judgement, Judging, judge
 from .later import Place, at
 from .limits import Limits, LimitsError, Plan
+from .lists import Agreement, Carried, Comparison, compare, decide_carried
+from .normal_forms import Normal, distinct, normal
 from .pictures import Picture, PictureError, picture
-from .lists import (
-    Agreement,
-    Carried,
-    Comparison,
-    Growth,
-    Normal,
-    Triage,
-    compare,
-    decide_carried,
-    distinct,
-    normal,
-    triage,
-)
-from .publishing import Published, PublishError, UnconfirmedError, publish
-from .reading import (
-    Columns,
-    EncodingError,
-    EndlessLineError,
-    Form,
-    Passed,
-    Reading,
-    Readings,
-    Reason,
-    Rewriting,
-    read,
-)
+from .publishing import PublishError, Published, UnconfirmedError, publish
+from .reading import Columns, EncodingError, EndlessLineError, Form, Passed, Reading, Readings, Reason
+from .reading import Rewriting, read
 from .reports import Report, ReportError, report
-from .verdicts import (
-    Answer,
-    Backward,
-    Cycler,
-    Extent,
-    Halt,
-    Refused,
-    Translated,
-    Undecided,
-    Verdict,
-    is_machine,
-    parse,
-)
+from .verdicts import Answer, Backward, Cycler, Extent, Halt, Refused, Translated, Undecided, Verdict
+from .verdicts import is_machine, parse
 
+# fmt: off
 __all__ = [
-    "Agreement",
-    "Answer",
-    "Backward",
-    "Carried",
-    "Columns",
-    "Comparison",
-    "Configuration",
-    "Cycler",
-    "EncodingError",
-    "EndlessLineError",
-    "Extent",
-    "Form",
-    "Growth",
-    "Halt",
-    "Judged",
-    "Judgement",
-    "Judging",
-    "LibraryError",
-    "Limits",
-    "LimitsError",
-    "MachineError",
-    "Normal",
-    "Passed",
-    "Picture",
-    "PictureError",
-    "Place",
-    "Plan",
-    "PublishError",
-    "Published",
-    "Reading",
-    "Readings",
-    "Reason",
-    "Refused",
-    "Report",
-    "ReportError",
-    "Rewriting",
-    "Said",
-    "Trace",
-    "Translated",
-    "Triage",
-    "UnconfirmedError",
-    "Undecided",
-    "Verdict",
-    "WORDS",
-    "Word",
-    "at",
-    "check",
-    "check_bytes",
-    "compare",
-    "decide",
-    "decide_bytes",
-    "decide_carried",
-    "distinct",
-    "is_machine",
-    "judge",
-    "normal",
-    "parse",
-    "picture",
-    "publish",
-    "read",
-    "report",
-    "trace",
-    "triage",
+    "Agreement", "Answer", "Backward", "Carried", "Columns", "Comparison", "Configuration", "Cycler",
+    "EncodingError", "EndlessLineError", "Extent", "Form", "Halt", "Judged", "Judgement", "Judging",
+    "LibraryError", "Limits", "LimitsError", "MachineError", "Normal", "Passed", "Picture", "PictureError",
+    "Place", "Plan", "PublishError", "Published", "Reading", "Readings", "Reason", "Refused", "Report",
+    "ReportError", "Rewriting", "Said", "Trace", "Translated", "UnconfirmedError", "Undecided", "Verdict",
+    "WORDS", "Word", "at", "check", "check_bytes", "compare", "decide", "decide_bytes", "decide_carried",
+    "distinct", "is_machine", "judge", "normal", "parse", "picture", "publish", "read", "report", "trace",
 ]
+# fmt: on

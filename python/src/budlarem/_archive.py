@@ -3,43 +3,34 @@ bytes."""
 
 from __future__ import annotations
 
-import collections
 import contextlib
 import dataclasses
 import errno
 import hashlib
 import io
 import json
-import os
 import pathlib
 import string
 import tarfile
 import textwrap
-from typing import Any, BinaryIO, Counter, Dict, Iterator, List, Optional, Tuple
+from typing import Any, BinaryIO, Dict, Iterator, List, Optional, Tuple
 
-from .limits import Limits
-from .runner.checksums import Checksum
-from .runner.directory import FileTarget
-from .runner.folder import words_of
-from .runner.source import Lines, ListFile
-from .runner.tasks import Identity, identity
+from ._files import Checksum, FileTarget
+from .counts import VerdictCounts
+from .limits import Limits, words_of
+from .reading.files import Blocks
+from .runner.chunks import Identity, identity
+from .runner.input import Lines, ListFile
 
-README, LIST, VERDICTS, ABOUT, AGAIN, SUMS = (
-    "README.txt",
-    "list.txt",
-    "verdicts.txt",
-    "about.json",
-    "again.py",
-    "SHA256SUMS",
-)
 _FILES = {
-    README: "this page",
-    LIST: "the machines, in the order of the verdicts",
-    VERDICTS: "the verdicts, one a line",
-    ABOUT: "counts, limits, versions and sha256 of what was given",
-    AGAIN: "a checker of verdicts, in 150 lines of Python",
-    SUMS: "the sha256 of each other file",
+    "README.txt": "this page",
+    "list.txt": "the machines, in the order of the verdicts",
+    "verdicts.txt": "the verdicts, one a line",
+    "about.json": "counts, limits, versions and sha256 of what was given",
+    "again.py": "a checker of verdicts, in 150 lines of Python",
+    "SHA256SUMS": "the sha256 of each other file",
 }
+README, LIST, VERDICTS, ABOUT, AGAIN, SUMS = _FILES
 FORMAT = 1
 KINDS = ("halt", "cycler", "translated", "backward", "undecided", "refused")
 # The time of each file in an archive.
@@ -50,6 +41,7 @@ LINES, _BYTES = 100_000, 1 << 22
 _WIDE = 79
 # How many digits of its sha256 name the folder in the archive.
 _DIGITS = 16
+_CHANGED = "%s changed while it was read; publish it when it no longer does"
 _HERE = pathlib.Path(__file__).parent
 
 
@@ -77,7 +69,7 @@ class Input:
                 digest.update(block)
                 yield block
         if self.sha256 not in ("", digest.hexdigest()):
-            raise PublishError("%s changed while it was read; publish it when it no longer does" % self.path)
+            raise PublishError(_CHANGED % self.path)
         self.sha256, self.checksum = digest.hexdigest(), checksum
 
     def batches(self) -> Iterator[bytes]:
@@ -92,46 +84,6 @@ class Input:
         """Its lines, without their newlines."""
         for batch in self.batches():
             yield from batch.split(b"\n")[:-1]
-
-
-class _Reader(io.RawIOBase):
-    """Blocks of bytes, as a file that is read."""
-
-    def __init__(self, blocks: Iterator[bytes]) -> None:
-        self._blocks, self._held = blocks, b""
-
-    def readable(self) -> bool:
-        return True
-
-    def readinto(self, buffer: Any) -> int:
-        if not self._held:
-            self._held = next(self._blocks, b"")
-        count = min(len(buffer), len(self._held))
-        buffer[:count], self._held = self._held[:count], self._held[count:]
-        return count
-
-
-@dataclasses.dataclass
-class Seen:
-    """What verdicts have: how many of each kind, and the greatest numbers that claims name."""
-
-    kinds: Counter[str] = dataclasses.field(default_factory=collections.Counter)
-    steps: int = 0
-    levels: int = 0
-    nodes: int = 0
-
-    def take(self, line: bytes) -> str:
-        """Counts a verdict line; gives its machine, nothing where it is refused."""
-        words = line.decode().split(" ")
-        kind = words[0] if words[0] == "refused" else words[1]
-        self.kinds[kind] += 1
-        if kind == "halt":
-            self.steps = max(self.steps, int(words[2]))
-        elif kind in ("cycler", "translated"):
-            self.steps = max(self.steps, int(words[3 if kind == "cycler" else 4]))
-        elif kind == "backward":
-            self.levels, self.nodes = max(self.levels, int(words[2])), max(self.nodes, int(words[3]))
-        return "" if kind == "refused" else words[0]
 
 
 @dataclasses.dataclass(frozen=True)
@@ -149,12 +101,23 @@ class Contents:
 
     machines: Optional[Input]
     verdicts: Input
-    seen: Seen
+    seen: VerdictCounts
     decided: Decided
     confirmed: int
 
     def _inputs(self) -> List[Input]:
         return [given for given in (self.machines, self.verdicts) if given is not None]
+
+    def _counts(self) -> Dict[str, int]:
+        """How many lines there are of each kind."""
+        kinds = {**self.seen.kinds, "undecided": self.seen.left()}
+        return {kind: kinds.get(kind, 0) for kind in KINDS}
+
+    def _greatest(self) -> Tuple[int, int, int]:
+        """The greatest steps, levels and nodes that claims name."""
+        most = self.seen.most
+        steps = most("halt steps", "cycler second", "translated second")
+        return steps, most("backward levels"), most("backward nodes")
 
     def about(self) -> bytes:
         """The file of counts, limits and versions."""
@@ -162,8 +125,8 @@ class Contents:
         fields: Dict[str, Any] = {
             "format": FORMAT,
             "lines": sum(self.seen.kinds.values()),
-            "counts": {kind: self.seen.kinds[kind] for kind in KINDS},
-            "greatest": {"steps": self.seen.steps, "levels": self.seen.levels, "nodes": self.seen.nodes},
+            "counts": self._counts(),
+            "greatest": dict(zip(("steps", "levels", "nodes"), self._greatest())),
             "passes": [words_of(limits) for limits in self.decided.passes],
             "decided_by": None if decided is None else dataclasses.asdict(decided),
             "checked_by": dataclasses.asdict(identity()),
@@ -183,7 +146,7 @@ class Contents:
             sentences.append("Each line of list.txt has its verdict on the same line of verdicts.txt.")
         if self.decided.passes:
             sentences.append("What is undecided was tried with these limits, one pass after another:")
-        elif self.seen.kinds["undecided"]:
+        elif self.seen.left():
             sentences.append("With which limits what is undecided was tried isn't known.")
         lines = [line for text in sentences for line in textwrap.wrap(text, _WIDE - 2)]
         lines += ["    " + words_of(limits) for limits in self.decided.passes]
@@ -194,9 +157,8 @@ class Contents:
         seen, own = self.seen, identity()
         title = "Verdicts on {:,} machines".format(sum(seen.kinds.values()) - seen.kinds["refused"])
         names = [name for name in _FILES if name != LIST or self.machines is not None]
-        cells = Limits.RANGES["cells"][1]
-        bounds = (seen.steps, cells, seen.levels, seen.nodes)
-        counts = ["{:,} {}".format(seen.kinds[kind], kind) for kind in KINDS if seen.kinds[kind]]
+        steps, levels, nodes = self._greatest()
+        counts = ["{:,} {}".format(count, kind) for kind, count in self._counts().items() if count]
         fields = {
             "title": title,
             "underline": "=" * len(title),
@@ -205,20 +167,17 @@ class Contents:
             "commit": own.commit,
             "files": "\n".join("  %-13s %s" % (name, _FILES[name]) for name in names),
             "checked": self._checked(),
-            "bb_limits": "--steps %d --cells %d --depth %d --nodes %d" % bounds,
-            "again_limits": "--steps %d --nodes %d" % (seen.steps, seen.nodes),
+            "bb_limits": "--steps %d --cells %d --depth %d --nodes %d"
+            % (steps, Limits.RANGES["cells"][1], levels, nodes),
+            "again_limits": "--steps %d --nodes %d" % (steps, nodes),
         }
         page = (_HERE / "archive.txt").read_text(encoding="utf-8")
         return string.Template(page).substitute(fields).encode()
 
-    def small_files(self) -> Dict[str, bytes]:
-        """What is made here and held whole, by name: each file but the list, the verdicts and the sums."""
-        again = (_HERE / AGAIN).read_bytes()
-        return {README: self.readme(), ABOUT: self.about(), AGAIN: again}
-
     def write(self, file: BinaryIO) -> None:
         """Writes the archive. Raises PublishError where a file isn't as it was seen, RunError, OSError."""
-        small, inputs = self.small_files(), {given.name: given for given in self._inputs()}
+        small = {README: self.readme(), ABOUT: self.about(), AGAIN: (_HERE / AGAIN).read_bytes()}
+        inputs = {given.name: given for given in self._inputs()}
         sums = {name: hashlib.sha256(data).hexdigest() for name, data in small.items()}
         sums.update({name: given.sha256 for name, given in inputs.items()})
         names = [name for name in _FILES if name in sums]
@@ -226,18 +185,19 @@ class Contents:
         folder = "verdicts-" + hashlib.sha256(small[SUMS]).hexdigest()[:_DIGITS]
         with tarfile.open(fileobj=file, mode="w", format=tarfile.PAX_FORMAT) as archive:
             for name in [*names, SUMS]:
-                member = _member(
-                    "%s/%s" % (folder, name),
-                    inputs[name].checksum.size if name in inputs else len(small[name]),
-                )
+                size = inputs[name].checksum.size if name in inputs else len(small[name])
+                member = _member("%s/%s" % (folder, name), size)
                 blocks = inputs[name].blocks() if name in inputs else iter([small[name]])
-                reader = io.BufferedReader(_Reader(blocks), _BYTES)
+                reader = io.BufferedReader(_file_of(blocks), _BYTES)
                 archive.addfile(member, reader)
                 # It goes to the end, where what was read is held against what was seen.
                 if reader.read(1):
-                    raise PublishError(
-                        "%s changed while it was read; publish it when it no longer does" % name
-                    )
+                    raise PublishError(_CHANGED % name)
+
+
+def _file_of(blocks: Iterator[bytes]) -> Blocks:
+    """Blocks of bytes, as a file that is read."""
+    return Blocks(lambda size: next(blocks, b""))
 
 
 def _member(name: str, size: int) -> tarfile.TarInfo:

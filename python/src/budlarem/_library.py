@@ -30,11 +30,7 @@ _CALLS = {
     "bb_decide": (_NUMBER,) * 4 + (_SWITCH,) * 3 + _BUFFERS,
     "bb_check": (_NUMBER,) * 4 + _BUFFERS,
     "bb_trace": (_NUMBER,) * 4 + _BUFFERS,
-    "bb_look": (
-        *(ctypes.c_char_p, _SIZE) * 2,
-        ctypes.POINTER(_NUMBER * _KINDS),
-        ctypes.POINTER(_NUMBER),
-    ),
+    "bb_look": (*(ctypes.c_char_p, _SIZE) * 2, ctypes.POINTER(_NUMBER * _KINDS), ctypes.POINTER(_NUMBER)),
 }
 
 
@@ -45,7 +41,7 @@ class LibraryError(OSError):
 
 def places() -> List[pathlib.Path]:
     """Where the library is looked for: where the variable BB_LIBRARY says, and nowhere else; if it isn't
-    set, beside this package, then where `scripts/library` of the repository puts it."""
+    set, beside this package, then where `make library` of the repository puts it."""
     named = os.environ.get(VARIABLE)
     if named:
         return [pathlib.Path(named)]
@@ -62,7 +58,7 @@ def loaded() -> ctypes.CDLL:
     path = next((place for place in looked if place.is_file()), None)
     if path is None:
         raise LibraryError(
-            "libbb.so isn't at %s; a wheel of scripts/wheel has it, scripts/library builds it, and the "
+            "libbb.so isn't at %s; a wheel has it, `make library` builds it, and the "
             "variable %s says where it is" % (" nor at ".join(map(str, looked)), VARIABLE)
         )
     require_whole(path)

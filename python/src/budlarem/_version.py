@@ -1,4 +1,4 @@
-"""The version. `scripts/wheel` writes the commit into it, in a copy, and how many bytes its library has."""
+"""The version. `build_wheel.py` writes the commit into it, in a copy, and how many bytes its library has."""
 
 from __future__ import annotations
 

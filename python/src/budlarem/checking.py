@@ -4,9 +4,10 @@ from __future__ import annotations
 
 import collections
 import dataclasses
-from typing import Callable, Counter, Iterator, List, Optional, Tuple
+import io
+from typing import Callable, Counter, Iterator, List, Optional, Sequence, Tuple
 
-from ._batches import BinaryReader
+from ._calls import BinaryReader
 from .engine import checked, decide
 from .limits import Limits, Plan
 from .verdicts import Answer, Backward, Cycler, Halt, Refused, Translated, Undecided, Verdict, parse
@@ -116,3 +117,29 @@ def _bad_halt(verdict: Halt, limits: Limits) -> str:
 def _bad_records(verdict: Translated) -> str:
     extent = "" if verdict.extent is None else ", or shift and length are others"
     return "its two steps make no records of its side that agree" + extent
+
+
+# With so many cells a call costs little.
+_FEW_CELLS = 65_536
+
+
+def answers_of(claims: Sequence[Verdict], limits: Limits, threads: int) -> List[Answer]:
+    """The checker's answer to each claim. What needs more cells than a few is checked again."""
+    few = Limits(
+        limits.steps, min(limits.cells, _FEW_CELLS), min(limits.depth, _FEW_CELLS // 2), limits.nodes
+    )
+    answers = list(_answers(claims, few, threads))
+    if few == limits:
+        return answers
+    over = [place for place, answer in enumerate(answers) if answer is Answer.OVER]
+    again = _answers([claims[place] for place in over], limits, threads)
+    for place, answer in zip(over, again):
+        answers[place] = answer
+    return answers
+
+
+def _answers(claims: Sequence[Verdict], limits: Limits, threads: int) -> Iterator[Answer]:
+    lines = "".join("%s\n" % claim for claim in claims).encode()
+    for _, answers in checked(io.BytesIO(lines), limits, threads=threads):
+        for word in answers.decode().split():
+            yield Answer(word)

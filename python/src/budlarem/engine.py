@@ -5,12 +5,11 @@ from __future__ import annotations
 import dataclasses
 from typing import Callable, Iterable, Iterator, List, Optional, Sequence, Tuple, Union
 
-from . import _batches
-from ._batches import MOST_BYTES, MOST_LINES, Batch, BinaryReader, Blocks
-from ._crew import BatchPace, in_order
-from ._lengths import LONGEST_GIVEN, LONGEST_SHOWN, LONGEST_VALUE
+from ._calls import MOST_BYTES, MOST_LINES, Batch, BatchPace, BinaryReader, Blocks, in_order, of_bytes
+from ._calls import of_texts
 from ._fork import forbid_fork
 from ._library import NOT_CLEAN, SHORT, Reply, Room, loaded
+from ._text import LONGEST_GIVEN, LONGEST_SHOWN, LONGEST_VALUE
 from .limits import Limits, Plan, in_range, whole
 from .verdicts import VERDICTS, Answer, Refused, Verdict, hold_fields, verdict_of
 
@@ -141,7 +140,7 @@ def decide(
     threads = _made_ready(limits, plan, threads)
     _listed("machines", machines)
     pace = BatchPace(MOST_LINES)
-    answered = _answered(_batches.of_texts(machines, "machines", pace), deciding(limits, plan), threads, pace)
+    answered = _answered(of_texts(machines, "machines", pace), deciding(limits, plan), threads, pace)
     return (_verdict(machine, line) for machine, line in answered)
 
 
@@ -180,7 +179,7 @@ def check(
     threads = _made_ready(limits, Plan(), threads)
     _listed("lines", lines)
     pace = _checking_pace(MOST_LINES, limits)
-    answered = _answered(_batches.of_texts(_lines_of(lines), "lines", pace), checking(limits), threads, pace)
+    answered = _answered(of_texts(_lines_of(lines), "lines", pace), checking(limits), threads, pace)
     return (_ANSWERS[answer] for _, answer in answered)
 
 
@@ -190,7 +189,7 @@ def _checking_pace(most: int, limits: Limits) -> BatchPace:
 
 
 def _replies(blocks: Blocks, call: Call, threads: int, pace: BatchPace) -> Iterator[bytes]:
-    return (reply.text for _, reply in in_order(call, _batches.of_bytes(blocks, pace), threads, pace))
+    return (reply.text for _, reply in in_order(call, of_bytes(blocks, pace), threads, pace))
 
 
 def decide_bytes(
@@ -226,19 +225,21 @@ def checked(file: BinaryReader, limits: Limits, *, threads: int = 1) -> Iterator
     most = _LARGE if threads == 1 else _LARGE // 4
     pace = BatchPace(most, is_steady=True)
     blocks = iter(lambda: file.read(most), b"")
-    replies = in_order(checking(limits), _batches.of_bytes(blocks, pace), threads, pace)
+    replies = in_order(checking(limits), of_bytes(blocks, pace), threads, pace)
     return ((lines, reply.text) for lines, reply in replies)
 
 
 @dataclasses.dataclass(frozen=True)
 class Configuration:
     """A machine after `step` steps: its state (`Z` once it halted there), the head's position, and the
-    symbols of the cells visited so far, one digit each, from the lowest position on."""
+    symbols of the cells visited so far, one digit each, from the position `low` on, the lowest of them. As a
+    text: the line of `bb trace`, which hasn't that."""
 
     step: int
     state: str
     position: int
     cells: str
+    low: int
 
     def __str__(self) -> str:
         return "%d %s %d %s" % (self.step, self.state, self.position, self.cells)
@@ -266,13 +267,13 @@ class Trace(Iterator[Configuration]):
                 raise StopIteration
             self._held = iter(self._lines())
             line = next(self._held, None)
-        step, state, position, cells = line.decode().split(" ")
-        return Configuration(int(step), state, int(position), cells)
+        step, state, position, low, cells = line.decode().split(" ")
+        return Configuration(int(step), state, int(position), cells, int(low))
 
     def _longest(self, count: int) -> int:
         """How many bytes each of the next `count` lines has at most."""
         visited = min(self._cells, self._visited + self._every * count, self._upto + 1)
-        return len("%d Z -%d \n" % (self._upto, self._cells)) + visited
+        return len("%d Z -%d -%d \n" % (self._upto, self._cells, self._cells)) + visited
 
     def _lines(self) -> List[bytes]:
         """The next lines, as many as fit into the bytes that are asked for at once. Each call runs the

@@ -4,9 +4,11 @@ from __future__ import annotations
 
 import dataclasses
 import operator
+import re
 from typing import Any, ClassVar, Dict, Tuple
 
-from ._lengths import LONGEST_VALUE
+from ._text import LONGEST_VALUE
+from .numbers import whole_number
 
 __all__ = ["Limits", "LimitsError", "Plan"]
 
@@ -92,6 +94,34 @@ class Limits:
     def numbers(self) -> Tuple[int, int, int, int]:
         """The four limits, in their order."""
         return self.steps, self.cells, self.depth, self.nodes
+
+
+# With these no claim is refused for a limit; each costs what it names.
+GREATEST = Limits(**{name: highest for name, (_, highest) in Limits.RANGES.items()})
+
+
+def words_of(limits: Limits) -> str:
+    """Limits as `--pass` takes them."""
+    return "steps=%d,cells=%d,depth=%d,nodes=%d" % limits.numbers()
+
+
+def limits_of(words: str) -> Limits:
+    """The limits that words as `steps=1000,cells=1024` name; the others are the program's. Raises ValueError,
+    LimitsError."""
+    found: Dict[str, int] = {}
+    # A comma also stands between the digits of a number.
+    for word in re.split(",(?![0-9]{3}(?:,|$))", words):
+        name, _, number = word.partition("=")
+        try:
+            if name not in Limits.RANGES or name in found or number.startswith("-"):
+                raise ValueError
+            found[name] = whole_number(number)
+        except ValueError:
+            raise ValueError(
+                "--pass %s: %r is no limit; a pass is as steps=1000,cells=1024,depth=40,nodes=10000,"
+                " each at most once" % (words, word)
+            ) from None
+    return Limits(**found)
 
 
 @dataclasses.dataclass(frozen=True)

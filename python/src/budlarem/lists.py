@@ -4,44 +4,18 @@ from __future__ import annotations
 
 import collections
 import dataclasses
-import math
 from typing import Deque, Dict, Iterable, Iterator, List, Optional, Tuple, Union
 
-from ._words import Words
-from .engine import MachineError, decide, trace
-from .escaping import escape_controls
-from .limits import Limits, Plan, in_range
+from ._text import Words, escape_controls
+from .engine import decide
+from .limits import Limits, Plan
+from .normal_forms import form_of, turned
 from .reading import Columns, Form, Reading, read
 from .reading.files import Source
-from .same import form_of, turned
-from .verdicts import (
-    STATES,
-    VERDICTS,
-    Backward,
-    Cycler,
-    Halt,
-    OfMachine,
-    Refused,
-    Translated,
-    Undecided,
-    Verdict,
-    is_machine,
-    parse,
-)
+from .verdicts import Backward, Cycler, Halt, OfMachine, Refused, Translated, Undecided, Verdict, is_machine
+from .verdicts import verdicts_of
 
-__all__ = [
-    "Agreement",
-    "Carried",
-    "Comparison",
-    "Growth",
-    "Normal",
-    "Triage",
-    "compare",
-    "decide_carried",
-    "distinct",
-    "normal",
-    "triage",
-]
+__all__ = ["Agreement", "Carried", "Comparison", "Normal", "compare", "decide_carried", "distinct", "normal"]
 
 
 @dataclasses.dataclass(frozen=True)
@@ -158,14 +132,7 @@ def agreement(first: Verdict, second: Verdict, undefined_steps: bool = False) ->
 
 def _parsed(items: Iterable[Union[str, Verdict]], name: str) -> Iterator[OfMachine]:
     """The verdicts of verdicts and lines, but for refusals, which have no machine."""
-    for place, item in enumerate(items):
-        if not isinstance(item, VERDICTS):
-            try:
-                item = parse(item.rstrip("\r\n").partition("\t")[0] if isinstance(item, str) else item)
-            except (TypeError, ValueError) as error:
-                raise type(error)("%s[%d]: %s" % (name, place, error)) from None
-        if not isinstance(item, Refused):
-            yield item
+    return (one for one in verdicts_of(items, name) if not isinstance(one, Refused))
 
 
 class _Side:
@@ -249,181 +216,3 @@ def _compared_by_form(
         yield Comparison(kind, machine, verdict, other)
     left = (other for pairs in waiting.values() for other, _ in pairs) if first else iter(second)
     yield from (Comparison(Agreement.ONLY_SECOND, other.machine, None, other) for other in left)
-
-
-@dataclasses.dataclass(frozen=True)
-class Normal:
-    """A machine in normal form. `states` has, for each of its states in order, which state of the machine it
-    is; `mirrored` says that left and right were exchanged."""
-
-    machine: str
-    normal: str
-    states: str
-    mirrored: bool
-
-    def __str__(self) -> str:
-        return "%s\t%s\t%s\t%s" % (self.normal, self.machine, self.states, "L" if self.mirrored else "R")
-
-
-def _first_uses(machine: str, count: int, steps: int, cells: int) -> str:
-    """The states in the order in which a run of so many steps comes to them."""
-    found, upto = "A", 64
-    while True:
-        upto = min(upto, steps)
-        rows = trace(machine, upto, cells)
-        states = [now.state for now in rows]
-        found = "".join(dict.fromkeys(state for state in states if state != "Z"))
-        if len(found) == count or upto == steps or len(states) <= upto:
-            return found
-        upto *= 8
-
-
-def normal(machine: str, *, steps: int = 10_000, cells: int = 65_536) -> Normal:
-    """The normal form of a machine: its states in the order of their first use in its run of so many steps,
-    those that aren't reached after them as they stand; mirrored where its first move is to the left.
-
-    Raises what `trace` does.
-
-    >>> print(normal("1LC1RZ_1RB---_1RA1LA").normal)
-    1RB1LZ_1LA1RA_1LC---
-    """
-    if not is_machine(machine):
-        next(trace(machine, 0, cells))
-    groups = machine.split("_")
-    used = _first_uses(machine, len(groups), steps, cells)
-    order = used + "".join(state for state in STATES[: len(groups)] if state not in used)
-    mirrored = machine[1] == "L"
-    names = {old: new for new, old in zip(STATES, order)}
-    names["Z"] = "Z"
-    moves = {"L": "R", "R": "L"} if mirrored else {"L": "L", "R": "R"}
-
-    def entry(text: str) -> str:
-        return text if text == "---" else text[0] + moves[text[1]] + names[text[2]]
-
-    ordered = (groups[STATES.index(old)] for old in order)
-    written = ("".join(entry(group[k : k + 3]) for k in range(0, len(group), 3)) for group in ordered)
-    return Normal(machine, "_".join(written), order, mirrored)
-
-
-def distinct(
-    machines: Iterable[str], *, steps: int = 10_000, cells: int = 65_536
-) -> Iterator[Tuple[Normal, Optional[str]]]:
-    """The normal form of each machine, and the first machine before it that has the same one, or None.
-
-    What is held are the normal forms that were met. Raises what `trace` does, with the place of the item.
-
-    >>> [(form.machine, before) for form, before in distinct(["1RA---", "1LA---"])]
-    [('1RA---', None), ('1LA---', '1RA---')]
-    """
-    met: Dict[str, str] = {}
-    for place, machine in enumerate(machines):
-        if not isinstance(machine, str):
-            raise TypeError("machines[%d] is of type %s, not str" % (place, type(machine).__name__))
-        try:
-            form = normal(machine, steps=steps, cells=cells)
-        except MachineError as error:
-            raise MachineError(machine, error.column, "machines[%d]" % place) from None
-        before = met.get(form.normal)
-        met.setdefault(form.normal, machine)
-        yield form, before
-
-
-class Growth(Words):
-    """How the cells that a run visits grow with its steps; `HALTS` where it ended before."""
-
-    STAYS = "stays"
-    LOGARITHM = "logarithm"
-    ROOT = "root"
-    LINE = "line"
-    HALTS = "halts"
-
-
-@dataclasses.dataclass(frozen=True)
-class Triage:
-    """How many cells a run has visited after a hundredth of `steps`, a tenth, and all, and how that grows.
-    `steps` are fewer than asked for where the cells ended the run, or the machine halted."""
-
-    machine: str
-    steps: int
-    visited: Tuple[int, int, int]
-    growth: Growth
-
-    def __str__(self) -> str:
-        return "%s\t%s\t%d\t%d %d %d" % (self.machine, self.growth, self.steps, *self.visited)
-
-
-# The powers of the steps between which a growth is called a root.
-_ROOT = (0.2, 0.8)
-
-
-def growth(visited: Tuple[int, int, int]) -> Growth:
-    """How these counts grow, each at ten times the steps of the one before."""
-    first, second, third = visited
-    if second == third:
-        return Growth.STAYS
-    power = math.log10(third / first) / 2
-    if power < _ROOT[0]:
-        return Growth.LOGARITHM
-    return Growth.ROOT if power < _ROOT[1] else Growth.LINE
-
-
-def _hundredths(machine: str, steps: int, cells: int) -> Tuple[Optional[bool], List[int]]:
-    """The cells visited after each hundredth of the steps, up to all of them; and whether the cells ended the
-    run before, None where it made all steps and went on."""
-    apart = max(steps // 100, 1)
-    rows = trace(machine, steps, cells, apart + steps % apart, apart)
-    counts, is_at_end = [], False
-    for now in rows:
-        counts.append(len(now.cells))
-        is_at_end = now.state == "Z"
-    went_on = len(counts) == steps // apart and not is_at_end
-    return (None if went_on else rows.cut), counts
-
-
-def last_step(machine: str, steps: int, cells: int = 65_536) -> int:
-    """The last step that a run makes within these limits. Raises what `trace` does."""
-    last, apart = 0, max(steps // 100, 1)
-    while True:
-        rows = trace(machine, steps, cells, last, apart)
-        last = max((now.step for now in rows), default=last)
-        if apart == 1:
-            return last
-        apart = max(apart // 100, 1)
-
-
-def _triage_of_halting(machine: str, steps: int, cells: int) -> Triage:
-    """The triage of a machine that halts after so many steps."""
-    first, second, last = (
-        len(now.cells)
-        for step in (steps // 100, steps // 10, steps)
-        for now in trace(machine, step, cells, start=step)
-    )
-    return Triage(machine, steps, (first, second, last), Growth.HALTS)
-
-
-def triage(machine: str, *, steps: int = 1_000_000, cells: int = 65_536) -> Triage:
-    """How the cells that a machine visits grow, looked at after `steps` / 100, / 10, and all of them.
-
-    Staying: a tenth of the steps and all have the same cells. Else by the power of the steps with which they
-    grow from the first look to the last: below 0.2 it is called a logarithm, below 0.8 a root, else a line.
-    Where the cells end the run, or the machine halts, the steps are those that were made. It is a guess from
-    three numbers, and claims nothing.
-
-    Raises what `trace` does; LimitsError where the steps are fewer than 100.
-
-    >>> triage("1RA1RA", steps=10_000).growth
-    <Growth.LINE: 'line'>
-    """
-    in_range("steps", steps, 100, Limits.RANGES["steps"][1])
-    is_cut, counts = _hundredths(machine, steps, cells)
-    if is_cut is not None:
-        steps = last_step(machine, steps, cells)
-    if is_cut is False:
-        return _triage_of_halting(machine, steps, cells)
-    if is_cut:
-        counts = _hundredths(machine, steps, cells)[1]
-    if len(counts) < 100:
-        last = counts[-1] if counts else 0
-        return Triage(machine, steps, (last, last, last), Growth.LINE)
-    visited = (counts[len(counts) // 100 - 1], counts[len(counts) // 10 - 1], counts[-1])
-    return Triage(machine, steps, visited, growth(visited))

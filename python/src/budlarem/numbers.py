@@ -5,7 +5,7 @@ from __future__ import annotations
 import re
 from typing import Iterator, List, Sequence
 
-from .reading.texts import shown
+from ._text import shown
 
 # One separator between all groups of a number: a comma, an apostrophe, a low line or a space of any width.
 _NUMBER = re.compile(

@@ -3,29 +3,18 @@
 from __future__ import annotations
 
 import dataclasses
+import itertools
 import math
 import os
 import struct
 import zlib
-from typing import Dict, Iterable, Iterator, List, Optional, Sequence, Tuple, Union
+from typing import Dict, Iterable, List, Optional, Sequence, Tuple, Union
 
-from ._errors import naming
-from ._lengths import LONGEST_SHOWN
+from ._files import naming
 from .engine import Configuration, trace
 from .limits import in_range, whole
-from .verdicts import MOST_SYMBOLS, STATES, is_machine, size_of
 
-__all__ = [
-    "Picture",
-    "PictureError",
-    "Row",
-    "drawn",
-    "picture",
-    "rows_of_lines",
-    "sampled",
-    "taken",
-    "traced",
-]
+__all__ = ["Picture", "PictureError", "picture"]
 
 # The colours of the symbols 0 to 9, then of a position not visited yet, then of the head.
 COLOURS = [
@@ -42,16 +31,6 @@ _DIGITS = bytes(max(code - ord("0"), 0) if code < 58 else 0 for code in range(25
 
 class PictureError(ValueError):
     """There is nothing to draw, or the picture would be too large. The text says what would do."""
-
-
-@dataclasses.dataclass(frozen=True)
-class Row:
-    """A step of a run: the head's position, the lowest position visited, and the symbols from there on."""
-
-    step: int
-    position: int
-    low: int
-    cells: str
 
 
 @dataclasses.dataclass(frozen=True)
@@ -86,88 +65,6 @@ class Picture:
         return self.png
 
 
-def rows_of_lines(lines: Iterable[str]) -> Iterator[Row]:
-    """The rows of a whole trace, as `bb trace` prints it. Raises PictureError."""
-    low = 0
-    for line in lines:
-        fields = line.split()
-        if len(fields) != 4:
-            raise PictureError("not a line of a trace: %.*r" % (LONGEST_SHOWN, line))
-        step, state, position, cells = fields
-        if state != "Z":
-            low = min(low, int(position))
-        yield Row(int(step), int(position), low, cells)
-
-
-def _with_origin(machine: str) -> Optional[str]:
-    """A machine that runs as this one does, with its symbols doubled: the position where it begins has the
-    second ones. None where that are more states or symbols than a machine may have."""
-    states, symbols = size_of(machine)
-    if states == len(STATES) or 2 * symbols > MOST_SYMBOLS:
-        return None
-
-    def entry(text: str, more: int) -> str:
-        if text == "---":
-            return text
-        led = "Z" if text[2] == "Z" else STATES[STATES.index(text[2]) + 1]
-        return "%d%s%s" % (int(text[0]) + more, text[1], led)
-
-    groups = [[group[k : k + 3] for k in range(0, len(group), 3)] for group in machine.split("_")]
-    doubled = [[entry(text, more) for more in (0, symbols) for text in group] for group in groups]
-    begin = [entry(groups[0][0], symbols)] + ["---"] * (2 * symbols - 1)
-    return "_".join("".join(group) for group in [begin, *doubled])
-
-
-def _row_with_origin(now: Configuration, symbols: int) -> Row:
-    """A row of the run of such a machine."""
-    plain = str.maketrans({str(symbol + symbols): str(symbol) for symbol in range(symbols)})
-    cells = now.cells.translate(plain)
-    marked = (now.cells.find(str(symbol + symbols)) for symbol in range(symbols))
-    return Row(now.step, now.position, -max(max(marked), 0), cells)
-
-
-def traced(machine: str, upto: int, cells: int = 65_536, every: int = 1) -> Iterator[Row]:
-    """Each step of a run that `every` divides, up to `upto`, or to the last one that the cells allow.
-
-    Raises what `trace` does. A trace of some steps doesn't say where its lowest position is: so the run of a
-    machine that marks where it began is traced, and where there is none, because of its many states or
-    symbols, each step.
-    """
-    with_origin = _with_origin(machine) if is_machine(machine) else None
-    if with_origin is None:
-        lines = (str(now) for now in trace(machine, upto, cells))
-        return (row for row in rows_of_lines(lines) if row.step % every == 0)
-    symbols = size_of(machine)[1]
-    return (_row_with_origin(now, symbols) for now in trace(with_origin, upto, cells, every=every))
-
-
-def sampled(rows: Iterable[Row], most: int) -> Tuple[List[Row], int]:
-    """At most so many of all rows, evenly spaced, and how far apart they are: a power of two."""
-    chosen: List[Row] = []
-    every = 1
-    for row in rows:
-        if row.step % every:
-            continue
-        if len(chosen) == most:
-            every *= 2
-            chosen = [kept for kept in chosen if kept.step % every == 0]
-            if row.step % every:
-                continue
-        chosen.append(row)
-    return chosen, every
-
-
-def taken(rows: Iterable[Row], every: int, most: int) -> Tuple[List[Row], bool]:
-    """Each row that `every` divides, but at most so many, and whether more would have followed."""
-    chosen: List[Row] = []
-    for row in rows:
-        if row.step % every == 0:
-            if len(chosen) == most:
-                return chosen, True
-            chosen.append(row)
-    return chosen, False
-
-
 def _spaced(last: int, most: int) -> int:
     """The least power of two of which at most so many multiples are up to `last`."""
     every = 1
@@ -176,15 +73,16 @@ def _spaced(last: int, most: int) -> int:
     return every
 
 
-def spread(machine: str, upto: int, cells: int, most: int) -> Tuple[List[Row], int]:
-    """What `sampled` gives of all rows of a run, found by tracing only some of them."""
+def spread(machine: str, upto: int, cells: int, most: int) -> Tuple[List[Configuration], int]:
+    """At most so many of all steps of a run, evenly spaced, and how far apart they are: a power of two. Only
+    some are traced for it."""
     every = _spaced(upto, most)
-    chosen = list(traced(machine, upto, cells, every))
+    chosen = list(trace(machine, upto, cells, every=every))
     closer = _spaced(min(upto, chosen[-1].step + every - 1), most)
     if closer < every:
-        chosen, every = list(traced(machine, upto, cells, closer)), closer
+        chosen, every = list(trace(machine, upto, cells, every=closer)), closer
     while every > 1 and 2 * len(chosen) - 1 <= most:
-        closer_rows = list(traced(machine, upto, cells, every // 2))
+        closer_rows = list(trace(machine, upto, cells, every=every // 2))
         if len(closer_rows) > most:
             break
         chosen, every = closer_rows, every // 2
@@ -192,7 +90,7 @@ def spread(machine: str, upto: int, cells: int, most: int) -> Tuple[List[Row], i
 
 
 def stretch(
-    chosen: Sequence[Row], columns: Optional[int], first: Optional[int], last: Optional[int]
+    chosen: Sequence[Configuration], columns: Optional[int], first: Optional[int], last: Optional[int]
 ) -> Tuple[int, int, bool]:
     """The first and the last position shown, and whether those aren't just the ones visited: those that were
     asked for, else all, or so many `columns` of them about the middle where so many are asked for."""
@@ -209,7 +107,7 @@ def stretch(
     return left, right, (left, right) != (low, high)
 
 
-def places(row: Row, left: int, right: int, has_head: bool = True) -> bytes:
+def places(row: Configuration, left: int, right: int, has_head: bool = True) -> bytes:
     """The places of a row, each as the number of its colour; the head's as that of its symbol, where it isn't
     to be seen."""
     shown = bytearray([UNVISITED]) * (right - left + 1)
@@ -285,7 +183,7 @@ def _refuse_large(rows: int, columns: int, scale: int) -> None:
 
 
 def drawn(
-    chosen: Sequence[Row],
+    chosen: Sequence[Configuration],
     every: int,
     is_cut: bool = False,
     *,
@@ -353,13 +251,9 @@ def picture(
         is_cut = False
     else:
         apart = in_range("every", every, 1, 2**64 - 1)
-        chosen, is_cut = taken(traced(machine, upto, cells, apart), apart, rows)
+        chosen = list(itertools.islice(trace(machine, upto, cells, every=apart), rows + 1))
+        is_cut = len(chosen) > rows
+        del chosen[rows:]
     return drawn(
-        chosen,
-        apart,
-        is_cut,
-        columns=columns,
-        left=positions["left"],
-        right=positions["right"],
-        scale=scale,
+        chosen, apart, is_cut, columns=columns, left=positions["left"], right=positions["right"], scale=scale
     )

@@ -8,21 +8,20 @@ import itertools
 import os
 from typing import Callable, List, NoReturn, Optional, Sequence, Tuple, Union
 
-from ._archive import LINES, LIST, VERDICTS, Contents, Decided, Input, PublishError, Seen, write_new
-from ._crew import BatchPace, in_order
-from ._lengths import LONGEST_SHOWN
+from ._archive import LINES, LIST, VERDICTS, Contents, Decided, Input, PublishError, write_new
+from ._calls import BatchPace, in_order
+from ._text import LONGEST_SHOWN
 from .checking import why
+from .counts import VerdictCounts
 from .engine import checking, decide_bytes
-from .limits import Limits, in_range
+from .limits import GREATEST, Limits, in_range
+from .runner.chunks import Keep
 from .runner.errors import FolderError
-from .runner.keeping import Keep
-from .runner.results import FinishedRun
+from .runner.list_run import FinishedRun
 from .verdicts import Answer
 
 __all__ = ["PublishError", "Published", "UnconfirmedError", "publish"]
 
-# With these no claim is refused for a limit; each costs what it names.
-GREATEST = Limits(**{name: highest for name, (_, highest) in Limits.RANGES.items()})
 Path = Union[str, "os.PathLike[str]"]
 
 
@@ -79,25 +78,25 @@ def _shown(line: bytes) -> str:
     return repr(line[:LONGEST_SHOWN].decode("utf-8", "backslashreplace"))
 
 
-def _seen(verdicts: Input) -> Seen:
+def _seen(verdicts: Input) -> VerdictCounts:
     """What verdicts have."""
-    seen = Seen()
+    seen = VerdictCounts()
     for line in verdicts.lines():
-        seen.take(line)
+        seen.add(line.decode())
     return seen
 
 
-def _seen_beside(machines: Input, verdicts: Input) -> Seen:
+def _seen_beside(machines: Input, verdicts: Input) -> VerdictCounts:
     """What verdicts have, where each belongs to the line of the list at its place. Raises PublishError where
     one doesn't."""
-    seen = Seen()
+    seen = VerdictCounts()
     refused: List[Tuple[int, bytes, bytes]] = []
     pairs = itertools.zip_longest(machines.lines(), verdicts.lines())
     for number, (line, verdict) in enumerate(pairs, 1):
         if line is None or verdict is None:
             short, other = (machines, verdicts) if line is None else (verdicts, machines)
             raise PublishError("%s has %d lines, and %s has more" % (short.path, number - 1, other.path))
-        machine = seen.take(verdict)
+        machine = seen.add(verdict.decode())
         if not machine:
             refused.append((number, line, verdict))
         elif machine.encode() != line:
@@ -188,12 +187,7 @@ def publish(
 
 
 def _published_run(
-    out: str,
-    folder: str,
-    listed: Optional[Input],
-    limits: Limits,
-    threads: int,
-    tell: Callable[[int], None],
+    out: str, folder: str, listed: Optional[Input], limits: Limits, threads: int, tell: Callable[[int], None]
 ) -> Published:
     """Publishes the verdicts of a run. Raises PublishError, FolderError where summary, verdicts and journals
     aren't of one run, OSError."""

@@ -8,7 +8,6 @@ import collections
 import concurrent.futures
 import contextlib
 import dataclasses
-import heapq
 import html
 import io
 import math
@@ -18,15 +17,23 @@ import re
 import string
 from typing import Any, Counter, Dict, Iterable, Iterator, List, Optional, Sequence, Tuple, Union
 
+from ._files import FileTarget, write_blocks
+from .counts import KINDS, VerdictCounts
+from .engine import Configuration
+from .growth import Grown, Growth, grown
 from .limits import Limits, in_range
-from .lists import Growth, Triage, triage
-from .pictures import COLOURS, HEAD, UNVISITED, Row, png, png_of_colours, spread
-from .runner.directory import FileTarget, write_blocks
-from .verdicts import VERDICTS, Backward, Cycler, Halt, Translated, Undecided, Verdict, parse, size_of
+from .pictures import COLOURS, HEAD, UNVISITED, png, png_of_colours, spread
+from .verdicts import Verdict, size_of, verdicts_of
 
 __all__ = ["Report", "ReportError", "report"]
 
-KINDS = ["halt", "cycler", "translated", "backward", "undecided steps", "undecided cells", "refused"]
+# The plots, and the numbers that each has.
+_PLOTS = {
+    "steps of halts, second steps of pairs": ("halt steps", "cycler second", "translated second"),
+    "shifts of translated cyclers": ("translated shift",),
+    "levels of backward trees": ("backward levels",),
+}
+_PLOTTED = {name: plot for plot, names in _PLOTS.items() for name in names}
 # How many pixels a diagram has at most, across and down.
 SIZE = 240
 _PAGE = pathlib.Path(__file__).with_name("report.html")
@@ -55,49 +62,25 @@ class Report:
         )
 
 
-@dataclasses.dataclass
-class Gathered:
-    """What a list of verdicts has: counts, distributions, longest runs, the smallest undecided machines."""
+class Gathered(VerdictCounts):
+    """The counts of a list, distributions of its numbers, and the smallest undecided machines."""
 
-    most: int
-    kinds: Counter[str] = dataclasses.field(default_factory=collections.Counter)
-    steps: Counter[int] = dataclasses.field(default_factory=collections.Counter)
-    shifts: Counter[int] = dataclasses.field(default_factory=collections.Counter)
-    levels: Counter[int] = dataclasses.field(default_factory=collections.Counter)
-    longest: Dict[str, List[Tuple[int, str]]] = dataclasses.field(default_factory=dict)
-    smallest: List[Tuple[int, str]] = dataclasses.field(default_factory=list)
+    def __init__(self, most: int) -> None:
+        super().__init__()
+        self.bins: Dict[str, Counter[int]] = collections.defaultdict(collections.Counter)
+        self.smallest: List[Tuple[int, str]] = []
+        self._most = most
 
-    def add(self, verdict: Verdict) -> None:
-        """Counts one verdict in."""
-        name = verdict.kind
-        if isinstance(verdict, Undecided):
-            name += " " + verdict.reason
-            self._keep_small(verdict.machine)
-        self.kinds[name] += 1
-        if isinstance(verdict, Halt):
-            self._add_run(verdict, verdict.steps)
-        elif isinstance(verdict, (Cycler, Translated)):
-            self._add_run(verdict, verdict.second)
-        if isinstance(verdict, Translated) and verdict.extent:
-            self.shifts[bin_of(verdict.extent.shift)] += 1
-        if isinstance(verdict, Backward):
-            self.levels[bin_of(verdict.levels)] += 1
-
-    def _add_run(self, verdict: Verdict, steps: int) -> None:
-        self.steps[bin_of(steps)] += 1
-        runs = self.longest.setdefault(verdict.kind, [])
-        if len(runs) < 10:
-            heapq.heappush(runs, (steps, str(verdict)))
-        elif runs[0][0] < steps:
-            heapq.heapreplace(runs, (steps, str(verdict)))
-
-    def _keep_small(self, machine: str) -> None:
-        states, symbols = size_of(machine)
-        item = (states * symbols, machine)
-        if len(self.smallest) == self.most and (not self.most or item >= self.smallest[-1]):
-            return
-        bisect.insort(self.smallest, item)
-        del self.smallest[self.most :]
+    def _take(self, kind: str, numbers: Dict[str, int], line: str) -> None:
+        super()._take(kind, numbers, line)
+        for name, number in numbers.items():
+            plot = _PLOTTED.get("%s %s" % (kind, name))
+            if plot is not None:
+                self.bins[plot][bin_of(number)] += 1
+        if kind == "undecided":
+            machine = line.partition(" ")[0]
+            bisect.insort(self.smallest, (math.prod(size_of(machine)), machine))
+            del self.smallest[self._most :]
 
 
 def bin_of(number: int) -> int:
@@ -114,18 +97,13 @@ def begin_of(place: int) -> float:
 def gathered(verdicts: Iterable[Union[str, Verdict]], most: int) -> Gathered:
     """What a list has. Raises ValueError, with its place, for a text that is no verdict line."""
     found = Gathered(most)
-    for place, item in enumerate(verdicts):
-        if not isinstance(item, VERDICTS):
-            try:
-                item = parse(item.rstrip("\r\n").partition("\t")[0] if isinstance(item, str) else item)
-            except (TypeError, ValueError) as error:
-                raise type(error)("verdicts[%d]: %s" % (place, error)) from None
-        found.add(item)
+    for verdict in verdicts_of(verdicts, "verdicts"):
+        found.add(str(verdict))
     return found
 
 
 def _modules() -> Tuple[Any, Any]:
-    """numpy, and the figures of matplotlib. Raises ReportError."""
+    """The figures of matplotlib, and numpy, which comes with it. Raises ReportError."""
     try:
         import numpy
         from matplotlib import rc_context
@@ -133,8 +111,8 @@ def _modules() -> Tuple[Any, Any]:
         from matplotlib.ticker import MaxNLocator
     except ImportError as error:
         raise ReportError(
-            "a report needs numpy and matplotlib (%s): pip install numpy matplotlib, or on Debian"
-            " apt install python3-matplotlib" % error
+            "a report needs matplotlib (%s): pip install matplotlib, or on Debian apt install"
+            " python3-matplotlib" % error
         ) from None
     return numpy, (rc_context, Figure, MaxNLocator)
 
@@ -179,7 +157,7 @@ def _colour(axes: Any) -> None:
         spine.set_visible(side in ("left", "bottom"))
 
 
-def diagram(rows: Sequence[Row]) -> bytes:
+def diagram(rows: Sequence[Configuration]) -> bytes:
     """A space-time diagram of at most SIZE by SIZE pixels, as a PNG file. Where more positions were visited,
     a pixel has the mean colour of some."""
     numpy = _modules()[0]
@@ -207,17 +185,14 @@ class Shown:
     """An undecided machine as the report shows it."""
 
     machine: str
-    triage: Triage
-    last: int
-    visited: int
+    grown: Grown
     png: bytes
 
 
 def shown(machine: str, steps: int, cells: int) -> Shown:
     """Traces a machine for the report."""
     rows, _ = spread(machine, steps, cells, SIZE)
-    found = triage(machine, steps=steps, cells=cells)
-    return Shown(machine, found, found.steps, found.visited[-1], diagram(rows))
+    return Shown(machine, grown(machine, steps, cells), diagram(rows))
 
 
 def all_shown(machines: Sequence[str], steps: int, cells: int, threads: int) -> List[Shown]:
@@ -247,14 +222,9 @@ def _counts(found: Gathered) -> Iterator[str]:
 
 
 def _plots(found: Gathered) -> Iterator[str]:
-    plotted = {
-        "steps": (found.steps, "steps of halts, second steps of pairs"),
-        "shifts": (found.shifts, "shifts of translated cyclers"),
-        "levels": (found.levels, "levels of backward trees"),
-    }
-    for counts, name in plotted.values():
-        if counts:
-            yield "<figure>%s</figure>" % plot(counts, name)
+    for name in _PLOTS:
+        if found.bins[name]:
+            yield "<figure>%s</figure>" % plot(found.bins[name], name)
 
 
 def _longest(found: Gathered) -> Iterator[str]:
@@ -268,7 +238,7 @@ def _longest(found: Gathered) -> Iterator[str]:
 def _card(one: Shown) -> str:
     """A diagram with what stands beside it."""
     image = base64.b64encode(one.png).decode()
-    said = "%s cells, last step %s" % (_number(one.visited), _number(one.last))
+    said = "%s cells, last step %s" % (_number(one.grown.visited[-1]), _number(one.grown.steps))
     machine = html.escape(one.machine)
     return (
         '<figure class="card"><img loading="lazy" alt="Space-time diagram of %s" '
@@ -280,8 +250,8 @@ def _card(one: Shown) -> str:
 def _groups(machines: Sequence[Shown]) -> Iterator[str]:
     """The diagrams by how the cells grow; in each group small machines first, then those of few cells."""
     for kind in Growth:
-        group = [one for one in machines if one.triage.growth is kind]
-        group.sort(key=lambda one: (math.prod(size_of(one.machine)), one.visited, one.machine))
+        group = [one for one in machines if one.grown.growth is kind]
+        group.sort(key=lambda one: (math.prod(size_of(one.machine)), one.grown.visited[-1], one.machine))
         if group:
             cards = "".join(map(_card, group))
             yield '<h3>%s: %s</h3><div class="cards">%s</div>' % (_GROWTHS[kind], _number(len(group)), cards)
@@ -310,13 +280,12 @@ def _left(count: int, left: int) -> str:
 
 
 def _page(found: Gathered, machines: Sequence[Shown], title: str) -> str:
-    left = found.kinds["undecided steps"] + found.kinds["undecided cells"]
     parts = {
         "title": html.escape(title),
         "counts": "".join(_counts(found)),
         "plots": "".join(_plots(found)) or "<p>No verdict has numbers.</p>",
         "longest": "".join(_longest(found)) or "<p>No run is known.</p>",
-        "left": _left(len(machines), left),
+        "left": _left(len(machines), found.left()),
         "diagrams": "".join(_groups(machines)),
     }
     return string.Template(_PAGE.read_text(encoding="utf-8")).substitute(parts)

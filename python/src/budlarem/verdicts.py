@@ -5,10 +5,9 @@ from __future__ import annotations
 import dataclasses
 import functools
 import re
-from typing import Callable, ClassVar, Dict, List, Optional, Pattern, Tuple, Union
+from typing import Callable, ClassVar, Dict, Iterable, Iterator, List, Optional, Pattern, Tuple, Union
 
-from ._lengths import LONGEST_SHOWN, LONGEST_VALUE
-from ._words import Words
+from ._text import LONGEST_SHOWN, LONGEST_VALUE, Words
 from .limits import whole
 
 __all__ = [
@@ -142,31 +141,22 @@ class Refused:
 OfMachine = Union[Halt, Cycler, Translated, Backward, Undecided]
 Verdict = Union[OfMachine, Refused]
 VERDICTS = (Halt, Cycler, Translated, Backward, Undecided, Refused)
-
-
-# What type each field of a verdict has.
-_FIELDS: Dict[type, Dict[str, type]] = {
-    Halt: {"machine": str, "steps": int, "score": int},
-    Cycler: {"machine": str, "first": int, "second": int},
-    Translated: {"machine": str, "side": str, "first": int, "second": int},
-    Extent: {"shift": int, "length": int},
-    Backward: {"machine": str, "levels": int, "nodes": int},
-    Undecided: {"machine": str, "reason": str},
-    Refused: {"column": int},
+_OF_TWO_NUMBERS: Dict[str, Callable[[str, int, int], Verdict]] = {
+    "halt": Halt,
+    "cycler": Cycler,
+    "backward": Backward,
 }
 
 
 def hold_fields(name: str, verdict: Union[Verdict, Extent]) -> None:
     """Raises TypeError where a field of a verdict, which is called so, has another type than it must have:
     its line would say something else."""
-    for field, kind in _FIELDS[type(verdict)].items():
-        given = getattr(verdict, field)
-        if type(given) is kind or isinstance(given, str) and kind is str:
-            continue
-        if kind is int:
-            whole("%s.%s" % (name, field), given)
-        else:
-            parts = (name, field, LONGEST_VALUE, given, type(given).__name__)
+    for field in dataclasses.fields(verdict):
+        given, kind = getattr(verdict, field.name), str(field.type)
+        if kind == "int":
+            whole("%s.%s" % (name, field.name), given)
+        elif kind == "str" and not isinstance(given, str):
+            parts = (name, field.name, LONGEST_VALUE, given, type(given).__name__)
             raise TypeError("%s.%s is %.*r of type %s, not str" % parts)
     if isinstance(verdict, Translated) and verdict.extent is not None:
         if not isinstance(verdict.extent, Extent):
@@ -213,16 +203,6 @@ def whole_number(word: str) -> int:
 Reader = Callable[[str], int]
 
 
-def _halt(machine: str, words: List[str], number: Reader) -> Verdict:
-    steps, score = words
-    return Halt(machine, number(steps), number(score))
-
-
-def _cycler(machine: str, words: List[str], number: Reader) -> Verdict:
-    first, second = words
-    return Cycler(machine, number(first), number(second))
-
-
 def _translated(machine: str, words: List[str], number: Reader) -> Verdict:
     side, first, second, *extent = words
     if side not in ("L", "R") or len(extent) not in (0, 2):
@@ -231,35 +211,18 @@ def _translated(machine: str, words: List[str], number: Reader) -> Verdict:
     return Translated(machine, side, number(first), number(second), found)
 
 
-def _backward(machine: str, words: List[str], number: Reader) -> Verdict:
-    levels, nodes = words
-    return Backward(machine, number(levels), number(nodes))
-
-
-def _undecided(machine: str, words: List[str], number: Reader) -> Verdict:
-    (reason,) = words
-    if reason not in ("steps", "cells"):
-        raise ValueError
-    return Undecided(machine, reason)
-
-
-_READERS: Dict[str, Callable[[str, List[str], Reader], Verdict]] = {
-    "halt": _halt,
-    "cycler": _cycler,
-    "translated": _translated,
-    "backward": _backward,
-    "undecided": _undecided,
-}
-
-
 def verdict_of(machine: str, words: str, number: Reader = int) -> Verdict:
     """The verdict on a machine whose line goes on with these words, of which `number` reads the numbers.
     Raises ValueError."""
     kind, *others = words.split(" ")
-    reader = _READERS.get(kind)
-    if reader is None:
+    if kind == "translated":
+        return _translated(machine, others, number)
+    if kind in _OF_TWO_NUMBERS:
+        first, second = others
+        return _OF_TWO_NUMBERS[kind](machine, number(first), number(second))
+    if kind != "undecided" or others not in (["steps"], ["cells"]):
         raise ValueError
-    return reader(machine, others, number)
+    return Undecided(machine, others[0])
 
 
 def _refused(words: List[str]) -> Refused:
@@ -294,3 +257,15 @@ def parse(line: str) -> Verdict:
         return verdict_of(machine, words, whole_number)
     except ValueError:
         raise ValueError("no verdict line: %.*r" % (LONGEST_SHOWN, line)) from None
+
+
+def verdicts_of(items: Iterable[Union[str, Verdict]], name: str) -> Iterator[Verdict]:
+    """The verdicts of verdicts and lines, which may have fields behind a tab. Raises ValueError, TypeError, with
+    the place in the list, which is called so."""
+    for place, item in enumerate(items):
+        if not isinstance(item, VERDICTS):
+            try:
+                item = parse(item.rstrip("\r\n").partition("\t")[0] if isinstance(item, str) else item)
+            except (TypeError, ValueError) as error:
+                raise type(error)("%s[%d]: %s" % (name, place, error)) from None
+        yield item

@@ -14,24 +14,21 @@ import os
 import sys
 from typing import List, NoReturn, Optional
 
-from .. import __version__
-from ..escaping import escape_controls
+from .._text import escape_controls
+from .._version import VERSION
 from ..reports import ReportError
-from ..runner.command import add_command as add_run
-from .checking import add_check
-from .claims import add_claims
-from .judging import add_judge
-from .machines import add_machines
-from .publishing import add_publish
-from .runs import add_runs
+from .checking import add_check, add_publish
+from .claims import add_claims, add_judge
+from .machines import add_machines, add_runs
+from .run import add_command as add_run
 
-__all__ = ["main", "run", "words"]
+__all__ = ["main", "run_and_exit", "words"]
 
 
 def words() -> argparse.ArgumentParser:
     """The reader of the command line."""
     parser = argparse.ArgumentParser(prog="budlarem", description="What people do with lists of machines.")
-    parser.add_argument("--version", action="version", version="budlarem " + __version__)
+    parser.add_argument("--version", action="version", version="budlarem " + VERSION)
     commands = parser.add_subparsers(required=True, metavar="COMMAND")
     add_machines(commands)
     add_check(commands)
@@ -87,7 +84,7 @@ def _print_error(sentence: str) -> None:
     print("budlarem: %s" % escape_controls(sentence), file=sys.stderr)
 
 
-def run() -> NoReturn:
+def run_and_exit() -> NoReturn:
     """The command: ends the process. What a thread is at then ends with it."""
     try:
         status = main()

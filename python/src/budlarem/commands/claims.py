@@ -1,4 +1,4 @@
-"""The commands over verdict lines: `compare`, `report`."""
+"""The commands over claims: `compare`, `report`, `judge`."""
 
 from __future__ import annotations
 
@@ -6,17 +6,21 @@ import argparse
 import collections
 import os
 import sys
-from typing import BinaryIO, Counter, Dict, Iterator, Optional, Union
+from typing import BinaryIO, Counter, Dict, Iterator, Optional, Sequence, Union
 
-from ..claims import WORDS, Sayings, Word
+from ..claims import WORDS, Sayings, Word, read_words, translation_of
+from ..judging import Judgement, Judging, judge
 from ..judging.sources import Twice
+from ..judging.values import Placed
+from ..limits import GREATEST, Limits, Plan
 from ..lists import Agreement, compare
 from ..numbers import option_number
 from ..reading import Passed
 from ..reports import report
-from ..translation import read_words, translation_of
+from ..runner.progress import TerminalLine, count_of
 from ..verdicts import Verdict
 from .shared import ListReader, add_claims_form, add_command, add_file, add_limits, columns_of, form_of
+from .shared import limits_of
 
 _CLAIMS = """A list has one of the forms of `budlarem help read`: verdict lines; a table of which a column
 has verdicts, or words for halting with columns of steps and scores, by a translation that is printed first;
@@ -146,3 +150,116 @@ def add_claims(commands: "argparse._SubParsersAction[argparse.ArgumentParser]") 
     page.add_argument("--threads", type=option_number, metavar="N", help="cores used (default: all)")
     page.add_argument("--title", help="default: the file's name")
     add_limits(page, ["steps", "cells"])
+
+
+_JUDGE = """Judges a list of what others claim, by the form of the list (`budlarem help read`). verdicts: each
+line claims its verdict. table: the words of a column say whether a machine halts, by a translation that is
+printed first and that --words changes, and for one that halts the columns of steps and score are judged too.
+text: a line claims something where the rest of it is one verdict. Nothing else is judged. Each machine is
+decided; a claim that our verdict doesn't settle is checked. Standard error gets the form, the counts, and the
+lines of THEIRS that were rewritten or passed over. Status 1 where a line is contradicted.
+
+confirmed: the checker confirms the claim, or our verdict says what the word does. contradicted: the checker
+refutes the claim, or our verdict says the other. not-judged: undecided here too, over the checker's limits,
+or the line claims nothing by the form of the list. unreadable: no one machine.
+
+Numbers may have groups of three digits, as 47,176,870.
+
+Where each halt of theirs at a --- is true of the machine with 1RZ there, and there is one, they are taken to
+count a step for ---, and standard error says so. --undefined-steps says it beforehand.
+
+With --list, the lines of LIST that aren't read are printed as by `budlarem read`, and lines come at the end:
+no-line, for a machine of LIST that has none; not-listed, for a machine of THEIRS that isn't in LIST. Machines
+are the same there up to the names of states and symbols, and left and right."""
+
+
+def counts_text(counts: Counter[Judgement]) -> str:
+    """How many lines were judged how so far."""
+    parts = ("%s %s" % (count_of(counts[kind]), kind) for kind in Judgement if counts[kind])
+    return ", ".join(parts)
+
+
+def do_judge(asked: argparse.Namespace) -> int:
+    """Judges a list of claims."""
+    if asked.theirs == "-" == asked.list:
+        raise ValueError("THEIRS and LIST can't both be standard input")
+    progress = TerminalLine()
+    reader = ListReader(asked.theirs, progress, form_of(asked), columns_of(asked))
+    highest = asked.check_steps
+    checker = GREATEST if highest is None else Limits(highest, GREATEST.cells, GREATEST.depth, GREATEST.nodes)
+    judging = judge(
+        reader.source,
+        None if asked.list is None else ListReader(asked.list, progress).readings(),
+        limits=limits_of(asked),
+        plan=Plan(),
+        checker=checker,
+        undefined_steps=True if asked.undefined_steps else None,
+        threads=asked.threads,
+        tell=lambda what, lines: progress.tell(lambda: "%s lines %s" % (count_of(lines), what)),
+        form=reader.form,
+        columns=reader.columns,
+        words=None if asked.words is None else read_words(asked.words),
+    )
+    _print_form(reader, judging)
+    reader.print_unused_words(judging.theirs.form, asked.words)
+    counts: Counter[Judgement] = collections.Counter()
+    for judged in judging:
+        counts[judged.judgement] += 1
+        reader.tell_rewritten(judged.said.reading)
+        sys.stdout.write("%s\n" % judged)
+        progress.tell(lambda: counts_text(counts))
+    missing, foreign = judging.missing(), judging.foreign()
+    progress.clear()
+    if asked.list is not None:
+        _write_list(missing, foreign, asked.list)
+    sys.stdout.flush()
+    reader.print_passed(judging.theirs.passed, judging.theirs.undecoded)
+    if judging.undefined_steps:
+        print("%s: a step is counted for each ---" % reader.name, file=sys.stderr)
+    parts = ", ".join("%s %d" % (kind, counts[kind]) for kind in Judgement)
+    print("%s: %s" % (reader.name, parts), file=sys.stderr)
+    return 1 if counts[Judgement.CONTRADICTED] else 0
+
+
+def _print_form(reader: ListReader, judging: Judging) -> None:
+    """Prints the form of the list, and the translation of a table's words."""
+    reader.print_form(judging.theirs.form)
+    if judging.theirs.translation is not None:
+        for line in judging.theirs.translation.lines:
+            reader.print_line(line)
+
+
+def _write_list(missing: Sequence[Placed], foreign: Sequence[Placed], path: str) -> None:
+    """Writes which machines of the list have no line, and which lines aren't of it; counts them."""
+    for number, machine in missing:
+        sys.stdout.write("no-line\t%d\t%s\n" % (number, machine))
+    for number, machine in foreign:
+        sys.stdout.write("not-listed\t%d\t%s\n" % (number, machine))
+    print("%s: no-line %d, not-listed %d" % (path, len(missing), len(foreign)), file=sys.stderr)
+
+
+def add_judge(commands: "argparse._SubParsersAction[argparse.ArgumentParser]") -> None:
+    """Adds the command to a reader of command lines."""
+    columns = [
+        ("judgement", "confirmed, contradicted, not-judged or unreadable; no-line or not-listed"),
+        ("number", "of the line in THEIRS, for no-line in LIST"),
+        ("ours", "our verdict line; the line itself where it is unreadable"),
+        ("reason", "what was confirmed or contradicted, and by what"),
+    ]
+    judging = add_command(commands, "judge", "what others claim, beside our verdicts", _JUDGE, columns)
+    judging.set_defaults(do=do_judge)
+    judging.add_argument("theirs", metavar="THEIRS", help="a list; - is standard input")
+    judging.add_argument("--list", metavar="LIST", help="the machines that THEIRS should be of")
+    add_claims_form(judging)
+    judging.add_argument("--undefined-steps", action="store_true", help="they count a step for ---")
+    add_limits(judging, Limits.RANGES)
+    highest = Limits.RANGES["steps"][1]
+    judging.add_argument(
+        "--check-steps",
+        type=option_number,
+        metavar="N",
+        help="the most steps that a claim may name (default: {:,})".format(highest),
+    )
+    judging.add_argument(
+        "--threads", type=option_number, default=1, metavar="N", help="cores used (default: 1)"
+    )

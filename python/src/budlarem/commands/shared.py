@@ -7,12 +7,11 @@ import sys
 import textwrap
 from typing import BinaryIO, Iterable, Iterator, Mapping, Optional, Sequence, Tuple, Union
 
-from ..escaping import escape_controls
+from .._text import counted, escape_controls
 from ..limits import Limits
 from ..numbers import option_number
 from ..reading import Columns, Form, ListForm, Passed, Reading, Readings
-from ..reading.texts import counted
-from .progress import Progress
+from ..runner.progress import TerminalLine
 
 # So wide are the lines of a help.
 WIDTH = 79
@@ -47,7 +46,7 @@ class ListReader:
     def __init__(
         self,
         path: Optional[str],
-        progress: Optional[Progress] = None,
+        progress: Optional[TerminalLine] = None,
         form: Optional[Form] = None,
         columns: Columns = Columns(),
     ) -> None:

@@ -6,25 +6,21 @@ import collections
 import time
 from typing import Counter, Deque, Dict, Iterator, List, Optional, Tuple, Union
 
-from ..claims import WORDS, Said, Sayings, Word
+from .._text import shown
+from ..checking import answers_of
+from ..claims import Said, Sayings, Translation, WORDS, Word, translation_of
 from ..engine import decide
-from ..limits import Limits, Plan
+from ..limits import GREATEST, Limits, Plan
 from ..lists import Agreement, agreement
 from ..reading import Columns, Form, ListForm, Passed, Readings, read
 from ..reading.files import Source
-from ..reading.texts import shown
-from ..translation import Translation, translation_of
 from ..verdicts import Answer, Halt, Refused, Undecided, Verdict
-from .answers import answers_of
-from .lists import Lists, Tell, counted
 from .sources import Twice
 from .undefined import as_steps, counts_undefined_steps, stepped_halt
-from .values import Judged, Judgement
+from .values import Judged, Judgement, Lists, Tell, counted
 
-__all__ = ["GREATEST", "Judged", "Judgement", "Judging", "judge"]
+__all__ = ["Judged", "Judgement", "Judging", "judge"]
 
-# With these no claim is refused for a limit; each costs what it names.
-GREATEST = Limits(**{name: highest for name, (_, highest) in Limits.RANGES.items()})
 # So many lines are judged together at most, and so many seconds the first of them waits.
 _TOGETHER, _SECONDS = 4_096, 1.0
 # A line, our verdict, and what is said of them where no claim has to be checked.

@@ -6,11 +6,11 @@ import dataclasses
 import itertools
 from typing import Iterable, List, Optional, Tuple
 
+from ..checking import answers_of
 from ..claims import Said
 from ..engine import decide
 from ..limits import Limits
 from ..verdicts import Answer, Halt, Undecided, Verdict
-from .answers import answers_of
 
 # So many claims are looked at together.
 _TOGETHER = 4_096

@@ -1,13 +1,14 @@
-"""What judging a line comes to."""
+"""What judging a line comes to, and which machines of a list have a line in another."""
 
 from __future__ import annotations
 
 import dataclasses
-from typing import Optional
+from typing import Callable, Container, Dict, Iterable, Iterator, List, Optional, Set, Tuple, TypeVar
 
-from .._words import Words
+from .._text import Words, escape_controls
 from ..claims import Said
-from ..escaping import escape_controls
+from ..normal_forms import form_of
+from ..reading import Reading
 from ..verdicts import Verdict
 
 
@@ -44,3 +45,58 @@ class Judged:
         line = escape_controls(self.said.reading.line.replace("\t", " "))
         ours = line if self.ours is None else str(self.ours)
         return "%s\t%d\t%s\t%s" % (self.judgement, self.number, ours, self.reason)
+
+
+# The number of a line, and its machine.
+Placed = Tuple[int, str]
+# Is called with what is being done beside judging, and with how many lines it was done.
+Tell = Callable[[str, int], None]
+_Item = TypeVar("_Item")
+_COMPARED = "compared by form"
+
+
+def counted(items: Iterable[_Item], what: str, tell: Tell) -> Iterator[_Item]:
+    """The items; `tell` is called with each one's count."""
+    for count, item in enumerate(items, 1):
+        tell(what, count)
+        yield item
+
+
+class Lists:
+    """The machines of two lists, and the numbers of their lines. Machines that the laws of verdicts make the
+    same are one. `tell` is called with the list's lines, and with the forms that are compared."""
+
+    def __init__(self, listed: Iterable[Reading], tell: Tell) -> None:
+        self._listed: Dict[str, int] = {}
+        self._theirs: Dict[str, List[int]] = {}
+        self._tell = tell
+        for reading in counted(listed, "of the list read", tell):
+            if reading.machine is not None:
+                self._listed.setdefault(reading.machine, reading.number)
+
+    def add(self, reading: Reading) -> None:
+        """Adds a line of theirs."""
+        if reading.machine is not None:
+            self._theirs.setdefault(reading.machine, []).append(reading.number)
+
+    def missing(self) -> List[Placed]:
+        """The machines of the list that have no line of theirs, each with its first line's number."""
+        return [(self._listed[machine], machine) for machine in self._others(self._listed, self._theirs)]
+
+    def foreign(self) -> List[Placed]:
+        """Their lines whose machines aren't of the list."""
+        found = self._others(self._theirs, self._listed)
+        return sorted((number, machine) for machine in found for number in self._theirs[machine])
+
+    def _others(self, machines: Iterable[str], those: Dict[str, _Item]) -> Iterator[str]:
+        """The machines that aren't among those, in any form."""
+        left = _left(machines, those)
+        forms: Set[str] = set()
+        if left:
+            forms.update(form_of(machine).text for machine in counted(those, _COMPARED, self._tell))
+        found = counted(left, _COMPARED, self._tell)
+        return (machine for machine in found if form_of(machine).text not in forms)
+
+
+def _left(machines: Iterable[str], those: Container[str]) -> List[str]:
+    return [machine for machine in machines if machine not in those]

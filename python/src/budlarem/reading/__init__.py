@@ -1,7 +1,7 @@
 """Reading lists as people have them: of each line the one machine, in the form that `bb` reads.
 
 A list has a form, and a machine is taken only where one reading of its line is possible. Every rewriting is
-named, lines that are passed over are counted, and nothing is guessed. `scripts/tests/forms.json` of the
+named, lines that are passed over are counted, and nothing is guessed. `tests/support/forms.json` of the
 repository has lines with what must become of them.
 """
 
@@ -9,8 +9,7 @@ from __future__ import annotations
 
 from typing import Optional
 
-from .encodings import EncodingError, EndlessLineError
-from .files import Source
+from .files import EncodingError, EndlessLineError, Source
 from .forms import ListForm, Readings
 from .tables import Columns, Layout
 from .values import Form, Passed, Reading, Reason, Rewriting

@@ -1,4 +1,5 @@
-"""The lines of what a list may be: a path, a file of bytes, or an iterable of lines."""
+"""The lines of what a list may be: a path, a file of bytes, or an iterable of lines. Other encodings and formats
+than text in UTF-8 are known by their first bytes."""
 
 from __future__ import annotations
 
@@ -7,10 +8,73 @@ import gzip
 import io
 import os
 import zlib
-from typing import Any, BinaryIO, Callable, Iterable, Iterator, Tuple, Union
+from typing import Any, BinaryIO, Callable, Iterable, Iterator, Optional, Tuple, Union
 
-from .._lengths import BYTES_KEPT, LONGEST_UNENDED, LONGEST_VALUE
-from .encodings import EndlessLineError, require_utf8
+from .._text import BYTES_KEPT, LONGEST_UNENDED, LONGEST_VALUE
+
+# The first bytes of encodings and formats, and their names. UTF-32 comes before UTF-16, whose mark begins
+# that of UTF-32.
+_MARKS = (
+    (b"\xff\xfe\x00\x00", "UTF-32 text"),
+    (b"\x00\x00\xfe\xff", "UTF-32 text"),
+    (b"\xff\xfe", "UTF-16 text"),
+    (b"\xfe\xff", "UTF-16 text"),
+    (b"\xfd7zXZ\x00", "compressed by xz"),
+    (b"BZh", "compressed by bzip2"),
+    (b"\x28\xb5\x2f\xfd", "compressed by zstd"),
+    (b"PK\x03\x04", "a ZIP archive"),
+    (b"7z\xbc\xaf\x27\x1c", "a 7z archive"),
+    (b"%PDF-", "a PDF document"),
+)
+# So many bytes tell whether every other one is a zero.
+_LOOKED_AT = 256
+
+
+class EncodingError(ValueError):
+    """A list's bytes are no text in UTF-8. `encoding` names their encoding or format."""
+
+    def __init__(self, name: object, encoding: str) -> None:
+        super().__init__("%s is %s: %s" % (name, encoding, _advice(encoding)))
+        self.encoding = encoding
+
+
+class EndlessLineError(ValueError):
+    """A line of a list goes on for more than LONGEST_UNENDED bytes. `number` is its number, from 1 on."""
+
+    def __init__(self, name: object, number: int) -> None:
+        super().__init__(
+            "%s: line %s has more than %s bytes and no newline; a list has a machine or a verdict a line"
+            % (name, "{:,}".format(number), "{:,}".format(LONGEST_UNENDED))
+        )
+        self.number = number
+
+
+def _advice(encoding: str) -> str:
+    """The advice for a person."""
+    if encoding.endswith(" text"):
+        return "convert it by iconv -f %s -t UTF-8" % encoding.partition(" ")[0]
+    return "give the text of the list; gzip alone is unpacked"
+
+
+def find_encoding(begin: bytes) -> Optional[str]:
+    """The name of the encoding or format that begins so; None for bytes that may be UTF-8."""
+    for mark, name in _MARKS:
+        if begin.startswith(mark):
+            return name
+    begin = begin[:_LOOKED_AT]
+    # Zeros alone are no text of any encoding.
+    if len(begin) < 4 or begin.count(0) * 3 < len(begin) or begin.count(0) == len(begin):
+        return None
+    is_wide = begin.count(0) * 3 > 2 * len(begin)
+    return "UTF-32 text" if is_wide else "UTF-16 text"
+
+
+def require_utf8(begin: bytes, name: object) -> None:
+    """Raises EncodingError where bytes that begin so are no text in UTF-8."""
+    found = find_encoding(begin)
+    if found is not None:
+        raise EncodingError(name, found)
+
 
 GZIP = b"\x1f\x8b"
 BLOCK = 1 << 19
@@ -20,19 +84,30 @@ Numbered = Tuple[int, str]
 Source = Union[str, "os.PathLike[str]", BinaryIO, Iterable[str], Iterable[bytes]]
 
 
-class _Raw(io.RawIOBase):
-    """A file of bytes of any kind as one that can be buffered, and so looked into before it is read."""
+class Blocks(io.RawIOBase):
+    """Bytes as a file that can be buffered: `more` gives the next ones, about as many as it is asked for, and
+    none at the end. `held` are those that are to be read yet."""
 
-    def __init__(self, file: Any) -> None:
-        self._read = getattr(file, "read1", file.read)
+    def __init__(self, more: Callable[[int], bytes]) -> None:
+        self._more, self.held = more, b""
 
     def readable(self) -> bool:
         return True
 
+    def first(self, size: int) -> bytes:
+        """So many bytes from the begin on, or all where there are fewer. They are read again."""
+        while len(self.held) < size:
+            block = self._more(size - len(self.held))
+            if not block:
+                break
+            self.held += block
+        return self.held[:size]
+
     def readinto(self, buffer: Any) -> int:
-        block: bytes = self._read(len(buffer))
-        buffer[: len(block)] = block
-        return len(block)
+        self.held = self.held or self._more(len(buffer))
+        count = min(len(buffer), len(self.held))
+        buffer[:count], self.held = self.held[:count], self.held[count:]
+        return count
 
 
 class Lines(Iterator[Numbered]):
@@ -129,7 +204,9 @@ class BytesFile:
     def __init__(self, source: Any) -> None:
         self._is_ours = isinstance(source, (str, os.PathLike))
         self.name = os.fspath(source) if self._is_ours else _name_of(source)
-        raw = io.FileIO(self.name) if self._is_ours else _Raw(source)
+        raw: Any = (
+            io.FileIO(self.name) if self._is_ours else Blocks(getattr(source, "read1", None) or source.read)
+        )
         self._file: Any = io.BufferedReader(raw, BLOCK)
         self._opened: Any = None
         # Newlines that `read` has given, and bytes since the last one.

@@ -10,10 +10,9 @@ from typing import Counter, Iterator, List, Optional
 from ..verdicts import is_machine
 from .files import Lines, Numbered, Source
 from .lines import OF_MACHINES, read_line, verdict_in
-from .passing import passed_over
 from .tables import Columns, Layout, find_header, find_layout, read_row
 from .values import Form, Passed, Reading
-from .words import SPACES
+from .words import SPACES, passed_over
 
 # So many lines that aren't passed over settle the form of a list.
 FIRST_LINES = 100

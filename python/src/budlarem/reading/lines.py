@@ -6,13 +6,11 @@ import re
 import string
 from typing import List, Optional, Sequence, Tuple
 
-from .._lengths import LONGEST_LINE
+from .._text import LONGEST_LINE, is_hidden, name_of, shown
 from ..verdicts import Refused, Verdict, is_machine, parse
-from .hidden import is_hidden, name_of
-from .passing import is_comment_of_machine, passed_over
-from .texts import Found, Outcome, Word, read_arrays, read_entries, read_words, shown
+from .texts import Found, Outcome, Word, read_arrays, read_entries, read_words
 from .values import Form, Reading, Reason, Rewriting
-from .words import SPACES, Parts, Text, parts_of, row_beside
+from .words import SPACES, Parts, Text, is_comment_of_machine, parts_of, passed_over, row_beside
 
 _PAIRS = (
     "``", '""', "''", "()", "[]", "{}", "<>", "**", "~~", "\u201c\u201d", "\u2018\u2019", "\u00ab\u00bb"
@@ -138,9 +136,7 @@ def _read(line: str, parts: Parts) -> "List[Read] | Reason":
         row = row_beside(line, text, parts.rows) if isinstance(outcome, Found) else None
         if row is not None and "_" not in text.written:
             return Reason(
-                "rule-or-group",
-                "%s may be a rule or a group of the machine" % shown(row.text),
-                row.begin + 1,
+                "rule-or-group", "%s may be a rule or a group of the machine" % shown(row.text), row.begin + 1
             )
     return _one(found)
 

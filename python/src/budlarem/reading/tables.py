@@ -8,12 +8,11 @@ import dataclasses
 import re
 from typing import Dict, FrozenSet, List, Optional, Sequence, Tuple
 
+from .._text import counted, shown
 from ..verdicts import is_machine
 from .lines import read_line
-from .passing import MACHINE_NAMES, passed_over, plain_name
-from .texts import counted, shown
-from .values import Form, Passed, Reading, Reason
-from .words import SPACES
+from .values import Passed, Reading, Reason
+from .words import MACHINE_NAMES, SPACES, passed_over, plain_name
 
 # The separators of cells; a space only where nothing else separates.
 SEPARATORS = ("\t", ",", ";", "|")

@@ -6,9 +6,8 @@ import dataclasses
 import re
 from typing import List, Sequence, Set, Tuple, Union
 
-from .._lengths import LONGEST_QUOTED
+from .._text import counted, first_hidden, name_of
 from ..verdicts import MOST_SYMBOLS, STATES, is_machine
-from .hidden import first_hidden, name_hidden, name_of
 from .values import Reason, Rewriting
 
 # Of so many states at most H is none, so it may be meant for the halting state.
@@ -40,16 +39,6 @@ class Found:
 Outcome = Union[Found, Reason]
 # The entries of a group, each with how many characters come before it.
 Group = List[Tuple[int, str]]
-
-
-def shown(text: str) -> str:
-    """A text as a sentence has it: characters that don't show by name, cut where it is long."""
-    text = name_hidden(text)
-    return text if len(text) <= LONGEST_QUOTED else text[: LONGEST_QUOTED - 2] + ".."
-
-
-def counted(count: int, word: str, words: str) -> str:
-    return "%d %s" % (count, word if count == 1 else words)
 
 
 def read_words(words: Sequence[Word]) -> Outcome:

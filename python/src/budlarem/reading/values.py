@@ -5,7 +5,7 @@ from __future__ import annotations
 import dataclasses
 from typing import Optional, Tuple
 
-from .._words import Words
+from .._text import Words
 from ..engine import column_of
 
 

@@ -2,6 +2,10 @@
 
 from __future__ import annotations
 
+from typing import Optional
+
+from .._text import LONGEST_OF_ERROR
+
 
 class FolderError(ValueError):
     """The folder, the list or the words don't go together; nothing was changed. Status 2."""
@@ -28,17 +32,16 @@ class CheckError(Exception):
 
 
 class ReplyError(Exception):
-    """What came back for a piece isn't what belongs there. `line` is which line of the piece it is, from 0
-    on; None where it is no single line."""
+    """The reply for a chunk isn't one that belongs there. `line` is the line of the chunk, from 0 on; None
+    where it is no single line."""
 
-    def __init__(self, text: str, line: int | None = None) -> None:
+    def __init__(self, text: str, line: Optional[int] = None) -> None:
         super().__init__(text)
         self.line = line
 
 
 class DeadlyError(Exception):
-    """A line ended the process that decided it, as often as it was tried. `line` is which line of the
-    piece."""
+    """A line ended each process that decided it. `line` is the line of the chunk."""
 
     def __init__(self, line: int) -> None:
         super().__init__(line)
@@ -46,3 +49,11 @@ class DeadlyError(Exception):
 
     def __str__(self) -> str:
         return "it ended the workers that decided it, as often as it was tried"
+
+
+def sentence_of(error: BaseException) -> str:
+    """An error as a sentence has it."""
+    if isinstance(error, ReplyError):
+        return str(error)
+    name, text = type(error).__name__, str(error)[:LONGEST_OF_ERROR]
+    return "%s: %s" % (name, text) if text else name

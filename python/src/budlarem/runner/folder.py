@@ -1,4 +1,5 @@
-"""The folder of a run: its lock, what it was begun with, and files that are written whole or not at all."""
+"""The folder of a run: its lock, what it was begun with, and which of its files are the run's own. Other files
+are somebody else's, and no run changes them."""
 
 from __future__ import annotations
 
@@ -10,23 +11,188 @@ import json
 import os
 import re
 import shlex
+import stat
 import string
 from typing import Any, Callable, Dict, Iterable, Iterator, List, Optional, Sequence
 
-from ..escaping import escape_controls
-from ..limits import Limits
-from ..numbers import whole_number
-from .checksums import Checksum
-from .directory import Directory, FileId, Pin, id_of, write_at, write_blocks
+from .._files import Checksum, Directory, FileId, Pin, id_of, kind_of, write_at, write_blocks
+from .._text import escape_controls
+from ..limits import Limits, limits_of, words_of
+from .chunks import Identity, Keep, hash_of, keep_of
 from .errors import FolderError, RunError
-from .joining import joined
-from .keeping import Keep, keep_of
-from .own_files import LOCK, PAGE_BEGIN, README, RUN, RUN_BEGIN, SUMMARY, VERDICTS
-from .own_files import pass_name, pins_of, remove_leftovers
-from .own_files import require_other_list, require_own, require_own_pass, require_regular
-from .pieces import PassFolder
-from .source import STANDARD_INPUT
-from .tasks import Identity, hash_of
+from .input import STANDARD_INPUT
+from .journal import JOURNAL, KEPT, VERDICTS, PassFolder, has_records, joined
+
+LOCK, RUN, README, SUMMARY = "lock", "run.json", "README.txt", "summary.json"
+# The first lines of these files, in each version that writes this format.
+RUN_BEGIN, PAGE_BEGIN, SUMMARY_BEGIN = '{\n  "format": ', "Verdicts on the machines of ", '{\n  "list": '
+FILES = (RUN, README, VERDICTS, SUMMARY)
+_PASS_BEGIN = "pass-"
+PASS = re.compile(_PASS_BEGIN + "[0-9]+")
+_PART = re.compile("(%s)(?:[.][0-9]+)?[.]part" % "|".join((*FILES, KEPT)))
+# A piece as earlier versions of this package wrote it.
+_OLD_PIECE = "000000001.txt"
+# So many bytes of a file are looked at: more than a verdict line has.
+_LOOKED_AT = 1_024
+_LINE = re.compile(
+    rb"(?:refused [0-9]+|[0-9A-Z_-]+ (?:halt|cycler|translated|backward|undecided) [^\n]*)\n"
+    rb"|[0-9A-Za-z_ -]*\Z"
+)
+
+
+_BEGINNINGS = {RUN: RUN_BEGIN, README: PAGE_BEGIN, SUMMARY: SUMMARY_BEGIN, LOCK: ""}
+
+
+def _is_begin(found: bytes, kind: str) -> bool:
+    """Whether bytes are the begin of a file of this kind; those of verdicts begin with a line of them."""
+    if kind in (VERDICTS, KEPT):
+        return _LINE.match(found) is not None
+    begin = _BEGINNINGS[kind].encode()
+    return not found if kind == LOCK else found[: len(begin)] == begin[: len(found)]
+
+
+def _has_begin(directory: Directory, name: str, kind: str) -> bool:
+    """Whether a file begins as those of this kind do; false where it is no regular file."""
+    status = directory.status(name)
+    if status is None or not stat.S_ISREG(status.st_mode):
+        return False
+    number = directory.open_file(name, os.O_RDONLY)
+    try:
+        return _is_begin(os.pread(number, _LOOKED_AT, 0), kind)
+    finally:
+        os.close(number)
+
+
+def _is_leftover(directory: Directory, name: str) -> bool:
+    """Whether a file was being written here when a run was ended."""
+    found = _PART.fullmatch(name)
+    return found is not None and _has_begin(directory, name, found.group(1))
+
+
+def remove_leftovers(directory: Directory) -> None:
+    """Removes files that were being written here when a run was ended. Raises OSError."""
+    for name in directory.names():
+        if _is_leftover(directory, name):
+            directory.remove(name)
+
+
+def _require(directory: Directory, name: str, kind: int) -> None:
+    """Raises FolderError where a name is there, and leads to something else than a regular file or a folder,
+    of which `kind` is one."""
+    status = directory.status(name)
+    if status is not None and stat.S_IFMT(status.st_mode) != kind:
+        raise FolderError(
+            "%s is %s, and a run has a %s there; take it away, or give another folder"
+            % (directory.at(name), kind_of(status), "folder" if kind == stat.S_IFDIR else "file")
+        )
+
+
+def require_regular(directory: Directory, names: Sequence[str]) -> None:
+    """Raises FolderError where one of these names is there, and leads to no regular file."""
+    for name in names:
+        _require(directory, name, stat.S_IFREG)
+
+
+@contextlib.contextmanager
+def _opened_pass(top: Directory, name: str) -> Iterator[Directory]:
+    """The folder of a pass. Raises FolderError where it is a link, or no folder."""
+    _require(top, name, stat.S_IFDIR)
+    with contextlib.closing(top.subdirectory(name)) as inside:
+        yield inside
+
+
+def require_own(top: Directory, known_passes: Optional[int]) -> None:
+    """Raises FolderError where something in a folder isn't a run's own. `known_passes` is how many passes it
+    was begun with; None where nothing says that it was begun, and each file has to show that it is a run's.
+    Nothing is changed."""
+    names = top.names()
+    passes = [name for name in names if PASS.fullmatch(name)]
+    if known_passes is None:
+        foreign = next(_foreign(top, names, bool(passes)), None)
+        if foreign is not None:
+            raise FolderError("%s has other files in it, as %s; give an empty folder" % (top.path, foreign))
+    require_regular(top, (*FILES, LOCK))
+    for name in passes:
+        if known_passes is None:
+            require_own_pass(top, name)
+        elif int(name[len(_PASS_BEGIN) :]) <= known_passes:
+            with _opened_pass(top, name) as inside:
+                require_regular(inside, (KEPT, JOURNAL))
+
+
+def _foreign(top: Directory, names: Sequence[str], has_passes: bool) -> Iterator[str]:
+    """The names of files that no run left here."""
+    for name in names:
+        if PASS.fullmatch(name) or _is_leftover(top, name):
+            continue
+        if name not in (*FILES, LOCK):
+            yield name
+        elif name in (README, VERDICTS, SUMMARY) and not (has_passes and _has_begin(top, name, name)):
+            yield name
+        elif name == LOCK and not _has_begin(top, name, name):
+            yield name
+
+
+def require_own_pass(top: Directory, name: str) -> None:
+    """Raises FolderError where the folder of a pass has anything that no run left there."""
+    with _opened_pass(top, name) as inside:
+        names = inside.names()
+        if _OLD_PIECE in names:
+            raise FolderError(
+                "%s has pieces that another version of this package wrote; give another folder" % top.path
+            )
+        require_regular(inside, (KEPT, JOURNAL))
+        _require_own_pieces(inside, names)
+
+
+def _require_own_pieces(inside: Directory, names: Sequence[str]) -> None:
+    """Raises FolderError where one of these names in the folder of a pass isn't a run's."""
+    foreign = [name for name in names if name not in (KEPT, JOURNAL) and not _is_leftover(inside, name)]
+    if JOURNAL in names and not has_records(inside):
+        foreign.append(JOURNAL)
+    elif KEPT in names and not _is_journaled(inside):
+        foreign.append(KEPT)
+    if foreign:
+        raise FolderError("%s has other files in it, as %s; give an empty folder" % (inside.path, foreign[0]))
+
+
+def _is_journaled(inside: Directory) -> bool:
+    """Whether the pieces of a pass are empty, or have a journal beside them."""
+    status = inside.status(KEPT)
+    return status is None or not status.st_size or has_records(inside)
+
+
+def require_other_list(top: Directory, listed: Optional[FileId]) -> None:
+    """Raises FolderError where a file that a run writes here is the list itself, where that is a file."""
+    if listed is None:
+        return
+    for name in top.names():
+        if name in (*FILES, LOCK) or _PART.fullmatch(name):
+            _require_other(top, name, listed)
+        elif PASS.fullmatch(name) and _is_folder(top, name):
+            with _opened_pass(top, name) as inside:
+                for inner in inside.names():
+                    _require_other(inside, inner, listed)
+
+
+def _is_folder(top: Directory, name: str) -> bool:
+    status = top.status(name)
+    return status is not None and stat.S_ISDIR(status.st_mode)
+
+
+def _require_other(directory: Directory, name: str, listed: FileId) -> None:
+    """Raises FolderError where a name leads to the list, by a link too."""
+    with contextlib.suppress(OSError):
+        if id_of(os.stat(name, dir_fd=directory.handle)) == listed:
+            raise FolderError(
+                "the list is %s, which a run in that folder writes; give another" % directory.at(name)
+            )
+
+
+def pass_name(number: int) -> str:
+    """The name of the folder of a pass."""
+    return "%s%d" % (_PASS_BEGIN, number)
+
 
 FORMAT = 3
 # How what a folder was begun with begins and ends, around its seal. It tells how many bytes it has, so that a
@@ -65,11 +231,6 @@ $again
 def as_word(path: str) -> str:
     """A path as a command line takes it: one that begins with `-` is no option there."""
     return os.path.join(os.curdir, path) if path.startswith("-") else path
-
-
-def words_of(limits: Limits) -> str:
-    """Limits as `--pass` takes them."""
-    return "steps=%d,cells=%d,depth=%d,nodes=%d" % limits.numbers()
 
 
 @dataclasses.dataclass
@@ -166,30 +327,6 @@ def _is_cut(text: str) -> bool:
     return is_short and not text.endswith('"\n}\n')
 
 
-def limits_of(words: str) -> Limits:
-    """The limits that words as `steps=1000,cells=1024` name; those that aren't named are the program's.
-    Raises ValueError, LimitsError."""
-    found: Dict[str, int] = {}
-    # A comma also stands between the digits of a number.
-    for word in re.split(",(?![0-9]{3}(?:,|$))", words):
-        name, _, number = word.partition("=")
-        if name not in Limits.RANGES or name in found or number.startswith("-"):
-            raise _no_limit(words, word)
-        try:
-            found[name] = whole_number(number)
-        except ValueError:
-            raise _no_limit(words, word) from None
-    return Limits(**found)
-
-
-def _no_limit(words: str, word: str) -> ValueError:
-    """The error for a word of a pass that is no limit."""
-    return ValueError(
-        "--pass %s: %r is no limit; a pass is as steps=1000,cells=1024,depth=40,nodes=10000,"
-        " each at most once" % (words, word)
-    )
-
-
 def key_of(passes: Sequence[Limits], keep: Keep, library: str) -> str:
     """What the journal of the last of these passes is sealed with."""
     key = "%d %s %s %s" % (FORMAT, " ".join(map(words_of, passes)), keep, library)
@@ -224,7 +361,8 @@ class Folder:
             require_other_list(self._top, list_place)
             begun = self.begun()
             require_own(self._top, None if begun is None else len(begun.passes))
-            self._own = pins_of(self._top)
+            found = {name: self._top.pin(name) for name in FILES}
+            self._own = {name: pin for name, pin in found.items() if pin is not None}
         except BaseException:
             self.close()
             raise
@@ -280,19 +418,12 @@ class Folder:
 
     def begin(self, begun: Begun) -> None:
         """Writes down what it is begun with."""
-        self._write(RUN, begun.text().encode())
+        self.write(RUN, begun.text())
 
-    def explain(self, begun: Begun) -> None:
-        """Writes the page that says what its files are."""
-        self._write(README, begun.page(self.path).encode("utf-8", "surrogateescape"))
-
-    def write_summary(self, summary: bytes) -> None:
-        """Writes the summary."""
-        self._write(SUMMARY, summary)
-
-    def _write(self, name: str, text: bytes) -> None:
+    def write(self, name: str, text: str) -> None:
+        """Writes one of its files whole."""
         remove_leftovers(self._top)
-        self._put(name, lambda number: write_blocks(number, [text]))
+        self._put(name, lambda number: write_blocks(number, [text.encode("utf-8", "surrogateescape")]))
 
     def _put(self, name: str, fill: Callable[[int], None]) -> None:
         """Writes a file whole or not at all. Raises RunError where another made one of that name meanwhile,
@@ -322,13 +453,13 @@ class Folder:
         else:
             self._put(VERDICTS, only.copy_whole)
 
-    def join_verdicts(self, passes: Sequence[PassFolder], is_all_kept: bool) -> Checksum:
+    def join_verdicts(self, passes: Sequence[PassFolder]) -> Checksum:
         """Writes the verdicts of several passes, and gives their checksum. Raises RunError, OSError."""
         total = Checksum()
 
         def fill(number: int) -> None:
             nonlocal total
-            for block in joined(passes, is_all_kept):
+            for block in joined(passes):
                 write_blocks(number, [block])
                 total = total.followed_by(block)
             passes[0].take_back()
@@ -338,8 +469,11 @@ class Folder:
 
     def open_pass(self, passes: Sequence[Limits], keep: Keep, identity: Identity) -> PassFolder:
         """The folder of the last of these passes."""
-        key = key_of(passes, keep, identity.library)
-        return PassFolder(self._top, len(passes), key)
+        number, key = len(passes), key_of(passes, keep, identity.library)
+        inside = self._top.subdirectory(pass_name(number))
+        self._top.sync()
+        remove_leftovers(inside)
+        return PassFolder(self._top, inside, number, key)
 
     def close(self) -> None:
         for pin in self._own.values():

@@ -1,4 +1,5 @@
-"""A whole run: its folder, its passes one after another, and what it leaves."""
+"""A whole run: its passes one after another, the summary that it leaves, and whether verdicts and journals go with
+that."""
 
 from __future__ import annotations
 
@@ -7,26 +8,166 @@ import contextlib
 import dataclasses
 import datetime
 import json
+import os
 import time
-from typing import Any, Callable, Counter, Dict, List, Optional, Sequence, Tuple
+from typing import Any, Callable, Counter, Dict, Iterator, List, Optional, Sequence, Tuple
 
-from ..limits import Limits
-from .checksums import Checksum
+from .._files import Checksum, Directory, KindError
+from ..counts import KINDS
+from ..limits import Limits, words_of
+from .chunks import Counts, Identity, keep_of
 from .errors import FolderError
-from .folder import Begun, Folder, words_of
-from .handing import HandingRun
-from .joining import left_by
-from .keeping import Keep
-from .passes import Manner, Pass, PassResult, PassRun
-from .pieces import PassFolder
-from .reply_checks import KINDS
-from .source import Cuttable, Lines, ListFile
-from .tasks import Identity
-from .threads import ThreadsRun
-from .workplace import Threads
+from .folder import README, RUN, SUMMARY, Begun, Folder, key_of, pass_name
+from .input import Cuttable, Lines, ListFile
+from .journal import JOURNAL, VERDICTS, Journal, PassFolder, left_by
+from .local import ThreadsRun
+from .passes import Manner, Pass, PassResult, Threads
+from .remote import HandingRun
+
+_AGAIN = "run the command of that folder again, which writes both anew"
 
 
-Total = Callable[[int], Optional[float]]
+def _checksum_of(fields: Dict[str, Any]) -> Optional[Checksum]:
+    """The checksum of verdicts that a summary says; None where an earlier version of this package wrote it."""
+    return None if "verdicts" not in fields else Checksum.of_fields(fields["verdicts"])
+
+
+@dataclasses.dataclass(frozen=True)
+class PassSummary:
+    """What a summary says of a pass. `checksum` is that of what is kept of its pieces."""
+
+    limits: Limits
+    lines: int
+    pieces: int
+    counts: Counts
+    checksum: Optional[Checksum]
+
+    @classmethod
+    def of(cls, fields: Dict[str, Any]) -> PassSummary:
+        """That of a pass's fields. Raises ValueError, KeyError, TypeError."""
+        counts = {kind: int(fields["counts"][kind]) for kind in KINDS}
+        limits = Limits(**fields["limits"])
+        return cls(limits, int(fields["lines"]), int(fields["pieces"]), counts, _checksum_of(fields))
+
+
+@dataclasses.dataclass(frozen=True)
+class RunSummary:
+    """What a summary says of a whole run. `checksum` is that of the verdicts."""
+
+    passes: Tuple[PassSummary, ...]
+    identity: Identity
+    kept: str
+    lines: int
+    counts: Counts
+    checksum: Optional[Checksum]
+
+    @classmethod
+    def read(cls, text: str) -> RunSummary:
+        """What a text says. Raises ValueError, KeyError, TypeError."""
+        fields = json.loads(text)
+        passes = tuple(map(PassSummary.of, fields["passes"]))
+        by = Identity(*(str(fields[name]) for name in ("version", "commit", "library")))
+        counts = {kind: int(fields["counts"][kind]) for kind in KINDS}
+        kept, lines = str(keep_of([fields["kept"]])), int(fields["lines"])
+        return cls(passes, by, kept, lines, counts, _checksum_of(fields))
+
+
+class FinishedRun:
+    """The folder of a run that came to its end, by the handle of the directory that was opened. Raises
+    FolderError where it is none, OSError."""
+
+    def __init__(self, path: str) -> None:
+        self._top = Directory.open(path)
+        try:
+            self.verdicts = self._top.at(VERDICTS)
+            self.summary = self._read()
+        except BaseException:
+            self._top.close()
+            raise
+
+    def close(self) -> None:
+        self._top.close()
+
+    def _read(self) -> RunSummary:
+        path = self._top.path
+        if self._top.status(RUN) is None:
+            raise FolderError(
+                "%s is a folder, but not of `budlarem run`; give a file of verdict lines" % path
+            )
+        for name in (SUMMARY, VERDICTS):
+            if self._top.status(name) is None:
+                raise FolderError(
+                    "%s has no %s: that run isn't at its end; its command goes on" % (path, name)
+                )
+        try:
+            os.close(self._top.open_file(VERDICTS, os.O_RDONLY))
+            with open(self._top.open_file(SUMMARY, os.O_RDONLY), encoding="utf-8") as file:
+                return RunSummary.read(file.read())
+        except KindError as error:
+            raise FolderError(str(error)) from None
+        except (ValueError, KeyError, TypeError) as error:
+            raise FolderError(
+                "%s isn't as a run writes it: %s; its command writes it anew" % (self._top.at(SUMMARY), error)
+            ) from None
+
+    def require_journals(self) -> None:
+        """Raises FolderError where the journal of a pass, if it is still there, isn't of this run. OSError."""
+        for number, one in enumerate(self.summary.passes, 1):
+            with self._journal(number) as journal:
+                if journal is not None:
+                    self._require_records(number, one, journal)
+
+    @contextlib.contextmanager
+    def _journal(self, number: int) -> Iterator[Optional[Journal]]:
+        """The journal of a pass; None where its folder was removed."""
+        name = pass_name(number)
+        if self._top.status(name) is None:
+            yield None
+            return
+        limits = [one.limits for one in self.summary.passes[:number]]
+        key = key_of(limits, keep_of([self.summary.kept]), self.summary.identity.library)
+        with contextlib.closing(self._top.subdirectory(name)) as inside:
+            if inside.status(JOURNAL) is None:
+                yield None
+                return
+            with contextlib.closing(Journal(inside, key, is_read_only=True)) as journal:
+                yield journal
+
+    def _require_records(self, number: int, one: PassSummary, journal: Journal) -> None:
+        """Raises FolderError where the records of a pass don't come to what the summary says of it."""
+        lines, checksum, counts = 0, Checksum(), dict.fromkeys(KINDS, 0)
+        for index in range(one.pieces):
+            record = journal.read(index)
+            if record is None or record.first != lines:
+                raise self._apart(number, "piece %d isn't of the run that the summary is of" % (index + 1))
+            lines += record.lines
+            checksum = checksum.joined_with(Checksum(*record.kept))
+            for kind, count in record.counts_by_kind().items():
+                counts[kind] += count
+        if (lines, counts) != (one.lines, one.counts):
+            raise self._apart(number, "it has %d lines, and the summary says %d" % (lines, one.lines))
+        if one.checksum not in (None, checksum):
+            raise self._apart(number, "its pieces aren't those that the summary is of")
+
+    def _apart(self, number: int, why: str) -> FolderError:
+        journal = os.path.join(self._top.at(pass_name(number)), JOURNAL)
+        return FolderError("%s doesn't go with %s: %s; %s" % (journal, SUMMARY, why, _AGAIN))
+
+    def require_verdicts(self, checksum: Checksum, counts: Dict[str, int]) -> None:
+        """Raises FolderError where verdicts with this checksum, of which there are so many of each kind,
+        aren't those that the summary is of."""
+        said = self.summary.counts
+        other = next((kind for kind in said if said[kind] != counts.get(kind, 0)), None)
+        why = ""
+        if other is not None:
+            why = "it counts %d %s, and there are %d" % (said[other], other, counts.get(other, 0))
+        elif self.summary.checksum not in (None, checksum):
+            why = "their bytes aren't those that it is of"
+        if why:
+            raise FolderError(
+                "%s doesn't go with %s: %s; %s" % (self._top.at(SUMMARY), VERDICTS, why, _AGAIN)
+            )
+        self._top.require_named()
 
 
 @dataclasses.dataclass(frozen=True)
@@ -59,7 +200,7 @@ def run(folder: Folder, source: ListFile, passes: Sequence[Limits], manner: Mann
 def _run_passes(folder: Folder, source: ListFile, passes: Sequence[Limits], manner: Manner) -> Outcome:
     began = time.time(), time.monotonic()
     begun = begin(folder, source, passes, manner)
-    folder.explain(begun)
+    folder.write(README, begun.page(folder.path))
     results: List[PassResult] = []
     with contextlib.ExitStack() as opened:
         folders: List[PassFolder] = []
@@ -69,7 +210,7 @@ def _run_passes(folder: Folder, source: ListFile, passes: Sequence[Limits], mann
             opened.callback(found.close)
             lines, known = _lines_for(source, folders, results, begun)
             manner.progress.begin(number, len(passes), _total_of(source, lines, known))
-            results.append(_pass_run(Pass(found, limits, manner, tuple(folders), known)).run(lines))
+            results.append(_run_pass(Pass(found, limits, manner, tuple(folders), known), lines))
             folders.append(found)
             if begun.list_lines is None:
                 begun.list_lines = results[0].lines
@@ -79,19 +220,20 @@ def _run_passes(folder: Folder, source: ListFile, passes: Sequence[Limits], mann
         if len(folders) == 1:
             folder.write_verdicts(folders[0])
         else:
-            checksum = folder.join_verdicts(folders, not manner.keep.only_left)
+            checksum = folder.join_verdicts(folders)
     outcome = outcome_of(results)
     summary = summary_of(source, results, outcome, manner, began, checksum)
-    folder.write_summary((json.dumps(summary, indent=2) + "\n").encode())
+    folder.write(SUMMARY, json.dumps(summary, indent=2) + "\n")
     folder.require_named()
     manner.progress.end()
     return outcome
 
 
-def _pass_run(asked: Pass) -> PassRun:
-    """What decides a pass, by whom the manner says."""
+def _run_pass(asked: Pass, lines: Cuttable) -> PassResult:
+    """Decides a pass, where the manner says."""
     place = asked.manner.place
-    return ThreadsRun(asked, place) if isinstance(place, Threads) else HandingRun(asked, place)
+    decider = ThreadsRun(asked, place) if isinstance(place, Threads) else HandingRun(asked, place)
+    return decider.run(lines)
 
 
 def _lines_for(
@@ -104,7 +246,7 @@ def _lines_for(
     return Lines(left_by(folders[-1])), counts["undecided steps"] + counts["undecided cells"]
 
 
-def _total_of(source: ListFile, lines: Cuttable, known: Optional[int]) -> Total:
+def _total_of(source: ListFile, lines: Cuttable, known: Optional[int]) -> Callable[[int], Optional[float]]:
     """Of how many lines some lines are a part, where that is known."""
 
     def total(done: int) -> Optional[float]:
@@ -125,9 +267,7 @@ def begin(folder: Folder, source: ListFile, passes: Sequence[Limits], manner: Ma
         begun = Begun(list(passes), manner.keep, manner.identity, source.name, size)
         folder.begin(begun)
         return begun
-    _hold_library(folder, begun.identity, manner.identity)
-    _hold_passes(folder, begun.passes, passes)
-    _hold_keep(folder, begun.keep, manner.keep)
+    _require_same(folder, begun, passes, manner)
     if size is not None and begun.list_bytes is not None and size != begun.list_bytes:
         raise FolderError(
             "%s isn't the list that %s was begun with; give that list, or another folder:"
@@ -140,28 +280,20 @@ def begin(folder: Folder, source: ListFile, passes: Sequence[Limits], manner: Ma
     return begun
 
 
-def _hold_library(folder: Folder, theirs: Identity, ours: Identity) -> None:
-    if theirs.library != ours.library:
-        raise FolderError(
-            "%s was begun with another library: %s; here is %s; install that one, or give another folder"
-            % (folder.path, theirs, ours)
-        )
-
-
-def _hold_keep(folder: Folder, theirs: Keep, ours: Keep) -> None:
-    if theirs != ours:
-        raise FolderError(
-            "%s was begun with --keep %s; here is --keep %s; give the same, or another folder"
-            % (folder.path, theirs, ours)
-        )
-
-
-def _hold_passes(folder: Folder, theirs: Sequence[Limits], ours: Sequence[Limits]) -> None:
-    if list(ours[: len(theirs)]) != list(theirs):
-        raise FolderError(
-            "%s was begun with other passes: %s; here are %s; give the same ones, with others behind them or"
-            " not, or another folder" % (folder.path, _passes_text(theirs), _passes_text(ours))
-        )
+def _require_same(folder: Folder, begun: Begun, passes: Sequence[Limits], manner: Manner) -> None:
+    """Raises FolderError where the folder was begun with another library, other passes or another --keep."""
+    sentence = ""
+    if begun.identity.library != manner.identity.library:
+        sentence = "another library: %s; here is %s; install that one, or give another folder"
+        sentence %= (begun.identity, manner.identity)
+    elif list(passes[: len(begun.passes)]) != begun.passes:
+        sentence = "other passes: %s; here are %s; give the same ones, with others behind them or not, or"
+        sentence = (sentence + " another folder") % (_passes_text(begun.passes), _passes_text(passes))
+    elif begun.keep != manner.keep:
+        sentence = "--keep %s; here is --keep %s; give the same, or another folder"
+        sentence %= (begun.keep, manner.keep)
+    if sentence:
+        raise FolderError("%s was begun with %s" % (folder.path, sentence))
 
 
 def _passes_text(passes: Sequence[Limits]) -> str:
@@ -193,10 +325,8 @@ def summary_of(
     """What the summary says. The run began at this time, by the wall's clock and by one that never goes
     back, which counts its seconds; its verdicts have this checksum."""
     seconds = time.monotonic() - began[1]
-    times = [
-        datetime.datetime.fromtimestamp(when, datetime.timezone.utc)
-        for when in (began[0], began[0] + seconds)
-    ]
+    utc = datetime.timezone.utc
+    times = [datetime.datetime.fromtimestamp(began[0] + after, utc) for after in (0, seconds)]
     return {
         "list": source.name,
         "lines": outcome.lines,

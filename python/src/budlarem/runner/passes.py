@@ -1,28 +1,285 @@
-"""One pass: what all ways to decide its pieces share. Each piece is looked at, kept, and put down as it
-comes."""
+"""One pass: how its lines are cut, which pieces of it stand, and what all ways to decide them share.
+
+Each piece is looked at, kept, written behind the one before it, and put down as standing once it is on the
+disk.
+"""
 
 from __future__ import annotations
 
 import collections
 import dataclasses
+import threading
 import time
-from typing import Callable, Counter, Optional, Sequence
+from concurrent.futures import Future
+from typing import Any, Callable, Counter, Dict, Iterator, List, NamedTuple, Optional, Protocol, Sequence, Set
+from typing import Tuple, Union
 
-from .._lengths import LONGEST_OF_ERROR
+from .._files import Checksum
 from ..limits import Limits
-from .checksums import Checksum
-from .cutting import HERE, Cutter, Piece, PieceSize
+from .chunks import Counts, Identity, Keep, Numbers, Task, look_at_answers, look_at_verdicts
 from .errors import CheckError, FolderError, ReplyError
-from .joining import number_in_list
-from .journal import Record
-from .keeping import Keep
-from .pieces import PassFolder
+from .input import Cuttable
+from .journal import PassFolder, Record, number_in_list
 from .progress import Progress
-from .reply_checks import look_at_answers, look_at_verdicts
-from .source import Cuttable
-from .tasks import Identity
-from .workplace import Workplace
-from .writing import Writer
+
+
+@dataclasses.dataclass(frozen=True)
+class Threads:
+    """So many threads of this process."""
+
+    count: int
+
+    def width(self) -> int:
+        """How many pieces are under way at most."""
+        return 2 * self.count
+
+
+class Executing(Protocol):
+    """What the runner asks of others who decide pieces."""
+
+    def width(self) -> int:
+        """How many pieces are under way at most."""
+
+    def submit(self, task: Task, lines: bytes, limits: Numbers) -> Future[Any]:
+        """Hands over a piece."""
+
+    def tend(self) -> None:
+        """Is called now and then, for what has to be done beside handing over. Raises RunError."""
+
+    def status(self) -> str:
+        """What a person may want to know of it besides; empty where that is nothing."""
+
+
+Workplace = Union[Threads, Executing]
+
+
+# A piece that was cut before is cut so again, whatever it has.
+_ANY_SIZE = 1 << 62
+
+
+class PieceSize(NamedTuple):
+    """How many lines and bytes a piece has at most."""
+
+    lines: int
+    bytes: int
+
+
+# Larger pieces gain nothing here; those that are sent elsewhere cost something each.
+HERE, SENT = PieceSize(20_000, 560_000), PieceSize(80_000, 2_000_000)
+
+
+class PiecePace:
+    """How many lines a piece gets, such that it lasts about so many seconds: one at first, and not many more
+    than a piece that was decided had. It lasts longer where so many are under way, half of which wait, that
+    more than RATE would come back in a second."""
+
+    SECONDS, GROWTH, MEMORY, RATE = 2.0, 8, 0.7, 50
+
+    def __init__(self, most: int) -> None:
+        self.now, self._most, self._largest = 1, most, 0
+        self._lines, self._seconds = 0.0, 0.0
+
+    def took(self, lines: int, seconds: float, width: int) -> None:
+        """Takes in how long a piece took, where so many are under way."""
+        self._lines = self.MEMORY * self._lines + lines
+        self._seconds = self.MEMORY * self._seconds + seconds
+        self._largest = max(self._largest, lines)
+        lasting = max(self.SECONDS, width / 2 / self.RATE)
+        fitting = self._lines * lasting / max(self._seconds, 1e-9)
+        self.now = max(int(min(fitting, self._most, self.GROWTH * self._largest)), 1)
+
+
+@dataclasses.dataclass
+class Piece:
+    """Lines of a pass: the piece's number and how many lines come before it, both from 0 on; `record` is the
+    journal's, `written` what was decided, and `kept` what of it is still to be written, each once there is
+    one; `stood` says that it was decided before this run; `handed_over` is when it was, by the clock that
+    never goes back, and `is_timed` says that the pace knows of it."""
+
+    index: int
+    first: int
+    given: bytes
+    lines: int
+    record: Optional[Record] = None
+    written: Optional[bytes] = None
+    kept: Optional[bytes] = None
+    stood: bool = False
+    seconds: float = 0.0
+    handed_over: float = 0.0
+    is_timed: bool = False
+    tries: int = 0
+    is_confirmed: bool = False
+    counts: Counts = dataclasses.field(default_factory=dict)
+
+    def drop(self) -> None:
+        """Drops its bytes, once they are written."""
+        self.given, self.written, self.kept = b"", None, None
+
+
+class Cutter:
+    """Cuts the lines of a pass: those pieces that the journal has as it has them, the others by the pace.
+    `list_name` is for sentences; `known` is how many lines there are, where that is known."""
+
+    def __init__(self, folder: PassFolder, list_name: str, most: PieceSize, known: Optional[int]) -> None:
+        self._folder, self._list_name, self._known = folder, list_name, known
+        self._most_bytes = most.bytes
+        self.pace = PiecePace(most.lines)
+
+    def pieces(self, lines: Cuttable) -> Iterator[Piece]:
+        """The pieces. Raises FolderError where they aren't those that the journal was written for, RunError,
+        OSError."""
+        index, first = 0, 0
+        while True:
+            record = self._folder.journal.read(index)
+            if record is not None and record.first != first:
+                record = None
+            count, size, is_begun = self._room_of(record, index, first)
+            before = lines.taken_lines
+            given = lines.take(count, size)
+            found = lines.taken_lines - before
+            if (record is not None and not record.fits(given)) or (is_begun and found != count):
+                raise self._differs(first, count, found)
+            self._hold_length(first, found)
+            if not given:
+                return
+            yield Piece(index, first, given, found, record)
+            index, first = index + 1, first + found
+
+    def _hold_length(self, first: int, found: int) -> None:
+        """Raises FolderError where there are more lines than are known of, or fewer at their end."""
+        known = self._known
+        if known is not None and (first + found > known or (not found and first < known)):
+            raise FolderError(self._other_list() + "that one had %d lines" % known)
+
+    def _room_of(self, record: Optional[Record], index: int, first: int) -> Tuple[int, int, bool]:
+        """How many lines and bytes a piece gets, and whether there must be so many lines."""
+        if record is not None:
+            return record.lines, _ANY_SIZE, True
+        gap = self._folder.journal.gap(index, first)
+        if gap is None:
+            return self.pace.now, self._most_bytes, False
+        pieces, count = gap
+        return -(-count // pieces), _ANY_SIZE, True
+
+    def _other_list(self) -> str:
+        return "%s isn't the list that this folder was begun with; give that list, or another folder: " % (
+            self._list_name
+        )
+
+    def _differs(self, first: int, count: int, found: int) -> FolderError:
+        """The error that says which lines aren't those that were decided."""
+        if self._folder.number > 1:
+            return FolderError(
+                "%s was decided from other lines than the pass before leaves; remove it, and run again"
+                % self._folder.path
+            )
+        if found < count:
+            return FolderError(self._other_list() + "it ends after line %d" % (first + found))
+        return FolderError(self._other_list() + "lines %d to %d differ" % (first + 1, first + count))
+
+
+# Pieces wait for those before them for so many seconds at most, and so many bytes of them.
+_SOON, MOST_BYTES = 1.0, 1 << 24
+
+
+class Writer:
+    """Writes pieces one behind another in the list's order, as long as none comes much later than those
+    behind it: `most` bytes of these wait at most, and no longer than a second. Else they are written
+    ahead."""
+
+    def __init__(self, folder: PassFolder, most: int = MOST_BYTES) -> None:
+        self._folder, self._most = folder, most
+        self._changed = threading.Condition()
+        # Pieces that wait, and how many bytes of them are to be written.
+        self._waiting: Dict[int, Piece] = {}
+        self._size = 0
+        # The piece that is waited for, since when, and those behind it that were written ahead.
+        self._next, self._since = 0, time.monotonic()
+        self._ahead: Set[int] = set()
+        # Pieces that are written, and not yet put down as standing; how many threads are writing.
+        self._written: List[Piece] = []
+        self._writing, self._is_closed = 0, False
+
+    def add(self, piece: Piece) -> None:
+        """Takes a piece that is done, and writes what may be written by then."""
+        with self._changed:
+            if self._is_closed:
+                return
+            self._waiting[piece.index] = piece
+            self._size += len(piece.kept or b"")
+            due = self._in_turn()
+            if self._size > self._most:
+                due += self._out_of_turn()
+            self._writing += 1
+        self._write(due)
+
+    def hurry(self) -> None:
+        """Writes what has waited for long."""
+        with self._changed:
+            if self._is_closed or not self._waiting or time.monotonic() - self._since < _SOON:
+                return
+            due = self._out_of_turn()
+            self._writing += 1
+        self._write(due)
+
+    def end(self) -> None:
+        """Writes what waits, and takes no more. Returns when nobody is writing."""
+        with self._changed:
+            self._is_closed = True
+            due = self._out_of_turn()
+            self._writing += 1
+        try:
+            self._write(due)
+        finally:
+            with self._changed:
+                while self._writing:
+                    self._changed.wait()
+
+    def written(self) -> List[Piece]:
+        """The pieces that were written since this was asked."""
+        with self._changed:
+            pieces, self._written = self._written, []
+        return pieces
+
+    def _in_turn(self) -> List[Piece]:
+        """What may be written in order, its places reserved."""
+        due: List[Piece] = []
+        while self._next in self._waiting or self._next in self._ahead:
+            self._ahead.discard(self._next)
+            if self._next in self._waiting:
+                due.append(self._placed(self._waiting.pop(self._next)))
+            self._next, self._since = self._next + 1, time.monotonic()
+        return due
+
+    def _out_of_turn(self) -> List[Piece]:
+        """All that waits, its places reserved."""
+        due = [self._placed(self._waiting[index]) for index in sorted(self._waiting)]
+        self._ahead.update(self._waiting)
+        self._waiting = {}
+        return due
+
+    def _placed(self, piece: Piece) -> Piece:
+        """A piece, with a place for what is kept of it where that isn't there yet."""
+        self._size -= len(piece.kept or b"")
+        if piece.kept is not None and piece.record is not None:
+            self._folder.journal.make_room(piece.index)
+            place = self._folder.reserve(len(piece.kept))
+            piece.record = dataclasses.replace(piece.record, place=place)
+        return piece
+
+    def _write(self, due: List[Piece]) -> None:
+        try:
+            for piece in due:
+                if piece.kept is not None and piece.record is not None:
+                    self._folder.write(piece.record.place, piece.kept)
+                piece.drop()
+        finally:
+            with self._changed:
+                self._writing -= 1
+                self._changed.notify_all()
+        with self._changed:
+            self._written += due
+
 
 # Pieces are put down as standing within a second; sooner where that takes a tenth of the time or less.
 _SOONEST, _LATEST, _SHARE = 0.1, 1.0, 10.0
@@ -128,7 +385,7 @@ class PassRun:
             if kept is None:
                 raise ReplyError("it was cut or changed")
             if not self._manner.keep.only_left:
-                look_at_verdicts(piece.given, kept, piece.lines)
+                look_at_verdicts(piece.given, kept)
         except ReplyError as error:
             where = "piece %d of pass %d" % (piece.index + 1, self._folder.number)
             self._manner.progress.print_line("%s is decided again: %s" % (where, error))
@@ -216,11 +473,3 @@ class PassRun:
         """Whether the journal doesn't say yet that a piece is confirmed."""
         record = self._folder.journal.read(piece.index)
         return piece.is_confirmed and (record is None or not record.is_checked)
-
-
-def sentence_of(error: BaseException) -> str:
-    """An error as a sentence has it."""
-    if isinstance(error, ReplyError):
-        return str(error)
-    name, text = type(error).__name__, str(error)[:LONGEST_OF_ERROR]
-    return "%s: %s" % (name, text) if text else name

@@ -1,0 +1,102 @@
+#!/usr/bin/python3
+"""Build the Python package with the library in it, as a wheel, and print the wheel's path.
+
+The version names the commit; where files differ from it, `.changed` and a digest stand behind it. The same
+commit gives the same bytes. Needs Debian's packages python3-pip, python3-setuptools, python3-wheel and
+binutils, and no network.
+"""
+
+from __future__ import annotations
+
+import argparse
+import hashlib
+import os
+import pathlib
+import shutil
+import subprocess
+import sys
+import tempfile
+from typing import Tuple
+
+TOP = pathlib.Path(__file__).resolve().parent.parent
+sys.path.insert(0, str(TOP / "scripts" / "lib"))
+
+from commands import NEWEST_GLIBC, glibc_of, version_of_header, written  # noqa: E402
+
+FILES = ("README.md", "pyproject.toml", "setup.py", "src")
+# The files that the version's digest covers, where they differ from the commit.
+CHANGEABLE = ("python", "crates", "include", "Makefile")
+PIP = ("-m", "pip", "wheel", "--no-build-isolation", "--no-deps", "--no-index", "--disable-pip-version-check")
+VERSION = '''"""The version, its commit, and how many bytes the library has."""
+
+VERSION = "%s"
+COMMIT = "%s"
+LIBRARY_BYTES = %d
+'''
+
+
+def of_git(*words: str) -> str:
+    return written("git", "-C", str(TOP), *words)
+
+
+def version_of(library: pathlib.Path) -> Tuple[str, str]:
+    """The version and the commit."""
+    commit = of_git("rev-parse", "HEAD")
+    version = "%s+g%s" % (version_of_header(), commit[:12])
+    if not of_git("status", "--porcelain", "--", *CHANGEABLE):
+        return version, commit
+    digest = hashlib.sha256(library.read_bytes())
+    for file in sorted((TOP / "python").rglob("*")):
+        if file.suffix in (".py", ".md", ".html", ".txt", ".toml") and "tests" not in file.parts:
+            digest.update(file.read_bytes())
+    return "%s.changed.%s" % (version, digest.hexdigest()[:8]), commit + ", changed"
+
+
+def copy_sources(library: pathlib.Path, folder: pathlib.Path) -> None:
+    """Copy into a folder all files that the wheel is made of."""
+    skipped = shutil.ignore_patterns("__pycache__", "*.egg-info", "libbb.so")
+    shutil.copytree(TOP / "python" / "src", folder / "src", ignore=skipped)
+    for name in FILES[:-1]:
+        shutil.copy(TOP / "python" / name, folder / name)
+    package = folder / "src" / "budlarem"
+    shutil.copyfile(library, package / "libbb.so")
+    os.chmod(package / "libbb.so", 0o755)
+    text = VERSION % (*version_of(library), library.stat().st_size)
+    (package / "_version.py").write_text(text, encoding="utf-8")
+
+
+def build(library: pathlib.Path, out: pathlib.Path) -> pathlib.Path:
+    """Build the wheel from a copy of the sources; return its path."""
+    environment = dict(os.environ, SOURCE_DATE_EPOCH=of_git("log", "-1", "--format=%ct"))
+    with tempfile.TemporaryDirectory() as name:
+        folder, made = pathlib.Path(name) / "package", pathlib.Path(name) / "made"
+        copy_sources(library, folder)
+        os.umask(0o022)
+        command = ["/usr/bin/python3", *PIP, "--quiet", "-w", str(made), str(folder)]
+        if subprocess.run(command, env=environment, stdout=sys.stderr).returncode != 0:
+            sys.exit("build_wheel: pip failed; it needs python3-pip, python3-setuptools and python3-wheel")
+        (wheel,) = made.glob("*.whl")
+        out.mkdir(parents=True, exist_ok=True)
+        shutil.copyfile(wheel, out / (wheel.name + ".part"))
+    os.replace(out / (wheel.name + ".part"), out / wheel.name)
+    return out / wheel.name
+
+
+def main() -> None:
+    parser = argparse.ArgumentParser(
+        description=__doc__, formatter_class=argparse.RawDescriptionHelpFormatter
+    )
+    parser.add_argument("--library", type=pathlib.Path, required=True, metavar="FILE", help="the libbb.so")
+    parser.add_argument("--out", type=pathlib.Path, default=TOP / "python" / "dist", metavar="FOLDER")
+    asked = parser.parse_args()
+    if not asked.library.is_file():
+        parser.error("%s is no file" % asked.library)
+    newest = glibc_of(asked.library)
+    if newest > NEWEST_GLIBC:
+        asks = ".".join(map(str, newest))
+        sys.exit("build_wheel: the library asks for glibc %s, which the wheel's tag doesn't say" % asks)
+    print(build(asked.library.resolve(), asked.out))
+
+
+if __name__ == "__main__":
+    main()

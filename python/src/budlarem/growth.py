@@ -1,0 +1,94 @@
+"""How the cells that a run visits grow with its steps: a guess from three looks, which claims nothing."""
+
+from __future__ import annotations
+
+import dataclasses
+import math
+from typing import List, Optional, Tuple
+
+from ._text import Words
+from .engine import trace
+from .limits import Limits, in_range
+
+# The powers of the steps between which a growth is called a root.
+_ROOT = (0.2, 0.8)
+
+
+class Growth(Words):
+    """How the cells that a run visits grow with its steps; `HALTS` where it ended before."""
+
+    STAYS = "stays"
+    LOGARITHM = "logarithm"
+    ROOT = "root"
+    LINE = "line"
+    HALTS = "halts"
+
+
+@dataclasses.dataclass(frozen=True)
+class Grown:
+    """How many cells a run has visited after a hundredth of `steps`, a tenth, and all, and how that grows.
+    `steps` are fewer than asked for where the cells ended the run, or the machine halted."""
+
+    steps: int
+    visited: Tuple[int, int, int]
+    growth: Growth
+
+
+def growth(visited: Tuple[int, int, int]) -> Growth:
+    """How these counts grow, each at ten times the steps of the one before."""
+    first, second, third = visited
+    if second == third:
+        return Growth.STAYS
+    power = math.log10(third / first) / 2
+    if power < _ROOT[0]:
+        return Growth.LOGARITHM
+    return Growth.ROOT if power < _ROOT[1] else Growth.LINE
+
+
+def _hundredths(machine: str, steps: int, cells: int) -> Tuple[Optional[bool], List[int]]:
+    """The cells visited after each hundredth of the steps, up to all of them; and whether the cells ended the
+    run before, None where it made all steps and went on."""
+    apart = max(steps // 100, 1)
+    rows = trace(machine, steps, cells, apart + steps % apart, apart)
+    found = list(rows)
+    went_on = len(found) == steps // apart and found[-1].state != "Z"
+    return (None if went_on else rows.cut), [len(now.cells) for now in found]
+
+
+def _last_step(machine: str, steps: int, cells: int) -> int:
+    """The last step that a run makes within these limits."""
+    last, apart = 0, max(steps // 100, 1)
+    while True:
+        last = max((now.step for now in trace(machine, steps, cells, last, apart)), default=last)
+        if apart == 1:
+            return last
+        apart = max(apart // 100, 1)
+
+
+def grown(machine: str, steps: int, cells: int = 65_536) -> Grown:
+    """How the cells that a machine visits grow, looked at after `steps` / 100, / 10, and all of them.
+
+    Staying: a tenth of the steps and all have the same cells. Else by the power of the steps with which they
+    grow from the first look to the last: below 0.2 it is called a logarithm, below 0.8 a root, else a line.
+    Where the cells end the run, or the machine halts, the steps are those that were made.
+
+    Raises what `trace` does; LimitsError where the steps are fewer than 100.
+
+    >>> grown("1RA1RA", steps=10_000).growth
+    <Growth.LINE: 'line'>
+    """
+    in_range("steps", steps, 100, Limits.RANGES["steps"][1])
+    is_cut, counts = _hundredths(machine, steps, cells)
+    if is_cut is not None:
+        steps = _last_step(machine, steps, cells)
+    if is_cut is False:
+        looks = (next(trace(machine, at, cells, at)) for at in (steps // 100, steps // 10, steps))
+        first, second, last = (len(now.cells) for now in looks)
+        return Grown(steps, (first, second, last), Growth.HALTS)
+    if is_cut:
+        counts = _hundredths(machine, steps, cells)[1]
+    if len(counts) < 100:
+        last = counts[-1] if counts else 0
+        return Grown(steps, (last, last, last), Growth.LINE)
+    visited = (counts[len(counts) // 100 - 1], counts[len(counts) // 10 - 1], counts[-1])
+    return Grown(steps, visited, growth(visited))

@@ -1,0 +1,34 @@
+"""Fixtures of the tests of the package."""
+
+from __future__ import annotations
+
+import os
+import pathlib
+import pytest
+import tempfile
+from support import TOP
+from support.runner import RunCase
+from typing import Iterator
+
+import budlarem
+
+# Files there need no disk, so that the tests take no time for it.
+MEMORY = "/dev/shm"
+SOURCE = TOP / "python" / "src"
+
+
+@pytest.fixture(scope="session", autouse=True)
+def library_of_package(request: pytest.FixtureRequest) -> None:
+    """The package of this repository finds the built library, in processes that tests start too. One that is
+    installed has a library of its own."""
+    if SOURCE in pathlib.Path(budlarem.__file__).parents:
+        library = request.getfixturevalue("library")
+        os.environ.update(BB_LIBRARY=str(library), PYTHONPATH=str(SOURCE))
+
+
+@pytest.fixture
+def case() -> Iterator[RunCase]:
+    """A list and a folder, and runs over them."""
+    with tempfile.TemporaryDirectory(dir=MEMORY if os.path.isdir(MEMORY) else None) as top:
+        with RunCase(pathlib.Path(top)) as made:
+            yield made

@@ -1,0 +1,175 @@
+"""`again.py`, the package's checker in plain Python, beside the program's checker."""
+
+from __future__ import annotations
+
+import ast
+import collections
+import os
+import pathlib
+import pytest
+import random
+import subprocess
+import sys
+from support import TOP
+from support.machines import mixed, seldom_halting
+from support.program import as_lines, ended, options
+from typing import Callable, Counter, Iterator, List, Tuple
+
+AGAIN = str(TOP / "python" / "src" / "budlarem" / "again.py")
+# What it may have of lines.
+MOST = 150
+# The limits by which the machines of four states are decided, and what the first ones leave.
+FIRST, LATER = (200, 256, 20, 1_000), (100_000, 4_096, 100, 10_000)
+# Within these no claim of so many steps, or of a tree of so many nodes, needs more cells or levels.
+STEPS, NODES = 2_000, 1_000
+LIMITS = (STEPS, 2 * STEPS, NODES, NODES)
+WORDS = {"ok": "true", "bad": "false", "open": "no claim", "over": "too long", "unread": "not a verdict line"}
+
+
+def said(*more: str, given: bytes = b"") -> Tuple[int, List[bytes], bytes]:
+    """The status of again.py over these lines, its answers, and what it says on standard error."""
+    done = ended([sys.executable, "-I", "-S", AGAIN, *more], given)
+    return done.status, done.output.split(b"\n")[:-1], done.error
+
+
+def test_form() -> None:
+    """It is short, and imports `sys` alone."""
+    text = pathlib.Path(AGAIN).read_text(encoding="utf-8")
+    assert text.count("\n") <= MOST
+    nodes = [node for node in ast.walk(ast.parse(text)) if isinstance(node, (ast.Import, ast.ImportFrom))]
+    names = [ast.unparse(node) for node in nodes]
+    assert names == ["import sys"]
+
+
+def test_words() -> None:
+    """Its words, bounds and statuses."""
+    halt = b"1RB1LB_1LA1RZ halt 6 4\n"
+    cases: List[Tuple[List[str], bytes, int, bytes]] = [
+        ([], halt, 0, b"true"),
+        (["--steps", "6"], halt, 0, b"true"),
+        (["--steps", "5"], halt, 1, b"too long"),
+        (["--nodes", "0"], b"0RA--- backward 1 1\n", 1, b"too long"),
+        ([], b"1RA1RA undecided cells\n", 0, b"no claim"),
+        ([], b"1RB1LB_1LA1RZ halt 6 5\n", 1, b"false"),
+        ([], b"1RB1LB_1LA1RZ halt 6 4\r\n", 1, b"not a verdict line"),
+    ]
+    for more, given, status, answer in cases:
+        found = said(*more, given=given)
+        assert found[:2] == (status, [answer])
+        assert b"1 " + answer in found[2]
+    for more in (["--steps"], ["--steps", "x"], ["--help"], ["one", "two"]):
+        status, _, error = said(*more)
+        assert status == 2 and b"--steps N" in error, (more, status, error)
+    status, _, error = said(str(TOP / "no such file"))
+    assert status == 3 and b"no such file" in error, (status, error)
+    with open("/dev/full", "wb") as full:
+        command = [sys.executable, AGAIN]
+        done = subprocess.run(command, input=halt, stdout=full, stderr=subprocess.PIPE)
+    right = done.returncode == 3 and b"No space left" in done.stderr
+    assert right, (done.returncode, done.stderr.decode())
+
+
+def memory_for(steps: int, path: pathlib.Path) -> int:
+    """The most memory that a run of so many steps in two cells takes, in KiB."""
+    path.write_text("0RB---_0LA--- cycler 0 %d\n" % steps)
+    with subprocess.Popen([sys.executable, AGAIN, "--steps", str(steps), str(path)]) as process:
+        _, status, used = os.wait4(process.pid, 0)
+        process.returncode = os.waitstatus_to_exitcode(status)
+    assert process.returncode == 0
+    return int(used.ru_maxrss)
+
+
+def test_memory(tmp_path: pathlib.Path) -> None:
+    """It keeps nothing for a step."""
+    few, many = (memory_for(steps, tmp_path / "claim.txt") for steps in (2, 2_000_000))
+    assert 0 < few and 0 < many < few + 1_024, (few, many)
+
+
+@pytest.mark.parametrize("every", ["10", pytest.param("1", marks=pytest.mark.slow)])
+def test_verdicts_on_four_states(bb: str, list_machines: Callable[..., List[str]], every: str) -> None:
+    """Every verdict on the machines of four states is true."""
+    machines = as_lines(list_machines(4, "--every", every))
+    first = ended([bb, "decide", *options(FIRST)], machines).output.splitlines(keepends=True)
+    left = b"".join(line.split(b" ")[0] + b"\n" for line in first if b" undecided " in line)
+    later = ended([bb, "decide", *options(LATER)], left).output.splitlines(keepends=True)
+    lines = b"".join([line for line in first if b" undecided " not in line] + later)
+    status, answers, error = said("--steps", str(LATER[0]), "--nodes", str(LATER[3]), given=lines)
+    assert status == 0
+    expected = [b"no claim" if b" undecided " in line else b"true" for line in lines.split(b"\n")[:-1]]
+    assert len(expected) > 80_000
+    assert answers == expected
+    print("%d lines compared" % len(lines))
+
+
+def machines_of(count: int, source: random.Random) -> Iterator[str]:
+    """Random machines: of all sizes, and those of 3 and 4 symbols that halt seldom."""
+    yield from mixed(count // 2, source.randrange(1 << 30))
+    for _ in range(count - count // 2):
+        yield seldom_halting(source, source.randint(1, 4), source.randint(2, 4))
+
+
+def changed_number(source: random.Random, word: bytes) -> bytes:
+    """A number that is near another, of another form, or far."""
+    if not word.isdigit():
+        return word
+    number = int(word)
+    near = [number + 1, max(number - 1, 0), 2 * number, number // 2, 0, source.randrange(STEPS + 2)]
+    far = [STEPS, STEPS + 1, NODES + 1, 2**64 - 1, 2**64, 10**30]
+    forms = [b"0" + word, b"+" + word, word + b" ", b"", b"-1", b"\xb2", word + b".0", b"1_0", b"\xd9\xa1"]
+    drawn = source.random()
+    if drawn < 0.6:
+        return b"%d" % source.choice(near)
+    return b"%d" % source.choice(far) if drawn < 0.8 else source.choice(forms)
+
+
+def forged(source: random.Random, line: bytes) -> bytes:
+    """A line with something in it changed."""
+    fields = line.split(b" ")
+    drawn = source.random()
+    if drawn < 0.5:
+        place = source.randrange(len(fields))
+        fields[place] = changed_number(source, fields[place])
+    elif drawn < 0.6:
+        fields[-2:] = reversed(fields[-2:])
+    elif drawn < 0.7:
+        numbers = [b"%d" % source.randrange(60) for _ in range(source.choice([1, 2, 2, 2, 3, 4, 4]))]
+        word = source.choice([b"halt", b"cycler", b"translated L", b"translated R", b"backward"])
+        fields[1:] = [word, *numbers]
+    elif drawn < 0.75:
+        fields[1:] = [b"undecided", source.choice([b"steps", b"cells", b"nodes"])]
+    elif drawn < 0.8 and len(fields) > 4:
+        del fields[source.randrange(len(fields))]
+    else:
+        place = source.randrange(len(line) + 1)
+        byte = source.choice(
+            [b"", b" ", b"\r", b"\t", b"0", b"1", b"9", b"A", b"Z", b"L", b"_", b"-", b"\xff"]
+        )
+        return line[:place] + byte + line[place + source.randint(0, 1) :]
+    return b" ".join(fields)
+
+
+def is_right(line: bytes, printed: bytes, answer: bytes) -> bool:
+    """Whether again.py answers a line as the program does. It has no bound on levels: a tree never has more
+    of them than nodes."""
+    if printed == b"over" and b" backward " in line and int(line.split(b" ")[2]) > NODES:
+        return answer in (b"too long", b"false")
+    return answer.decode() == WORDS[printed.decode()]
+
+
+@pytest.mark.parametrize("count", [4_000, pytest.param(40_000, marks=pytest.mark.slow)])
+def test_forged_lines(bb: str, count: int, rng: random.Random) -> None:
+    """Verdicts on random machines, and what is forged of them, are answered as by the program."""
+    source = rng
+    machines = as_lines(machines_of(count, source))
+    verdicts = ended([bb, "decide", *options(LIMITS)], machines).output.split(b"\n")[:-1]
+    lines = [*verdicts, *(forged(source, line) for line in verdicts), b"refused 775", b"refused 776", b""]
+    given = b"".join(line + b"\n" for line in lines) + b"1RA1RA undecided steps"
+    lines.append(b"1RA1RA undecided steps")
+    printed = ended([bb, "check", *options(LIMITS)], given).output.split(b"\n")[:-1]
+    _, answers, _ = said("--steps", str(STEPS), "--nodes", str(NODES), given=given)
+    assert len(lines) == len(printed) == len(answers)
+    counts: Counter[bytes] = collections.Counter(printed)
+    assert len(counts) == 5 and min(counts.values()) >= 20, counts
+    wrong = [row for row in zip(lines, printed, answers) if not is_right(*row)]
+    assert not wrong
+    print("%d lines compared" % len(lines))

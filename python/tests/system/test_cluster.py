@@ -1,0 +1,348 @@
+"""`budlarem run --scheduler` beside the program, over real schedulers and workers of dask."""
+
+from __future__ import annotations
+
+import contextlib
+import os
+import pathlib
+import pytest
+import random
+import signal
+import subprocess
+import time
+from support.clusters import Cluster, changed_package, cluster
+from support.machines import CHAMPION
+from support.program import MAX_CELLS, MAX_STEPS, as_lines
+from support.runs import LONG_MACHINE, PASSES, Case, Process, decided, expected, is_at_work, kill_often
+from support.runs import random_list, require_interrupted, seen
+from typing import Dict, Iterator, List, Tuple
+
+pytestmark = pytest.mark.needs(modules=("distributed",))
+# A run of LONG_MACHINE at these limits takes seconds.
+LONG_PASS = (300_000_000, 200_000, 3, 10)
+ENDLESS_PASS = (MAX_STEPS, MAX_CELLS, 3, 10)
+# At these limits a line costs nothing to speak of.
+QUICK_PASS = (300, 64, 3, 10)
+# How a worker ends itself at LONG_MACHINE.
+DEADLY = "    if %r in lines: import os; os._exit(9)\n" % LONG_MACHINE
+# How a worker answers the same to all verdicts, and how it says of a wrong one that it is right.
+KEEPS_ANSWERS = """
+def _kept_answer(limits: Numbers) -> PieceReply:
+    return _replied(question(CHECK, limits), checking(Limits(*limits)), b"1RZ--- halt 1 1\\n")
+
+
+"""
+LIES = [
+    ("room.reply().text", "_lie(asked, room.reply().text)"),
+    (
+        "def _replied(",
+        """def _lie(asked: str, written: bytes) -> bytes:
+    if asked.startswith(CHECK):
+        return b"ok\\n" * written.count(b"\\n")
+    return written.replace(b" halt 1 1\\n", b" halt 1 0\\n")
+
+
+def _replied(""",
+    ),
+]
+# What makes a process collect garbage all the time.
+COLLECTS = """import gc, threading, time
+def collect():
+    while True:
+        time.sleep(0.2)
+        gc.collect()
+threading.Thread(target=collect, daemon=True).start()
+"""
+# What is changed in the package of workers that can't decide anything rightly, and what the run says of them.
+WRONG_WORKERS: Dict[str, Tuple[str, List[Tuple[str, str]], str]] = {
+    "another version": ("_version.py", [('VERSION = "', 'VERSION = "9.')], "it was decided by version 9."),
+    "garbage": ("runner/chunks.py", [("room.reply().text", 'b"x\\n"')], "came back for"),
+    "a byte that changes on its way": (
+        "runner/chunks.py",
+        [("return (written,", 'return (written[:-2] + b"7\\n",')],
+        "what came back was changed on its way",
+    ),
+    "answers to other verdicts": (
+        "runner/chunks.py",
+        [
+            (
+                "    return _replied(question(CHECK",
+                "    return _kept_answer(limits) or _replied(question(CHECK",
+            ),
+            ("def check_piece", KEEPS_ANSWERS + "def check_piece"),
+        ],
+        "what came back answers other lines",
+    ),
+    "a reply that can't be read": (
+        "runner/chunks.py",
+        [("_kept = ", "class Odd: pass\n_kept = "), ("return (written,", "return (Odd(),")],
+        "AttributeError: ",
+    ),
+}
+
+
+# A list, and the verdicts of one process for each pass.
+Given = Tuple[bytes, bytes]
+
+
+@pytest.fixture(scope="module")
+def many(bb: str) -> Given:
+    given = random_list(12_000, 1)
+    return given, expected(bb, given, PASSES)
+
+
+@pytest.fixture(scope="module")
+def few(bb: str) -> Given:
+    given = random_list(300, 1)
+    return given, expected(bb, given, PASSES)
+
+
+def case_of(found: Cluster, name: str, given: bytes, passes: Tuple[Tuple[int, ...], ...] = PASSES) -> Case:
+    """A list that the cluster decides in small pieces."""
+    case = Case(found.top / name, given, passes)
+    case.words += ["--scheduler", found.address, "--piece", "100"]
+    return case
+
+
+def quick_list(bb: str, count: int, seed: int) -> bytes:
+    """Machines that small limits decide, and lines that are none."""
+    given = random_list(count, seed).splitlines(keepends=True)
+    lines = decided(bb, b"".join(given), QUICK_PASS)
+    return b"".join(one for one, line in zip(given, lines) if b" undecided " not in line)
+
+
+def require_end(case: Case, status: int, right: bytes) -> None:
+    """A run came to its end, with the right bytes."""
+    assert status == 1, case.said()
+    assert case.verdicts() == right
+
+
+def require_sentence(case: Case, process: Process, text: str) -> None:
+    """Waits until the run prints something."""
+    assert seen(process, lambda: text in case.said()), case.said()
+
+
+@contextlib.contextmanager
+def stopped(case: Case, process: Process) -> Iterator[None]:
+    """Waits until some pieces stand, and stops the run meanwhile, so that it can't come to its end."""
+    was_seen = seen(process, lambda: case.pieces() >= 3)
+    process.send_signal(signal.SIGSTOP)
+    assert was_seen and not case.verdicts(), case.said()
+    try:
+        yield
+    finally:
+        process.send_signal(signal.SIGCONT)
+
+
+@pytest.mark.parametrize("lines", [1_000, pytest.param(10_000, marks=pytest.mark.slow)])
+def test_killed_worker(bb: str, tmp_path: pathlib.Path, lines: int) -> None:
+    """One of two workers is killed in the middle of a line."""
+    given = quick_list(bb, lines, 1)
+    with cluster(2, tmp_path) as found:
+        case = case_of(found, "killed", given + LONG_MACHINE + given, (QUICK_PASS, LONG_PASS))
+        with case.start() as process:
+            at_work: List[Process] = []
+
+            def is_one_at_work() -> bool:
+                at_work[:] = [worker for worker in found.workers if is_at_work(worker.pid)]
+                return bool(at_work)
+
+            assert seen(process, is_one_at_work), case.said()
+            for worker in at_work[:1]:
+                worker.kill()
+            status = process.wait()
+        right = expected(bb, case.list.read_bytes(), (QUICK_PASS, LONG_PASS))
+        require_end(case, status, right)
+        assert "page is at http://127.0.0.1:" in case.said(), case.said()
+
+
+@pytest.mark.slow
+def test_five_kills(bb: str, tmp_path: pathlib.Path) -> None:
+    """The only worker is killed five times in the middle of a line; dask gives that up at the fourth time."""
+    quick = quick_list(bb, 300, 3)
+    with cluster(0, tmp_path) as found:
+        case = case_of(found, "five", quick + LONG_MACHINE + quick, (LONG_PASS,))
+        with case.start() as process:
+            for count in range(5):
+                worker = found.start_worker()
+                at_work = seen(process, lambda: is_at_work(worker.pid))
+                assert at_work, case.said()
+                found.kill_workers()
+            found.start_worker()
+            status = process.wait()
+        assert "cut in halves" in case.said(), case.said()
+        require_end(case, status, expected(bb, case.list.read_bytes(), [LONG_PASS]))
+
+
+@pytest.mark.slow
+def test_deadly_line(bb: str, tmp_path: pathlib.Path) -> None:
+    """A line ends each worker that decides it: it is named, and all other pieces stand."""
+    quick = quick_list(bb, 60, 4)
+    with cluster(0, tmp_path) as found:
+        deadly = changed_package(
+            found.top,
+            "runner/chunks.py",
+            [("    return _replied(question(DECIDE", DEADLY + "    return _replied(question(DECIDE")],
+        )
+        case = case_of(found, "deadly", quick + LONG_MACHINE + quick, (QUICK_PASS,))
+        with case.start(str(case.list), "--piece", "8") as process:
+            while process.poll() is None:
+                found.workers = [worker for worker in found.workers if worker.poll() is None]
+                while len(found.workers) < 3:
+                    found.start_worker(deadly)
+                time.sleep(0.02)
+        number = quick.count(b"\n") + 1
+        named = "line %d: it ended the workers that decided it" % number in case.said()
+        is_one = "all but 1 pieces stand" in case.said() and process.returncode == 3
+        assert named and is_one, case.said()
+        found.kill_workers()
+        found.start_worker()
+        right = expected(bb, case.list.read_bytes(), [QUICK_PASS])
+        require_end(case, case.run(), right)
+
+
+@pytest.mark.slow
+def test_no_workers(many: Given, tmp_path: pathlib.Path) -> None:
+    """All workers go, and new ones come."""
+    given, right = many
+    with cluster(2, tmp_path) as found:
+        case = case_of(found, "none", given)
+        with case.start() as process:
+            with stopped(case, process):
+                found.kill_workers()
+            require_sentence(case, process, "has no workers; waiting")
+            found.start_worker()
+            status = process.wait()
+        require_end(case, status, right)
+
+
+@pytest.mark.slow
+@pytest.mark.parametrize("is_late", [False, True])
+def test_scheduler(many: Given, tmp_path: pathlib.Path, is_late: bool) -> None:
+    """The scheduler is killed, and another one comes, before or after the runner's timeout."""
+    given, right = many
+    with cluster(2, tmp_path) as found:
+        case = case_of(found, "scheduler", given)
+        timeout = {"DASK_DISTRIBUTED__COMM__TIMEOUTS__CONNECT": "2s" if is_late else "600s"}
+        with case.start(variables=timeout) as process:
+            with stopped(case, process):
+                found.end()
+            require_sentence(case, process, "there is no scheduler" if is_late else "doesn't answer; waiting")
+            found.start_scheduler()
+            found.start_worker()
+            status = process.wait()
+        require_end(case, status, right)
+
+
+def collecting(tmp_path: pathlib.Path) -> Dict[str, str]:
+    """The environment of a run that collects garbage all the time, so that nothing is kept by chance."""
+    site = tmp_path / "site"
+    site.mkdir()
+    (site / "sitecustomize.py").write_text(COLLECTS, encoding="utf-8")
+    return {"PYTHONPATH": os.pathsep.join([str(site), os.environ["PYTHONPATH"]])}
+
+
+@pytest.mark.slow
+@pytest.mark.parametrize("what", ["nothing", *WRONG_WORKERS])
+def test_wrong_worker(few: Given, tmp_path: pathlib.Path, what: str) -> None:
+    """A worker that can't decide anything rightly ends the run; by a right one it goes on."""
+    given, right = few
+    with cluster(0, tmp_path) as found:
+        if what in WRONG_WORKERS:
+            file, changes, said = WRONG_WORKERS[what]
+            wrong = changed_package(found.top, file, changes)
+        else:
+            wrong, said = {"PYTHONPATH": str(found.top)}, "No module named 'budlarem'"
+        found.start_worker(wrong)
+        case = case_of(found, "wrong", given)
+        more = ["--check"] if what == "answers to other verdicts" else []
+        status = case.run(str(case.list), *more, variables=collecting(found.top))
+        held = status == 3 and said in case.said() and "goes on" in case.said()
+        assert held, case.said()
+        assert "Traceback" not in case.said(), case.said()
+        found.kill_workers()
+        found.start_worker()
+        require_end(case, case.run(), right)
+
+
+@pytest.mark.slow
+@pytest.mark.parametrize("seconds", ["1e9", "1e308"])
+def test_claimed_seconds(bb: str, tmp_path: pathlib.Path, seconds: str) -> None:
+    """Workers that give seconds that didn't pass: pieces don't become small by it, nor does the run fail."""
+    given = random_list(300, 1)
+    with cluster(0, tmp_path) as found:
+        change = ("return (written, seconds,", "return (written, %s," % seconds)
+        found.start_worker(changed_package(found.top, "runner/chunks.py", [change]))
+        case = case_of(found, "seconds", given, PASSES[:1])
+        require_end(case, case.run(), expected(bb, given, PASSES[:1]))
+        assert case.pieces() < given.count(b"\n") // 10
+
+
+@pytest.mark.slow
+def test_lies(bb: str, tmp_path: pathlib.Path) -> None:
+    """A worker that gives a wrong verdict, and says that it is right: the checker of the runner's process
+    finds it, and names the line; those of the workers don't."""
+    given = b"1RZ---\n" + b"1RA1RA\n" * 50
+    with cluster(0, tmp_path) as found:
+        found.start_worker(changed_package(found.top, "runner/chunks.py", LIES))
+        case = case_of(found, "lies", given, (QUICK_PASS,))
+        status = case.run(str(case.list), "--check")
+        is_taken = b" halt 1 0\n" in case.verdicts()
+        assert status == 0 and is_taken, case.said()
+        case.clear()
+        status = case.run(str(case.list), "--check-here")
+        is_named = "line 1: the checker answers bad: 1RZ--- halt 1 0" in case.said()
+        assert status == 1 and is_named, case.said()
+        found.kill_workers()
+        found.start_worker()
+        status = case.run(str(case.list), "--check-here")
+        assert status == 0, case.said()
+        right = expected(bb, given, (QUICK_PASS,))
+        assert case.verdicts() == right
+
+
+@pytest.mark.slow
+def test_runner(bb: str, tmp_path: pathlib.Path, rng: random.Random) -> None:
+    """The runner is killed at random moments, and interrupted."""
+    with cluster(2, tmp_path) as found:
+        case = case_of(found, "runner", random_list(20_000, 1))
+        right = expected(bb, case.list.read_bytes(), PASSES)
+        kills = kill_often(case, 10, rng)
+        assert kills == 10
+        require_end(case, case.run(), right)
+        case = case_of(found, "interruption", LONG_MACHINE, (ENDLESS_PASS,))
+        with case.start() as process:
+            at_work = seen(process, lambda: any(is_at_work(worker.pid) for worker in found.workers))
+            assert at_work, case.said()
+            require_interrupted(case, process)
+
+
+@pytest.mark.slow
+@pytest.mark.needs("openssl")
+def test_encryption(few: Given, tmp_path: pathlib.Path) -> None:
+    """Scheduler and workers take encrypted connections alone; the runner is given the files for them."""
+    given, right = few
+    certificate, key = str(tmp_path / "certificate.pem"), str(tmp_path / "key.pem")
+    asked = "openssl req -x509 -newkey rsa:2048 -nodes -days 2 -subj /CN=test".split(" ")
+    subprocess.run([*asked, "-keyout", key, "-out", certificate], stderr=subprocess.DEVNULL, check=True)
+    files = ("--tls-ca-file", certificate, "--tls-cert", certificate, "--tls-key", key)
+    with cluster(1, tmp_path, files) as found:
+        case = case_of(found, "encrypted", given)
+        require_end(case, case.run(str(case.list), *files), right)
+        case.clear()
+        quickly = {"DASK_DISTRIBUTED__COMM__TIMEOUTS__CONNECT": "5s"}
+        status = case.run(variables=quickly)
+        refused = status == 3 and "no scheduler answers" in case.said()
+        assert refused, case.said()
+
+
+@pytest.mark.slow
+def test_large_pieces(bb: str, tmp_path: pathlib.Path) -> None:
+    """Pieces as large as they may be, which are also checked; dask's warning of large tasks isn't printed."""
+    given = as_lines([CHAMPION]) * 100_000
+    with cluster(2, tmp_path) as found:
+        case = case_of(found, "large", given, (QUICK_PASS,))
+        status = case.run(str(case.list), "--piece", "20000", "--check")
+        said = case.said()
+        assert status == 0 and "arning" not in said, said
+        assert case.verdicts() == expected(bb, given, (QUICK_PASS,))

@@ -1,0 +1,119 @@
+"""Completion of the command lines of `bb` and `budlarem` in bash, zsh and fish: each shell is asked."""
+
+from __future__ import annotations
+
+import os
+import pathlib
+import pytest
+import re
+import subprocess
+import sys
+from support import TOP, require
+from typing import List, Sequence, Set
+
+# It completes the last word of a command line, in bash by the function that was given for its first word.
+BASH = """
+source "$1"
+shift
+COMP_WORDS=("$@")
+COMP_CWORD=$(($# - 1))
+_$1
+printf '%s\\n' "${COMPREPLY[@]}"
+"""
+# What zsh's own functions are given, written out in their place.
+ZSH = """
+_arguments() { print -rl -- "$@" }
+_describe() { print -rl -- ${(P)2} }
+complete_here() {
+    local file=$1
+    shift
+    local -a words=("$@")
+    local CURRENT=$#
+    source $file
+}
+complete_here "$@"
+"""
+
+
+def helped(command: Sequence[str]) -> str:
+    """The help of a program or a command."""
+    variables = {**os.environ, "COLUMNS": "200"}
+    return subprocess.run([*command, "--help"], stdout=subprocess.PIPE, text=True, env=variables).stdout
+
+
+def commands_of(program: str, command: Sequence[str]) -> Set[str]:
+    """The commands that a program's help names."""
+    page = helped(command).partition("Commands:" if program == "bb" else "COMMAND\n")[2].partition("\n\n")[0]
+    return {*re.findall(r"^ {2,4}([a-z]+) ", page, re.MULTILINE), "help"}
+
+
+def options_of(command: Sequence[str]) -> Set[str]:
+    """The long options that a command's help begins a line with."""
+    return set(re.findall(r"^ +(?:-\w(?: [\w=,]+)?, +)?(--[a-z-]+)", helped(command), re.MULTILINE))
+
+
+class Shell:
+    """A shell that is asked what may stand at the end of a command line."""
+
+    def __init__(self, name: str, files: pathlib.Path, cwd: pathlib.Path) -> None:
+        self.name, self.files, self.cwd = name, files, cwd
+
+    def at(self, *line: str) -> List[str]:
+        """What may stand there."""
+        file = str(self.files / ("%s.%s" % (line[0], self.name)))
+        if self.name == "fish":
+            asked = " ".join(line).replace("'", "\\'")
+            command = ["fish", "--no-config", "-c", "source %s; complete -C '%s'" % (file, asked)]
+        elif self.name == "zsh":
+            command = ["zsh", "-f", "-c", ZSH, "zsh", file, *line]
+        else:
+            command = ["bash", "--norc", "-c", BASH, "bash", file, *line]
+        done = subprocess.run(command, capture_output=True, text=True, cwd=self.cwd)
+        return done.stdout.splitlines() + [row for row in done.stderr.splitlines() if self.name != "fish"]
+
+    def words_at(self, *line: str) -> Set[str]:
+        """The same, without the texts beside them."""
+        return {re.split(r"[\t\[:]", row)[0] for row in self.at(*line)} - {""}
+
+
+@pytest.fixture(params=["bash", "zsh", "fish"])
+def shell(request: pytest.FixtureRequest, bb: str, tmp_path: pathlib.Path) -> Shell:
+    require(request.param)
+    folder, files = tmp_path / "here", tmp_path / "files"
+    folder.mkdir()
+    (folder / "a list.txt").touch()
+    subprocess.run([sys.executable, str(TOP / "tools" / "completions"), str(files), "--bb", bb], check=True)
+    return Shell(request.param, files, folder)
+
+
+@pytest.mark.parametrize("program", ["bb", "budlarem"])
+def test_commands_and_options(bb: str, shell: Shell, program: str) -> None:
+    """They are those of the program's help; the shell reads the file without a word."""
+    file = str(shell.files / ("%s.%s" % (program, shell.name)))
+    done = subprocess.run([shell.name, "-n", file], capture_output=True, text=True)
+    assert done.returncode == 0 and not done.stderr
+    command = [bb] if program == "bb" else [sys.executable, "-m", "budlarem"]
+    names = commands_of(program, command)
+    assert len(names) > 3
+    assert shell.words_at(program, "") - {"--help", "--version"} == names
+    for name in names:
+        options = options_of([*command, name]) if (program, name) != ("bb", "help") else set()
+        assert {row for row in shell.words_at(program, name, "--") if row.startswith("--")} == options, name
+
+
+def test_files(shell: Shell) -> None:
+    """Files come where one is asked for, and no others where none is."""
+    if shell.name == "zsh":
+        rows = shell.at("budlarem", "publish", "--list", "")
+        assert [row for row in rows if row.startswith("--list[") and row.endswith(":LIST:_files")]
+        return
+    for line, wanted in (
+        (("bb", "decide", "a li"), True),
+        (("budlarem", "publish", "--list", "a li"), True),
+        (("budlarem", "run", "--out", "a li"), True),
+        (("bb", "decide", "--steps", ""), False),
+        (("budlarem", "publish", "--threads", ""), False),
+    ):
+        shown = (word.replace(" ", "\\ ") if shell.name == "fish" else word for word in line)
+        found = shell.at(*shown)
+        assert any("a list.txt" in row.replace("\\ ", " ") for row in found) == wanted, line

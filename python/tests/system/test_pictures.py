@@ -1,0 +1,95 @@
+"""Pictures of runs, which are read back and held against what the runs do."""
+
+from __future__ import annotations
+
+import io
+import pytest
+import re
+from support import TOP
+from support.machines import CHAMPION, CHAMPION_OF_FOUR
+from support.program import kind_of, replies
+from typing import Any, List, Tuple
+
+import budlarem
+
+Image: Any = pytest.importorskip("PIL.Image", reason="Python has no PIL (Debian: python3-pil)")
+GOES_RIGHT = "1RA1RA"
+WHITE, BLACK, GREY, RED = (255, 255, 255), (20, 20, 20), (225, 225, 225), (220, 30, 30)
+
+
+def rows_of(picture: budlarem.Picture) -> List[List[Tuple[int, ...]]]:
+    """The rows of a picture, each pixel as its colour."""
+    image = Image.open(io.BytesIO(picture.png)).convert("RGB")
+    pixels = list(image.getdata())
+    return [pixels[begin : begin + image.width] for begin in range(0, len(pixels), image.width)]
+
+
+def test_champion_of_four_states() -> None:
+    """Its whole run: 107 steps over 14 cells, from -10 to 3."""
+    picture = budlarem.picture(CHAMPION_OF_FOUR, 107, scale=2)
+    rows = rows_of(picture)
+    assert len(rows) == 216 and all(len(row) == 28 for row in rows), "two pixels a place"
+    assert (picture.every, picture.is_cut, picture.is_part) == (1, False, False)
+    assert rows[0][20] == rows[1][21] == RED, "the head begins at 0"
+    assert {*rows[0]} == {RED, GREY}, "nothing else is visited at first"
+    assert rows[-1][::2].count(BLACK) == 13, "13 cells aren't 0 at the halt, the head on the one that is"
+
+
+def test_sampled_steps() -> None:
+    """A head that goes right: step n has n cells written and the head at n."""
+    picture = budlarem.picture(GOES_RIGHT, 100, rows=30)
+    assert picture.every == 4, "every fourth step of 101 fits in 30 rows"
+    assert [row.index(RED) for row in rows_of(picture)] == list(range(0, 101, 4))
+    picture = budlarem.picture(GOES_RIGHT, 100, every=10, rows=5)
+    assert [row.index(RED) for row in rows_of(picture)] == [0, 10, 20, 30, 40]
+    assert (picture.last, picture.is_cut) == (40, True)
+
+
+def test_chosen_positions() -> None:
+    picture = budlarem.picture(GOES_RIGHT, 100, columns=11)
+    rows = rows_of(picture)
+    assert (picture.left, picture.right) == (45, 55), "a wide picture is cut about its middle"
+    assert rows[50] == [BLACK] * 5 + [RED] + [GREY] * 5
+    rows = rows_of(budlarem.picture(GOES_RIGHT, 3, left=-1, right=1))
+    assert [row[0] for row in rows] == [GREY] * 4, "positions that aren't visited are grey"
+    assert rows[2][1:] == [BLACK, BLACK]
+
+
+def test_scaled_down() -> None:
+    """A picture of more than 2,000 positions is scaled down: a pixel has the mean colour of its cells."""
+    picture = budlarem.picture(GOES_RIGHT, 4_000, rows=10)
+    rows = rows_of(picture)
+    assert (len(rows[0]), len(rows)) == (1_793, 8)
+    assert (picture.across, picture.is_part) == (2, False)
+    # Step 1,024: the head is on position 1,024, which is 0; position 1,025 isn't visited yet.
+    mean = tuple(round((a + b) / 2) for a, b in zip(WHITE, GREY))
+    assert rows[2] == [BLACK] * 512 + [mean] + [GREY] * (1_793 - 513)
+
+
+@pytest.mark.parametrize("option", ["every", "rows", "columns", "scale"])
+def test_sizes_below_one(option: str) -> None:
+    asked: Any = {option: 0}
+    with pytest.raises(budlarem.LimitsError, match=option):
+        budlarem.picture(GOES_RIGHT, 3, **asked)
+
+
+def test_sizes_that_are_too_large() -> None:
+    """They are refused by a line that says what would do."""
+    with pytest.raises(budlarem.PictureError, match="160,000,000,000 pixels.*lower scale to 2500"):
+        budlarem.picture(GOES_RIGHT, 3, scale=100_000)
+    with pytest.raises(budlarem.PictureError, match="lower scale to 2500"):
+        budlarem.picture(GOES_RIGHT, 3, scale=2_501)
+    with pytest.raises(budlarem.PictureError, match="lower rows or columns"):
+        budlarem.picture(GOES_RIGHT, 0, columns=100_000_001, left=0, right=100_000_000)
+
+
+def test_first_command_of_readme(bb: str) -> None:
+    """The command below README's first picture, by which its machine halts; it needs all its steps."""
+    text = (TOP / "README.md").read_text(encoding="utf-8")
+    ((machine, limit, verdict),) = re.findall(
+        r"!\[.*\n\n    \$ echo (\S+) \| (?:\./)?bb decide --steps (\d+)\n    (.*)\n", text
+    )
+    assert machine == CHAMPION
+    assert replies([bb, "decide", "--steps", limit], [machine]) == [verdict]
+    (line,) = replies([bb, "decide", "--steps", str(int(verdict.split()[2]) - 1)], [machine])
+    assert kind_of(line) == "undecided"

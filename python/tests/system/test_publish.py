@@ -1,0 +1,354 @@
+"""`budlarem publish` as a process: what an archive has, and that others can check it."""
+
+from __future__ import annotations
+
+import gzip
+import hashlib
+import json
+import os
+import pathlib
+import pytest
+import random
+import resource
+import signal
+import subprocess
+import sys
+import tarfile
+import time
+from support import restore_signals
+from support.machines import mixed
+from support.program import as_lines, ended, options
+from support.runs import Case, is_at_work, seen
+from typing import Any, Callable, Dict, List, Optional, Tuple
+
+FIRST = (300, 64, 10, 100)
+PASS = "steps=300,cells=64,depth=10,nodes=100"
+# A claim that takes hours to be refused.
+ENDLESS = b"0RB1LD_0RC1RD_0RD---_1LA0RB halt 1000000000000 1\n"
+
+
+class Place:
+    """A folder with a list and its verdicts, in which archives are made."""
+
+    def __init__(self, bb: str, top: pathlib.Path, count: int, seed: int) -> None:
+        top.mkdir()
+        self.top = top
+        lines = list(mixed(count, seed))
+        lines[count // 2], lines[count // 3] = "1rB1LB", ""
+        self.list, self.verdicts, self.out = (top / "list.txt", top / "verdicts.txt", top / "out.tar")
+        self.list.write_bytes(as_lines(lines))
+        self.verdicts.write_bytes(ended([bb, "decide", *options(FIRST)], as_lines(lines)).output)
+
+    def words(self, *more: str, out: Optional[pathlib.Path] = None) -> List[str]:
+        """A command that publishes."""
+        return [sys.executable, "-m", "budlarem", "publish", str(out or self.out), *more]
+
+    def given(self) -> List[str]:
+        return ["--verdicts", str(self.verdicts), "--list", str(self.list)]
+
+    def publish(self, *more: str, **how: Any) -> "subprocess.CompletedProcess[str]":
+        """Publishes list and verdicts, or what these words say."""
+        out = how.pop("out", None)
+        command = self.words(*(more or self.given()), out=out)
+        return subprocess.run(command, capture_output=True, text=True, **how)
+
+    def left(self) -> List[str]:
+        """What stands beside list and verdicts."""
+        return sorted(set(os.listdir(self.top)) - {"list.txt", "verdicts.txt"})
+
+
+def unpacked(path: pathlib.Path, into: pathlib.Path) -> pathlib.Path:
+    """The folder that an archive has, unpacked."""
+    subprocess.run(["tar", "-x", "-f", str(path), "-C", str(into)], check=True)
+    (made,) = into.iterdir()
+    return made
+
+
+def commands_of(readme: str) -> List[List[str]]:
+    """The commands of a README, those of each numbered way together."""
+    ways: List[List[str]] = []
+    for line in readme.partition("How to check it again")[2].splitlines():
+        if line[2:4] in ("1.", "2.", "3.", "4.", "5."):
+            ways.append([])
+        elif line.startswith("      "):
+            ways[-1].append(line.strip())
+    return ways
+
+
+class Ways:
+    """The commands of an archive's README, run in its folder. `bb` and `budlarem` stand in a folder of
+    programs."""
+
+    def __init__(self, bb: str, folder: pathlib.Path, programs: pathlib.Path) -> None:
+        self.folder = folder
+        self.ways = commands_of((folder / "README.txt").read_text(encoding="utf-8"))
+        programs.mkdir()
+        (programs / "bb").symlink_to(bb)
+        package = '#!/bin/sh\nexec %s -m budlarem "$@"\n' % sys.executable
+        (programs / "budlarem").write_text(package)
+        (programs / "budlarem").chmod(0o755)
+        self._environment = {**os.environ, "PATH": "%s:%s" % (programs, os.environ["PATH"])}
+
+    def run(self, command: str) -> "subprocess.CompletedProcess[str]":
+        how: Dict[str, Any] = {"cwd": self.folder, "env": self._environment, "errors": "replace"}
+        return subprocess.run(["sh", "-c", command], capture_output=True, text=True, **how)
+
+    def is_whole(self) -> bool:
+        """Whether the first way notices nothing."""
+        first, second = map(self.run, self.ways[0])
+        return first.returncode == 0 and not first.stdout and second.returncode == 0
+
+
+def require_silent(ways: Ways, command: str) -> None:
+    """A command that shows what isn't confirmed shows nothing."""
+    done = ways.run(command)
+    output = done.stdout + done.stderr
+    assert done.returncode == 1 and not output, (command, done.returncode, output)
+
+
+def require_ways(ways: Ways, count: int) -> None:
+    """All five ways confirm an archive."""
+    assert [len(way) for way in ways.ways] == [2, 1, 1, 1, 1]
+    assert ways.is_whole()
+    require_silent(ways, ways.ways[1][0])
+    for way in ways.ways[2:4]:
+        done = ways.run(way[0])
+        assert done.returncode == 0, done.stderr
+        answers = (ways.folder / "answers.txt").read_text().splitlines()
+        assert len(answers) == count
+    os.unlink(ways.folder / "answers.txt")
+
+
+def require_changes(ways: Ways, count: int, source: random.Random) -> None:
+    """A byte that is changed in any file of an unpacked archive is noticed."""
+    files = sorted(path for path in ways.folder.iterdir())
+    for _ in range(count):
+        path = source.choice(files)
+        data = path.read_bytes()
+        place = source.randrange(len(data))
+        byte = source.choice([value for value in range(256) if value != data[place]])
+        path.write_bytes(data[:place] + bytes([byte]) + data[place + 1 :])
+        assert not ways.is_whole(), (path.name, place, byte)
+        path.write_bytes(data)
+    assert ways.is_whole()
+
+
+def archive_of(bb: str, top: pathlib.Path) -> Tuple[Place, Ways]:
+    """An archive that was made, and what stands in its unpacked folder."""
+    place = Place(bb, top / "archive", 3_000, 1)
+    done = place.publish(*place.given(), "--pass", PASS)
+    assert done.returncode == 0, done.stderr
+    assert done.stdout == "%s  %s\n" % (hashlib.sha256(place.out.read_bytes()).hexdigest(), place.out)
+    assert place.left() == ["out.tar"]
+    (top / "unpacked").mkdir()
+    return place, Ways(bb, unpacked(place.out, top / "unpacked"), top / "programs")
+
+
+@pytest.mark.parametrize("count", [100, pytest.param(1_000, marks=pytest.mark.slow)])
+def test_archive(bb: str, tmp_path: pathlib.Path, rng: random.Random, count: int) -> None:
+    """What an archive has, and how it can be checked."""
+    place, ways = archive_of(bb, tmp_path)
+    made = ways.folder
+    names = {"README.txt", "list.txt", "verdicts.txt", "about.json", "again.py", "SHA256SUMS"}
+    assert set(os.listdir(made)) == names
+    for path in (place.list, place.verdicts):
+        assert (made / path.name).read_bytes() == path.read_bytes()
+    about = json.loads((made / "about.json").read_text())
+    assert about["sha256"]["list.txt"] == hashlib.sha256(place.list.read_bytes()).hexdigest()
+    assert about["passes"] == [PASS]
+    assert about["counts"]["halt"] == place.verdicts.read_bytes().count(b" halt ")
+    assert about["counts"]["refused"] == 2
+    page = (made / "README.txt").read_text(encoding="utf-8")
+    assert page.count("\n") < 80
+    assert not [line for line in page.splitlines() if len(line) > 80 and not line.startswith("      ")]
+    require_ways(ways, 3_000)
+    require_changes(ways, count, rng)
+
+
+def test_archive_by_coq(bb: str, tmp_path: pathlib.Path, checker: str) -> None:
+    """The fifth way, by the checker in Coq."""
+    _, ways = archive_of(bb, tmp_path)
+    (tmp_path / "programs" / "checker").symlink_to(checker)
+    require_silent(ways, ways.ways[4][0])
+
+
+def test_same(bb: str, tmp_path: pathlib.Path) -> None:
+    """The same contents are the same bytes."""
+    place = Place(bb, tmp_path / "same", 500, 3)
+    place.publish()
+    first = place.out.read_bytes()
+    other = tmp_path / "same" / "other"
+    other.mkdir()
+    for path in (place.list, place.verdicts):
+        (other / (path.name + ".gz")).write_bytes(gzip.compress(path.read_bytes()))
+    time.sleep(1.1)
+    named = [
+        "--verdicts",
+        str(other / "verdicts.txt.gz"),
+        "--list",
+        str(other / "list.txt.gz"),
+        "--threads=1",
+    ]
+    done = place.publish(*named, out=other / "again.tar")
+    assert done.returncode == 0
+    assert (other / "again.tar").read_bytes() == first
+    done = place.publish("--verdicts", str(place.verdicts), out=other / "bare.tar")
+    with tarfile.open(other / "bare.tar") as archive:
+        names = [os.path.basename(name) for name in archive.getnames()]
+        facts = {(one.mtime, one.uid, one.gid, one.uname, one.mode) for one in archive.getmembers()}
+    assert "list.txt" not in names and "verdicts.txt" in names, names
+    assert len(facts) == 1
+
+
+def test_refused(bb: str, tmp_path: pathlib.Path) -> None:
+    """What can't be published is refused, with its file and line, and leaves nothing."""
+    place = Place(bb, tmp_path / "refused", 300, 4)
+    verdicts, machines = place.verdicts.read_bytes(), place.list.read_bytes()
+    lines, listed = verdicts.split(b"\n"), machines.split(b"\n")
+    halting = next(k for k, line in enumerate(lines) if b" halt " in line)
+    cycling = next(k for k, line in enumerate(lines) if b" cycler " in line)
+    wrong, unread = lines.copy(), lines.copy()
+    wrong[halting] += b"7"
+    unread[halting] += b"\tthe champion"
+    refused = lines.copy()
+    refused[cycling] = b"refused 3"
+    other = listed.copy()
+    other[halting] = b"1RA1RA"
+    cases = [
+        (wrong, listed, 1, "%s:%d: bad: " % (place.verdicts, halting + 1)),
+        (unread, listed, 1, "%s:%d: unread: " % (place.verdicts, halting + 1)),
+        (refused, listed, 2, "%s:%d: " % (place.list, cycling + 1)),
+        (lines, other, 2, "%s:%d: " % (place.list, halting + 1)),
+        (lines[:-2] + [b""], listed, 2, "verdicts.txt has 299 lines"),
+        (lines, listed[:-2] + [b""], 2, "list.txt has 299 lines"),
+        ([b""], [b""], 2, "verdicts.txt has no line"),
+    ]
+    for rows, given, status, sentence in cases:
+        place.verdicts.write_bytes(b"\n".join(rows))
+        place.list.write_bytes(b"\n".join(given))
+        done = place.publish()
+        assert done.returncode == status and sentence in done.stderr, done.stderr
+        assert not place.left(), (sentence, place.left())
+    place.verdicts.write_bytes(verdicts)
+    place.list.write_bytes(machines)
+    require_names(place)
+
+
+def require_names(place: Place) -> None:
+    """Names that an archive can't have, and files that aren't there."""
+    place.out.write_bytes(b"mine")
+    cases = [
+        (place.given(), place.out, 2, "out.tar is there already"),
+        (place.given(), place.top / "out.tar.gz", 2, "out.tar.gz: what is written is a tar archive"),
+        (["--verdicts", str(place.top)], place.top / "new.tar", 2, "not of `budlarem run`"),
+        (["--verdicts", "-"], place.top / "new.tar", 2, "standard input is read more than once"),
+        (["--verdicts", str(place.top / "none")], place.top / "new.tar", 3, "none"),
+        (place.given(), place.top / "no" / "new.tar", 3, "new.tar"),
+        ([*place.given(), "--pass", "steps=x"], place.top / "new.tar", 2, "is no limit"),
+        ([*place.given(), "--threads", "0"], place.top / "new.tar", 2, "threads"),
+    ]
+    for more, out, status, sentence in cases:
+        done = place.publish(*more, out=out)
+        assert (
+            done.returncode == status and sentence in done.stderr and done.stderr.count("\n") == 1
+        ), done.stderr
+    assert place.out.read_bytes() == b"mine" and place.left() == ["out.tar"]
+
+
+def test_run(bb: str, tmp_path: pathlib.Path) -> None:
+    """A run's folder says its limits; one that isn't at its end, or kept only some verdicts, is refused."""
+    place = Place(bb, tmp_path / "of_run", 400, 5)
+    case = Case(tmp_path / "run", place.list.read_bytes())
+    case.run()
+    done = place.publish("--verdicts", str(case.out), "--list", str(case.list))
+    assert done.returncode == 0
+    with tarfile.open(place.out) as archive:
+        (name,) = [name for name in archive.getnames() if name.endswith("about.json")]
+        file = archive.extractfile(name)
+        about = json.load(file) if file else {}
+    assert about["passes"] == case.words[1::2]
+    assert about["decided_by"] == about["checked_by"]
+    os.unlink(place.out)
+    kept = Case(tmp_path / "kept", place.list.read_bytes())
+    kept.run(str(kept.list), "--keep", "left")
+    done = place.publish("--verdicts", str(kept.out))
+    assert (
+        done.returncode == 2 and "only the verdicts that --keep left kept" in done.stderr and not place.left()
+    ), done.stderr
+    os.unlink(case.out / "summary.json")
+    done = place.publish("--verdicts", str(case.out))
+    assert done.returncode == 2 and "isn't at its end" in done.stderr and not place.left(), done.stderr
+
+
+@pytest.mark.slow
+def test_full_disk(bb: str, tmp_path: pathlib.Path) -> None:
+    """Files that may not grow, and a file system without room."""
+    place = Place(bb, tmp_path / "full", 2_000, 6)
+    for size in (1_000, place.list.stat().st_size + 5_000):
+        done = place.publish(preexec_fn=lambda: resource.setrlimit(resource.RLIMIT_FSIZE, (size, size)))
+        assert (
+            done.returncode == 3 and "File too large" in done.stderr and str(place.out) in done.stderr
+        ), done.stderr
+        assert not place.left(), (size, place.left())
+    disk = tmp_path / "disk"
+    disk.mkdir()
+    mount = ["mount", "-t", "tmpfs", "-o", "size=64k", "tmpfs", str(disk)]
+    if os.getuid() != 0 or subprocess.run(mount, stderr=subprocess.DEVNULL).returncode != 0:
+        pytest.skip("a full disk: a file system can't be mounted here (it takes root)")
+    try:
+        done = place.publish(out=disk / "out.tar")
+        assert (
+            done.returncode == 3 and "No space left" in done.stderr and "out.tar" in done.stderr
+        ), done.stderr
+        assert not os.listdir(disk), os.listdir(disk)
+    finally:
+        subprocess.run(["umount", str(disk)], check=True)
+
+
+def ended_by(
+    place: Place, number: int, ready: Callable[["subprocess.Popen[bytes]"], object]
+) -> "tuple[int, str]":
+    """The status and standard error of a process that is sent a signal once it is ready."""
+    how: Dict[str, Any] = {"stdout": subprocess.DEVNULL, "stderr": subprocess.PIPE}
+    with subprocess.Popen(place.words(*place.given()), preexec_fn=restore_signals, **how) as process:
+        ready(process)
+        process.send_signal(number)
+        try:
+            _, error = process.communicate(timeout=60)
+        finally:
+            process.kill()
+    return process.returncode, error.decode()
+
+
+@pytest.mark.parametrize("tries", [3, pytest.param(12, marks=pytest.mark.slow)])
+def test_signals(bb: str, tmp_path: pathlib.Path, rng: random.Random, tries: int) -> None:
+    """SIGINT, SIGTERM and SIGHUP leave nothing half, in the middle of a check and while it is written."""
+    place = Place(bb, tmp_path / "signals", 20_000, 7)
+    verdicts, machines = place.verdicts.read_bytes(), place.list.read_bytes()
+    place.verdicts.write_bytes(verdicts + ENDLESS)
+    place.list.write_bytes(machines + ENDLESS.split(b" ")[0] + b"\n")
+    for number, status in ((signal.SIGINT, 130), (signal.SIGTERM, 143), (signal.SIGHUP, 129)):
+        began, error = ended_by(place, number, lambda process: seen(process, lambda: is_at_work(process.pid)))
+        assert began == status
+        assert not place.left(), (number.name, place.left())
+        assert "no archive is written" in error
+    place.verdicts.write_bytes(verdicts)
+    place.list.write_bytes(machines)
+    part = place.top / "out.tar.part"
+    half = 0
+    for k in range(tries):
+        delay = rng.random() * 0.02
+
+        def ready(process: "subprocess.Popen[bytes]") -> None:
+            seen(process, part.exists)
+            time.sleep(delay)
+
+        status, error = ended_by(place, (signal.SIGINT, signal.SIGTERM, signal.SIGHUP)[k % 3], ready)
+        half += status != 0
+        is_whole = place.left() in ([], ["out.tar"])
+        assert is_whole, (status, place.left(), error)
+        if place.out.exists():
+            with tarfile.open(place.out) as archive:
+                assert len(archive.getnames()) == 6
+            os.unlink(place.out)
+    assert half > 0

@@ -1,0 +1,416 @@
+"""The folder of `budlarem run`: whatever happens to it, a run writes there alone, and only its own files."""
+
+from __future__ import annotations
+
+import contextlib
+import os
+import pathlib
+import pytest
+import shutil
+import signal
+import subprocess
+import sys
+from support.runs import PASSES, Case, expected, random_list, seen, words_of
+from typing import Callable, Dict, Iterator, Optional, Tuple
+
+# Limits at which a line costs nothing to speak of, and words by which a list takes a second or more.
+QUICK_PASS = (50, 64, 3, 10)
+SLOWLY = ["--threads", "1", "--piece", "20"]
+LINES = 60_000
+MOVED = "isn't the folder that was opened any more"
+MACHINE = b"1RB1LB_1LA1RZ\n"
+Fault = Callable[[Case], None]
+
+
+def snapshot(tmp_path: pathlib.Path) -> Dict[str, bytes]:
+    """All that a folder has, by path: the bytes of files, where links lead, and the kind of what else is
+    there."""
+    found: Dict[str, bytes] = {}
+    for path in sorted(tmp_path.rglob("*")):
+        name = str(path.relative_to(tmp_path))
+        if path.is_symlink():
+            found[name] = b"link to " + os.fsencode(os.readlink(path))
+        elif path.is_file():
+            found[name] = path.read_bytes()
+        else:
+            found[name] = b"folder" if path.is_dir() else b"pipe"
+    return found
+
+
+@contextlib.contextmanager
+def stopped_run(case: Case) -> Iterator[Tuple["subprocess.Popen[bytes]", bool]]:
+    """A run that is stopped in the middle, and whether it was at work by then. It goes on afterwards, to its
+    end."""
+    with case.start() as process:
+        was_seen = seen(process, lambda: case.pieces() > 3)
+        process.send_signal(signal.SIGSTOP)
+        try:
+            yield process, was_seen and not (case.out / "verdicts.txt").exists()
+        finally:
+            process.send_signal(signal.SIGCONT)
+            process.wait()
+
+
+def slow_case(tmp_path: pathlib.Path, name: str, seed: int, passes: int = 1) -> Case:
+    """A case whose run takes a second or more."""
+    case = Case(tmp_path / name, random_list(LINES, seed), [QUICK_PASS, (60, 64, 3, 10)][:passes])
+    case.words += SLOWLY
+    return case
+
+
+def require_moved_error(case: Case, status: int, before: Dict[str, bytes]) -> None:
+    """The run ended with status 3 and a sentence, and what stands at its path is as it was."""
+    said = case.said()
+    assert status == 3 and MOVED in said, said
+    after = snapshot(case.out) if case.out.exists() else {}
+    assert after == before
+
+
+@pytest.mark.parametrize("passes", [1, pytest.param(2, marks=pytest.mark.slow)])
+def test_moved(bb: str, tmp_path: pathlib.Path, passes: int) -> None:
+    """The folder is moved and another run begins in a new one; the first goes on in its folder later."""
+    case = slow_case(tmp_path, "moved-%d" % passes, 21, passes)
+    limits = [QUICK_PASS, (60, 64, 3, 10)][:passes]
+    moved = case.out.with_name("out.old")
+    second = Case(tmp_path / ("second-%d" % passes), random_list(2_000, 22), limits)
+    second.out = case.out
+    with stopped_run(case) as (process, at_work):
+        os.rename(case.out, moved)
+        status = second.run()
+        before = snapshot(case.out)
+    assert at_work, case.said()
+    assert status == 1 and second.verdicts() == expected(bb, second.list.read_bytes(), limits), second.said()
+    require_moved_error(case, process.returncode, before)
+    assert not (moved / "verdicts.txt").exists()
+    shutil.rmtree(case.out)
+    os.rename(moved, case.out)
+    status = case.run()
+    assert status == 1 and case.verdicts() == expected(bb, case.list.read_bytes(), limits), case.said()
+
+
+@pytest.mark.slow
+def test_replaced(tmp_path: pathlib.Path) -> None:
+    """The folder is removed; files of somebody else stand in a new one; a link is pointed elsewhere."""
+    mine = ("verdicts.txt", "summary.json", "README.txt", "run.json", "verdicts.txt.part", "pass-1", "pass-2")
+
+    def replace(case: Case) -> None:
+        os.rename(case.out, case.out.with_name("out.old"))
+        case.out.mkdir()
+        for name in mine:
+            (case.out / name).write_text("mine\n")
+
+    def point_elsewhere(case: Case) -> None:
+        elsewhere = case.out.with_name("elsewhere")
+        elsewhere.mkdir()
+        os.unlink(case.out)
+        case.out.symlink_to(elsewhere)
+
+    faults: Dict[str, Fault] = {
+        "removed": lambda case: shutil.rmtree(case.out),
+        "replaced by own files": replace,
+        "a link pointed elsewhere": point_elsewhere,
+    }
+    for what, fault in faults.items():
+        for passes in (1, 2):
+            case = slow_case(tmp_path, "%s-%d" % (what.replace(" ", "-"), passes), 23, passes)
+            if "link" in what:
+                case.out.with_name("real").mkdir()
+                case.out.symlink_to(case.out.with_name("real"))
+            with stopped_run(case) as (process, at_work):
+                fault(case)
+                before = snapshot(case.out) if case.out.exists() else {}
+            assert at_work, case.said()
+            require_moved_error(case, process.returncode, before)
+
+
+@pytest.mark.parametrize(
+    "number", [0, *(pytest.param(number, marks=pytest.mark.slow) for number in range(1, 5))]
+)
+def test_lock(bb: str, tmp_path: pathlib.Path, number: int) -> None:
+    """All files at the top of a folder are removed while a run works in it: a second one is refused."""
+    case = slow_case(tmp_path, "lock", 24 + number)
+    with stopped_run(case) as (process, at_work):
+        second = Case(tmp_path / "lock-second", random_list(300, 3), [QUICK_PASS])
+        second.out = case.out
+        (case.out / "lock").unlink(missing_ok=True)
+        os.rename(case.out / "run.json", case.out.with_name("away"))
+        status, said = second.run(), second.said()
+        os.rename(case.out.with_name("away"), case.out / "run.json")
+    assert at_work
+    assert status == 2 and "another run works in" in said
+    assert case.verdicts() == expected(bb, case.list.read_bytes(), [QUICK_PASS]), case.said()
+
+
+@pytest.mark.slow
+def test_made_meanwhile(tmp_path: pathlib.Path) -> None:
+    """Another makes a file of the run's name in its folder while it works: that file stays."""
+    for name in ("verdicts.txt", "summary.json", "README.txt"):
+        case = slow_case(tmp_path, "meanwhile-" + name, 31)
+        with stopped_run(case) as (process, at_work):
+            (case.out / name).unlink(missing_ok=True)
+            (case.out / name).write_text("mine\n")
+        assert at_work, name
+        assert (case.out / name).read_text() == "mine\n"
+        assert process.returncode == (1 if name == "README.txt" else 3), case.said()
+
+
+def test_verdicts(bb: str, tmp_path: pathlib.Path) -> None:
+    """Verdicts share no bytes with what a later run writes; a run that is begun again reads its pieces
+    there."""
+    case = Case(tmp_path / "verdicts", random_list(3_000, 41), [QUICK_PASS])
+    right = expected(bb, case.list.read_bytes(), [QUICK_PASS])
+    case.run()
+    verdicts, file = case.out / "verdicts.txt", (case.out / "verdicts.txt").stat()
+    assert file.st_nlink == 1 and not (case.out / "pass-1" / "pieces").exists()
+    journal = (case.out / "pass-1" / "journal").read_bytes()
+    status = case.run()
+    assert "decided again" not in case.said(), case.said()
+    same = verdicts.stat().st_ino == file.st_ino and (case.out / "pass-1" / "journal").read_bytes() == journal
+    assert same and case.verdicts() == right
+    away = case.out.with_name("verdicts-of-mine.txt")
+    os.rename(verdicts, away)
+    for path in case.out.iterdir():
+        if path.is_file():
+            path.unlink()
+    other = Case(tmp_path / "verdicts-other", random_list(3_000, 42), [QUICK_PASS[:3] + (11,)])
+    other.out = case.out
+    status = other.run()
+    assert away.read_bytes() == right, other.said()
+    assert status == 1 and other.verdicts() == expected(
+        bb, other.list.read_bytes(), [QUICK_PASS[:3] + (11,)]
+    ), other.said()
+
+
+def test_added_pass(bb: str, tmp_path: pathlib.Path) -> None:
+    """A pass is added to a run of one, killed meanwhile, and run again."""
+    case = slow_case(tmp_path, "added", 43)
+    case.run()
+    first = case.verdicts()
+    case.words = [word for limits in (QUICK_PASS, (60, 64, 3, 10)) for word in ("--pass", words_of(limits))]
+    case.words += ["--threads", "1", "--piece", "1"]
+    with case.start() as process:
+        was_seen = seen(process, lambda: (case.out / "pass-2" / "journal").exists())
+        process.kill()
+    assert was_seen and case.verdicts() == first
+    status = case.run("--piece", "200", str(case.list))
+    right = expected(bb, case.list.read_bytes(), [QUICK_PASS, (60, 64, 3, 10)])
+    assert status == 1 and case.verdicts() == right, case.said()
+    assert "decided again" not in case.said()
+
+
+def require_unchanged(case: Case, top: pathlib.Path) -> None:
+    """A run is refused soon, with a sentence, and all that was there is as it was."""
+    before = {name: data for name, data in snapshot(top).items() if name != "errors.txt"}
+    with case.start() as process:
+        try:
+            status = process.wait(30)
+        finally:
+            process.kill()
+    assert status == 2 and "Traceback" not in case.said(), case.said()
+    assert {name: data for name, data in snapshot(top).items() if name != "errors.txt"} == before
+
+
+# What somebody else has in a folder that no run began: paths, and what is there.
+MINE: Dict[str, Dict[str, str]] = {
+    "a pass": {"pass-1/diary.txt": "mine"},
+    "pieces": {"pass-1/pieces": "mine"},
+    "a journal": {"pass-1/journal": "mine"},
+    "a page beside a pass": {"README.txt": "mine", "pass-1/": ""},
+    "a summary beside a pass": {"summary.json": "{}", "pass-1/": ""},
+    "verdicts beside a pass": {"verdicts.txt": "mine: halt\n", "pass-1/": ""},
+    "a part": {"verdicts.txt.part": "mine, two lines\n"},
+    "another part": {"letters.part": "mine"},
+    "a part of run.json": {"run.json.part": "mine"},
+    "a lock": {"lock": "mine"},
+    "run.json": {"run.json": '{"name": "mine"}'},
+}
+LINKED = (
+    *("run.json", "run.json.part", "README.txt", "verdicts.txt", "summary.json", "lock", "pass-1"),
+    *("pass-1/journal", "pass-1/pieces"),
+)
+
+
+@pytest.mark.parametrize("files", MINE.values(), ids=MINE)
+def test_files_of_somebody_else(tmp_path: pathlib.Path, files: Dict[str, str]) -> None:
+    """A folder of somebody else stays as it is."""
+    case = Case(tmp_path / "foreign", MACHINE, [QUICK_PASS])
+    for name, text in files.items():
+        path = case.out / name
+        (path if name.endswith("/") else path.parent).mkdir(parents=True, exist_ok=True)
+        if not name.endswith("/"):
+            path.write_text(text)
+    require_unchanged(case, case.out)
+
+
+@pytest.mark.parametrize("name", LINKED)
+def test_links_of_somebody_else(tmp_path: pathlib.Path, name: str) -> None:
+    require_link(Case(tmp_path / "link", MACHINE, [QUICK_PASS]), name)
+
+
+def test_pipe_of_somebody_else(tmp_path: pathlib.Path) -> None:
+    case = Case(tmp_path / "pipe", MACHINE, [QUICK_PASS])
+    case.out.mkdir()
+    os.mkfifo(case.out / "run.json")
+    require_unchanged(case, case.out)
+
+
+def require_link(case: Case, name: str) -> None:
+    """What a link of a run's name leads to, and the link, stay as they are; so where it leads nowhere yet."""
+    top = case.out.parent
+    precious = top / "precious"
+    for is_there in (True, False):
+        path = case.out / name
+        path.parent.mkdir(parents=True, exist_ok=True)
+        with contextlib.suppress(FileNotFoundError):
+            path.unlink()
+        if is_there and name == "pass-1":
+            precious.mkdir()
+            (precious / "pieces").write_text("mine")
+        elif is_there:
+            precious.write_text("mine")
+        path.symlink_to(precious)
+        require_unchanged(case, top)
+        assert precious.exists() == is_there
+        if precious.is_dir():
+            shutil.rmtree(precious)
+        else:
+            precious.unlink(missing_ok=True)
+
+
+def test_begun(bb: str, tmp_path: pathlib.Path) -> None:
+    """In a folder that a run began links and pipes are refused; a part of somebody else stays, and the run
+    goes on."""
+    case = Case(tmp_path / "begun", random_list(300, 51), [QUICK_PASS])
+    case.run()
+    for name in ("README.txt", "verdicts.txt", "summary.json", "run.json", "pass-1/journal", "pass-1"):
+        own = case.out / name
+        away = case.out.parent / "away"
+        os.rename(own, away)
+        require_link(case, name)
+        own.unlink()
+        os.rename(away, own)
+    (case.out / "summary.json").unlink()
+    os.mkfifo(case.out / "summary.json")
+    require_unchanged(case, case.out)
+    (case.out / "summary.json").unlink()
+    (case.out.parent / "precious").write_text("mine")
+    for name in ("verdicts.txt.part", "summary.json.part", "run.json.part", "README.txt.part"):
+        (case.out / name).symlink_to(case.out.parent / "precious")
+        (case.out / name.replace(".part", ".2.part")).write_text("mine, too\n")
+    parts = {name: data for name, data in snapshot(case.out).items() if name.endswith(".part")}
+    case.words += ["--pass", words_of((60, 64, 3, 10))]
+    status = case.run()
+    right = expected(bb, case.list.read_bytes(), [QUICK_PASS, (60, 64, 3, 10)])
+    assert status == 1 and case.verdicts() == right, case.said()
+    after = {name: data for name, data in snapshot(case.out).items() if name.endswith(".part")}
+    assert after == parts
+    assert (case.out.parent / "precious").read_text() == "mine"
+    (case.out / "pass-3").mkdir()
+    (case.out / "pass-3" / "pieces").write_text("mine")
+    case.words += ["--pass", words_of((70, 64, 3, 10))]
+    require_unchanged(case, case.out)
+
+
+def command(*more: str, given: Optional[pathlib.Path] = None) -> Tuple[int, str]:
+    """The status of a command of the package, whose standard input is a file, and what it says."""
+    with open(given or os.devnull, "rb") as file:
+        done = subprocess.run(
+            [sys.executable, "-m", "budlarem", *more],
+            stdin=file,
+            stdout=subprocess.PIPE,
+            stderr=subprocess.STDOUT,
+        )
+    return done.returncode, done.stdout.decode("utf-8", "replace")
+
+
+@pytest.mark.parametrize("passes", [1, pytest.param(2, marks=pytest.mark.slow)])
+def test_mixed(tmp_path: pathlib.Path, passes: int) -> None:
+    """A summary, verdicts or journals of another run over as many machines of each kind are refused."""
+    lines = random_list(2_000, 61).splitlines(keepends=True)
+    cases = [
+        Case(tmp_path / ("mixed-%d-%d" % (passes, number)), b"".join(given), PASSES[:passes])
+        for number, given in enumerate((lines, lines[::-1]))
+    ]
+    for case in cases:
+        case.run()
+    first, second = (case.out for case in cases)
+    for name in ("verdicts.txt", "summary.json", "pass-1"):
+        mixed = tmp_path / ("mixed-%d-%s" % (passes, name))
+        shutil.copytree(first, mixed)
+        if name == "pass-1":
+            shutil.rmtree(mixed / name)
+            shutil.copytree(second / name, mixed / name)
+        else:
+            shutil.copyfile(second / name, mixed / name)
+        out = tmp_path / ("mixed-%d-%s.tar" % (passes, name))
+        status, said = command("publish", str(out), "--verdicts", str(mixed))
+        assert status == 2 and "doesn't go with" in said and not out.exists()
+    out = tmp_path / ("whole-%d.tar" % passes)
+    status, said = command("publish", str(out), "--verdicts", str(first), "--list", str(cases[0].list))
+    assert status == 0, said
+    for number in range(1, passes + 1):
+        shutil.rmtree(first / ("pass-%d" % number))
+    out.unlink()
+    status, said = command("publish", str(out), "--verdicts", str(first))
+    assert status == 0, said
+
+
+def test_other_counts(tmp_path: pathlib.Path) -> None:
+    """The summary of one run beside the verdicts of another, as two runs of one name left them."""
+    cases = [Case(tmp_path / ("counts-%d" % seed), random_list(500, seed), [QUICK_PASS]) for seed in (71, 72)]
+    for case in cases:
+        case.run()
+    for path in cases[1].out.glob("verdicts.txt"):
+        shutil.copyfile(path, cases[0].out / path.name)
+    shutil.rmtree(cases[0].out / "pass-1")
+    out = tmp_path / "counts.tar"
+    status, said = command("publish", str(out), "--verdicts", str(cases[0].out))
+    assert status == 2 and "summary.json doesn't go with verdicts.txt" in said and not out.exists(), said
+
+
+def test_archive(tmp_path: pathlib.Path) -> None:
+    """The archive is written beside a link and a file that have the names of its parts."""
+    place = tmp_path / "archive"
+    place.mkdir()
+    (place / "verdicts.txt").write_bytes(MACHINE[:-1] + b" halt 6 4\n")
+    (place / "precious").write_text("mine")
+    (place / "o.tar.part").symlink_to(place / "precious")
+    (place / "o.tar.2.part").write_text("mine, too")
+    before = snapshot(place)
+    status, said = command("publish", str(place / "o.tar"), "--verdicts", str(place / "verdicts.txt"))
+    after = snapshot(place)
+    made = after.pop("o.tar", b"")
+    assert status == 0 and made[257:262] == b"ustar", said
+    assert after == before
+    (place / "new.tar").symlink_to(place / "nowhere")
+    status, said = command("publish", str(place / "new.tar"), "--verdicts", str(place / "verdicts.txt"))
+    assert status == 2 and "is there already" in said and not (place / "nowhere").exists(), said
+
+
+@pytest.mark.needs(modules=("matplotlib",))
+def test_report(tmp_path: pathlib.Path) -> None:
+    """A report is written beside files that have the names of its parts, and never over its own list."""
+    place = tmp_path / "report"
+    place.mkdir()
+    listed, page = place / "list.txt", place / "p.html"
+    listed.write_bytes(MACHINE[:-1] + b" halt 6 4\n")
+    (place / "precious").write_text("mine")
+    (place / "p.html.part").write_text("mine")
+    (place / "p.html.2.part").symlink_to(place / "precious")
+    before = snapshot(place)
+    status, said = command("report", str(listed), "--out", str(page))
+    after = snapshot(place)
+    made = after.pop("p.html", b"")
+    assert status == 0 and b"<html" in made, said
+    assert after == before
+    os.link(listed, place / "same.txt")
+    for out in (listed, place / "same.txt"):
+        for named in ((str(listed),), ()):
+            status, said = command("report", *named, "--out", str(out), given=listed)
+            assert status == 2 and "is the list itself" in said, said
+            assert listed.read_bytes() == before["list.txt"]
+    page.unlink()
+    page.symlink_to(place / "precious")
+    status, said = command("report", str(listed), "--out", str(page))
+    assert status == 3 and "it is a link" in said and page.is_symlink(), said
+    assert (place / "precious").read_text() == "mine"

@@ -1,0 +1,149 @@
+"""How the command `budlarem` begins and what it prints, as processes."""
+
+from __future__ import annotations
+
+import itertools
+import os
+import pathlib
+import pytest
+import re
+import signal
+import subprocess
+import sys
+import time
+from support import restore_signals
+from support.program import MAX_CELLS, MAX_STEPS
+from support.runs import LONG_MACHINE
+from typing import Dict, List, Optional, Tuple
+
+LONG_PASS = "steps=%d,cells=%d" % (MAX_STEPS, MAX_CELLS)
+ENDLESS = LONG_MACHINE[:-1] + b" halt %d 1\n" % MAX_STEPS
+# How a module that Python imported is told, and the first one of the package's own by then.
+_IMPORT = "import time:"
+_MODULE = re.compile(r"budlarem\.[a-z]")
+# So many seconds without an import are the end of them, and so many has a process to begin, or to end.
+QUIET, PATIENCE = 0.3, 60.0
+_STATUSES = {signal.SIGINT: 130, signal.SIGTERM: 143, signal.SIGHUP: 129}
+# What the command says that a signal ended, and whether SIGTERM and SIGHUP end it as other programs.
+_SENTENCES = {
+    "run": r"budlarem: (interrupted|ended by SIG\w+); the same command goes on after what stands.*\n",
+    "publish": r"budlarem: SIG\w+: no archive is written\n",
+    "check": r"",
+}
+
+
+def commands(tmp_path: pathlib.Path) -> Dict[str, List[str]]:
+    """Commands that take hours, by name."""
+    listed, verdicts = tmp_path / "list.txt", tmp_path / "verdicts.txt"
+    listed.write_bytes(LONG_MACHINE)
+    verdicts.write_bytes(ENDLESS)
+    return {
+        "run": ["run", str(listed), "--out", str(tmp_path / "out"), "--pass", LONG_PASS],
+        "publish": ["publish", str(tmp_path / "out.tar"), "--verdicts", str(verdicts)],
+        "check": ["check", str(verdicts)],
+    }
+
+
+def imports_in(text: str) -> int:
+    """How many modules were imported, counted from the first one of the package on."""
+    lines = [line for line in text.splitlines() if line.startswith(_IMPORT)]
+    places = (place for place, line in enumerate(lines) if _MODULE.search(line))
+    return len(lines) - next(places, len(lines))
+
+
+def result_after_signal(
+    more: List[str], number: int, imports: int, seconds: float, log: pathlib.Path
+) -> Tuple[int, str]:
+    """The status of a command that is sent a signal after so many imports, from the first one of the package
+    on, or after the last one, and then so many seconds; and what it says."""
+    command = [sys.executable, "-X", "importtime", "-m", "budlarem", *more]
+    with open(log, "wb") as file, subprocess.Popen(
+        command, stdout=file, stderr=file, preexec_fn=restore_signals
+    ) as process:
+        before, since = 0, time.monotonic()
+        while before < imports and time.monotonic() - since < (QUIET if before else PATIENCE):
+            found = imports_in(log.read_text(errors="replace"))
+            before, since = found, time.monotonic() if found != before else since
+            time.sleep(0.001)
+        time.sleep(seconds)
+        process.send_signal(number)
+        try:
+            process.wait(PATIENCE)
+        finally:
+            process.kill()
+    lines = log.read_text(errors="replace").splitlines(keepends=True)
+    return process.returncode, "".join(line for line in lines if not line.startswith(_IMPORT))
+
+
+@pytest.mark.parametrize("step", [40, pytest.param(15, marks=pytest.mark.slow)])
+@pytest.mark.parametrize(
+    "name, number", [*itertools.product(("run", "publish"), _STATUSES), ("check", signal.SIGINT)]
+)
+def test_signals(tmp_path: pathlib.Path, name: str, number: signal.Signals, step: int) -> None:
+    """Signals among the imports, and some moments later."""
+    moments = [(imports, 0.0) for imports in range(1, 160, step)]
+    moments += [(1_000, 0.01 * hundredths) for hundredths in range(0, 20, max(step // 2, 1))]
+    for imports, seconds in moments:
+        more = commands(tmp_path)[name]
+        status, said = result_after_signal(more, number, imports, seconds, tmp_path / "log")
+        assert status == _STATUSES[number] and re.fullmatch(_SENTENCES[name], said), (imports, seconds, said)
+
+
+def result_of(more: List[str], library: Optional[pathlib.Path] = None) -> Tuple[int, bytes]:
+    """The status of a command over a library, and what it says and writes."""
+    variables = dict(os.environ) if library is None else {**os.environ, "BB_LIBRARY": str(library)}
+    how = subprocess.run([sys.executable, "-m", "budlarem", *more], env=variables, capture_output=True)
+    return how.returncode, how.stdout + how.stderr
+
+
+@pytest.mark.parametrize("step", [1, pytest.param(4, marks=pytest.mark.slow)])
+def test_cut_library(library: pathlib.Path, tmp_path: pathlib.Path, step: int) -> None:
+    """A library that was cut short is refused by each command, and never called."""
+    cut, listed = tmp_path / "libbb.so", tmp_path / "machines.txt"
+    listed.write_bytes(b"1RB1LB_1LA1RZ\n")
+    whole = library.read_bytes()
+    asked = {
+        "decide": ["decide", str(listed)],
+        "check": ["check", str(listed)],
+        "run": ["run", str(listed), "--out", str(tmp_path / "cut")],
+        "trace": ["trace", "1RB1LB_1LA1RZ", "--upto", "6"],
+    }
+    lengths = [*range(64, len(whole), len(whole) // (4 * step)), len(whole) - 1]
+    for length, (name, more) in [(length, one) for length in lengths for one in asked.items()]:
+        cut.write_bytes(whole[:length])
+        status, said = result_of(more, cut)
+        assert status == 3 and b"was cut short" in said and said.count(b"\n") == 1, (name, length)
+    cut.write_bytes(whole)
+    status, said = result_of(asked["decide"], cut)
+    assert status == 0 and b"1RB1LB_1LA1RZ halt 6 4" in said.splitlines()
+
+
+def test_controls(tmp_path: pathlib.Path) -> None:
+    """Lines with control characters, in lists and in the names of files."""
+    odd = b"\x1b[31mred\x07\x9b1m\xc2\x9b2m\x7f\x00\r"
+    listed, verdicts, named = (
+        tmp_path / "odd.txt",
+        tmp_path / "odd-verdicts.txt",
+        tmp_path / "na\x1b[31mme.txt",
+    )
+    (tmp_path / "list.txt").write_bytes(LONG_MACHINE)
+    listed.write_bytes((odd + b"\n") * 3)
+    verdicts.write_bytes(b"1RB1LB_1LA1RZ halt 6 4 " + odd + b"\n")
+    named.write_bytes(b"1RB1LB_1LA1RZ halt 6 4\n1RB1LB_1LA1RZ halt 7 4\n")
+    asked = {
+        "run": ["run", str(listed), "--out", str(tmp_path / "odd")],
+        "run of an odd name": ["run", str(named), "--out", str(tmp_path / "odd")],
+        "run in an odd name": ["run", str(tmp_path / "list.txt"), "--out", str(named)],
+        "check": ["check", str(verdicts)],
+        "check of an odd name": ["check", str(named)],
+        "publish": ["publish", str(tmp_path / "odd.tar"), "--verdicts", str(verdicts)],
+        "publish of an odd name": ["publish", str(tmp_path / "odd.tar"), "--verdicts", str(named)],
+        "publish into an odd name": ["publish", str(named), "--verdicts", str(verdicts)],
+        "trace": ["trace", "1RB1LB\x1b[31m", "--upto", "3"],
+        "report": ["report", str(verdicts), "--out", str(tmp_path / "no" / "na\x1b[31mme.html")],
+    }
+    for name, more in asked.items():
+        status, said = result_of(more)
+        raw = [byte for byte in said if byte < 32 and byte != 10 or byte == 127]
+        raw += [ord(sign) for sign in said.decode("utf-8", "replace") if "\x80" <= sign <= "\x9f"]
+        assert status in (1, 2, 3) and not raw and (b"\\x1b" in said or name == "trace"), said

@@ -1,0 +1,197 @@
+"""The sources of the package, by each Python from 3.9 on, and its wheel alone, in an empty environment."""
+
+from __future__ import annotations
+
+import doctest
+import importlib
+import json
+import os
+import pathlib
+import pytest
+import re
+import shutil
+import subprocess
+import sys
+from support import TOP
+from support.program import ended
+from support.runs import expected, words_of
+from typing import Dict, List, Mapping, Optional, Tuple
+
+PACKAGE = TOP / "python"
+WHEEL = re.compile(
+    r"budlarem-[0-9.]+\+g[0-9a-f]{12}(\.changed\.[0-9a-f]{8})?-py3-none-manylinux_2_17_x86_64\.whl"
+)
+# The newest glibc that the wheel's tag allows.
+NEWEST_GLIBC = (2, 17)
+FIRST_RUN = """
+import budlarem
+print(budlarem.__version__, budlarem.COMMIT)
+for verdict in budlarem.decide(["1RB1LB_1LA1RZ", "1RA1RA", "1rB1LB"]): print(verdict)
+"""
+METADATA = """
+import importlib.metadata, json
+found = importlib.metadata.metadata("budlarem")
+facts = {name: found[name] for name in ("Summary", "Keywords", "Description-Content-Type")}
+print(json.dumps({**facts, "page": found.get_payload()}))
+"""
+# The champions of two to five states, a translated cycler, and a line that is no machine.
+RUN_LIST = (
+    b"1RB1LB_1LA1RZ\n1RB1RZ_1LB0RC_1LC1LA\n1RA1RA\n1RB1LB_1LA0LC_1RZ1LD_1RD0RA\n1rB1LB\n"
+    b"1RB1LC_1RC1RB_1RD0LE_1LA1LD_1RZ0LA\n"
+)
+# The first leaves all three that halt within the second, and the five-state champion is left by both.
+RUN_PASSES = ((5, 16, 3, 10), (1_000, 1_024, 40, 1_000))
+# Of the first pass, and of both together: how many lines are undecided.
+RUN_LEFT = [4, 1]
+SITE = pathlib.Path(pytest.__file__).parents[1]
+# The modules that pytest is, for Pythons and environments that lack it.
+PYTEST = ("pytest", "_pytest", "py", "pluggy", "iniconfig", "packaging", "attr", "exceptiongroup")
+
+
+def run(
+    command: List[str],
+    variables: Optional[Mapping[str, str]] = None,
+    cwd: pathlib.Path = PACKAGE,
+    given: Optional[str] = None,
+) -> Tuple[int, str]:
+    """The status of a command and all that it writes, in an environment with these variables, in which nothing
+    else says where the package or the library is."""
+    hidden = ("PYTHONPATH", "BB_LIBRARY", "PYTHONHOME", "VIRTUAL_ENV")
+    bare = {name: value for name, value in os.environ.items() if name not in hidden}
+    written, both = subprocess.PIPE, subprocess.STDOUT
+    done = subprocess.run(
+        command,
+        cwd=cwd,
+        env={**bare, **(variables or {})},
+        input=given,
+        stdout=written,
+        stderr=both,
+        text=True,
+    )
+    return done.returncode, done.stdout
+
+
+def pythons() -> List[str]:
+    """A command for each version of Python from 3.9 on that starts, the oldest first."""
+    asked = ["/usr/bin/python3", *("python3.%d" % minor for minor in range(9, 20))]
+    folders = sorted(pathlib.Path.home().glob(".pyenv/versions/3.*/bin/python3"))
+    found: Dict[Tuple[int, int], str] = {}
+    for command in filter(shutil.which, [*asked, *map(str, folders)]):
+        status, output = run([command, "-c", "import sys; print(sys.executable, *sys.version_info[:2])"])
+        parts = output.split()
+        if status == 0 and len(parts) == 3 and (int(parts[1]), int(parts[2])) >= (3, 9):
+            found.setdefault((int(parts[1]), int(parts[2])), parts[0])
+    return [found[version] for version in sorted(found)]
+
+
+def run_unit_tests(python: str, top: pathlib.Path, *more: str) -> None:
+    """The unit tests, by one Python, which needn't have pytest itself."""
+    top.mkdir(exist_ok=True)
+    for name in (found for module in PYTEST for found in (module, module + ".py")):
+        if (SITE / name).exists():
+            (top / name).symlink_to(SITE / name)
+    (top / "tomli.py").write_text("from pip._vendor.tomli import *\n")
+    words = ["-q", "-p", "no:cacheprovider", *more, "python/tests/unit"]
+    status, output = run([python, "-m", "pytest", *words], {"PYTHONPATH": str(top)}, TOP)
+    counts = re.search(r"(\d+) passed", output)
+    assert status == 0 and counts and int(counts.group(1)) > 200, output
+
+
+@pytest.mark.slow
+def test_unit_tests_by_each_python(tmp_path: pathlib.Path) -> None:
+    for place, python in enumerate(pythons()):
+        run_unit_tests(python, tmp_path / str(place))
+
+
+@pytest.mark.needs("mypy", "black")
+def test_types_and_layout() -> None:
+    status, output = run(["/usr/bin/python3", "-m", "mypy", "python/src", "python/tests"], cwd=TOP)
+    assert status == 0, output
+    assert run(["black", "--check", "--quiet", "src", "tests", "setup.py", "build_wheel.py"])[0] == 0
+
+
+def test_examples_of_docstrings() -> None:
+    names = sorted((PACKAGE / "src" / "budlarem").rglob("[a-z]*.py"))
+    modules = [".".join(path.relative_to(PACKAGE / "src").with_suffix("").parts) for path in names]
+    found = [doctest.testmod(importlib.import_module(name)) for name in modules if not name.endswith("again")]
+    assert sum(one.failed for one in found) == 0
+    assert sum(one.attempted for one in found) > 15
+
+
+@pytest.mark.needs("readelf")
+def test_library_asks_for_no_newer_glibc(library: pathlib.Path) -> None:
+    """The wheel's tag names the newest glibc that its library may need."""
+    symbols = ended(["readelf", "--version-info", "--wide", str(library)]).output.decode()
+    versions = [tuple(map(int, name.split("."))) for name in re.findall(r"GLIBC_([0-9.]+)", symbols)]
+    assert (0,) < max(versions) <= NEWEST_GLIBC
+
+
+@pytest.mark.slow
+@pytest.mark.needs("pip3", modules=("setuptools", "wheel"))
+def test_wheel(bb: str, library: pathlib.Path, tmp_path: pathlib.Path) -> None:
+    """The wheel: twice the same bytes; by the oldest and the newest Python its first run, its unit tests, its
+    commands, and what it says where its library was cut."""
+    wheels = []
+    for name in ("first", "again"):
+        words = ["--library", str(library), "--out", str(tmp_path / name)]
+        status, output = run(["/usr/bin/python3", "build_wheel.py", *words])
+        assert status == 0, output
+        wheels.append(pathlib.Path(output.strip().splitlines()[-1]))
+    assert WHEEL.fullmatch(wheels[0].name)
+    assert wheels[0].read_bytes() == wheels[1].read_bytes()
+    found = pythons()
+    for place, python in enumerate(dict.fromkeys([found[0], "/usr/bin/python3", found[-1]])):
+        folder = tmp_path / ("environment%d" % place)
+        if run([python, "-m", "venv", str(folder)])[0] != 0:
+            pytest.skip("an environment of %s: no venv (package python3-venv)" % python)
+        inside, command = str(folder / "bin" / "python"), str(folder / "bin" / "budlarem")
+        status, output = run([inside, "-m", "pip", "install", "--quiet", "--no-index", str(wheels[0])])
+        assert status == 0, output
+        require_first_run(inside)
+        require_metadata(inside)
+        run_unit_tests(inside, folder / "pytest", "-o", "pythonpath=tests")
+        assert run([command, "decide"], cwd=folder, given="1RZ---, x\n")[1] == "1RZ--- halt 1 1\tx\n"
+        require_runner(bb, command, folder)
+        require_cut_library(command, folder)
+
+
+def require_first_run(python: str) -> None:
+    """The first run of the documents, by a version that names its commit."""
+    status, output = run([python, "-I", "-c", FIRST_RUN])
+    first, *lines = output.splitlines()
+    version, commit = first.split(maxsplit=1)
+    assert lines == ["1RB1LB_1LA1RZ halt 6 4", "1RA1RA translated R 1 2 1 1", "refused 2"]
+    assert "+g" + commit[:12] in version
+
+
+def require_metadata(python: str) -> None:
+    """What the wheel says of itself: a long description, and words by which it is found."""
+    facts = json.loads(run([python, "-I", "-c", METADATA])[1])
+    assert facts["page"].strip() == (PACKAGE / "README.md").read_text(encoding="utf-8").strip()
+    assert facts["Description-Content-Type"] == "text/markdown"
+    assert "busy beaver" in facts["Keywords"] and "Turing machines" in facts["Summary"]
+
+
+def require_runner(bb: str, command: str, folder: pathlib.Path) -> None:
+    """The command `run` of the wheel: begun, and gone on with a pass that decides what is left."""
+    (folder / "list.txt").write_bytes(RUN_LIST)
+    words = [command, "run", "list.txt", "--out", "out", "--check"]
+    for count, left in enumerate(RUN_LEFT, 1):
+        words += ["--pass", words_of(RUN_PASSES[count - 1])]
+        assert run(words, cwd=folder)[0] == 1
+        found = (folder / "out" / "verdicts.txt").read_bytes()
+        assert found == expected(bb, RUN_LIST, RUN_PASSES[:count])
+        assert found.count(b" undecided ") == left
+
+
+def require_cut_library(command: str, folder: pathlib.Path) -> None:
+    """The wheel's library is cut short: it has another length than the wheel says, and is never called."""
+    (library,) = folder.glob("lib/python3*/site-packages/budlarem/libbb.so")
+    whole = library.read_bytes()
+    for length in (0, 1_000, len(whole) // 2, len(whole) - 1):
+        library.write_bytes(whole[:length])
+        status, output = run([command, "decide"], cwd=folder, given="1RZ---\n")
+        sentence = "has %d bytes, and that of this package has %d: it was cut" % (length, len(whole))
+        assert status == 3 and sentence in output
+    library.write_bytes(whole)
+    assert run([command, "decide"], cwd=folder, given="1RZ---\n")[1] == "1RZ--- halt 1 1\n"

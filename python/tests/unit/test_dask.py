@@ -1,0 +1,410 @@
+"""The runner over dask, with a double of dask: what is lost, and how it is handed over again."""
+
+from __future__ import annotations
+
+import argparse
+import contextlib
+import dataclasses
+import io
+import pytest
+import types
+import unittest.mock
+from concurrent.futures import CancelledError, Future
+from typing import Any, Dict, Iterator, List, Optional, Tuple
+
+from budlarem import commands
+from budlarem.commands import run as command
+from budlarem.runner import chunks, dask, progress
+from budlarem.runner.errors import DeadlyError, RunError
+
+LIMITS = (30, 16, 3, 5)
+LINES = b"1RZ---\n1RA1RA\n0RZ---\n1LA1LA\n1LZ---\n"
+
+
+def reply_to(lines: bytes, limits: chunks.Numbers) -> chunks.PieceReply:
+    """A reply that tells which lines it belongs to."""
+    written, seconds = lines.upper(), float(lines.count(b"\n"))
+    digests = (chunks.digest_of(lines), "asked", chunks.digest_of(written))
+    return (written, seconds, "version", "commit", "library", *digests)
+
+
+class KilledWorker(Exception):
+    """As dask's."""
+
+
+@dataclasses.dataclass
+class State:
+    """What a client knows of a task."""
+
+    status: str
+
+
+class DoubleClient:
+    """A client, and its executor, that does what a test says. `given` has the tasks that were handed over."""
+
+    def __init__(self, *address: str, **how: Any) -> None:
+        self.status, self.scheduler_comm, self.loop = "running", object(), object()
+        self.how = how
+        self.dashboard_link = "http://page"
+        self.workers: Dict[str, int] = {"one": 1}
+        self.futures: Dict[str, State] = {}
+        self.given: List[Any] = []
+        self.fetched: Dict[str, Any] = {}
+
+    def get_executor(self, pure: bool) -> DoubleClient:
+        assert not pure
+        return self
+
+    def nthreads(self, callback_timeout: float) -> Dict[str, int]:
+        return self.workers
+
+    def submit(self, task: Any, lines: bytes, limits: chunks.Numbers, key: str) -> Future[Any]:
+        if self.status == "closed":
+            raise Exception("Tried sending message after closing")
+        future: Future[Any] = Future()
+        self.futures[key] = State("pending")
+        self.given.append(
+            types.SimpleNamespace(task=task, lines=lines, limits=limits, key=key, future=future)
+        )
+        return future
+
+    def answer(self, place: int = 0) -> None:
+        """Ends a task well."""
+        given = self.given.pop(place)
+        given.future.set_result(given.task(given.lines, given.limits))
+
+    def cancel(self) -> None:
+        """Ends all tasks as dask does when the scheduler goes away."""
+        for given in self.given:
+            given.future.cancel()
+            given.future.set_running_or_notify_cancel()
+        self.given = []
+
+    def kill(self, place: int = 0) -> None:
+        """Ends a task as dask does when it ended its workers."""
+        self.given.pop(place).future.set_exception(KilledWorker("it was tried on 4 workers"))
+
+
+class DoubleFuture:
+    """dask's future, whose reply a test lays down in the client."""
+
+    def __init__(self, key: str, client: DoubleClient) -> None:
+        self.key, self.client = key, client
+
+    def result(self, seconds: float) -> Any:
+        reply = self.client.fetched[self.key]
+        if isinstance(reply, BaseException):
+            raise reply
+        return reply
+
+
+class Dask:
+    """The package `distributed`; `refuses` is what is raised where a client is made."""
+
+    KilledWorker, Future = KilledWorker, DoubleFuture
+
+    def __init__(self) -> None:
+        self.clients: List[DoubleClient] = []
+        self.refuses: Optional[Exception] = None
+
+    def Client(self, *address: str, **how: Any) -> DoubleClient:
+        if self.refuses is not None:
+            raise self.refuses
+        self.clients.append(DoubleClient(*address, **how))
+        return self.clients[-1]
+
+    def Security(self, **files: Any) -> Dict[str, Any]:
+        return files
+
+
+class ClusterCase:
+    """The place that the workers of a scheduler are, over a double of dask."""
+
+    def __init__(self, double: Dask) -> None:
+        self.dask, self.sentences = double, [""]
+        self.place = dask.ClusterPlace("tcp://there:8786", {}, self.sentences.append)
+
+    @property
+    def client(self) -> DoubleClient:
+        return self.dask.clients[-1]
+
+    def submit(self, lines: bytes = LINES) -> Future[Any]:
+        return self.place.submit(reply_to, lines, LIMITS)
+
+    def tend(self) -> None:
+        """A look at the scheduler that is due."""
+        self.place._next = 0.0
+        self.place.tend()
+
+    def is_right(self, future: Future[Any], lines: bytes = LINES) -> None:
+        assert future.result(0) == reply_to(lines, LIMITS)
+
+    def killed_at(self, line: bytes, future: Future[Any]) -> int:
+        """Each task with a line ends its workers, all others are answered; how many did."""
+        count = 0
+        while not future.done():
+            if line in self.client.given[0].lines:
+                self.client.kill()
+                count += 1
+            else:
+                self.client.answer()
+            self.tend()
+        return count
+
+
+@pytest.fixture
+def double(monkeypatch: pytest.MonkeyPatch) -> ClusterCase:
+    package = Dask()
+    monkeypatch.setattr(dask, "distributed", lambda: package)
+    return ClusterCase(package)
+
+
+def test_a_reply_comes_back(double: ClusterCase) -> None:
+    future = double.submit()
+    double.client.answer()
+    double.is_right(future)
+    assert double.sentences[1:] == ["dask's page is at http://page"]
+    assert double.place._handed == {}
+
+
+def test_what_was_cancelled_is_handed_over_again(double: ClusterCase) -> None:
+    futures = [double.submit(), double.submit()]
+    double.client.cancel()
+    double.tend()
+    assert len(double.client.given) == 2
+    for future in futures:
+        assert not future.done()
+        double.client.answer()
+        double.is_right(future)
+
+
+def test_a_broken_connection(double: ClusterCase) -> None:
+    """Of what went by it nothing may ever come; what comes nevertheless is passed over."""
+    future = double.submit()
+    before = double.client.given.pop()
+    double.tend()
+    assert double.client.given == []
+    double.client.status, double.client.scheduler_comm = "connecting", None
+    double.tend()
+    assert "doesn't answer" in double.sentences[-1]
+    waiting = double.submit()
+    assert double.client.given == []
+    double.client.status, double.client.scheduler_comm = "running", object()
+    double.tend()
+    assert len(double.client.given) == 2
+    before.future.set_result("of the connection before")
+    assert not future.done()
+    for _ in range(2):
+        double.client.answer()
+    double.is_right(future)
+    double.is_right(waiting)
+
+
+def test_a_closed_client_is_made_anew(double: ClusterCase) -> None:
+    future = double.submit()
+    first = double.client
+    first.status = "closed"
+    double.dask.refuses = OSError("nobody there")
+    for _ in range(3):
+        double.tend()
+    waiting = double.submit()
+    assert [text for text in double.sentences if "no scheduler" in text] == double.sentences[-1:]
+    double.dask.refuses = None
+    double.tend()
+    assert double.client is not first
+    assert double.client.how["loop"] is first.loop
+    assert len(double.client.given) == 2
+    for _ in range(2):
+        double.client.answer()
+    double.is_right(future)
+    double.is_right(waiting)
+    assert "has 1 workers" in double.sentences[-1]
+
+
+def test_no_scheduler_at_all(double: ClusterCase) -> None:
+    double.dask.refuses = OSError("nobody there")
+    with pytest.raises(RunError, match="no scheduler answers at tcp://there:1: nobody there"):
+        dask.ClusterPlace("tcp://there:1", {}, double.sentences.append)
+
+
+def test_workers_that_go_and_come(double: ClusterCase) -> None:
+    double.client.workers = {}
+    for _ in range(3):
+        double.tend()
+    assert (double.sentences[2:], double.place.width()) == ([double.sentences[-1]], 4)
+    assert "no workers" in double.sentences[-1]
+    double.client.workers = {"one": 4, "two": 3}
+    double.tend()
+    assert "has 2 workers" in double.sentences[-1]
+    assert (double.place.width(), double.place.status()) == (14, "2 workers")
+
+
+def test_a_line_that_ends_its_workers_is_named(double: ClusterCase) -> None:
+    for place, line in enumerate(LINES.splitlines(keepends=True)):
+        future = double.submit()
+        assert double.killed_at(line, future) <= 4
+        with pytest.raises(DeadlyError) as raised:
+            future.result(0)
+        assert raised.value.line == place
+        double.client.given = []
+
+
+def test_lines_that_stood_beside_it_are_not_named(double: ClusterCase) -> None:
+    """All tasks are on one worker, and dask says of all of them that they ended it."""
+    texts = [b"1LZ---\n" * 4, LINES, b"0RZ---\n1RZ---\n"]
+    futures = [double.submit(lines) for lines in texts]
+    while not all(future.done() for future in futures):
+        is_deadly = any(b"1RA1RA" in given.lines for given in double.client.given)
+        while double.client.given:
+            if is_deadly:
+                double.client.kill()
+            else:
+                double.client.answer()
+        double.tend()
+    with pytest.raises(DeadlyError) as raised:
+        futures[1].result(0)
+    assert raised.value.line == 1
+    double.is_right(futures[0], texts[0])
+    double.is_right(futures[2], texts[2])
+
+
+def test_workers_that_were_killed_by_chance(double: ClusterCase) -> None:
+    future = double.submit()
+    double.client.kill()
+    double.tend()
+    for count in (2, 3):
+        assert [given.lines.count(b"\n") for given in double.client.given] == [count]
+        assert not future.done()
+        double.client.answer()
+        double.tend()
+    double.is_right(future)
+    assert "5 lines ended their workers" in double.sentences[-1]
+
+
+def test_a_reply_that_cannot_be_read(double: ClusterCase, monkeypatch: pytest.MonkeyPatch) -> None:
+    """dask's executor never ends such a future, nor those whose replies came with it."""
+    lost, innocent, busy = double.submit(), double.submit(), double.submit()
+    for given, reply in zip(double.client.given, (ImportError("no such class"), reply_to(LINES, LIMITS))):
+        double.client.futures[given.key].status = "finished"
+        double.client.fetched[given.key] = reply
+    double.tend()
+    double.tend()
+    assert not (lost.done() or innocent.done())
+    monkeypatch.setattr(dask, "_SILENT", -1.0)
+    double.tend()
+    with pytest.raises(ImportError, match="no such class"):
+        lost.result(0)
+    double.is_right(innocent)
+    assert not busy.done()
+
+
+def test_a_reply_that_dask_forgot(double: ClusterCase, monkeypatch: pytest.MonkeyPatch) -> None:
+    """It is decided again; dask's own future is held meanwhile, so that it seldom forgets one."""
+    future = double.submit()
+    before = double.client.given.pop()
+    (handed,) = double.place._handed.values()
+    assert handed.own.key == before.key
+    del double.client.futures[before.key]
+    double.tend()
+    assert double.client.given == []
+    monkeypatch.setattr(dask, "_SILENT", -1.0)
+    double.tend()
+    double.client.answer()
+    double.is_right(future)
+
+
+def test_a_reply_that_comes_late(double: ClusterCase, monkeypatch: pytest.MonkeyPatch) -> None:
+    monkeypatch.setattr(dask, "_SILENT", -1.0)
+    future = double.submit()
+    key = double.client.given[0].key
+    double.client.futures[key].status = "finished"
+    for error in (TimeoutError(), OSError("the connection broke")):
+        double.client.fetched[key] = error
+        for _ in range(4):
+            double.tend()
+        assert not future.done()
+    double.client.fetched[key] = CancelledError()
+    for _ in range(2):
+        double.tend()
+    assert not future.done()
+    double.client.answer(1)
+    double.is_right(future)
+
+
+def test_what_a_task_raises_comes_back(double: ClusterCase) -> None:
+    future = double.submit()
+    double.client.given.pop().future.set_exception(ModuleNotFoundError("No module named 'budlarem'"))
+    assert isinstance(future.exception(0), ModuleNotFoundError)
+
+
+def test_replies_that_do_not_go_together() -> None:
+    good = reply_to(LINES, LIMITS)
+    other = (*good[:4], "another library", *good[5:])
+    odd = reply_to(LINES[:-7], LIMITS)
+    cases: List[Tuple[List[Any], Any]] = [
+        ([good, good], (good[0] * 2, *reply_to(LINES * 2, LIMITS)[1:])),
+        ([good, None], None),
+        ([b"x", good], b"x"),
+        ([good, good[:5]], good[:5]),
+        ([good, other], other),
+        ([good, odd], odd),
+        ([good, (b"x", *good[1:])], (b"x", *good[1:])),
+        ([good, ("x", *good[1:])], ("x", *good[1:])),
+    ]
+    for replies, joined in cases:
+        assert chunks.reply_of_parts([LINES, LINES], replies) == joined
+
+
+def test_an_error_of_a_half_is_that_of_the_whole() -> None:
+    for place in (0, 1):
+        job = chunks.Job(reply_to, LINES, LIMITS)
+        both = chunks.halved(job)
+        both[place].future.set_exception(ValueError("wrong"))
+        both[1 - place].future.set_result(reply_to(LINES, LIMITS))
+        assert isinstance(job.future.exception(0), ValueError)
+
+
+def asked(*words: str) -> argparse.Namespace:
+    parser = argparse.ArgumentParser()
+    command.add_command(parser.add_subparsers())
+    return parser.parse_args(["run", "list", "--out", "folder", *words])
+
+
+def place(*words: str) -> Any:
+    return command._workplace(asked(*words), progress.Progress(io.StringIO()))
+
+
+def test_words_that_do_not_go_together() -> None:
+    with pytest.raises(ValueError, match="give one of them"):
+        place("--scheduler", "there", "--threads", "2")
+    for name in command.TLS:
+        with pytest.raises(ValueError, match="which isn't given"):
+            place("--" + name, "file")
+
+
+def test_options_of_tls() -> None:
+    double = Dask()
+    words = [word for name in command.TLS for word in ("--" + name, __file__)]
+    with unittest.mock.patch.object(dask, "distributed", lambda: double):
+        place("--scheduler", "tls://there:8786", *words)
+        with pytest.raises(ValueError, match="--tls-key missing/key.pem can't be read: No such file"):
+            place("--scheduler", "tls://there:8786", *words, "--tls-key", "missing/key.pem")
+    files: Dict[str, Any] = {name: __file__ for name in ("tls_ca_file", "tls_client_cert", "tls_client_key")}
+    assert double.clients[0].how["security"] == {**files, "require_encryption": True}
+    assert len(double.clients) == 1
+
+
+def test_dask_is_not_installed() -> None:
+    said = io.StringIO()
+    with hidden(), contextlib.redirect_stderr(said):
+        with unittest.mock.patch("budlarem.commands.run.end_at_interruption"):
+            status = commands.main(["run", "list", "--out", "folder", "--scheduler", "there:8786"])
+    assert status == 3
+    assert "dask isn't installed" in said.getvalue()
+
+
+@contextlib.contextmanager
+def hidden() -> Iterator[None]:
+    """`distributed` isn't there."""
+    with unittest.mock.patch.dict("sys.modules", {"distributed": None}):
+        yield

@@ -1,0 +1,276 @@
+"""Deciding, checking and tracing, through the library."""
+
+from __future__ import annotations
+
+import io
+import itertools
+import os
+import pytest
+import re
+import subprocess
+import sys
+import threading
+from typing import Any, Iterator, List, Tuple
+
+import budlarem
+from budlarem import Answer, Limits, Plan
+from budlarem._library import CLEAN, Room
+
+CHAMPION = "1RB1LB_1LA1RZ"
+MACHINES = [CHAMPION, "0RB---_0LA---", "1RA1RA", "1rB1LB", ""]
+LINES = [
+    CHAMPION + " halt 6 4",
+    "0RB---_0LA--- cycler 2 4",
+    "1RA1RA translated R 1 2 1 1",
+    "refused 2",
+    "refused 1",
+]
+# It grows for ever as the square root of its steps, and no decider finds anything.
+COUNTER = "1RB0RA_1LC1LB_1RA0LB"
+
+
+def decided(machines: Any, *given: Any, **more: Any) -> List[str]:
+    return [str(verdict) for verdict in budlarem.decide(machines, *given, **more)]
+
+
+def test_lists_of_any_kind() -> None:
+    for machines in (MACHINES, tuple(MACHINES), iter(MACHINES), dict.fromkeys(MACHINES)):
+        assert decided(machines) == LINES
+    assert decided([]) == []
+
+
+def test_what_was_refused_is_kept() -> None:
+    (verdict,) = budlarem.decide(["x y"])
+    assert verdict == budlarem.Refused(1)
+    assert verdict.machine == "x y"
+
+
+def test_limits_and_plans() -> None:
+    assert decided(["1RA1RA"], Limits(steps=10), Plan(translated=False)) == ["1RA1RA backward 0 0"]
+    simulation = Plan(cyclers=False, translated=False, backward=False)
+    assert decided(["1RA1RA"], Limits(steps=10), simulation) == ["1RA1RA undecided steps"]
+    assert decided([CHAMPION], Limits(steps=5), simulation) == [CHAMPION + " undecided steps"]
+
+
+def test_order_by_threads() -> None:
+    machines = ["1RA1RA", CHAMPION] * 20_000
+    expected = [LINES[2], LINES[0]] * 20_000
+    for threads in (1, 4):
+        assert decided(machines, Limits(steps=10), threads=threads) == expected
+
+
+def test_endless_lists() -> None:
+    first = itertools.islice(budlarem.decide(itertools.cycle(MACHINES)), 5)
+    assert [str(verdict) for verdict in first] == LINES
+
+
+def test_an_item_that_is_no_text() -> None:
+    for wrong, said in (
+        (b"1RA1RA", r"machines\[2\] is of type bytes, not str; decide_bytes"),
+        (None, r"machines\[2\] is of type NoneType"),
+        (7, r"machines\[2\] is of type int"),
+    ):
+        found = budlarem.decide([CHAMPION, "1RA1RA", wrong])  # type: ignore[list-item]
+        assert [str(next(found)), str(next(found))] == [LINES[0], LINES[2]]
+        with pytest.raises(TypeError, match=said):
+            next(found)
+
+
+def test_an_item_with_a_newline() -> None:
+    for wrong in ("1RA1RA\n", "x" * 5_000 + "\n"):
+        with pytest.raises(ValueError, match=r"machines\[1\] has a newline"):
+            decided([CHAMPION, wrong])
+
+
+def test_no_list() -> None:
+    for wrong in (CHAMPION, b"1RA1RA", None, 7):
+        with pytest.raises(TypeError):
+            decided(wrong)
+
+
+def test_wrong_limits_and_threads_at_once() -> None:
+    wrong: Any = {"steps": 1}
+    with pytest.raises(TypeError, match="limits is of type dict"):
+        budlarem.decide([], wrong)
+    with pytest.raises(TypeError, match="plan is of type dict"):
+        budlarem.decide([], Limits(), wrong)
+    with pytest.raises(ValueError, match="threads is 0"):
+        budlarem.decide([], threads=0)
+
+
+def test_texts_of_all_kinds() -> None:
+    texts = ["\u00e9", "\ud800", "\0", "1RA1RA\0", "1RA1RA\r", " ", "1RA1RA ", "9" * 3_000_000]
+    columns = [1, 1, 1, 7, 7, 1, 7, 2]
+    assert decided(texts) == ["refused %d" % column for column in columns]
+
+
+def test_an_error_of_the_list_itself() -> None:
+    def broken() -> Iterator[str]:
+        yield CHAMPION
+        raise KeyError("gone")
+
+    found = budlarem.decide(broken())
+    with pytest.raises(KeyError):
+        list(found)
+
+
+def test_threads_end_with_the_list() -> None:
+    before = threading.active_count()
+    decided(MACHINES, threads=3)
+    assert threading.active_count() == before
+
+
+def test_lines_and_verdicts() -> None:
+    given: List[Any] = [LINES[0], budlarem.Halt(CHAMPION, 6, 5), "x", budlarem.Refused(3), LINES[2]]
+    answers = [Answer.OK, Answer.BAD, Answer.UNREAD, Answer.OPEN, Answer.OK]
+    assert list(budlarem.check(given)) == answers
+    assert list(budlarem.check(LINES[:1], Limits(steps=5))) == [Answer.OVER]
+    assert str(Answer.OVER) == "over"
+
+
+def test_an_item_that_is_none() -> None:
+    wrong: Any = [LINES[0], 7]
+    with pytest.raises(TypeError, match=r"lines\[1\] is of type int"):
+        list(budlarem.check(wrong))
+
+
+def test_a_verdict_with_a_field_of_another_type() -> None:
+    text: Any = "6"
+    half: Any = 6.0
+    pair: Any = (1, 1)
+    nothing: Any = None
+    cases: List[Tuple[budlarem.Verdict, str]] = [
+        (budlarem.Halt(CHAMPION, text, 4), "steps is '6' of type str, but must be a whole number"),
+        (budlarem.Halt(CHAMPION, half, 4), "steps is 6.0 of type float"),
+        (budlarem.Halt(CHAMPION, True, 4), "steps is True"),
+        (budlarem.Halt(nothing, 6, 4), "machine is None of type NoneType, not str"),
+        (budlarem.Cycler(CHAMPION, 1, text), "second is '6'"),
+        (budlarem.Backward(CHAMPION, 1, text), "nodes is '6'"),
+        (budlarem.Translated(CHAMPION, "R", 1, 2, pair), "extent is of type tuple, not Extent"),
+        (budlarem.Translated(CHAMPION, "R", 1, 2, budlarem.Extent(1, text)), "extent.length is '6'"),
+        (budlarem.Undecided(CHAMPION, nothing), "reason is None"),
+        (budlarem.Refused(text), "column is '6'"),
+    ]
+    for wrong, place in cases:
+        with pytest.raises(TypeError, match=r"^lines\[1\]\." + re.escape(place)):
+            list(budlarem.check([LINES[0], wrong]))
+
+
+def test_blocks_of_any_kind() -> None:
+    given = "".join(line + "\n" for line in MACHINES).encode()
+    expected = "".join(line + "\n" for line in LINES).encode()
+    cut = [given[k : k + 3] for k in range(0, len(given), 3)]
+    kinds: List[Any] = [given, bytearray(given), memoryview(given), io.BytesIO(given), cut, iter([given])]
+    for blocks in kinds:
+        assert b"".join(budlarem.decide_bytes(blocks)) == expected
+    assert b"".join(budlarem.check_bytes(expected)) == b"ok\nok\nok\nopen\nopen\n"
+    assert b"".join(budlarem.decide_bytes(b"")) == b""
+
+
+def test_a_last_line_without_its_newline() -> None:
+    assert b"".join(budlarem.decide_bytes(b"\n1RZ---")) == b"refused 1\n1RZ--- halt 1 1\n"
+
+
+def test_lines_without_an_end() -> None:
+    noise = (b"1RZ------" * 100_000 for _ in range(20))
+    assert b"".join(budlarem.decide_bytes(noise)) == b"refused 31\n"
+    twice = [b"1RZ------" * 100_000, b"\n1RZ---\n"]
+    assert b"".join(budlarem.decide_bytes(twice)) == b"refused 31\n1RZ--- halt 1 1\n"
+    assert b"".join(budlarem.check_bytes([b"refused 1", b" " * 5_000, b"\n"])) == b"unread\n"
+
+
+def test_replies_longer_than_their_room() -> None:
+    assert b"".join(budlarem.check_bytes(b"\n" * 1_000)) == b"unread\n" * 1_000
+    asked = (*Limits().numbers(), *Plan().switches())
+    room = Room()
+    for given in (1, 22, 23, 1_000_000):
+        room.call("bb_decide", asked, b"1RB1LB_1LA1RZ\n", given)
+        assert room.reply() == (CLEAN, 23, b"1RB1LB_1LA1RZ halt 6 4\n")
+
+
+def test_lists_of_many_batches() -> None:
+    lines = b"".join(b"1RZ---%s\n" % (b"x" * (place % 700)) for place in range(5_000))
+    lines += b"1" * 2_000_000 + b"\n1RA1RA\n" + b"\n" * 5_000 + lines
+    expected = b"".join(budlarem.decide_bytes([lines], Limits(steps=0)))
+    assert expected.count(b"\n") == lines.count(b"\n")
+    view = memoryview(lines)
+    cut = [view[begin : begin + 99_991] for begin in range(0, len(lines), 99_991)]
+    for blocks in (lines, bytearray(lines), view, io.BytesIO(lines), cut):
+        found = b"".join(budlarem.decide_bytes(blocks, Limits(steps=0)))  # type: ignore[arg-type]
+        assert found == expected
+
+
+def test_what_are_no_bytes() -> None:
+    for wrong in ("1RZ---", ["1RZ---"], [1], 7, None):
+        given: Any = wrong
+        with pytest.raises(TypeError):
+            list(budlarem.decide_bytes(given))
+
+
+def test_every_step_and_some() -> None:
+    whole = [str(now) for now in budlarem.trace(CHAMPION, 100)]
+    assert len(whole) == 7
+    assert whole[6] == "6 Z 0 1111"
+    some = [str(now) for now in budlarem.trace(CHAMPION, 100, start=1, every=3)]
+    assert some == whole[1::3]
+    assert list(budlarem.trace(CHAMPION, 100, start=7)) == []
+
+
+def test_whether_it_was_cut() -> None:
+    for upto, cells, cut in ((6, 4, False), (6, 3, True), (3, 3, False), (4, 3, True)):
+        trace = budlarem.trace(CHAMPION, upto, cells)
+        assert trace.cut is None
+        for _ in trace:
+            pass
+        assert trace.cut == cut, (upto, cells)
+        with pytest.raises(StopIteration):
+            next(trace)
+
+
+def test_no_machine() -> None:
+    with pytest.raises(budlarem.MachineError) as raised:
+        next(budlarem.trace("1RB1LC_1LA1RZ", 3))
+    assert raised.value.column == 14
+
+
+def test_wrong_numbers() -> None:
+    for upto, cells, start, every in ((-1, 1, 0, 1), (1, 0, 0, 1), (1, 1, -1, 1), (1, 1, 0, 0)):
+        with pytest.raises(budlarem.LimitsError):
+            budlarem.trace(CHAMPION, upto, cells, start, every)
+
+
+def run_with(code: str, **variables: str) -> str:
+    environment = {**os.environ, **variables}
+    command = [sys.executable, "-c", code]
+    ended = subprocess.run(command, env=environment, stdout=subprocess.PIPE, text=True)
+    assert ended.returncode == 0
+    return ended.stdout
+
+
+def test_a_library_that_is_not_there() -> None:
+    code = "import budlarem\ntry: budlarem.decide([])\nexcept budlarem.LibraryError as error: print(error)"
+    assert "/nowhere/libbb.so" in run_with(code, BB_LIBRARY="/nowhere/libbb.so")
+    assert "can't be loaded" in run_with(code, BB_LIBRARY=__file__)
+
+    def test_a_fork_with_threads_is_refused() -> None:
+        code = """
+import os, sys, threading, warnings, budlarem
+warnings.simplefilter("ignore")
+given = threading.Event()
+with_threads = len(sys.argv) > 0
+def forked():
+    child = os.fork()
+    if child: return os.waitpid(child, 0)
+    try: print(len(list(budlarem.decide(["1RA1RA"]))), flush=True)
+    except RuntimeError as error: print(error, flush=True)
+    os._exit(0)
+forked()
+thread = threading.Thread(target=given.wait)
+thread.start()
+forked()
+given.set()
+thread.join()
+"""
+        first, second = run_with(code).splitlines()
+        assert first == "1"
+        assert "spawn" in second

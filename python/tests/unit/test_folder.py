@@ -1,0 +1,376 @@
+"""The folder of a run and the files in it: open directories, checksums, locks, and what is a run's own."""
+
+from __future__ import annotations
+
+import contextlib
+import errno
+import fcntl
+import itertools
+import os
+import pathlib
+import pytest
+import random
+import shutil
+import unittest.mock
+import zlib
+from support.runner import LIST, PASSES, SMALL, Answering, RunCase, expected
+from typing import Any, Callable, Dict, Iterator, List, Sequence, Tuple
+
+import budlarem
+from budlarem import Limits, _api, _files, _library, publish
+from budlarem.runner import chunks, folder, list_run
+from budlarem.runner.errors import FolderError, MovedError, RunError
+
+
+def contents(top: pathlib.Path) -> Dict[str, bytes]:
+    """The bytes of all files below a folder."""
+    return {str(path): path.read_bytes() for path in top.rglob("*") if path.is_file()}
+
+
+def fill(number: int, text: bytes) -> None:
+    _files.write_blocks(number, [text])
+
+
+class DirectoryCase(contextlib.ExitStack):
+    def __init__(self, top: pathlib.Path) -> None:
+        super().__init__()
+        self.top = top
+        (self.top / "in").mkdir()
+        self.directory = _files.Directory.open(str(self.top / "in"))
+        self.callback(self.directory.close)
+
+    def write(self, name: str, text: bytes) -> None:
+        """Writes a file whole, over the one that is there."""
+        over = self.directory.pin(name)
+        written = _files.write_at(self.directory, name, lambda number: fill(number, text), over)
+        for pin in (over, written):
+            if pin is not None:
+                pin.close()
+
+
+@pytest.fixture
+def place(tmp_path: pathlib.Path) -> Iterator[DirectoryCase]:
+    with DirectoryCase(tmp_path) as made:
+        yield made
+
+
+def test_files_stay_in_the_directory_that_was_opened(place: DirectoryCase) -> None:
+    os.rename(place.top / "in", place.top / "moved")
+    (place.top / "in").mkdir()
+    place.write("a", b"1")
+    assert contents(place.top) == {str(place.top / "moved" / "a"): b"1"}
+    with pytest.raises(MovedError):
+        place.directory.require_named()
+    shutil.rmtree(place.top / "in")
+    os.rename(place.top / "moved", place.top / "in")
+    place.directory.require_named()
+
+
+def test_links_and_pipes_are_no_files(place: DirectoryCase) -> None:
+    (place.top / "other").write_text("mine")
+    os.symlink(place.top / "other", place.top / "in" / "link")
+    os.symlink(place.top, place.top / "in" / "folder")
+    os.mkfifo(place.top / "in" / "pipe")
+    for name, what in (("link", "a link"), ("pipe", "a pipe"), ("folder", "a link")):
+        for flags in (os.O_RDONLY, os.O_RDWR):
+            with pytest.raises(_files.KindError, match="it is %s, and a file" % what):
+                place.directory.open_file(name, flags)
+    with pytest.raises(_files.KindError, match="it is a link, and a folder"):
+        place.directory.subdirectory("folder")
+    assert (place.top / "other").read_text() == "mine"
+
+
+def test_a_file_of_another_is_not_replaced(place: DirectoryCase) -> None:
+    place.write("a", b"1")
+    known = place.directory.pin("a")
+    assert known is not None
+    place.callback(known.close)
+    (place.top / "in" / "a").unlink()
+    (place.top / "in" / "a").write_bytes(b"mine")
+    with pytest.raises(FileExistsError) as raised:
+        _files.write_at(place.directory, "a", lambda number: None, known)
+    assert raised.value.filename == str(place.top / "in" / "a")
+    assert contents(place.top) == {str(place.top / "in" / "a"): b"mine"}
+
+
+def test_parts_of_others_stay(place: DirectoryCase) -> None:
+    for name in ("a.part", "a.2.part"):
+        (place.top / "in" / name).write_bytes(b"mine")
+    place.write("a", b"1")
+    place.write("a", b"2")
+    assert sorted(contents(place.top).values()) == [b"2", b"mine", b"mine"]
+
+
+def test_where_there_are_no_links(place: DirectoryCase) -> None:
+    refused = unittest.mock.Mock(side_effect=OSError(errno.EPERM, "it can't"))
+    with unittest.mock.patch.object(os, "link", refused):
+        place.write("a", b"1")
+        assert list(contents(place.top).values()) == [b"1"]
+        place.directory.create_file("b.part")
+        with pytest.raises(FileExistsError):
+            place.directory.install("b.part", "a", None)
+
+
+def test_nothing_is_left_after_an_error(place: DirectoryCase) -> None:
+    def fail(number: int) -> None:
+        os.write(number, b"half")
+        raise OSError(errno.ENOSPC, "No space left on device")
+
+    with pytest.raises(OSError) as raised:
+        _files.write_at(place.directory, "a", fail, None)
+    assert (raised.value.filename, contents(place.top)) == (str(place.top / "in" / "a"), {})
+
+
+def test_a_target_whose_folder_is_moved(place: DirectoryCase) -> None:
+    target = _files.FileTarget(str(place.top / "in" / "page"))
+    place.callback(target.close)
+    os.rename(place.top / "in", place.top / "moved")
+    with pytest.raises(OSError, match="moved, removed or replaced"):
+        target.write(lambda number: fill(number, b"page"))
+    assert contents(place.top) == {}
+
+
+def test_parts_make_the_whole() -> None:
+    chance = random.Random(5)
+    sizes = [0, 1, 2, 3, 100, 65_536, 1_000_003, *(chance.randrange(10_000) for _ in range(20))]
+    for first, second in itertools.islice(itertools.permutations(sizes, 2), 0, None, 7):
+        parts = chance.randbytes(first), chance.randbytes(second)
+        whole = b"".join(parts)
+        found = [_files.Checksum().followed_by(part) for part in parts]
+        assert found[0].joined_with(found[1]) == _files.Checksum(len(whole), zlib.crc32(whole))
+
+
+def test_the_folder_itself_is_locked(case: RunCase) -> None:
+    first = folder.Folder(str(case.out))
+    case.callback(first.close)
+    assert list(case.out.iterdir()) == []
+    with pytest.raises(FolderError, match="another run works in"):
+        folder.Folder(str(case.out))
+
+
+def test_a_file_where_folders_have_no_locks(case: RunCase) -> None:
+    lock = fcntl.flock
+
+    def refuse(number: int, what: int) -> None:
+        if os.path.isdir("/proc/self/fd/%d" % number):
+            raise OSError(errno.EBADF, "Bad file descriptor")
+        lock(number, what)
+
+    with unittest.mock.patch.object(fcntl, "flock", refuse):
+        case.run_over()
+        assert case.verdicts() == expected(LIST)
+        first = folder.Folder(str(case.out))
+        case.callback(first.close)
+        with pytest.raises(FolderError, match="another run works in"):
+            case.run_over()
+        first.require_named()
+        (case.out / "lock").unlink()
+        with pytest.raises(RunError, match="lock was removed or replaced"):
+            first.require_named()
+
+
+class Crash(BaseException):
+    """What ends a run at a call of the system."""
+
+
+CALLS = ("link", "rename", "unlink", "mkdir", "fsync", "fdatasync", "ftruncate")
+
+
+def is_ended(case: RunCase, after: int, limits: Sequence[Limits]) -> bool:
+    """Whether a run has more than so many of these calls, and is ended at the next."""
+    left = itertools.count(after, -1)
+
+    def ending(call: Callable[..., Any]) -> Callable[..., Any]:
+        def instead(*given: Any, **named: Any) -> Any:
+            if next(left) <= 0:
+                raise Crash
+            return call(*given, **named)
+
+        return instead
+
+    with contextlib.ExitStack() as patched:
+        for name in CALLS:
+            patched.enter_context(unittest.mock.patch.object(os, name, ending(getattr(os, name))))
+        try:
+            case.run_over(limits=limits, most=100)
+        except Crash:
+            return True
+    return False
+
+
+def test_each_call(case: RunCase) -> None:
+    cases: List[Tuple[List[Limits], List[Limits]]] = [([], [SMALL]), ([SMALL], [*PASSES]), ([], [*PASSES])]
+    for before, limits in cases:
+        after, was_ended = 0, True
+        while was_ended:
+            shutil.rmtree(case.out, ignore_errors=True)
+            if before:
+                case.run_over(limits=before, most=100)
+            was_ended = is_ended(case, after, limits)
+            case.run_over(limits=limits, most=100)
+            assert case.verdicts() == expected(LIST, limits), (after, limits)
+            assert [path.name for path in case.out.rglob("*.part")] == []
+            published = publish(case.top / ("%d-%d.tar" % (after, len(limits) + len(before))), case.out)
+            assert published.confirmed + published.open == 370
+            after += 1
+        assert after > 20
+
+
+def test_a_folder_without_what_it_was_begun_with(case: RunCase) -> None:
+    """Its files show that they are a run's; one that doesn't is somebody else's."""
+    case.run_over()
+    (case.out / "run.json").unlink()
+    whole = contents(case.out)
+    texts = {
+        "README.txt": "mine",
+        "summary.json": "{}",
+        "verdicts.txt": "mine\t1\n",
+        "letters": "",
+        "verdicts.txt.part": "mine, too",
+        "pass-1/journal": "mine",
+        "pass-1/pieces.part": "mine, too",
+        "pass-2/notes": "mine",
+        "pass-3/pieces": "mine",
+    }
+    for name, text in texts.items():
+        shutil.rmtree(case.out)
+        for path, data in whole.items():
+            pathlib.Path(path).parent.mkdir(parents=True, exist_ok=True)
+            pathlib.Path(path).write_bytes(data)
+        (case.out / name).parent.mkdir(exist_ok=True)
+        (case.out / name).write_text(text)
+        before = contents(case.out)
+        with pytest.raises(FolderError, match="has other files in it, as %s" % os.path.basename(name)):
+            case.run_over()
+        assert contents(case.out) == before
+    shutil.rmtree(case.out)
+
+
+def test_what_a_killed_run_left_is_removed(case: RunCase) -> None:
+    for name, text in (("run.json", b""), ("summary.json", b'{\n  "li'), ("README.txt", b"Verdicts on the")):
+        case.out.mkdir(exist_ok=True)
+        (case.out / (name + ".part")).write_bytes(text)
+    (case.out / "verdicts.txt.2.part").write_bytes(expected(LIST)[:50])
+    case.run_over()
+    assert [name for name in os.listdir(case.out) if name.endswith(".part")] == []
+    assert case.verdicts() == expected(LIST)
+
+
+def test_a_copy_of_the_pieces_that_was_begun(case: RunCase) -> None:
+    case.run_over(limits=[SMALL])
+    for name in ("pieces.part", "pieces.2.part"):
+        (case.out / "pass-1" / name).write_bytes(expected(LIST)[:100])
+    case.run_over(limits=[SMALL])
+    assert os.listdir(case.out / "pass-1") == ["journal"]
+
+
+def test_pieces_and_passes_that_are_replaced_meanwhile(case: RunCase) -> None:
+    def replace_pieces() -> None:
+        os.rename(case.out / "pass-1" / "pieces", case.top / "away")
+        (case.out / "pass-1" / "pieces").write_text("mine")
+
+    def replace_pass() -> None:
+        os.rename(case.out / "pass-1", case.top / "moved")
+        (case.out / "pass-1").mkdir()
+        (case.out / "pass-1" / "pieces").write_text("mine")
+
+    for number, replace in enumerate((replace_pieces, replace_pass)):
+        case.out = case.top / str(number)
+
+        def change(reply: chunks.PieceReply, before: int) -> chunks.PieceReply:
+            if before == 3:
+                replace()
+            return reply
+
+        if number == 0:
+            case.run_over(Answering(change), limits=[SMALL])
+            assert case.verdicts() == expected(LIST, [SMALL])
+        else:
+            with pytest.raises(MovedError):
+                case.run_over(Answering(change), limits=[SMALL])
+        assert (case.out / "pass-1" / "pieces").read_text() == "mine"
+
+
+def test_folders_of_passes_that_are_not_asked_for(case: RunCase) -> None:
+    case.run_over(limits=[SMALL])
+    (case.out / "pass-7").mkdir()
+    (case.out / "pass-7" / "notes").write_text("mine")
+    case.run_over(limits=[SMALL])
+    case.run_over(limits=PASSES)
+    assert case.verdicts() == expected(LIST)
+    assert (case.out / "pass-7" / "notes").read_text() == "mine"
+
+
+def finished(case: RunCase) -> Iterator[list_run.FinishedRun]:
+    found = list_run.FinishedRun(str(case.out))
+    try:
+        yield found
+    finally:
+        found.close()
+
+
+def test_a_summary_has_the_checksum_of_the_verdicts(case: RunCase) -> None:
+    for limits in (PASSES, [SMALL]):
+        case.out = case.top / str(len(limits))
+        case.run_over(limits=limits)
+        for found in finished(case):
+            whole = _files.Checksum().followed_by(case.verdicts())
+            assert found.summary.checksum == whole
+            assert (found.summary.identity, found.summary.lines) == (chunks.identity(), 370)
+            found.require_journals()
+
+
+def test_a_summary_of_an_earlier_version(case: RunCase) -> None:
+    """It has no checksum; its counts are held against the verdicts."""
+    case.run_over(limits=[SMALL])
+    path = case.out / "summary.json"
+    text = path.read_text()
+    begin, end = text.index('  "verdicts"'), text.index('  "passes"')
+    path.write_text(text[:begin] + text[end:])
+    publish(case.top / "whole.tar", case.out)
+    lines = case.verdicts().splitlines(keepends=True)
+    (case.out / "verdicts.txt").write_bytes(b"".join(lines[:-1]))
+    with pytest.raises(budlarem.PublishError, match="doesn't go with verdicts.txt: it counts"):
+        publish(case.top / "cut.tar", case.out)
+
+
+def test_journals_that_do_not_go_with_a_summary(case: RunCase) -> None:
+    case.run_over()
+    whole = (case.out / "pass-2" / "journal").read_bytes()
+    for change in (whole[:200], whole.replace(b"decided", b"checked", 1), b""):
+        (case.out / "pass-2" / "journal").write_bytes(change)
+        with pytest.raises(budlarem.PublishError, match="pass-2/journal doesn't go with summary.json"):
+            publish(case.top / "new.tar", case.out)
+
+
+def test_all_names_are_there() -> None:
+    names = getattr(budlarem, "__all__")
+    assert {*names} - {*_api.__all__} == {"COMMIT", "__version__"}
+    for name in names:
+        assert getattr(budlarem, name) is not None
+        assert name in dir(budlarem)
+    assert not hasattr(budlarem, "nothing")
+
+
+def test_a_library_that_was_cut(tmp_path: pathlib.Path) -> None:
+    whole = pathlib.Path(_library.loaded()._name).read_bytes()
+    path = tmp_path / "libbb.so"
+    path.write_bytes(whole)
+    _library.require_whole(path)
+    for length in (len(whole) - 1, len(whole) // 2, 100, 20, 7):
+        path.write_bytes(whole[:length])
+        with pytest.raises(budlarem.LibraryError, match="was cut short"):
+            _library.require_whole(path)
+
+
+def test_a_library_of_another_length_than_the_wheel_says(tmp_path: pathlib.Path) -> None:
+    path = tmp_path / "libbb.so"
+    path.write_bytes(pathlib.Path(_library.loaded()._name).read_bytes())
+    size = path.stat().st_size
+    with unittest.mock.patch.object(_library, "_HERE", tmp_path):
+        for said in (size, None):
+            with unittest.mock.patch.object(_library, "LIBRARY_BYTES", said):
+                _library.require_whole(path)
+        with unittest.mock.patch.object(_library, "LIBRARY_BYTES", size + 1):
+            with pytest.raises(budlarem.LibraryError, match="it was cut or changed"):
+                _library.require_whole(path)

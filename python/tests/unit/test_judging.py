@@ -1,0 +1,329 @@
+"""What lines say of machines, and how that is judged."""
+
+from __future__ import annotations
+
+import io
+import json
+import pathlib
+import pytest
+import random
+from support import TOP
+from typing import Iterable, List, Optional, Tuple
+from unittest import mock
+
+import budlarem
+from budlarem import WORDS, Columns, Form, Halt, Judgement, Limits, Said, Word
+from budlarem.claims import read_words, said_by
+from budlarem.judging import sources
+from budlarem.normal_forms import form_of
+from budlarem.numbers import number_of, numbers_in
+from budlarem.reading.files import Source
+
+CHAMPION = "1RB1LB_1LA1RZ"
+CYCLER = "0RB---_0LA---"
+LEFT = "0RB1LD_0RC1RD_0RD---_1LA0RB"
+FORMS = TOP / "tests" / "support" / "forms.json"
+SMALL = Limits(1_000, 1_000, 30, 1_000)
+
+
+def said(line: str) -> Said:
+    found = said_by(1, line)
+    assert found is not None
+    return found
+
+
+def judged(lines: Iterable[str], undefined_steps: Optional[bool] = None) -> List[str]:
+    judging = budlarem.judge(lines, limits=SMALL, undefined_steps=undefined_steps)
+    return [str(one.judgement) for one in judging]
+
+
+def test_verdicts_in_many_forms() -> None:
+    halt = Halt(CHAMPION, 6, 4)
+    for line in (
+        CHAMPION + " halt 6 4",
+        CHAMPION + " halt 6 4\tthe champion",
+        CHAMPION + ", halt 6 4",
+        "halt 6 4: " + CHAMPION,
+        "1rb1lb 1la1rh halt 6 4",
+        "| %s | halt 6 4 |" % CHAMPION,
+    ):
+        assert (said(line).claim, said(line).trouble) == (halt, None), line
+    assert str(said("1RA1RA, translated R 1 2").claim) == "1RA1RA translated R 1 2"
+    assert str(said("1RA1RA undecided cells").claim) == "1RA1RA undecided cells"
+    assert str(said("refused 3").claim) == "refused 3"
+
+
+def test_numbers_with_groups_of_three_digits() -> None:
+    for text, number in (("47,176,870", 47_176_870), ("1'000", 1_000), ("4 098", 4_098), ("1_000", 1_000)):
+        assert number_of(text) == number
+        assert said("1RA1RA halt %s 7" % text).claim == Halt("1RA1RA", number, 7)
+    for text in (">3932964", "1,00", "1,000'000", "07", "", "1.5", "-1", "1,0000", "0,100", "1e6"):
+        with pytest.raises(ValueError, match="is no number"):
+            number_of(text)
+        assert said("1RA1RA halt %s 7" % text).claim is None
+    assert numbers_in(["47", "176", "870", "4", "098"], (2,)) == [47_176_870, 4_098]
+    with pytest.raises(ValueError, match="in 2 ways"):
+        numbers_in(["6", "400", "200"], (2,))
+
+
+def test_a_text_has_a_verdict_or_nothing() -> None:
+    for rest in (
+        "halts",
+        "nonhalt",
+        "Halts 7",
+        "halts, 107, 13",
+        "halt: false",
+        "halt=no",
+        "halts,0",
+        "!halt 6 4",
+        "halt 6 4, 7",
+        "halt 6 4, halt 6 4",
+        "halt 6",
+        "halt 06 4",
+        "halt 6 4 7",
+        "translated R 1 2 3",
+        "cycler 1",
+        "halt 6 18446744073709551616",
+    ):
+        for line in ("%s, %s" % (CHAMPION, rest), "%s %s" % (CHAMPION, rest)):
+            found = said(line)
+            assert (found.claim, found.word) == (None, None), line
+            assert found.trouble == "the rest of the line is no verdict of ours: " + rest
+    assert said(CHAMPION).trouble == "nothing is said of the machine"
+    assert "two things" in (said(CHAMPION + " halt 6 4\tnonhalt").trouble or "")
+
+
+def test_words_are_written_as_they_are_looked_up() -> None:
+    assert all(word == word.lower() and word.isalnum() for word in WORDS)
+
+
+def test_a_file_of_words(tmp_path: pathlib.Path) -> None:
+    path = str(tmp_path / "words.txt")
+    with open(path, "w", encoding="utf-8") as file:
+        file.write("# mine\n\nhalting: Yes, it does\nnever halting: no\nNothing: loop\n")
+    words = read_words(path)
+    assert (words["yes"], words["itdoes"]) == (Word.HALTS, Word.HALTS)
+    assert (words["no"], words["loop"]) == (Word.NEVER_HALTS, Word.UNDECIDED)
+    assert words["halt"] == Word.HALTS
+    for text, error in (("yes\n", ":1: a line begins"), ("halting: a\nnothing: a\n", ":2: a has two")):
+        with open(path, "w", encoding="utf-8") as file:
+            file.write(text)
+        with pytest.raises(ValueError, match=error):
+            read_words(path)
+
+
+def test_each_list_is_judged(tmp_path: pathlib.Path) -> None:
+    entries = json.loads(FORMS.read_text(encoding="utf-8"))["judged"]
+    assert len(entries) >= 15
+    for entry in entries:
+        path = str(tmp_path / "words.txt")
+        with open(path, "w", encoding="utf-8") as file:
+            file.write(entry.get("words", ""))
+        judging = budlarem.judge(
+            entry["lines"],
+            form=Form(entry["form"]) if "form" in entry else None,
+            columns=Columns(**entry.get("columns", {})),
+            words=read_words(path),
+        )
+        found = [(str(one.judgement), one.reason) for one in judging]
+        assert [judgement for judgement, _ in found] == entry["judgements"]
+        for reason in entry.get("reasons", ()):
+            assert reason in [one for _, one in found]
+
+
+def test_claims_and_words() -> None:
+    for line, judgement in (
+        (CHAMPION + " halt 6 4", "confirmed"),
+        (CHAMPION + " halt 6 5", "contradicted"),
+        (CHAMPION + " cycler 1 2", "contradicted"),
+        (CYCLER + " cycler 2 4", "confirmed"),
+        (CYCLER + " cycler 4 6", "confirmed"),
+        (CYCLER + " cycler 2 5", "contradicted"),
+        (CYCLER + " halt 1000000000000 1", "contradicted"),
+        (LEFT + " halt 20 3", "contradicted"),
+        (LEFT + " undecided cells", "not-judged"),
+        (LEFT + " halt", "not-judged"),
+        (CHAMPION + " halts", "not-judged"),
+        (CHAMPION + " nonhalt", "not-judged"),
+        (CYCLER + " halts", "not-judged"),
+        (CYCLER + " undecided", "not-judged"),
+        (CYCLER + " decided", "not-judged"),
+        (CYCLER, "not-judged"),
+        (CHAMPION + " halt 6", "not-judged"),
+        (CYCLER + " halt 6", "not-judged"),
+        (CHAMPION + " halt, nonhalt", "not-judged"),
+        ("x", "unreadable"),
+        ("refused 3", "unreadable"),
+    ):
+        assert judged([line]) == [judgement], line
+
+
+def test_words_of_a_table() -> None:
+    for word, machine, judgement in (
+        ("halts", CHAMPION, "confirmed"),
+        ("nonhalt", CHAMPION, "contradicted"),
+        ("bouncer", CYCLER, "confirmed"),
+        ("Translated Cyclers", CYCLER, "confirmed"),
+        ("does not halt", CYCLER, "confirmed"),
+        ("halting", CYCLER, "contradicted"),
+        ("undecided", CYCLER, "not-judged"),
+        ("decided", CYCLER, "not-judged"),
+        ("I doubt that it can halt", CYCLER, "not-judged"),
+        ("halt: false", CYCLER, "not-judged"),
+        ("", CYCLER, "not-judged"),
+        ("halt", LEFT, "not-judged"),
+        ("halt 6 4", CHAMPION, "confirmed"),
+        ("halt 6 5", CHAMPION, "contradicted"),
+    ):
+        lines = ["verdict\tmachine", "%s\t%s" % (word, machine)]
+        assert judged(lines) == [judgement], (word, machine)
+
+
+def test_numbers_beside_never_halting_are_named() -> None:
+    lines = ["machine,verdict,steps", "1RA1RA,nonhalt,1000"]
+    (found,) = budlarem.judge(lines, limits=SMALL)
+    assert str(found.judgement) == "confirmed"
+    assert found.reason == "never halts, as ours says; not judged: 1000"
+
+
+def test_a_translation_is_counted() -> None:
+    lines = ["machine,status", "1RA1RA,halt", "1RA1RA,Halt", "1RA1RA,loop", "x,halt", "1RA1RA,no"]
+    translation = budlarem.judge(lines, limits=SMALL).theirs.translation
+    assert translation is not None
+    right = ["halting: halt 1, Halt 1", "never halting: loop 1", "nothing: no 1"]
+    assert translation.lines == right
+
+
+def test_two_columns_that_may_be_meant() -> None:
+    lines = ["machine,status,verdict", "1RA1RA,x,nonhalt"]
+    with pytest.raises(ValueError, match="status and verdict"):
+        budlarem.judge(lines)
+    judging = budlarem.judge(lines, columns=Columns(verdict="verdict"))
+    assert [str(one.judgement) for one in judging] == ["confirmed"]
+
+
+def test_steps_alone_that_count_an_undefined_entry() -> None:
+    lines = ["machine,verdict,steps", "1RB1LB_1LA---,halt,%d", CHAMPION + ",halt,6"]
+    for steps, is_counted in ((6, True), (5, False)):
+        given = [line % steps if "%d" in line else line for line in lines]
+        judging = budlarem.judge(given, limits=SMALL)
+        assert judging.undefined_steps == is_counted
+        assert {str(one.judgement) for one in judging} == {"confirmed"}
+
+
+def test_a_claim_over_the_checkers_limits() -> None:
+    line = LEFT + " cycler 2000 3000"
+    (found,) = budlarem.judge([line], limits=SMALL, checker=Limits(2_999, 1_000, 30, 1_000))
+    assert (str(found.judgement), found.reason) == (
+        "not-judged",
+        "cycler 2000 3000: over the checker's limits",
+    )
+
+
+def test_order_and_numbers() -> None:
+    lines = ["# c", "x", CHAMPION + " halt 6 4", "", "y", "1ra1ra: cycler 7 9", "z"]
+    found = [(one.number, str(one.judgement)) for one in budlarem.judge(lines)]
+    right = ["unreadable", "confirmed", "unreadable", "contradicted", "unreadable"]
+    assert found == list(zip((2, 3, 5, 6, 7), right))
+
+
+def test_steps_counted_for_undefined_entries() -> None:
+    ours = ["1RB---_1LA1RZ halt 1 1", "1RB1LB_1LA--- halt 5 4", CHAMPION + " halt 6 4"]
+    theirs = ["1RB---_1LA--- halt 2 1", "1RB1LB_1LA--- halt 6 4", CHAMPION + " halt 6 4"]
+    verdicts = list(budlarem.decide([line.split(" ")[0] for line in theirs]))
+    stepped = [
+        str(next(budlarem.decide([verdict.machine.replace("---", "1RZ")]))).partition(" ")[2]
+        for verdict in verdicts
+        if verdict.machine is not None
+    ]
+    theirs = ["%s %s" % (verdict.machine, words) for verdict, words in zip(verdicts, stepped)]
+    judging = budlarem.judge(theirs)
+    assert judging.undefined_steps
+    assert {one.judgement for one in judging} == {Judgement.CONFIRMED}
+    mixed = theirs + [str(verdicts[1])]
+    assert not budlarem.judge(mixed).undefined_steps
+    assert judged(mixed) == ["contradicted", "contradicted", "confirmed", "confirmed"]
+    assert judged(mixed, True) == ["confirmed"] * 3 + ["contradicted"]
+    assert judged(theirs, False)[1] == "contradicted"
+    assert not budlarem.judge(map(str, verdicts)).undefined_steps
+    forged = theirs + ["1RB1LB_1LA--- halt 9 4"]
+    assert not budlarem.judge(forged).undefined_steps
+    assert len(ours) == 3
+
+
+def test_a_list() -> None:
+    theirs = ["1LB1RB_1RA1LZ halt 6 4", "1RA1RA nonhalt", "x", "1RA---2RA nonhalt", "1RA---2RA nonhalt"]
+    judging = budlarem.judge(theirs, ["# c", CHAMPION, "1RA1RA", CYCLER])
+    assert len(list(judging)) == 5
+    assert judging.missing() == [(4, CYCLER)]
+    assert judging.foreign() == [(4, "1RA---2RA"), (5, "1RA---2RA")]
+
+
+def test_files_and_streams(tmp_path: pathlib.Path) -> None:
+    path = str(tmp_path / "theirs.txt")
+    with open(path, "w", encoding="utf-8") as file:
+        file.write(CHAMPION + " halt 6 4\n")
+    assert judged(path) == ["confirmed"]
+    with open(path, "rb") as stream:
+        assert [str(one.judgement) for one in budlarem.judge(stream)] == ["confirmed"]
+    with pytest.raises(FileNotFoundError):
+        budlarem.judge(path + "x")
+
+
+def test_each_reading_has_the_same_lines(tmp_path: pathlib.Path) -> None:
+    lines = ["", CHAMPION + " halt 6 4", "", "# \u00e9", "1RA1RA undecided steps"] * 40
+    content = "\n".join(lines).encode()
+    right = [(number, line) for number, line in enumerate(lines, 1) if line]
+    path = str(tmp_path / "theirs.txt")
+    with open(path, "wb") as file:
+        file.write(content)
+    for kept in (10**6, 100, 0):
+        given: Tuple[Source, ...] = (path, io.BytesIO(content), iter(lines))
+        for source in given:
+            with mock.patch.object(sources, "_KEPT", kept):
+                twice = sources.Twice(source)
+                assert [list(twice.lines()), list(twice.lines())] == [right, right]
+                assert (list(twice.once()), twice.empty) == (right, 80)
+    once = sources.Twice(path)
+    assert (list(once.once()), once.empty) == (right, 80)
+
+
+def test_changes_keep_the_form() -> None:
+    source = random.Random(3)
+    for _ in range(2_000):
+        machine, changed, mirrored = drawn(source)
+        forms = form_of(machine), form_of(changed)
+        assert forms[0].text == forms[1].text, (machine, changed)
+        if not machine.startswith("---"):
+            assert (forms[0].mirrored != forms[1].mirrored) == mirrored, (machine, changed)
+
+
+def test_the_form_is_the_machine_with_other_names() -> None:
+    for machine in ("1LC1RZ_1RB---_1RA1LA", "2LA1RB0RZ_0LB---1RA", "1RA1RA"):
+        verdicts = list(budlarem.decide([machine, form_of(machine).text]))
+        assert str(verdicts[0]).split(" ")[1] == str(verdicts[1]).split(" ")[1]
+    assert form_of("1RB1LB_1LA1RZ") != form_of("1RB1LA_1LA1RZ")
+
+
+def drawn(source: random.Random) -> Tuple[str, str, bool]:
+    """A machine, the same with other names, and whether its left and right were exchanged."""
+    states, symbols = source.randint(1, 5), source.randint(2, 4)
+    names = [0, *source.sample(range(1, states), states - 1)]
+    marks = [0, *source.sample(range(1, symbols), symbols - 1)]
+    mirrored = source.random() < 0.5
+    old = [["---"] * symbols for _ in range(states)]
+    new = [["---"] * symbols for _ in range(states)]
+    for state in range(states):
+        for symbol in range(symbols):
+            if source.random() < 0.1:
+                continue
+            write, move, after = source.randrange(symbols), source.choice("LR"), source.randint(0, states)
+            side = {"L": "R", "R": "L"}[move] if mirrored else move
+            old[state][symbol] = "%d%s%s" % (write, move, letter(after, states))
+            into = states if after == states else names[after]
+            new[names[state]][marks[symbol]] = "%d%s%s" % (marks[write], side, letter(into, states))
+    return "_".join(map("".join, old)), "_".join(map("".join, new)), mirrored
+
+
+def letter(state: int, states: int) -> str:
+    return "Z" if state == states else "ABCDE"[state]

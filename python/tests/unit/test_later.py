@@ -1,0 +1,130 @@
+"""Where a machine is after many steps, by its verdict, held against plain runs."""
+
+from __future__ import annotations
+
+import itertools
+import pytest
+from typing import Any, Dict, Iterator, List, Tuple
+
+import budlarem
+from budlarem import Cycler, Extent, Limits, LimitsError, Place, Translated, at, parse
+
+CHAMPION = "1RB1LB_1LA1RZ"
+# Two translated cyclers with a shift above 1, to the left and to the right, and a cycler.
+FAR = ["1RB0LA_0RC---_1RD0LD_1LA1RB", "1LB0RA_0LC---_1LD0RD_1RA1LB", "1LB1RB_1RA1LA"]
+
+
+def plain(machine: str, steps: int) -> Iterator[Tuple[str, int]]:
+    """The states and positions of a machine, up to so many steps or its halt."""
+    groups = [[group[k : k + 3] for k in range(0, len(group), 3)] for group in machine.split("_")]
+    table = dict(zip("ABCDEFGHIJKLMNOPQRSTUVWXY", groups))
+    state, head = "A", 0
+    tape: Dict[int, int] = {}
+    yield state, head
+    for _ in range(steps):
+        entry = table[state][tape.get(head, 0)] if state in table else "---"
+        if entry == "---":
+            return
+        tape[head] = int(entry[0])
+        head += 1 if entry[1] == "R" else -1
+        state = entry[2]
+        yield state, head
+
+
+def small_machines() -> List[str]:
+    """Some machines of two states: each entry of A at 0 and of B at 1 goes on, the others are any."""
+    entries = ["---", "0LA", "1LB", "1RA", "1RZ"]
+    tables = itertools.product(["1RB", "0LA"], entries, entries, ["1LA", "0RA"])
+    return ["%s%s_%s%s" % table for table in tables]
+
+
+def hold(machine: str, verdict: budlarem.Verdict, steps: int) -> None:
+    run = list(plain(machine, steps))
+    for step in {*range(0, len(run), 3), len(run) - 1}:
+        assert at(verdict, step) == Place(step, *run[step]), (str(verdict), step)
+
+
+def test_plain_runs() -> None:
+    kinds = set()
+    for verdict in budlarem.decide(small_machines(), Limits(steps=100, cells=64, depth=0, nodes=0)):
+        if isinstance(verdict, (budlarem.Halt, Cycler, Translated)):
+            kinds.add(verdict.kind)
+            hold(verdict.machine, verdict, 25)
+    assert kinds == {"halt", "cycler", "translated"}
+
+
+def test_great_shifts() -> None:
+    for verdict in budlarem.decide(FAR):
+        assert isinstance(verdict, (Cycler, Translated))
+        period = verdict.second - verdict.first
+        run = list(plain(verdict.machine, verdict.first + 5 * period))
+        for step in (*range(0, len(run), 7), verdict.first, verdict.second, len(run) - 1):
+            assert at(verdict, step) == Place(step, *run[step])
+
+
+def test_without_an_extent() -> None:
+    for machine in FAR[:2]:
+        (verdict,) = budlarem.decide([machine])
+        assert isinstance(verdict, Translated)
+        bare = Translated(machine, verdict.side, verdict.first, verdict.second)
+        for step in (verdict.second + 1, 10**15):
+            assert at(bare, step) == at(verdict, step)
+
+
+def test_steps_that_no_run_reaches() -> None:
+    right = parse("1RA1RA translated R 1 2 1 1")
+    assert str(at(right, 10**30)) == "%d A %d" % (10**30, 10**30)
+    left = parse("1LA1LA translated L 1 2 1 1")
+    assert at(left, 10**15) == Place(10**15, "A", -(10**15))
+    again = parse("0RB---_0LA--- cycler 2 4")
+    assert at(again, 10**15) == Place(10**15, "A", 0)
+
+
+def test_a_halt() -> None:
+    halt = parse(CHAMPION + " halt 6 4")
+    assert at(halt, 6) == Place(6, "Z", 0)
+    with pytest.raises(ValueError, match="halts after 6 steps, so it makes no 7"):
+        at(halt, 7)
+
+
+def test_verdicts_that_say_nothing_of_a_step() -> None:
+    for line in ("1RA1RA backward 0 0", "1RA1RA undecided steps", "refused 1"):
+        with pytest.raises(ValueError, match="doesn't say where"):
+            at(parse(line), 0)
+
+
+def test_wrong_verdicts() -> None:
+    for line in (
+        CHAMPION + " halt 6 5",
+        CHAMPION + " cycler 2 4",
+        "1RA1RA translated R 1 2 2 1",
+        "1RA1RA translated L 1 2 1 1",
+        "1RA1RA translated R 2 2 1 1",
+        "0RB---_0LA--- cycler 4 2",
+    ):
+        with pytest.raises(ValueError, match="the checker answers bad"):
+            at(parse(line), 3)
+
+
+def test_too_few_cells() -> None:
+    verdict = Translated("1RA1RA", "R", 9, 10, Extent(1, 1))
+    assert at(verdict, 20, cells=11) == Place(20, "A", 20)
+    with pytest.raises(ValueError, match="needs more than 10 cells"):
+        at(verdict, 20, cells=10)
+
+
+def test_wrong_arguments() -> None:
+    halt = parse(CHAMPION + " halt 6 4")
+    wrong: Any
+    for wrong in (CHAMPION + " halt 6 4", None, 7):
+        with pytest.raises(TypeError, match="verdict is of type"):
+            at(wrong, 0)
+    for wrong in ("1", 1.0, None, True):
+        with pytest.raises(TypeError, match="step is"):
+            at(halt, wrong)
+    with pytest.raises(ValueError, match="step is -1"):
+        at(halt, -1)
+    with pytest.raises(LimitsError):
+        at(halt, 0, cells=0)
+    with pytest.raises(LimitsError):
+        at(parse("1RA1RA cycler 1 18446744073709551615"), 0)

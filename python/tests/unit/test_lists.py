@@ -1,0 +1,360 @@
+"""Lists, pictures, reports and the command."""
+
+from __future__ import annotations
+
+import collections
+import html
+import importlib.util
+import itertools
+import os
+import pathlib
+import pytest
+import re
+import struct
+import subprocess
+import sys
+import zlib
+from typing import Any, List, Tuple
+from unittest import mock
+
+import budlarem
+from budlarem import Agreement, growth, lists, pictures, reports
+from budlarem.growth import Growth, grown
+
+CHAMPION = "1RB1LB_1LA1RZ"
+FOUR_STATES = "1RB1LB_1LA0LC_1RZ1LD_1RD0RA"
+UNDECIDED = "0RB1LD_0RC1RD_0RD---_1LA0RB"
+HAS_PLOTS = all(importlib.util.find_spec(name) for name in ("numpy", "matplotlib"))
+
+
+def agreement(first: str, second: str, undefined_steps: bool = False) -> Agreement:
+    pair = budlarem.parse(first), budlarem.parse(second)
+    return lists.agreement(*pair, undefined_steps)
+
+
+def test_what_goes_together() -> None:
+    for first, second, found in (
+        ("halt 6 4", "halt 6 4", "agree"),
+        ("halt 6 4", "halt 5 4", "contradict"),
+        ("halt 6 4", "cycler 1 2", "contradict"),
+        ("backward 1 2", "halt 6 4", "contradict"),
+        ("cycler 1 2", "cycler 3 4", "agree"),
+        ("cycler 1 2", "translated R 1 2", "contradict"),
+        ("translated R 1 2", "translated R 2 4 1 1", "agree"),
+        ("translated R 1 2", "translated L 1 2", "contradict"),
+        ("backward 1 2", "translated L 1 2", "agree"),
+        ("backward 1 2", "backward 1 2", "agree"),
+        ("backward 1 2", "backward 1 3", "contradict"),
+        ("undecided steps", "undecided cells", "agree"),
+        ("undecided steps", "halt 6 4", "second-decides"),
+        ("cycler 1 2", "undecided cells", "first-decides"),
+    ):
+        assert str(agreement("%s %s" % (CHAMPION, first), "%s %s" % (CHAMPION, second))) == found
+
+
+def test_steps_counted_for_undefined_entries() -> None:
+    for machine, other, asked, found in (
+        ("1RB---_1LA1RZ", "halt 6 4", True, "agree"),
+        ("1RB---_1LA1RZ", "halt 6 5", True, "agree"),
+        ("1RB---_1LA1RZ", "halt 6 3", True, "contradict"),
+        ("1RB---_1LA1RZ", "halt 7 4", True, "contradict"),
+        ("1RB---_1LA1RZ", "halt 6 4", False, "contradict"),
+        (CHAMPION, "halt 6 4", True, "contradict"),
+    ):
+        pair = "%s halt 5 4" % machine, "%s %s" % (machine, other)
+        assert str(agreement(pair[0], pair[1], asked)) == found
+        assert str(agreement(pair[1], pair[0], asked)) == found
+
+
+def test_any_order_and_what_one_lacks() -> None:
+    first = ["1RA1RA cycler 1 2", "------ halt 0 0", "refused 3", "1RZ--- halt 1 1\tmore", "1RZ--- halt 1 1"]
+    second = ["1RZ--- halt 1 1", CHAMPION + " halt 6 4", "1RA1RA cycler 1 2"]
+    found = [(str(one.agreement), one.machine) for one in budlarem.compare(first, second)]
+    assert sorted(found[:2]) == [("agree", "1RA1RA"), ("agree", "1RZ---")]
+    only = [("only-first", "------"), ("only-first", "1RZ---"), ("only-second", CHAMPION)]
+    assert sorted(found[2:]) == only
+
+
+def test_machines_that_are_the_same() -> None:
+    first = ["1RA1RA translated R 1 2 1 1", "1RB1LB_1LA1RZ halt 6 4", "1RA1LA cycler 1 3"]
+    second = ["1LA1LA translated L 2 4", "1LB1RB_1RA1LZ halt 6 5", "1RA---2RA cycler 1 2"]
+    found = [str(one) for one in budlarem.compare(first, second)]
+    assert found == [
+        "agree\t1RA1RA translated R 1 2 1 1 | 1LA1LA translated L 2 4",
+        "contradict\t1RB1LB_1LA1RZ halt 6 4 | 1LB1RB_1RA1LZ halt 6 5",
+        "only-first\t1RA1LA cycler 1 3 | -",
+        "only-second\t- | 1RA---2RA cycler 1 2",
+    ]
+
+
+def test_a_line_that_is_none() -> None:
+    with pytest.raises(ValueError, match=r"second\[1\]: no verdict line"):
+        list(budlarem.compare([], ["refused 1", "x"]))
+
+
+def test_states_are_in_the_order_of_their_use() -> None:
+    form = budlarem.normal("1LC1RZ_1RB---_1RA1LA")
+    assert (form.normal, form.states, form.mirrored) == ("1RB1LZ_1LA1RA_1LC---", "ACB", True)
+
+
+def test_machines_that_stay() -> None:
+    for machine in (CHAMPION, "------", "1RZ---", "---1LA"):
+        form = budlarem.normal(machine)
+        assert (form.normal, form.mirrored) == (machine, False)
+
+
+def test_duplicates() -> None:
+    machines = [CHAMPION, "1LB1RB_1RA1LZ", "1RA1RA", CHAMPION]
+    before = [first for _, first in budlarem.distinct(machines)]
+    assert before == [None, CHAMPION, None, CHAMPION]
+
+
+def test_no_machine() -> None:
+    with pytest.raises(budlarem.MachineError):
+        budlarem.normal("1RB")
+    with pytest.raises(budlarem.MachineError, match=r"^machines\[1\]: no machine, from column 4 on: '1RB'"):
+        list(budlarem.distinct([CHAMPION, "1RB"]))
+    wrong: Any = [CHAMPION, None]
+    with pytest.raises(TypeError, match=r"^machines\[1\] is of type NoneType"):
+        list(budlarem.distinct(wrong))
+
+
+@pytest.mark.parametrize(
+    "counts, found",
+    [
+        ((5, 5, 5), Growth.STAYS),
+        ((5, 9, 9), Growth.STAYS),
+        ((10, 13, 16), Growth.LOGARITHM),
+        ((10, 32, 100), Growth.ROOT),
+        ((10, 100, 1_000), Growth.LINE),
+    ],
+)
+def test_growths(counts: Tuple[int, int, int], found: Growth) -> None:
+    assert growth.growth(counts) is found
+
+
+def test_growth_of_runs() -> None:
+    assert grown("1RA1RA", 1_000).visited == (11, 101, 1_001)
+    assert grown(UNDECIDED, 10_000).growth is Growth.ROOT
+    assert grown(CHAMPION, 100).growth is Growth.HALTS
+
+
+def test_the_cells_end_a_run() -> None:
+    found = grown("1RA1RA", 100_000, 1_001)
+    assert (found.steps, found.visited) == (1_000, (11, 101, 1_001))
+    assert growth._last_step("1RA1RA", 100_000, 778) == 777
+    assert growth._last_step(CHAMPION, 100_000, 65_536) == 6
+
+
+def test_a_halt_comes_with_its_steps_and_cells() -> None:
+    for machine, steps in (("------", 0), ("1RZ---", 1), (CHAMPION, 6), (FOUR_STATES, 107)):
+        rows = list(budlarem.trace(machine, steps))
+        counts = tuple(len(rows[step].cells) for step in (steps // 100, steps // 10, steps))
+        for limit in (107, 108, 199, 250, 1_000_000):
+            found = grown(machine, limit)
+            assert (found.steps, found.visited, found.growth) == (steps, counts, Growth.HALTS), limit
+    assert grown(FOUR_STATES, 106).growth is Growth.ROOT
+
+
+def size(picture: budlarem.Picture) -> Tuple[int, ...]:
+    return struct.unpack(">II", picture.png[16:24])
+
+
+def test_sizes() -> None:
+    assert size(budlarem.picture(CHAMPION, 100)) == (4, 7)
+    assert size(budlarem.picture(CHAMPION, 100, scale=3)) == (12, 21)
+    sampled = budlarem.picture("1RA1RA", 100, rows=30)
+    assert (sampled.every, size(sampled)) == (4, (101, 26))
+    part = budlarem.picture("1RA1RA", 100, every=10, rows=5, left=-1, right=8)
+    assert (size(part), part.last, part.is_cut, part.is_part) == ((10, 5), 40, True, True)
+
+
+def test_rows_are_those_of_the_whole_trace() -> None:
+    for machine in (
+        CHAMPION,
+        UNDECIDED,
+        "1LB2RA3LA4RB0LA_2LA---4RB1LA0RZ",
+        "1LB5RA3LA4RB0LA1LB_2LA---4RB1LA0RZ5LA",
+        "1RB---" + "_1LA0RB" * 24,
+    ):
+        rows = list(budlarem.trace(machine, 500))
+        lows = itertools.accumulate((now.position for now in rows if now.state != "Z"), min)
+        assert all(now.low == low for now, low in zip(rows, lows))
+        assert list(budlarem.trace(machine, 500, every=3)) == rows[::3]
+        chosen, every = pictures.spread(machine, 500, 65_536, 20)
+        assert chosen == rows[::every] and len(chosen) <= 20 and (every == 1 or len(chosen) > 10)
+
+
+def test_a_wide_run_is_scaled_down() -> None:
+    whole = budlarem.picture("1RA1RA", 5_000, rows=11)
+    assert (whole.across, whole.is_part, (whole.left, whole.right)) == (3, False, (0, 4_608))
+    assert size(whole) == (1_537, 10)
+    data = zlib.decompress(whole.png[whole.png.index(b"IDAT") + 4 : -16])
+    lines = [data[k + 1 : k + 1 + 3 * 1_537] for k in range(0, len(data), 1 + 3 * 1_537)]
+    black, white, grey = (pictures.COLOURS[k] for k in (1, 0, pictures.UNVISITED))
+    # Step 512: 512 cells are 1, the head is on a 0, and nothing else is visited.
+    wanted = [black] * 512 + [white] + [grey] * (3 * 1_537 - 513)
+    for pixel in range(1_537):
+        cells = wanted[3 * pixel : 3 * pixel + 3]
+        mean = [round(sum(cell[part] for cell in cells) / 3) for part in range(3)]
+        assert list(lines[1][3 * pixel : 3 * pixel + 3]) == mean
+    twice = budlarem.picture("1RA1RA", 5_000, rows=11, scale=2)
+    assert size(twice) == (3_074, 20)
+    cut = budlarem.picture("1RA1RA", 5_000, rows=11, columns=100)
+    assert (cut.across, cut.is_part, size(cut)) == (1, True, (100, 10))
+
+
+def test_what_cannot_be_drawn() -> None:
+    with pytest.raises(budlarem.PictureError, match="lower scale to 2500"):
+        budlarem.picture("1RA1RA", 3, scale=100_000)
+    with pytest.raises(budlarem.PictureError, match="no position"):
+        budlarem.picture("1RA1RA", 3, left=5, right=4)
+    with pytest.raises(budlarem.LimitsError):
+        budlarem.picture("1RA1RA", 3, rows=0)
+    with pytest.raises(budlarem.MachineError):
+        budlarem.picture("1RA", 3)
+
+
+def test_it_is_shown_and_saved(tmp_path: pathlib.Path) -> None:
+    picture = budlarem.picture(CHAMPION, 6)
+    assert picture._repr_png_().startswith(b"\x89PNG")
+    with pytest.raises(budlarem.PictureError, match="^x.jpg: a picture is a PNG file"):
+        picture.save("x.jpg")
+    path = tmp_path / "picture.png"
+    picture.save(path)
+    assert path.read_bytes() == picture.png
+
+
+LINES = [CHAMPION + " halt 6 4", "1RA1RA translated R 1 2 1 1", UNDECIDED + " undecided steps", "refused 2"]
+
+
+def test_bars() -> None:
+    assert [reports.bin_of(number) for number in (0, 1, 10, 12, 13, 100)] == [0, 1, 10, 10, 11, 20]
+
+
+def test_the_smallest_are_kept() -> None:
+    found = reports.gathered(["%s undecided steps" % one for one in ("1RA1RA", UNDECIDED, "1RA0RA")], 2)
+    assert [machine for _, machine in found.smallest] == ["1RA0RA", "1RA1RA"]
+    assert reports.gathered(LINES, 0).smallest == []
+
+
+@pytest.mark.needs(modules=("matplotlib",))
+def test_a_page(tmp_path: pathlib.Path) -> None:
+    folder = str(tmp_path)
+    path = tmp_path / "page.html"
+    made = budlarem.report(LINES, path, steps=1_000, title="<lists>")
+    page = path.read_text(encoding="utf-8")
+    assert (made.path, made.html) == (str(path), page)
+    assert "html=" not in repr(made)
+    assert os.listdir(folder) == ["page.html"]
+    assert "&lt;lists&gt;" in page
+    frame = re.fullmatch(
+        '<iframe title="&lt;lists&gt;" srcdoc="([^"]*)" style="[^"]*"></iframe>', made._repr_html_()
+    )
+    assert (frame and html.unescape(frame[1])) == page
+    assert "1 of 1 undecided machines" in page
+    assert page.count("data:image/png;base64,") == 1
+    assert not ("http" in page.replace("http://www.w3.org", "")), "an address"
+
+
+@pytest.mark.needs(modules=("matplotlib",))
+def test_lists_that_are_empty_or_wrong(tmp_path: pathlib.Path) -> None:
+    path = tmp_path / "page.html"
+    with pytest.raises(ValueError, match=r"verdicts\[1\]: no verdict line"):
+        budlarem.report(["refused 1", "x"], path)
+    assert not path.exists()
+    budlarem.report([], path)
+    page = path.read_text(encoding="utf-8")
+    assert "No verdict has numbers" in page
+    assert "No machine is left undecided." in page
+    page = budlarem.report(LINES, path, diagrams=0).html
+    assert "<p>0 of 1 undecided machines are shown.</p>" in page
+
+
+@pytest.mark.needs(modules=("matplotlib",))
+def test_one_bar_stands_at_a_whole_number() -> None:
+    drawn = reports.plot(collections.Counter({3: 5}), "shifts")
+    assert re.findall(r"<text[^>]*>([0-9.]+)</text>", drawn) == ["3"]
+
+
+def test_what_is_missing_is_named() -> None:
+    with mock.patch.dict("sys.modules", {"matplotlib": None}), pytest.raises(
+        budlarem.ReportError, match="pip install"
+    ):
+        budlarem.report([], "page.html")
+
+
+def run_with(*words: str, given: str = "") -> Tuple[int, List[str], str]:
+    """The status of the command, its lines, and what it says."""
+    command = [sys.executable, "-m", "budlarem", *words]
+    ended = subprocess.run(command, input=given.encode(), capture_output=True)
+    return ended.returncode, ended.stdout.decode().splitlines(), ended.stderr.decode()
+
+
+def test_fields_are_carried() -> None:
+    status, lines, _ = run_with("decide", given="1RZ---, a b\r\n%s\n# c\nx;y\n" % CHAMPION)
+    assert (status, lines) == (1, ["1RZ--- halt 1 1\ta b", CHAMPION + " halt 6 4", "refused 1"])
+
+
+def test_a_refused_line_is_named_and_passed_over(tmp_path: pathlib.Path) -> None:
+    machines = [CHAMPION, "1RB1LC_1LA1RZ", "1RA1RA"]
+    claims = [CHAMPION + " halt 6 4", "1RA1RA halt 6", "1RA1RA translated R 1 2 1 1"]
+    path = str(tmp_path / "list.txt")
+    rows: List[Tuple[List[str], List[str], int]] = [
+        (["read", path], machines, 2),
+        (["decide", path], machines, 3),
+        (["normal", path], machines, 2),
+        (["normal", "--distinct", path], machines, 2),
+        (["compare", path, path], claims, 0),
+    ]
+    if HAS_PLOTS:
+        rows.append((["report", path, "--out", str(tmp_path / "page.html")], claims, 0))
+    for words, lines, count in rows:
+        pathlib.Path(path).write_text("\n".join(lines) + "\n", encoding="utf-8")
+        status, written, said = run_with(*words)
+        assert (status, len(written)) == (1, count), words
+        assert "%s:2: refused: " % path in said, words
+
+
+def test_a_full_disk_is_named_with_what_was_written() -> None:
+    command = [sys.executable, "-m", "budlarem", "decide"]
+    with open("/dev/full", "wb") as full:
+        ended = subprocess.run(command, input=b"1RZ---\n", stdout=full, stderr=subprocess.PIPE)
+    assert ended.returncode == 3
+    assert re.search("(?m)^budlarem: standard output: .*No space left on device\n$", ended.stderr.decode())
+
+
+def test_files_and_statuses(tmp_path: pathlib.Path) -> None:
+    path = str(tmp_path / "verdicts.txt")
+    with open(path, "w", encoding="utf-8") as file:
+        file.write(CHAMPION + " halt 6 4\n")
+    assert run_with("compare", path, path)[:2] == (0, [])
+    status, lines, said = run_with("compare", path, "-", given=CHAMPION + " halt 5 4\n")
+    assert (status, lines[0].split("\t")[0]) == (1, "contradict")
+    assert "contradict 1" in said
+    os.unlink(path)
+    status, _, said = run_with("compare", path, path)
+    assert status == 3
+    assert "verdicts.txt" in said
+
+
+def test_words_and_limits_that_are_refused() -> None:
+    for words in ((), ("decide", "--cells", "4"), ("decide", "--steps", "x"), ("normal", "--nowhere")):
+        assert run_with(*words)[0] == 2, words
+    assert "depth is 300" in run_with("decide", "--cells", "4")[2]
+
+
+def test_pictures_are_scaled_or_cut(tmp_path: pathlib.Path) -> None:
+    path = str(tmp_path / "picture.png")
+    words = ("picture", "1RA1RA", "--upto", "3000", "--out", path)
+    status, _, said = run_with(*words)
+    assert (status, pathlib.Path(path).read_bytes()[:4]) == (0, b"\x89PNG")
+    assert "a pixel has the mean colour of 2 cells" in said
+    status, _, said = run_with(*words, "--left", "3", "--columns", "10")
+    assert "positions 3 to 12" in said
+    assert "mean colour" not in said
+
+
+def test_normal_forms() -> None:
+    given = "%s\n1LB1RB_1RA1LZ\n" % CHAMPION
+    assert run_with("normal", "--distinct", given=given)[1] == ["%s\t%s\tAB\tR" % (CHAMPION, CHAMPION)]

@@ -1,0 +1,265 @@
+"""Reading lists as people have them."""
+
+from __future__ import annotations
+
+import gzip
+import io
+import itertools
+import json
+import os
+import pathlib
+import pytest
+import random
+from support import TOP
+from typing import Any, Dict, Iterator, List
+
+import budlarem
+from budlarem import Columns, EncodingError, Form, Passed, Reading, Rewriting
+from budlarem._text import LONGEST_LINE
+from budlarem.reading.files import find_encoding
+from budlarem.reading.values import ADVICE
+
+CHAMPION = "1RB1LB_1LA1RZ"
+FORMS = TOP / "tests" / "support" / "forms.json"
+
+
+def one(line: str, form: Form = Form.TEXT) -> Reading:
+    (reading,) = budlarem.read([line], form)
+    return reading
+
+
+LISTED: Dict[str, Any] = json.loads(FORMS.read_text(encoding="utf-8"))
+
+
+def expected(form: Dict[str, Any]) -> List[Any]:
+    """What a form says that has to be read."""
+    if "nothing" in form:
+        return []
+    if "refusal" in form:
+        return [form["refusal"], form["reason"], form["place"]]
+    rewritten = form.get("rewritten", [])
+    return [form["machine"], rewritten, form.get("before", ""), form.get("behind", "")]
+
+
+def found(line: str, form: Form = Form.TEXT) -> List[Any]:
+    """What is read of a line, in the same shape."""
+    readings = list(budlarem.read([line], form))
+    if not readings:
+        return []
+    (reading,) = readings
+    if reading.reason is not None:
+        return [reading.reason.kind, reading.reason.text, reading.reason.place]
+    return [reading.machine, list(map(str, reading.rewritten)), reading.before, reading.behind]
+
+
+def test_each_form() -> None:
+    assert len(LISTED["forms"]) >= 80
+    for form in LISTED["forms"]:
+        assert found(form["line"], Form(form.get("form", "text"))) == expected(form)
+
+
+def test_sentences() -> None:
+    assert LISTED["advice"] == ADVICE
+    sentences = {rewriting.value: rewriting.sentence for rewriting in Rewriting}
+    assert LISTED["rewritings"] == sentences
+    kinds = {form["refusal"] for form in LISTED["forms"] if "refusal" in form}
+    assert kinds | {"long", "row", "column"} == set(ADVICE)
+
+
+def test_each_list_has_its_form() -> None:
+    assert len(LISTED["lists"]) >= 15
+    for entry in LISTED["lists"]:
+        form = budlarem.read(entry["lines"]).form
+        assert (str(form.form) if form.is_found else None) == entry["form"], entry["lines"]
+
+
+def test_each_encoding_is_named() -> None:
+    for entry in LISTED["encodings"]:
+        content = bytes.fromhex(entry["bytes"])
+        assert find_encoding(content) == entry["encoding"], content
+        if entry["encoding"] is not None:
+            with pytest.raises(EncodingError, match="^the file is " + entry["encoding"]):
+                list(budlarem.read(io.BytesIO(content * 3)))
+
+
+def test_a_refused_line_is_no_machine_of_the_library() -> None:
+    for form in LISTED["forms"]:
+        if "refusal" in form and not budlarem.is_machine(form["line"]):
+            reading = one(form["line"], Form(form.get("form", "text")))
+            assert isinstance(reading.column, int)
+
+
+def test_a_long_line() -> None:
+    assert one(CHAMPION + " " * (LONGEST_LINE - len(CHAMPION))).machine is not None
+    reading = one(CHAMPION + " " * LONGEST_LINE)
+    assert reading.reason is not None
+    assert (reading.reason.kind, reading.reason.place) == ("long", LONGEST_LINE + 1)
+
+
+def test_what_else_stands_there() -> None:
+    reading = one("17. `1rb1lb 1la1rh`; halt\t6")
+    assert (reading.machine, reading.before, reading.behind) == (CHAMPION, "17.", "halt\t6")
+    assert reading.fields == "17.\thalt\t6"
+    assert (reading.column, reading.reason) == (None, None)
+    assert "H read as Z" in str(reading)
+
+
+def test_a_refusal() -> None:
+    reading = one("12,1RB1LC_1LA1RZ")
+    assert reading.reason is not None
+    assert (reading.machine, reading.column, reading.reason.place) == (None, 2, 9)
+    assert "group for each state" in reading.reason.advice
+    assert "at character 9 (for bb column 2)" in str(reading)
+
+
+def machines(source: Any) -> List[Any]:
+    return [(reading.number, reading.machine) for reading in budlarem.read(source)]
+
+
+def test_paths_files_and_lines(tmp_path: pathlib.Path) -> None:
+    text = "\ufeff%s\r\n# c\r\n\r\n1ra1ra\r\nx" % CHAMPION
+    right = [(1, CHAMPION), (4, "1RA1RA"), (5, None)]
+    path = str(tmp_path / "list.txt")
+    for content in (text.encode(), gzip.compress(text.encode()), gzip.compress(text.encode()) * 1):
+        with open(path, "wb") as file:
+            file.write(content)
+        assert machines(path) == right
+        assert machines(pathlib.Path(path)) == right
+        assert machines(io.BytesIO(content)) == right
+        with open(path, "rb", buffering=0) as raw:
+            assert machines(raw) == right
+    assert machines(text.splitlines(keepends=True)) == right
+    assert machines(line.encode() for line in text.split("\n")) == right
+    assert machines(io.StringIO(text)) == right
+
+
+def test_bytes_that_are_no_text() -> None:
+    assert machines(io.BytesIO(b"\xff 1RA1RA \x80\n1RA\xff1RA\n")) == [(1, "1RA1RA"), (2, None)]
+
+
+def test_a_long_line_of_bytes() -> None:
+    assert machines(io.BytesIO(b"x" * 1_000_000 + b"\n1RA1RA\n" + b"1RA1RA," * 100_000)) == [
+        (1, None),
+        (2, "1RA1RA"),
+        (3, None),
+    ]
+
+
+def test_a_line_is_read_when_it_is_needed() -> None:
+    def lines() -> Iterator[str]:
+        yield CHAMPION
+        raise AssertionError("read ahead")
+
+    assert next(budlarem.read(lines(), Form.MACHINES)).machine == CHAMPION
+    many = itertools.chain([CHAMPION] * 99, [CHAMPION + " x"], lines(), lines())
+    assert next(budlarem.read(many)).number == 1
+
+
+def test_what_is_no_list() -> None:
+    for source, error, text in (
+        (b"1RA1RA\n", TypeError, "BytesIO"),
+        ("1RA1RA\n1RA1RA", ValueError, "splitlines"),
+        (["1RA1RA", 3], TypeError, r"lines\[1\] is of type int"),
+        (["1RA1RA", "1RA\n1RA"], ValueError, r"lines\[1\] has a newline"),
+        (3, TypeError, "int"),
+        ("/nowhere.txt", FileNotFoundError, "nowhere"),
+        (os.sep, IsADirectoryError, os.sep),
+    ):
+        with pytest.raises(error, match=text):
+            list(budlarem.read(source))  # type: ignore[arg-type]
+
+
+def test_a_gzip_that_is_cut() -> None:
+    whole = gzip.compress(b"1RA1RA\n" * 1_000)
+    for content in (whole[:30], whole[:-4], whole[:-8] + bytes(8)):
+        with pytest.raises(OSError, match="can't be read as gzip"):
+            list(budlarem.read(io.BytesIO(content)))
+
+
+def test_lines_that_are_passed_over_are_counted() -> None:
+    lines = ["", "\r", "# c", "#17 1RA1RA", "```", "1RA1RA", "```", "|-", "| Machine | x |", "  "]
+    readings = budlarem.read(lines)
+    assert [reading.number for reading in readings] == [4, 6]
+    right = {Passed.EMPTY: 3, Passed.COMMENT: 1, Passed.FENCE: 2, Passed.RULE: 1, Passed.HEADER: 1}
+    assert dict(readings.passed) == right
+
+
+def test_empty_lines_have_their_numbers() -> None:
+    content = b"\n" * 2_000_000 + b"1RA1RA\n\r\n\n1RA1RA"
+    readings = budlarem.read(io.BytesIO(content))
+    assert [reading.number for reading in readings] == [2_000_001, 2_000_004]
+    assert readings.passed[Passed.EMPTY] == 2_000_002
+
+
+def test_bytes_that_are_no_utf_8_are_counted() -> None:
+    readings = budlarem.read(io.BytesIO("1RA1RA \u00e9\n1RA1RA x\n1RA1RA \u00fc".encode("latin-1")))
+    assert [reading.machine for reading in readings] == ["1RA1RA"] * 3
+    assert readings.undecoded == 2
+
+
+def test_tables() -> None:
+    for lines, columns, machines in (
+        (["machine,x", "1ra1ra,1", '"1RA1RA","a, b"'], Columns(), ["1RA1RA", "1RA1RA"]),
+        (["# machine\tx", "1RA1RA\t1", "------\t2"], Columns(), ["1RA1RA", "------"]),
+        (["1;1RA1RA", "2;x", "3;1RA1RA;4"], Columns("2"), ["1RA1RA", None, None]),
+        (["a,bb", "1,1RA1RA"], Columns("BB"), ["1RA1RA"]),
+        (["|machine|", "|-", "| `1RA1RA` |", "#17 1RA1RA", "# c"], Columns(), ["1RA1RA", None]),
+    ):
+        readings = list(budlarem.read(lines, columns=columns))
+        assert [reading.machine for reading in readings] == machines, lines
+    kinds = [
+        reading.reason.kind
+        for reading in budlarem.read(["1;1RA1RA", "2;x", "3"], None, Columns("2"))
+        if reading.reason
+    ]
+    assert kinds == ["none", "row"]
+
+
+def test_tables_whose_layout_is_not_known() -> None:
+    for lines, form, columns, text in (
+        (["1RA1RA,1"], Form.TABLE, Columns(), "give it by --machine"),
+        (["1RA1RA,1"], None, Columns("3"), "no separator"),
+        (["machine,x", "1RA1RA,1"], None, Columns(verdict="y"), "no columns have the name y"),
+        (["machine,x", "1RA1RA,1"], None, Columns(verdict="7"), "no column 7"),
+        (["x,1RA1RA,y;1RA1RA;z"], None, Columns("2"), "may be comma or semicolon"),
+        (["1RA1RA"], Form.TEXT, Columns("1"), "columns are of the form table"),
+    ):
+        with pytest.raises(ValueError, match=text):
+            list(budlarem.read(lines, form, columns))
+
+
+def test_a_machine_comes_back_as_it_was() -> None:
+    """Random machines of up to seven states in random forms: as they were, or refused."""
+    source = random.Random(11)
+    back = 0
+    for _ in range(5_000):
+        machine, line = drawn(source)
+        reading = one(line)
+        # The one form in which bb itself reads another machine.
+        bare = line.strip()
+        is_other = "_" not in line and budlarem.is_machine(bare)
+        assert reading.machine in (bare if is_other else machine, None), line
+        back += reading.machine == machine
+    assert back > 4_000
+
+
+def drawn(source: random.Random) -> "tuple[str, str]":
+    """A machine, and a line that has it in some form."""
+    states, symbols = source.randint(2, 7), source.choice((2, 2, 3, 4))
+    letters = "ABCDEFG"[:states] * 3 + "Z"
+    entries = [
+        "---"
+        if source.random() < 0.1
+        else source.choice("0123"[:symbols]) + source.choice("LR") + source.choice(letters)
+        for _ in range(states * symbols)
+    ]
+    groups = ["".join(entries[k : k + symbols]) for k in range(0, len(entries), symbols)]
+    text = source.choice(("_", "_", " ", "")).join(groups)
+    if source.random() < 0.3:
+        text = text.replace("---", "...")
+    if source.random() < 0.3:
+        text = text.replace("Z", "H")
+    if source.random() < 0.3:
+        text = text.lower()
+    form = source.choice(("%s", "17. %s", "%s halt 6 4", "a,%s,b", "`%s`", "[%s](https://x.org/y)", "%s\r"))
+    return "_".join(groups), form % text

@@ -1,0 +1,242 @@
+"""The parts of the runner: cutting a list, the journal, the look at replies, and the pace."""
+
+from __future__ import annotations
+
+import dataclasses
+import gzip
+import itertools
+import os
+import pathlib
+import pytest
+import random
+import unittest.mock
+from support.runner import KINDS, LIST, MIDDLE, PASSES, SMALL, RunCase, counts_of, expected
+from typing import Any, Iterator, List
+
+from budlarem import _files
+from budlarem.runner import chunks, input, journal, passes
+from budlarem.runner.errors import ReplyError, RunError
+
+
+def taken(blocks: Iterator[bytes], lines: int, size: int) -> List[bytes]:
+    found = input.Lines(blocks)
+    return list(iter(lambda: found.take(lines, size), b""))
+
+
+def test_pieces_are_the_same_however_the_bytes_come(case: RunCase) -> None:
+    chance = random.Random(1)
+    texts = [b"x" * chance.choice((0, 1, 2, 30, 1_023, 1_024, 1_025, 5_000)) for _ in range(60)]
+    given = b"\n".join(texts)
+    for lines, size in itertools.product((1, 3, 17, 50, 1_000), (1, 100, 2_000, 1 << 20)):
+        whole_list = taken(iter([given]), lines, size)
+        for cut in (1, 7, 1_000, 1_030):
+            blocks = (given[place : place + cut] for place in range(0, len(given), cut))
+            assert taken(blocks, lines, size) == whole_list
+        assert b"".join(whole_list) == b"".join(text[:1_024] + b"\n" for text in texts)
+        case.list.write_bytes(given)
+        listed = input.ListFile(str(case.list))
+        plain = listed.lines()
+        pieces_of_file = list(iter(lambda: plain.take(lines, size), b""))
+        listed.close()
+        assert b"".join(pieces_of_file) == b"".join(whole_list)
+        assert plain.taken_lines == b"".join(whole_list).count(b"\n")
+        for piece in [*whole_list, *pieces_of_file]:
+            assert piece.count(b"\n") <= lines
+            assert len(piece) <= size or piece.count(b"\n") == 1
+
+
+def test_pieces_are_as_large_as_may_be() -> None:
+    given = b"abc\n" * 1_000
+    assert [len(piece) for piece in taken(iter([given]), 300, 1 << 20)] == [1200] * 3 + [400]
+    assert [len(piece) for piece in taken(iter([given]), 300, 1_002)] == [1000] * 4
+
+
+def test_gzip_and_empty_lists(case: RunCase) -> None:
+    for given in (b"", b"\n", b"1RZ---", LIST):
+        path = case.top / "list"
+        for written in (given, gzip.compress(given) + gzip.compress(b"")):
+            path.write_bytes(written)
+            listed = input.ListFile(str(path))
+            assert b"".join(listed.blocks()) == given
+            listed.close()
+
+
+def test_a_cut_gzip_file(case: RunCase) -> None:
+    case.list.write_bytes(gzip.compress(LIST)[:-20])
+    with pytest.raises(RunError, match="can't be read as gzip"):
+        case.run_over()
+
+
+def test_a_list_that_changes(case: RunCase) -> None:
+    listed = input.ListFile(str(case.list))
+    case.callback(listed.close)
+    blocks = listed.blocks()
+    next(blocks)
+    case.list.write_bytes(LIST + KINDS)
+    with pytest.raises(RunError, match="changed while it was read"):
+        list(blocks)
+
+
+class JournalCase:
+    def __init__(self, case: RunCase) -> None:
+        self.top, self.callback = case.top, case.callback
+        self.path = str(self.top / "journal")
+        self.folder = _files.Directory.open(str(self.top))
+        self.callback(self.folder.close)
+        self.counts = counts_of(expected(KINDS))
+        self.journal = journal.Journal(self.folder, "key")
+        self.callback(self.journal.close)
+        self.known = [
+            dataclasses.replace(
+                journal.Record.of(10 * place, 10, KINDS, b"x" * place, place / 3, self.counts),
+                is_checked=place % 2 == 1,
+                place=1_000 * place,
+            )
+            for place in range(6)
+        ]
+        for place in (0, 1, 4, 5):
+            self.journal.put(place, self.known[place])
+
+
+@pytest.fixture
+def journals(case: RunCase) -> JournalCase:
+    return JournalCase(case)
+
+
+def test_records_come_back(journals: JournalCase) -> None:
+    assert os.path.getsize(journals.path) == 6 * journal.WIDTH
+    found = [journals.journal.read(place) for place in range(8)]
+    assert found == [*journals.known[:2], None, None, *journals.known[4:], None, None]
+    assert (journals.journal.end(), journals.known[0].counts_by_kind()) == (5_005, journals.counts)
+    assert journals.known[3].fits(KINDS) and journals.known[3].has(b"xxx")
+    assert not (journals.known[3].fits(KINDS[1:]) or journals.known[3].has(b"xx"))
+
+
+def test_a_gap(journals: JournalCase) -> None:
+    assert journals.journal.gap(2, 20) == (2, 20)
+    assert journals.journal.gap(2, 39) == (3, 11)
+    assert journals.journal.gap(6, 60) is None
+    assert [journals.journal.gap(2, 20), journals.journal.gap(3, 30)] == [(2, 20), (1, 10)]
+
+
+def test_gaps_of_a_foreign_journal(journals: JournalCase) -> None:
+    """Each line is read once, however often is asked what comes."""
+    foreign = journal.Journal(journals.folder, "other")
+    journals.callback(foreign.close)
+    with unittest.mock.patch.object(foreign, "read", wraps=foreign.read) as read:
+        assert [foreign.gap(index, index) for index in range(6)] == [None] * 6
+    assert read.call_count <= 6
+
+
+def test_each_changed_byte_is_seen(journals: JournalCase) -> None:
+    data = pathlib.Path(journals.path).read_bytes()
+    for place in range(journal.WIDTH):
+        changed = bytearray(data)
+        changed[place] ^= 1
+        pathlib.Path(journals.path).write_bytes(changed)
+        assert journals.journal.read(0) is None
+        assert journals.journal.read(1) == journals.known[1]
+
+
+def test_cut_moved_and_other_keys(journals: JournalCase) -> None:
+    data = pathlib.Path(journals.path).read_bytes()
+    pathlib.Path(journals.path).write_bytes(data[journal.WIDTH :])
+    assert [journals.journal.read(place) for place in range(6)] == [None] * 6
+    pathlib.Path(journals.path).write_bytes(data[:-1])
+    assert journals.journal.read(5) is None
+    assert journals.journal.read(4) == journals.known[4]
+    other = journal.Journal(journals.folder, "other")
+    journals.callback(other.close)
+    assert other.read(4) is None
+
+
+def test_verdicts_of_a_list() -> None:
+    for limits in PASSES:
+        verdicts = expected(LIST, [limits])
+        counts = chunks.look_at_verdicts(LIST, verdicts)
+        assert counts == counts_of(verdicts)
+        assert sum(counts.values()) == LIST.count(b"\n")
+        for kind in ("halt", "cycler", "translated", "refused"):
+            assert counts[kind] > 0
+
+
+def wrong(given: bytes, verdicts: bytes) -> None:
+    with pytest.raises(ReplyError):
+        chunks.look_at_verdicts(given, verdicts)
+
+
+def test_what_is_wrong() -> None:
+    good = expected(KINDS)
+    chunks.look_at_verdicts(KINDS, good)
+    lines = good.splitlines(keepends=True)
+    for changed in (b"", good[:-1], good + lines[0], good[len(lines[0]) :], good + b"x", good[::-1], KINDS):
+        wrong(KINDS, changed)
+    for place, line in itertools.product(range(len(lines)), lines):
+        if line != lines[place]:
+            wrong(KINDS, b"".join([*lines[:place], line, *lines[place + 1 :]]))
+
+
+def test_lines_that_are_no_verdict_lines() -> None:
+    machine = b"1RB1LB_1LA1RZ"
+    for text in (b"halt 6", b"halt 06 4", b"halt 6 4 ", b" halt 6 4", b"", b"open", b"\x00"):
+        wrong(machine + b"\n", machine + b" " + text + b"\n")
+    for text in (b"refused 3", b"refused 0", b"refused 2 ", b"refused", b"refused 2\n"):
+        wrong(b"1rB1LB\n", text + b"\n")
+    wrong(b"1RA1RA translated\n", b"1RA1RA translated R 1 2 1 1\n")
+    chunks.look_at_verdicts(b"1RA1RA translated\n", b"refused 7\n")
+    wrong(b"1RZ---\n", b"refused 7\n")
+    wrong(b"refused\n", b"refused 5\n")
+    chunks.look_at_verdicts(b"refused\n", b"refused 1\n")
+
+
+def test_answers() -> None:
+    verdicts = expected(KINDS)
+    chunks.look_at_answers(verdicts, b"ok\n" * 9 + b"open\n")
+    for answers in (b"", b"ok\n" * 9, b"ok\n" * 10 + b"\n", b"fine\n" * 10):
+        with pytest.raises(ReplyError) as raised:
+            chunks.look_at_answers(verdicts, answers)
+        assert raised.value.line is None
+    with pytest.raises(ReplyError, match="bad") as raised:
+        chunks.look_at_answers(verdicts, b"ok\n" * 4 + b"bad\n" + b"over\n" * 5)
+    assert raised.value.line == 4
+
+
+def test_replies() -> None:
+    ours = chunks.identity()
+    reply = chunks.decide_piece(KINDS, SMALL.numbers())
+    asked = chunks.question(chunks.DECIDE, SMALL.numbers())
+    assert chunks.opened(reply, ours, asked, KINDS)[0] == expected(KINDS, [SMALL])
+    wrong: List[Any] = [
+        None,
+        b"",
+        [],
+        reply[:4],
+        reply[:5],
+        (*reply[:7], chunks.digest_of(KINDS)),
+        (reply[0][:-1] + b" ", *reply[1:]),
+        chunks.decide_piece(KINDS[:-1], SMALL.numbers()),
+        chunks.decide_piece(KINDS, MIDDLE.numbers()),
+        chunks.check_piece(KINDS, SMALL.numbers()),
+        (reply[0].decode(), *reply[1:]),
+        (reply[0], "1", *reply[2:]),
+        (reply[0], float("nan"), *reply[2:]),
+        (*reply[:2], "0.0", *reply[3:]),
+        (*reply[:4], "0" * 64, *reply[5:]),
+    ]
+    for changed in wrong:
+        with pytest.raises(ReplyError):
+            chunks.opened(changed, ours, asked, KINDS)
+
+
+def test_a_piece_lasts_some_seconds() -> None:
+    costs, widths = (1e-6, 1e-3, 0.1, 3.0, 1e4), {8: 2, 200: 2, 2_000: 20}
+    for cost, (width, lasting) in itertools.product(costs, widths.items()):
+        pace = passes.PiecePace(20_000)
+        sizes = []
+        for _ in range(40):
+            sizes.append(pace.now)
+            pace.took(pace.now, pace.now * cost, width)
+        assert sizes[0] == 1
+        assert all(after <= 8 * before for before, after in zip(sizes, sizes[1:]))
+        seconds = sizes[-1] * cost
+        assert sizes[-1] in (1, 20_000) or 0.7 <= seconds / lasting <= 1.3, sizes

@@ -1,0 +1,162 @@
+"""Limits, plans, verdicts and their lines."""
+
+from __future__ import annotations
+
+import dataclasses
+import pickle
+import pydoc
+import pytest
+import re
+from typing import Any, List
+
+import budlarem
+from budlarem import Limits, LimitsError, Plan, _api
+
+CHAMPION = "1RB1LB_1LA1RZ"
+LINES = [
+    CHAMPION + " halt 6 4",
+    CHAMPION + " halt 18446744073709551615 0",
+    "0RB---_0LA--- cycler 2 4",
+    "1RA1RA translated R 1 2 1 1",
+    "1LA1LA translated L 1 2",
+    "0RB---_0LA--- backward 2 4",
+    "1RA1RA undecided steps",
+    "1RA1RA undecided cells",
+    "refused 1",
+    "refused 775",
+]
+UNREAD = [
+    "",
+    CHAMPION,
+    CHAMPION + " halt",
+    CHAMPION + " halt 6",
+    CHAMPION + " halt 6 4 ",
+    CHAMPION + "  halt 6 4",
+    CHAMPION + " halt 06 4",
+    CHAMPION + " halt +6 4",
+    CHAMPION + " halt 6 -4",
+    CHAMPION + " halt 6 4\n",
+    CHAMPION + " halt 18446744073709551616 0",
+    CHAMPION + " halt \u0666 4",
+    CHAMPION + " loops 6 4",
+    "1RB1LC_1LA1RZ halt 6 4",
+    "1RB1LB halt 6 4",
+    "1RA1RA translated U 1 2",
+    "1RA1RA translated R 1 2 1",
+    "1RA1RA translated R 1 2 1 1 1",
+    "1RA1RA undecided",
+    "1RA1RA undecided nodes",
+    "refused",
+    "refused 0",
+    "refused 01",
+    "refused 776",
+    "refused 1 1",
+]
+
+
+def test_are_the_programs_where_nothing_is_said() -> None:
+    assert Limits().numbers() == (1_000_000, 65_536, 300, 1_000_000)
+    assert Plan().switches() == (True, True, True)
+
+
+def test_refuse_what_is_out_of_range() -> None:
+    for name, given in (
+        ("steps", -1),
+        ("steps", 10**12 + 1),
+        ("cells", 0),
+        ("cells", 67_108_865),
+        ("depth", 10_001),
+        ("nodes", 2**64),
+    ):
+        with pytest.raises(LimitsError) as raised:
+            Limits(**{name: given})
+        lowest, highest = Limits.RANGES[name]
+        error = raised.value
+        found = (error.limit, error.lowest, error.highest, error.given)
+        assert found == (name, lowest, highest, given)
+        assert "{:,}".format(highest) in str(error)
+
+
+def test_refuse_a_depth_that_does_not_fit() -> None:
+    assert Limits(cells=599).depth == 300
+    with pytest.raises(LimitsError, match="depth is 300, but may be 0 to 299 .* at most the cells"):
+        Limits(cells=598)
+
+
+def test_refuse_what_is_no_whole_number() -> None:
+    for given in (1e6, "7", None, True, b"1"):
+        with pytest.raises(TypeError, match="^steps is .*whole number"):
+            wrong: Any = given
+            Limits(steps=wrong)
+
+
+def test_plans_refuse_what_is_no_switch() -> None:
+    for given in ("no", 1, None):
+        with pytest.raises(TypeError, match="^cyclers .*True or False"):
+            wrong: Any = given
+            Plan(cyclers=wrong)
+
+
+def test_stay_as_they_are() -> None:
+    with pytest.raises(dataclasses.FrozenInstanceError):
+        setattr(Limits(), "steps", 1)
+
+
+def test_errors_go_from_process_to_process() -> None:
+    error = LimitsError("cells", 1, 5, 7)
+    assert str(pickle.loads(pickle.dumps(error))) == str(error)
+
+
+def test_lines_are_read_and_written() -> None:
+    for line in LINES:
+        verdict = budlarem.parse(line)
+        assert str(verdict) == line
+        assert budlarem.parse(str(verdict)) == verdict
+        assert pickle.loads(pickle.dumps(verdict)) == verdict
+
+
+def test_other_lines_are_refused() -> None:
+    for line in UNREAD:
+        with pytest.raises(ValueError, match="no verdict line"):
+            budlarem.parse(line)
+
+
+def test_only_texts_are_read() -> None:
+    wrongs: List[Any] = [b"refused 1", None, 1, []]
+    for wrong in wrongs:
+        with pytest.raises(TypeError):
+            budlarem.parse(wrong)
+
+
+def test_parts_have_names() -> None:
+    moved = budlarem.parse("1RA1RA translated R 1 2 3 4")
+    assert isinstance(moved, budlarem.Translated) and moved.extent
+    assert (moved.machine, moved.side, moved.first, moved.second) == ("1RA1RA", "R", 1, 2)
+    assert (moved.extent.shift, moved.extent.length) == (3, 4)
+    without = budlarem.parse("1RA1RA translated R 1 2")
+    assert isinstance(without, budlarem.Translated)
+    assert without.extent is None
+
+
+def test_machines_are_of_1_to_25_states_and_2_to_10_symbols() -> None:
+    widest = "_".join(["9RY" * 10] * 25)
+    for text in ("------", "1RZ---", CHAMPION, widest):
+        assert budlarem.is_machine(text), text
+    for text in ("", "---", "_", "1RB---", "2RA---", "1RZ---_", "1rZ---", widest + "_" + "---" * 10):
+        assert not budlarem.is_machine(text), text
+
+
+def test_only_texts_are_machines_or_not() -> None:
+    wrongs: List[Any] = [None, 1, b"------"]
+    for wrong in wrongs:
+        with pytest.raises(TypeError, match="^text is of type .*, not str$"):
+            budlarem.is_machine(wrong)
+
+
+def test_the_calls_come_first() -> None:
+    page = pydoc.plain(pydoc.render_doc(budlarem))
+    first = page[: page.index("PACKAGE CONTENTS")]
+    calls = [name for name in _api.__all__ if name.islower() and callable(getattr(budlarem, name))]
+    assert len(calls) > 15
+    for name in calls:
+        assert re.search(r"\b%s\b" % name, first)

@@ -1,0 +1,171 @@
+"""What the tests of the runner share: a list of each kind of line, a run over it, and executors that answer
+wrongly or late."""
+
+from __future__ import annotations
+
+import contextlib
+import io
+import pathlib
+from concurrent.futures import Executor, Future
+from typing import Any, Callable, Dict, List, Sequence
+
+import budlarem
+from budlarem import Limits
+from budlarem.counts import KINDS as KINDS_OF_VERDICTS, VerdictCounts
+from budlarem.runner import chunks, folder, input, journal, list_run, passes, progress
+
+# Two that halt, a cycler, two translated cyclers, three that small limits leave, one of which larger ones
+# decide, and two that are no machines.
+KINDS = (
+    b"1RB1LB_1LA1RZ\n------\n0RB---_0LA---\n1RA1RA\n1RB1LC_1RC1RB_1RD0LE_1LA1LD_1RZ0LA\n1rB1LB\n"
+    b"1RB0RA_1LC1LB_1RA0LB\n1RB1LB_1LA1RZ halt 6 4\n0RB1LD_0RC1RD_0RD---_1LA0RB\n"
+    b"1RB0LA_0RC---_1RD0LD_1LA1RB\n"
+)
+LIST = KINDS * 37
+
+
+SMALL, MIDDLE = Limits(30, 16, 3, 5), Limits(1_000, 128, 20, 100)
+PASSES = (SMALL, MIDDLE)
+
+
+class ExecutorPlace:
+    """Any executor, with so many workers. Each has a piece, and as many pieces wait."""
+
+    def __init__(self, executor: Executor, workers: int) -> None:
+        self._executor, self._workers = executor, workers
+
+    def width(self) -> int:
+        return 2 * self._workers
+
+    def submit(self, task: chunks.Task, lines: bytes, limits: chunks.Numbers) -> Future[Any]:
+        return self._executor.submit(task, lines, limits)
+
+    def tend(self) -> None:
+        pass
+
+    def status(self) -> str:
+        return ""
+
+
+def expected(given: bytes, limits: Sequence[Limits] = PASSES) -> bytes:
+    """The verdict lines of a list, by one call for each pass."""
+    lines = b"".join(budlarem.decide_bytes(given, limits[0])).splitlines(keepends=True)
+    for limit in limits[1:]:
+        left = [place for place, line in enumerate(lines) if b" undecided " in line]
+        machines = b"".join(lines[place].split()[0] + b"\n" for place in left)
+        later = b"".join(budlarem.decide_bytes(machines, limit)).splitlines(keepends=True)
+        for place, line in zip(left, later):
+            lines[place] = line
+    return b"".join(lines)
+
+
+def resealed(reply: chunks.PieceReply, written: bytes) -> chunks.PieceReply:
+    """A reply with other bytes, and the digest of these."""
+    return (written, *reply[1:7], chunks.digest_of(written))
+
+
+class Answering(Executor):
+    """An executor whose answer to a task a function changes; it is given the reply and how many came
+    before."""
+
+    def __init__(self, change: Callable[[chunks.PieceReply, int], Any]) -> None:
+        self.change, self.count = change, 0
+
+    def submit(self, function: Any, /, *given: Any, **named: Any) -> Any:
+        future: Future[Any] = Future()
+        self.count += 1
+        try:
+            future.set_result(self.change(function(*given, **named), self.count - 1))
+        except Exception as error:
+            future.set_exception(error)
+        return future
+
+
+class Late(Executor):
+    """An executor that answers when several tasks wait, the last one first."""
+
+    def __init__(self, most: int) -> None:
+        self.most = most
+        self.waiting: List[Callable[[], None]] = []
+
+    def submit(self, function: Any, /, *given: Any, **named: Any) -> Any:
+        future: Future[Any] = Future()
+        self.waiting.append(lambda: future.set_result(function(*given, **named)))
+        if len(self.waiting) == self.most:
+            while self.waiting:
+                self.waiting.pop()()
+        return future
+
+
+class KeptProgress(progress.Progress):
+    """Progress that is kept."""
+
+    def __init__(self) -> None:
+        self.kept = io.StringIO()
+        super().__init__(self.kept)
+
+
+class RunCase(contextlib.ExitStack):
+    """A list and a folder, and runs over them."""
+
+    def __init__(self, top: pathlib.Path) -> None:
+        super().__init__()
+        self.top, self.list, self.out = top, top / "list.txt", top / "out"
+        self.list.write_bytes(LIST)
+        self.progress = KeptProgress()
+        self.seen: List[bytes] = []
+
+    def run_over(
+        self,
+        executor: Any = None,
+        limits: Sequence[Limits] = PASSES,
+        most: int = 7,
+        check: bool = False,
+        path: str = "",
+        here: bool = False,
+        keep: chunks.Keep = chunks.Keep(),
+    ) -> list_run.Outcome:
+        """A run, by an executor or by two threads."""
+        place: passes.Workplace = passes.Threads(2)
+        if executor is not None:
+            place = ExecutorPlace(executor, 2)
+        with contextlib.closing(input.ListFile(path or str(self.list))) as listed:
+            with contextlib.closing(folder.Folder(str(self.out))) as opened:
+                manner = passes.Manner(
+                    place,
+                    chunks.identity(),
+                    self.progress,
+                    listed.name,
+                    most,
+                    check,
+                    here,
+                    keep,
+                    listed.hold_unchanged,
+                    self.seen.append,
+                )
+                return list_run.run(opened, listed, limits, manner)
+
+    def verdicts(self) -> bytes:
+        return (self.out / "verdicts.txt").read_bytes()
+
+    def opened(self, limits: Sequence[Limits], keep: chunks.Keep = chunks.Keep()) -> journal.PassFolder:
+        """The last of these passes, which is whole."""
+        with contextlib.closing(folder.Folder(str(self.out))) as top:
+            found = top.open_pass(limits, keep, chunks.identity())
+        self.callback(found.close)
+        found.pieces = found.journal.length
+        return found
+
+    def records(self, limits: Sequence[Limits]) -> List[journal.Record]:
+        """What the journal of the last of these passes has."""
+        found = self.opened(limits).journal
+        records = map(found.read, range(found.length))
+        return [record for record in records if record is not None]
+
+
+def counts_of(verdicts: bytes) -> Dict[str, int]:
+    """How many verdict lines there are of each kind."""
+    counts = VerdictCounts()
+    for line in verdicts.decode().splitlines():
+        counts.add(line)
+    return {kind: counts.kinds[kind] for kind in KINDS_OF_VERDICTS}

@@ -1,0 +1,219 @@
+"""Runs of `budlarem run` as processes: lists and their verdicts, interruptions and kills.
+
+The package and its library are found by the environment, as python/tests/conftest.py sets it.
+"""
+
+from __future__ import annotations
+
+import os
+import pathlib
+import random
+import shutil
+import signal
+import subprocess
+import sys
+import time
+from typing import Any, Callable, Dict, List, Optional, Sequence, Tuple
+
+from . import restore_signals
+from .machines import CHAMPION, mixed
+from .program import LIMITS, MAX_CELLS, MAX_STEPS, as_lines, ended, options
+
+PASSES = ((300, 64, 10, 100), (20_000, 1_024, 40, 10_000))
+# It grows as the root of its steps, and no decider finds anything.
+LONG_MACHINE = b"0RB1LD_0RC1RD_0RD---_1LA0RB\n"
+Process = subprocess.Popen[bytes]
+# Where a process of the package is interrupted, and what it does there.
+WHERE = ("list", "machine", "trace")
+WAITS = """
+import sys, budlarem
+def machines():
+    while True: yield "%(champion)s"
+print("begun", flush=True)
+if sys.argv[1] == "list":
+    for verdict in budlarem.decide(machines(), threads=2): print("decided", flush=True)
+elif sys.argv[1] == "machine":
+    print(list(budlarem.decide([sys.argv[2]], budlarem.Limits(steps=%(steps)d, cells=%(cells)d))))
+else:
+    list(budlarem.trace(sys.argv[2], %(steps)d, %(cells)d, start=%(steps)d))
+""" % {
+    "steps": MAX_STEPS,
+    "cells": MAX_CELLS,
+    "champion": CHAMPION,
+}
+# How long something may take that must come, in seconds, before it is called missing.
+PATIENCE = 600
+
+
+def words_of(limits: Sequence[int]) -> str:
+    """The value of `--pass` for limits of steps, cells, levels and nodes."""
+    return ",".join("%s=%d" % pair for pair in zip(LIMITS, limits))
+
+
+def random_list(count: int, seed: int) -> bytes:
+    """Machines of all sizes, and some lines that are none."""
+    lines = list(mixed(count, seed))
+    lines[count // 2], lines[count // 3] = "1rB1LB", lines[count // 3] + " halt 6 4"
+    return as_lines(lines)
+
+
+def decided(program: str, given: bytes, limits: Sequence[int]) -> List[bytes]:
+    """The program's verdict lines."""
+    return ended([program, "decide", *options(limits)], given).output.splitlines(keepends=True)
+
+
+def expected(program: str, given: bytes, passes: Sequence[Sequence[int]]) -> bytes:
+    """The verdicts of one process for each pass, in the list's order."""
+    lines = decided(program, given, passes[0])
+    for limits in passes[1:]:
+        left = [place for place, line in enumerate(lines) if b" undecided " in line]
+        later = decided(program, b"".join(lines[place].split()[0] + b"\n" for place in left), limits)
+        for place, line in zip(left, later):
+            lines[place] = line
+    return b"".join(lines)
+
+
+class Case:
+    """A list, a folder, and runs over them."""
+
+    def __init__(self, top: pathlib.Path, given: bytes, passes: Sequence[Sequence[int]] = PASSES) -> None:
+        top.mkdir()
+        self.list, self.out, self.errors = top / "list.txt", top / "out", top / "errors.txt"
+        self.list.write_bytes(given)
+        self.words: List[str] = [word for limits in passes for word in ("--pass", words_of(limits))]
+
+    def start(
+        self,
+        *more: str,
+        words: Optional[List[str]] = None,
+        variables: Optional[Dict[str, str]] = None,
+        **how: Any,
+    ) -> Process:
+        """Starts a run, which heeds interruptions; standard error is a file."""
+        how.setdefault("preexec_fn", restore_signals)
+        command = [sys.executable, "-m", "budlarem", "run", "--out", str(self.out)]
+        command += [*(self.words if words is None else words), *(more or [str(self.list)])]
+        with open(self.errors, "wb") as errors:
+            both = {**os.environ, **(variables or {})}
+            return subprocess.Popen(command, stdout=errors, stderr=errors, env=both, **how)
+
+    def run(self, *more: str, **how: Any) -> int:
+        """The status of a whole run."""
+        with self.start(*more, **how) as process:
+            return process.wait()
+
+    def said(self) -> str:
+        return self.errors.read_text(errors="replace")
+
+    def pieces(self) -> int:
+        """How many pieces stand."""
+        lines = (line for path in self.out.glob("pass-*/journal") for line in path.read_bytes().split(b"\n"))
+        return sum(line.startswith((b"decided", b"checked")) for line in lines)
+
+    def verdicts(self) -> bytes:
+        path = self.out / "verdicts.txt"
+        return path.read_bytes() if path.exists() else b""
+
+    def clear(self) -> None:
+        shutil.rmtree(self.out, ignore_errors=True)
+
+
+def seen(process: Process, what: Callable[[], bool]) -> bool:
+    """Waits until something is seen; whether it was while the process ran."""
+    until = time.monotonic() + PATIENCE
+    while process.poll() is None and time.monotonic() < until:
+        if what():
+            return process.poll() is None
+        time.sleep(0.002)
+    return False
+
+
+def killed(case: Case, more: int, *words: str) -> bool:
+    """Runs until so many more pieces stand, and kills it; whether that was before its end."""
+    before = case.pieces()
+    with case.start(str(case.list), *words) as process:
+        was_seen = seen(process, lambda: (case.out / "run.json").exists() and case.pieces() >= before + more)
+        process.kill()
+        process.wait()
+    return was_seen and process.returncode == -signal.SIGKILL and not (case.out / "verdicts.txt").exists()
+
+
+def require_interrupted(case: Case, process: Process) -> None:
+    """SIGINT ends a run soon, with its status and a sentence."""
+    began = time.monotonic()
+    process.send_signal(signal.SIGINT)
+    try:
+        status = process.wait(30)
+    finally:
+        process.kill()
+    print("SIGINT ended the run after %.3f s" % (time.monotonic() - began))
+    assert status == 130, case.said()
+    assert "interrupted; the same command goes on" in case.said()
+
+
+def kill_often(case: Case, count: int, chance: random.Random, *words: str) -> int:
+    """Kills runs at random moments, each of which goes on after the one before; how many were killed before
+    their end. After one that came to its end it begins anew."""
+    kills, whole = 0, 0
+    while kills < count and whole < count:
+        if killed(case, chance.randint(0, 4), "--piece", str(chance.randint(50, 150)), *words):
+            kills += 1
+        else:
+            whole += 1
+            case.clear()
+    return kills
+
+
+def most_memory(case: Case, count: int, limits: Sequence[int]) -> int:
+    """The most memory that a run over so many lines takes, in KiB; 0 where it failed. The list isn't held
+    here, since a process begins with the memory of the one that it was forked from."""
+    with open(case.list, "wb") as file:
+        for _ in range(count // 1_000):
+            file.write(as_lines([CHAMPION]) * 1_000)
+    with case.start(words=["--pass", words_of(limits)] * 2) as process:
+        _, status, used = os.wait4(process.pid, 0)
+        process.returncode = os.waitstatus_to_exitcode(status)
+    case.clear()
+    return int(used.ru_maxrss) if process.returncode == 0 else 0
+
+
+def work_of(folder: str) -> float:
+    """The processor time of a process or thread, of this folder in /proc, in seconds; 0 where it has
+    ended."""
+    try:
+        with open(folder + "/stat") as file:
+            fields = file.read().rpartition(")")[2].split()
+    except OSError:
+        return 0.0
+    return (int(fields[11]) + int(fields[12])) / os.sysconf("SC_CLK_TCK")
+
+
+def is_at_work(pid: int) -> bool:
+    """Whether a thread of a process, beside its first, has worked for half a second."""
+    tasks = "/proc/%d/task" % pid
+    try:
+        return any(work_of("%s/%s" % (tasks, one)) > 0.5 for one in os.listdir(tasks) if int(one) != pid)
+    except FileNotFoundError:
+        return False
+
+
+def interrupted(where: str) -> Tuple[int, bytes, float]:
+    """How a process ends that is interrupted in a list, in one long machine or in a trace: its status, what
+    it said, and after how many seconds."""
+    command = [sys.executable, "-c", WAITS, where, LONG_MACHINE.decode().strip()]
+    pipe = subprocess.PIPE
+    with subprocess.Popen(command, preexec_fn=restore_signals, stdout=pipe, stderr=pipe) as process:
+        assert process.stdout is not None
+        process.stdout.readline()
+        if where == "list":
+            process.stdout.readline()
+        else:
+            seen(process, lambda: is_at_work(process.pid))
+        began = time.monotonic()
+        process.send_signal(signal.SIGINT)
+        try:
+            said = process.communicate(timeout=PATIENCE)[1]
+        except subprocess.TimeoutExpired:
+            process.kill()
+            said = process.communicate()[1]
+        return process.returncode, said, time.monotonic() - began
