@@ -9,7 +9,6 @@ binutils, and no network.
 from __future__ import annotations
 
 import argparse
-import hashlib
 import os
 import pathlib
 import shutil
@@ -19,9 +18,9 @@ import tempfile
 from typing import Tuple
 
 TOP = pathlib.Path(__file__).resolve().parent.parent
-sys.path.insert(0, str(TOP / "scripts" / "lib"))
+sys.path.insert(0, str(TOP))
 
-from commands import NEWEST_GLIBC, glibc_of, version_of_header, written  # noqa: E402
+from tools.build_info import NEWEST_GLIBC, commit_version, glibc_of, output_of  # noqa: E402
 
 FILES = ("README.md", "pyproject.toml", "setup.py", "src")
 # The files that the version's digest covers, where they differ from the commit.
@@ -35,21 +34,13 @@ LIBRARY_BYTES = %d
 '''
 
 
-def of_git(*words: str) -> str:
-    return written("git", "-C", str(TOP), *words)
-
-
 def version_of(library: pathlib.Path) -> Tuple[str, str]:
     """The version and the commit."""
-    commit = of_git("rev-parse", "HEAD")
-    version = "%s+g%s" % (version_of_header(), commit[:12])
-    if not of_git("status", "--porcelain", "--", *CHANGEABLE):
-        return version, commit
-    digest = hashlib.sha256(library.read_bytes())
-    for file in sorted((TOP / "python").rglob("*")):
-        if file.suffix in (".py", ".md", ".html", ".txt", ".toml") and "tests" not in file.parts:
-            digest.update(file.read_bytes())
-    return "%s.changed.%s" % (version, digest.hexdigest()[:8]), commit + ", changed"
+    endings = (".py", ".md", ".html", ".txt", ".toml")
+    sources = sorted(path for path in (TOP / "python").rglob("*") if path.suffix in endings)
+    files = [library, *(path for path in sources if "tests" not in path.parts)]
+    found = commit_version(CHANGEABLE, files)
+    return "%s+%s" % (found.number, found.suffix), found.commit
 
 
 def copy_sources(library: pathlib.Path, folder: pathlib.Path) -> None:
@@ -67,7 +58,7 @@ def copy_sources(library: pathlib.Path, folder: pathlib.Path) -> None:
 
 def build(library: pathlib.Path, out: pathlib.Path) -> pathlib.Path:
     """Build the wheel from a copy of the sources; return its path."""
-    environment = dict(os.environ, SOURCE_DATE_EPOCH=of_git("log", "-1", "--format=%ct"))
+    environment = dict(os.environ, SOURCE_DATE_EPOCH=output_of("git", "log", "-1", "--format=%ct"))
     with tempfile.TemporaryDirectory() as name:
         folder, made = pathlib.Path(name) / "package", pathlib.Path(name) / "made"
         copy_sources(library, folder)

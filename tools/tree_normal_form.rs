@@ -15,7 +15,7 @@ use std::process::ExitCode;
 const HELP: &str = "\
 Lists all machines of so many states and symbols in tree normal form, one a line.
 
-    scripts/tools/tree_normal_form --states N [--symbols N] [--steps T] [--part K/N] [--every N]
+    tools/tree_normal_form --states N [--symbols N] [--steps T] [--part K/N] [--every N]
 
 From the table with no entry on, each machine is run on the blank tape. One that meets an undefined entry
 is listed as it stands, halting there; and while more than one entry is undefined, each entry that could

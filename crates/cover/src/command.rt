@@ -47,7 +47,7 @@ const MOST_LEVELS: &str = "10000";
 /// What the help says after the options.
 const ABOUT: &str = "\
 In: the verdict lines of a list in tree normal form, in the order of a walk in depth, as
-  scripts/tools/tree_normal_form --states 4 | bb decide --steps 1000
+  tools/tree_normal_form --states 4 | bb decide --steps 1000
 writes them. Each claim is checked. Out: one line, either
   covers 4 states 2 symbols: 858909 lines, 8455 undecided, 550 of them with more than one ---
 which says that each machine of the size halts, at most a step later than one of the list,
