@@ -63,7 +63,11 @@ UNREADABLE = [
 MACHINE = b"1RB1LB_1LA1RZ"
 CARRIAGE_RETURN = "line 1 ends in a carriage return: remove them all first, by tr -d '\\r'\n"
 HINTS = [
-    ("decide", gzip.compress(MACHINE), "the input is compressed by gzip: unpack it first, by gzip -dc\n"),
+    (
+        "decide",
+        gzip.compress(MACHINE, mtime=0),
+        "the input is compressed by gzip: unpack it first, by gzip -dc\n",
+    ),
     (
         "decide",
         MACHINE.decode().encode("utf-16"),
@@ -110,7 +114,9 @@ def test_closed_pipe_leaves_the_fixed_line_alone(bb: str) -> None:
     assert status == 3 and shown.endswith("bb: write failed\n") and "standard output" not in shown
 
 
-@pytest.mark.parametrize("command, given, hint", HINTS)
+@pytest.mark.parametrize(
+    "command, given, hint", HINTS, ids=["gzip", "UTF-16", "machine, CR", "claim, CR", "second line, CR"]
+)
 def test_first_bytes_of_an_input_give_a_hint(bb: str, command: str, given: bytes, hint: str) -> None:
     assert last_shown([bb, command], given) == (1, hint)
     plain = subprocess.run([bb, command], input=given, capture_output=True)
