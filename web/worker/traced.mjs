@@ -25,13 +25,17 @@ function runOf(/** @type {{machine: string, cells: number}} */ { machine, cells 
   return known;
 }
 
-/** @returns {Row[]} the rows of a machine that are asked for */
+/** The rows of a machine that are asked for, and the last step that there is, where fewer than two come. */
 export function traced(/** @type {Engine} */ engine, /** @type {Asked} */ asked) {
-  const { sample } = runOf(asked).rows(engine, asked, false);
-  return Array.from(sample.steps, (step, k) => {
+  const run = runOf(asked);
+  const { sample } = run.rows(engine, asked, false);
+  /** @type {Row[]} */
+  const rows = Array.from(sample.steps, (step, k) => {
     const cells = symbolsOf(sample, k, 0, sample.wide[k] - 1);
     return { step, state: sample.states[k], head: sample.heads[k], low: sample.lows[k], cells };
   });
+  const isShort = rows.length < 2 && asked.from + asked.every <= asked.upto;
+  return { rows, last: isShort ? run.last(engine, asked.upto).step : rows.at(-1)?.step };
 }
 
 /** Rows that views may need, as another worker keeps them. */
@@ -45,9 +49,6 @@ export function keep(/** @type {Kept} */ kept) {
     known.keep(kept);
   }
 }
-
-export const lastOf = (/** @type {Engine} */ engine, /** @type {Limited} */ asked) =>
-  runOf(asked).last(engine, asked.upto).step;
 
 /**
  * How the cells that a run visits grow, by how many they are after a hundredth of the steps, a tenth, and

@@ -23,7 +23,7 @@ import { ANSWERS, KINDS } from "../reader/machine.mjs";
 import { asGiven, lineAt, prepared } from "../reader/prepare.mjs";
 import { LONGEST_SHOWN } from "../reader/words.mjs";
 import { readAnswers, readLines, startsOf, tallied } from "./replies.mjs";
-import { growthOf, keep, lastOf, pictured, takenAhead, traced } from "./traced.mjs";
+import { growthOf, keep, pictured, takenAhead, traced } from "./traced.mjs";
 
 const NEWLINE = 10;
 // A piece is answered in batches that take about so long, so that what was done stays where it is stopped.
@@ -203,8 +203,7 @@ const QUESTIONS = {
   },
   growth: (host, asked) => ({ says: { growth: growthOf(host, asked) } }),
   one: (_, asked) => ({ says: decidedOne(asked) }),
-  last: (host, asked) => ({ says: { last: lastOf(host, asked) } }),
-  trace: (host, asked) => ({ says: { rows: traced(host, asked) } }),
+  trace: (host, asked) => ({ says: traced(host, asked) }),
 };
 
 /** Takes in the engine's module; where it can't be loaded, each question is answered with the reason. */

@@ -123,35 +123,39 @@ export class Tape {
     const back = this.step < from ? many - 4 : Math.min(4, many / 4);
     const begin = Math.max(0, this.step - Math.floor(back));
     const upto = begin + many;
-    const question = { what: "trace", machine, cells, from: begin, every: 1, upto };
-    this.inquire(question, ({ rows }) => this.take(rows, upto));
-  }
-
-  /** Asks the worker, and hands over what it says, unless somebody went elsewhere since. */
-  inquire(/** @type {Record<string, any>} */ question, /** @type {(answer: any) => void} */ take) {
     const { gone } = this;
-    this.asker.ask(question, (answer) => {
-      if (gone !== this.gone) {
-        return;
+    this.asker.ask({ what: "trace", machine, cells, from: begin, every: 1, upto }, (answer) => {
+      // Where somebody went elsewhere since, the answer is too late.
+      if (gone === this.gone) {
+        answer.error ? this.fail(answer.message) : this.take(answer.rows, answer.last, upto);
       }
-      if (answer.error) {
-        this.pause();
-        part("tape-text").textContent = `The tape can’t be shown: ${answer.message}.`;
-        return;
-      }
-      take(answer);
     });
   }
 
-  /** Takes rows; where they end before the last step that was asked for, the run has no more. */
-  take(/** @type {Row[]} */ rows, /** @type {number} */ upto) {
+  fail(/** @type {string} */ message) {
+    this.pause();
+    part("tape-text").textContent = `The tape can’t be shown: ${message}.`;
+  }
+
+  /**
+   * Takes rows; where they end before the last step that was asked for, the run has no more.
+   * @param {Row[]} rows @param {number} last the step of the last one, or of the run @param {number} upto
+   */
+  take(rows, last, upto) {
     this.rows = rows;
-    const [first, last] = [rows[0], rows[rows.length - 1]];
     // Of very wide rows only some come.
-    if (rows.length > 1 && last.step - first.step === rows.length - 1 && last.step < upto) {
-      this.endAt(last.step);
+    if (last < upto && (rows.length === 0 || last - rows[0].step === rows.length - 1)) {
+      this.endAt(last);
     }
-    this.row === undefined ? this.lookForEnd() : this.arrive();
+    if (this.row === undefined && rows.length === 0) {
+      this.go(this.step, this.closes);
+      return;
+    }
+    if (this.row === undefined) {
+      this.pause();
+      this.step = rows[rows.length - 1].step;
+    }
+    this.arrive();
   }
 
   /** Knows that the run goes no farther than a step. */
@@ -159,21 +163,6 @@ export class Tape {
     const about = /** @type {About} */ (this.about);
     this.about = { ...about, last: Math.min(about.last, step) };
     this.step = Math.min(this.step, step);
-  }
-
-  /** Where a row didn't come: the worker says which the run's last step is. */
-  lookForEnd() {
-    const { machine, cells } = /** @type {About} */ (this.about);
-    this.inquire({ what: "last", machine, cells, upto: this.step }, ({ last }) => {
-      if (last < this.step) {
-        this.endAt(last);
-        this.go(last, this.closes);
-        return;
-      }
-      this.pause();
-      this.step = this.rows[this.rows.length - 1]?.step ?? this.step;
-      this.arrive();
-    });
   }
 
   arrive() {
