@@ -147,6 +147,7 @@ def test_translation(tmp_path: pathlib.Path) -> None:
     assert kinds == ["not-judged"] * 3
 
 
+@pytest.mark.timing
 def test_empty_lines(tmp_path: pathlib.Path) -> None:
     """Five million empty lines cost `judge` and `compare` at most what `read` costs, beside the process."""
     path, single = tmp_path / "empty.txt", tmp_path / "single.txt"

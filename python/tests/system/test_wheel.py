@@ -44,8 +44,11 @@ RUN_PASSES = ((5, 16, 3, 10), (1_000, 1_024, 40, 1_000))
 # Of the first pass, and of both together: how many lines are undecided.
 RUN_LEFT = [4, 1]
 SITE = pathlib.Path(pytest.__file__).parents[1]
-# The modules that pytest is, for Pythons and environments that lack it.
-PYTEST = ("pytest", "_pytest", "py", "pluggy", "iniconfig", "packaging", "attr", "exceptiongroup")
+# The modules that pytest and hypothesis are, for Pythons and environments that lack it.
+PYTEST = ("pytest", "_pytest", "py", "pluggy", "iniconfig", "packaging", "attr", "exceptiongroup") + (
+    "hypothesis",
+    "sortedcontainers",
+)
 
 
 def run(

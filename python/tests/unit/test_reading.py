@@ -3,15 +3,16 @@
 from __future__ import annotations
 
 import gzip
+import hypothesis
 import io
 import itertools
 import json
 import os
 import pathlib
 import pytest
-import random
+from hypothesis import strategies as st
 from support import TOP
-from typing import Any, Dict, Iterator, List
+from typing import Any, Dict, Iterator, List, Set
 
 import budlarem
 from budlarem import Columns, EncodingError, Form, Passed, Reading, Rewriting
@@ -228,38 +229,29 @@ def test_tables_whose_layout_is_not_known() -> None:
             list(budlarem.read(lines, form, columns))
 
 
-def test_a_machine_comes_back_as_it_was() -> None:
-    """Random machines of up to seven states in random forms: as they were, or refused."""
-    source = random.Random(11)
-    back = 0
-    for _ in range(5_000):
-        machine, line = drawn(source)
-        reading = one(line)
-        # The one form in which bb itself reads another machine.
-        bare = line.strip()
-        is_other = "_" not in line and budlarem.is_machine(bare)
-        assert reading.machine in (bare if is_other else machine, None), line
-        back += reading.machine == machine
-    assert back > 4_000
+ENTRIES = st.one_of(st.just("---"), st.from_regex("[01][LR][A-GZ]", fullmatch=True))
+AROUND = ("%s", "17. %s", "%s halt 6 4", "a,%s,b", "`%s`", "[%s](https://x.org/y)", "%s\r")
 
 
-def drawn(source: random.Random) -> "tuple[str, str]":
-    """A machine, and a line that has it in some form."""
-    states, symbols = source.randint(2, 7), source.choice((2, 2, 3, 4))
-    letters = "ABCDEFG"[:states] * 3 + "Z"
-    entries = [
-        "---"
-        if source.random() < 0.1
-        else source.choice("0123"[:symbols]) + source.choice("LR") + source.choice(letters)
-        for _ in range(states * symbols)
-    ]
-    groups = ["".join(entries[k : k + symbols]) for k in range(0, len(entries), symbols)]
-    text = source.choice(("_", "_", " ", "")).join(groups)
-    if source.random() < 0.3:
-        text = text.replace("---", "...")
-    if source.random() < 0.3:
-        text = text.replace("Z", "H")
-    if source.random() < 0.3:
-        text = text.lower()
-    form = source.choice(("%s", "17. %s", "%s halt 6 4", "a,%s,b", "`%s`", "[%s](https://x.org/y)", "%s\r"))
-    return "_".join(groups), form % text
+@hypothesis.settings(deadline=None, max_examples=2_000)
+@hypothesis.given(
+    entries=st.lists(ENTRIES, min_size=4, max_size=14),
+    between=st.sampled_from(("_", " ", "")),
+    changes=st.sets(st.sampled_from(("dots", "H", "small"))),
+    around=st.sampled_from(AROUND),
+)
+def test_a_machine_comes_back_as_it_was(
+    entries: List[str], between: str, changes: Set[str], around: str
+) -> None:
+    """Machines of up to seven states in any form are read as they were, or refused."""
+    states = len(entries) // 2
+    rows = [entry if entry[2] <= "ABCDEFG"[states - 1] else entry[:2] + "Z" for entry in entries]
+    groups = ["".join(rows[k : k + 2]) for k in range(0, 2 * states, 2)]
+    text = between.join(groups)
+    text = text.replace("---", "...") if "dots" in changes else text
+    text = text.replace("Z", "H") if "H" in changes else text
+    line = around % (text.lower() if "small" in changes else text)
+    # The one form in which bb itself reads another machine.
+    bare = line.strip()
+    is_other = "_" not in line and budlarem.is_machine(bare)
+    assert one(line).machine in (bare if is_other else "_".join(groups), None)

@@ -2,14 +2,16 @@
 
 from __future__ import annotations
 
+import contextlib
 import dataclasses
 import gzip
+import hypothesis
 import itertools
 import os
 import pathlib
 import pytest
-import random
 import unittest.mock
+from hypothesis import strategies as st
 from support.runner import KINDS, LIST, MIDDLE, PASSES, SMALL, RunCase, counts_of, expected
 from typing import Any, Iterator, List
 
@@ -23,26 +25,32 @@ def taken(blocks: Iterator[bytes], lines: int, size: int) -> List[bytes]:
     return list(iter(lambda: found.take(lines, size), b""))
 
 
-def test_pieces_are_the_same_however_the_bytes_come(case: RunCase) -> None:
-    chance = random.Random(1)
-    texts = [b"x" * chance.choice((0, 1, 2, 30, 1_023, 1_024, 1_025, 5_000)) for _ in range(60)]
+@hypothesis.settings(deadline=None, suppress_health_check=[hypothesis.HealthCheck.function_scoped_fixture])
+@hypothesis.given(
+    lengths=st.lists(st.sampled_from((0, 1, 2, 30, 1_023, 1_024, 1_025, 5_000)), max_size=60),
+    lines=st.sampled_from((1, 3, 17, 50, 1_000)),
+    size=st.sampled_from((1, 100, 2_000, 1 << 20)),
+    cut=st.sampled_from((1, 7, 1_000, 1_030)),
+)
+def test_pieces_are_the_same_however_the_bytes_come(
+    case: RunCase, lengths: List[int], lines: int, size: int, cut: int
+) -> None:
+    texts = [b"x" * length for length in lengths]
     given = b"\n".join(texts)
-    for lines, size in itertools.product((1, 3, 17, 50, 1_000), (1, 100, 2_000, 1 << 20)):
-        whole_list = taken(iter([given]), lines, size)
-        for cut in (1, 7, 1_000, 1_030):
-            blocks = (given[place : place + cut] for place in range(0, len(given), cut))
-            assert taken(blocks, lines, size) == whole_list
-        assert b"".join(whole_list) == b"".join(text[:1_024] + b"\n" for text in texts)
-        case.list.write_bytes(given)
-        listed = input.ListFile(str(case.list))
+    pieces = taken(iter([given]), lines, size)
+    blocks = (given[place : place + cut] for place in range(0, len(given), cut))
+    assert taken(blocks, lines, size) == pieces
+    ends = texts if texts and texts[-1] else texts[:-1]
+    assert b"".join(pieces) == b"".join(text[:1_024] + b"\n" for text in ends)
+    case.list.write_bytes(given)
+    with contextlib.closing(input.ListFile(str(case.list))) as listed:
         plain = listed.lines()
-        pieces_of_file = list(iter(lambda: plain.take(lines, size), b""))
-        listed.close()
-        assert b"".join(pieces_of_file) == b"".join(whole_list)
-        assert plain.taken_lines == b"".join(whole_list).count(b"\n")
-        for piece in [*whole_list, *pieces_of_file]:
-            assert piece.count(b"\n") <= lines
-            assert len(piece) <= size or piece.count(b"\n") == 1
+        of_file = list(iter(lambda: plain.take(lines, size), b""))
+    assert b"".join(of_file) == b"".join(pieces)
+    assert plain.taken_lines == len(ends)
+    for piece in [*pieces, *of_file]:
+        assert piece.count(b"\n") <= lines
+        assert len(piece) <= size or piece.count(b"\n") == 1
 
 
 def test_pieces_are_as_large_as_may_be() -> None:

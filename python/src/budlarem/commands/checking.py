@@ -13,13 +13,12 @@ from typing import Optional
 from .._text import LONGEST_SHOWN, escape_controls
 from ..checking import Checked, answers_to, why
 from ..limits import Limits, limits_of
-from ..numbers import option_number
 from ..publishing import UnconfirmedError, publish
 from ..reading.files import BytesFile
 from ..runner.errors import RunError
 from ..runner.progress import TerminalLine, count_of
 from ..verdicts import Answer
-from .shared import add_command, add_file, add_greatest_limits, greatest_limits, source_of
+from .shared import add_command, add_file, add_greatest_limits, add_number, greatest_limits, source_of
 
 _CHECK = """Checks verdict lines, whoever wrote them, and writes an answer to each line, the bytes of bb check:
 ok, its claim holds; bad, it doesn't; over, it names more than the limits have, or its run needs more cells;
@@ -63,13 +62,10 @@ def do_check(asked: argparse.Namespace) -> int:
 def add_check(commands: "argparse._SubParsersAction[argparse.ArgumentParser]") -> None:
     """Adds the command to a reader of command lines."""
     columns = [("answer", "ok, bad, over, open or unread")]
-    check = add_command(commands, "check", "check verdict lines", _CHECK, columns)
-    check.set_defaults(do=do_check)
+    check = add_command(commands, "check", do_check, "check verdict lines", _CHECK, columns)
     add_file(check)
     add_greatest_limits(check)
-    check.add_argument(
-        "--threads", type=option_number, default=1, metavar="N", help="cores used (default: 1)"
-    )
+    add_number(check, "--threads", "cores used", 1)
 
 
 _PUBLISH = """Writes one archive of a decided list, which whoever gets it can check again: the list, the
@@ -131,9 +127,8 @@ def add_publish(commands: "argparse._SubParsersAction[argparse.ArgumentParser]")
         ("name", "of the archive; `sha256sum --check` reads such a line"),
     ]
     parser = add_command(
-        commands, "publish", "an archive that others can check", _PUBLISH, columns, "two spaces"
+        commands, "publish", do_publish, "an archive that others can check", _PUBLISH, columns, "two spaces"
     )
-    parser.set_defaults(do=do_publish)
     parser.add_argument("out", metavar="OUT.tar", help="the archive; one that is there stays as it is")
     parser.add_argument(
         "--verdicts", required=True, metavar="FILE", help="verdict lines, or the folder of `budlarem run`"
@@ -149,11 +144,5 @@ def add_publish(commands: "argparse._SubParsersAction[argparse.ArgumentParser]")
         help="limits that the verdicts were decided with, for the readers; a run's folder has them itself",
     )
     highest = Limits.RANGES["steps"][1]
-    parser.add_argument(
-        "--steps",
-        type=option_number,
-        default=highest,
-        metavar="N",
-        help="the most that a claim may name (default: {:,})".format(highest),
-    )
-    parser.add_argument("--threads", type=option_number, metavar="N", help="cores used (default: all)")
+    add_number(parser, "--steps", "the most that a claim may name", highest)
+    add_number(parser, "--threads", "cores used (default: all)")

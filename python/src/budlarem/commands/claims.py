@@ -19,8 +19,17 @@ from ..reading import Passed
 from ..reports import report
 from ..runner.progress import TerminalLine, count_of
 from ..verdicts import Verdict
-from .shared import ListReader, add_claims_form, add_command, add_file, add_limits, columns_of, form_of
-from .shared import limits_of
+from .shared import (
+    ListReader,
+    add_claims_form,
+    add_command,
+    add_file,
+    add_limits,
+    add_number,
+    columns_of,
+    form_of,
+    limits_of,
+)
 
 _CLAIMS = """A list has one of the forms of `budlarem help read`: verdict lines; a table of which a column
 has verdicts, or words for halting with columns of steps and scores, by a translation that is printed first;
@@ -133,21 +142,19 @@ def add_claims(commands: "argparse._SubParsersAction[argparse.ArgumentParser]") 
         ("agreement", "first-decides, second-decides, contradict, only-first or only-second"),
         ("verdicts", "of A and of B, with ` | ` between them; - where there is none"),
     ]
-    both = add_command(commands, "compare", "compare two files of verdict lines", _COMPARE, columns)
-    both.set_defaults(do=do_compare)
+    both = add_command(
+        commands, "compare", do_compare, "compare two files of verdict lines", _COMPARE, columns
+    )
     both.add_argument("first", metavar="A")
     both.add_argument("second", metavar="B")
     add_claims_form(both)
     both.add_argument("--undefined-steps", action="store_true", help="one of them counts --- as a step")
-    page = add_command(commands, "report", "one HTML file on verdict lines", _REPORT)
-    page.set_defaults(do=do_report)
+    page = add_command(commands, "report", do_report, "one HTML file on verdict lines", _REPORT)
     add_file(page)
     add_claims_form(page)
     page.add_argument("--out", required=True, metavar="PAGE.html")
-    page.add_argument(
-        "--diagrams", type=option_number, default=100, metavar="N", help="at most (default: 100)"
-    )
-    page.add_argument("--threads", type=option_number, metavar="N", help="cores used (default: all)")
+    add_number(page, "--diagrams", "at most", 100)
+    add_number(page, "--threads", "cores used (default: all)")
     page.add_argument("--title", help="default: the file's name")
     add_limits(page, ["steps", "cells"])
 
@@ -246,8 +253,9 @@ def add_judge(commands: "argparse._SubParsersAction[argparse.ArgumentParser]") -
         ("ours", "our verdict line; the line itself where it is unreadable"),
         ("reason", "what was confirmed or contradicted, and by what"),
     ]
-    judging = add_command(commands, "judge", "what others claim, beside our verdicts", _JUDGE, columns)
-    judging.set_defaults(do=do_judge)
+    judging = add_command(
+        commands, "judge", do_judge, "what others claim, beside our verdicts", _JUDGE, columns
+    )
     judging.add_argument("theirs", metavar="THEIRS", help="a list; - is standard input")
     judging.add_argument("--list", metavar="LIST", help="the machines that THEIRS should be of")
     add_claims_form(judging)
@@ -260,6 +268,4 @@ def add_judge(commands: "argparse._SubParsersAction[argparse.ArgumentParser]") -
         metavar="N",
         help="the most steps that a claim may name (default: {:,})".format(highest),
     )
-    judging.add_argument(
-        "--threads", type=option_number, default=1, metavar="N", help="cores used (default: 1)"
-    )
+    add_number(judging, "--threads", "cores used", 1)

@@ -11,8 +11,18 @@ from ..lists import carried
 from ..normal_forms import distinct
 from ..numbers import option_number
 from ..pictures import picture
-from .shared import LIST_HELP, ListReader, add_command, add_file, add_form, add_limits, columns_of, form_of
-from .shared import limits_of
+from .shared import (
+    LIST_HELP,
+    ListReader,
+    add_command,
+    add_file,
+    add_form,
+    add_limits,
+    add_number,
+    columns_of,
+    form_of,
+    limits_of,
+)
 
 _READ = (
     """Writes the machine of each line of a list, as bb reads it.
@@ -72,22 +82,22 @@ def do_normal(asked: argparse.Namespace) -> int:
 def add_machines(commands: "argparse._SubParsersAction[argparse.ArgumentParser]") -> None:
     """Adds these commands to a reader of command lines."""
     columns = [("machine", "as bb reads it")]
-    reading = add_command(commands, "read", "machines out of a list as people have them", _READ, columns)
-    reading.set_defaults(do=do_read)
+    reading = add_command(
+        commands, "read", do_read, "machines out of a list as people have them", _READ, columns
+    )
     add_file(reading)
     add_form(reading)
     columns = [("verdict", "the line of bb decide"), ("fields", "what stood before the machine")]
     columns += [("fields", "what stood behind it; a field is left out where nothing stood there")]
-    decide = add_command(commands, "decide", "decide machines, other fields carried along", _DECIDE, columns)
-    decide.set_defaults(do=do_decide)
+    decide = add_command(
+        commands, "decide", do_decide, "decide machines, other fields carried along", _DECIDE, columns
+    )
     add_file(decide)
     add_form(decide)
     add_limits(decide, Limits.RANGES)
     for name in ("cyclers", "translated", "backward"):
         decide.add_argument("--no-" + name, action="store_true", help="leave this decider out")
-    decide.add_argument(
-        "--threads", type=option_number, default=1, metavar="N", help="cores used (default: 1)"
-    )
+    add_number(decide, "--threads", "cores used", 1)
     _add_forms(commands)
 
 
@@ -95,14 +105,11 @@ def _add_forms(commands: "argparse._SubParsersAction[argparse.ArgumentParser]") 
     columns = [("normal form", "of the machine"), ("machine", "as it was read")]
     columns += [("states", "for each state of the normal form, which state of the machine it is")]
     columns += [("L or R", "L where left and right were exchanged")]
-    normal = add_command(commands, "normal", "machines in normal form", _NORMAL, columns)
-    normal.set_defaults(do=do_normal)
+    normal = add_command(commands, "normal", do_normal, "machines in normal form", _NORMAL, columns)
     add_file(normal)
     add_form(normal)
     normal.add_argument("--distinct", action="store_true", help="only the first machine of each normal form")
-    normal.add_argument(
-        "--steps", type=option_number, default=10_000, metavar="N", help="of the run (default: 10,000)"
-    )
+    add_number(normal, "--steps", "of the run", 10_000)
     add_limits(normal, ["cells"])
 
 
@@ -144,27 +151,17 @@ def add_runs(commands: "argparse._SubParsersAction[argparse.ArgumentParser]") ->
     """Adds these commands to a reader of command lines."""
     columns = [("step", "from 0 on"), ("state", "A to Y, or Z once it halted there")]
     columns += [("position", "of the head, 0 at the start"), ("cells", "visited so far, a digit each")]
-    steps = add_command(commands, "trace", "the steps of a run", _TRACE, columns, "a space")
-    steps.set_defaults(do=do_trace)
+    steps = add_command(commands, "trace", do_trace, "the steps of a run", _TRACE, columns, "a space")
     steps.add_argument("machine", metavar="MACHINE")
     steps.add_argument("--upto", type=option_number, required=True, metavar="N", help="steps of the run")
     add_limits(steps, ["cells"])
-    image = add_command(commands, "picture", "a space-time picture of a run", _PICTURE)
-    image.set_defaults(do=do_picture)
+    image = add_command(commands, "picture", do_picture, "a space-time picture of a run", _PICTURE)
     image.add_argument("machine", metavar="MACHINE")
     image.add_argument("--upto", type=option_number, required=True, metavar="N", help="steps of the run")
     image.add_argument("--out", required=True, metavar="PICTURE.png")
-    image.add_argument("--every", type=option_number, metavar="N", help="show each Nth step")
-    image.add_argument(
-        "--left", type=option_number, metavar="P", help="the first position (default: the lowest)"
-    )
-    image.add_argument(
-        "--right", type=option_number, metavar="P", help="the last position (default: the highest)"
-    )
-    image.add_argument(
-        "--columns", type=option_number, metavar="N", help="cut to N positions about the middle"
-    )
-    image.add_argument(
-        "--scale", type=option_number, default=1, metavar="N", help="pixels of a place (default: 1)"
-    )
+    add_number(image, "--every", "show each Nth step")
+    add_number(image, "--left", "the first position (default: the lowest)", metavar="P")
+    add_number(image, "--right", "the last position (default: the highest)", metavar="P")
+    add_number(image, "--columns", "cut to N positions about the middle")
+    add_number(image, "--scale", "pixels of a place", 1)
     add_limits(image, ["cells"])

@@ -5,7 +5,7 @@ from __future__ import annotations
 import argparse
 import sys
 import textwrap
-from typing import BinaryIO, Iterable, Iterator, Mapping, Optional, Sequence, Tuple, Union
+from typing import BinaryIO, Callable, Iterable, Iterator, Mapping, Optional, Sequence, Tuple, Union
 
 from .._text import counted, escape_controls
 from ..limits import Limits
@@ -174,20 +174,23 @@ def limits_of(asked: argparse.Namespace) -> Limits:
     return Limits(asked.steps, asked.cells, asked.depth, asked.nodes)
 
 
+def add_number(
+    parser: argparse.ArgumentParser, name: str, help: str, default: Optional[int] = None, metavar: str = "N"
+) -> None:
+    """An option of a whole number, and its default, where that is a number."""
+    help += "" if default is None else " (default: {:,})".format(default)
+    parser.add_argument(name, type=option_number, default=default, metavar=metavar, help=help)
+
+
 def add_limits(parser: argparse.ArgumentParser, names: Iterable[str]) -> None:
-    defaults = Limits()
     for name in names:
-        lowest, highest = Limits.RANGES[name]
-        default = getattr(defaults, name)
-        help = "{:,} to {:,} (default: {:,})".format(lowest, highest, default)
-        parser.add_argument("--" + name, type=option_number, default=default, metavar="N", help=help)
+        add_number(parser, "--" + name, "{:,} to {:,}".format(*Limits.RANGES[name]), getattr(Limits(), name))
 
 
 def add_greatest_limits(parser: argparse.ArgumentParser) -> None:
     """Options of limits that are the greatest where they aren't given."""
-    for name, (lowest, highest) in Limits.RANGES.items():
-        help = "{:,} to {:,} (default: the greatest)".format(lowest, highest)
-        parser.add_argument("--" + name, type=option_number, metavar="N", help=help)
+    for name, bounds in Limits.RANGES.items():
+        add_number(parser, "--" + name, "{:,} to {:,} (default: the greatest)".format(*bounds))
 
 
 def greatest_limits(asked: argparse.Namespace) -> Limits:
@@ -207,19 +210,18 @@ def add_file(parser: argparse.ArgumentParser) -> None:
 def add_command(
     commands: "argparse._SubParsersAction[argparse.ArgumentParser]",
     name: str,
+    do: Callable[[argparse.Namespace], int],
     help: str,
     what: str,
     columns: Iterable[Tuple[str, str]] = (),
     between: str = "a tab",
 ) -> argparse.ArgumentParser:
-    """Adds a command: a line of help, what it does, the columns of what it writes, and what is between
-    them."""
-    return commands.add_parser(
-        name,
-        help=help,
-        description=described(what, list(columns), between),
-        formatter_class=argparse.RawDescriptionHelpFormatter,
-    )
+    """Adds a command: what is called for it, a line of help, what it does, the columns of what it writes, and
+    what is between them."""
+    shape, text = argparse.RawDescriptionHelpFormatter, described(what, list(columns), between)
+    parser = commands.add_parser(name, help=help, description=text, formatter_class=shape)
+    parser.set_defaults(do=do)
+    return parser
 
 
 def described(what: str, columns: Sequence[Tuple[str, str]], between: str) -> str:
