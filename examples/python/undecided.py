@@ -24,7 +24,7 @@ def machines() -> Iterator[str]:
 
 
 def main() -> None:
-    counts = collections.Counter()
+    counts: "collections.Counter[str]" = collections.Counter()
     for verdict in budlarem.decide(machines(), LIMITS):
         counts[verdict.kind] += 1
         if isinstance(verdict, budlarem.Undecided):

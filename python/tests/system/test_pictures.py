@@ -7,7 +7,7 @@ import pytest
 import re
 from support import TOP
 from support.machines import CHAMPION, CHAMPION_OF_FOUR
-from support.program import kind_of, replies
+from support.program import ended, kind_of, replies
 from typing import Any, List, Tuple
 
 import budlarem
@@ -48,7 +48,10 @@ def test_sampled_steps() -> None:
 def test_chosen_positions() -> None:
     picture = budlarem.picture(GOES_RIGHT, 100, columns=11)
     rows = rows_of(picture)
-    assert (picture.left, picture.right) == (45, 55), "a wide picture is cut about its middle"
+    assert (picture.left, picture.right) == (
+        45,
+        55,
+    ), "a wide picture is cut about its middle"
     assert rows[50] == [BLACK] * 5 + [RED] + [GREY] * 5
     rows = rows_of(budlarem.picture(GOES_RIGHT, 3, left=-1, right=1))
     assert [row[0] for row in rows] == [GREY] * 4, "positions that aren't visited are grey"
@@ -84,12 +87,12 @@ def test_sizes_that_are_too_large() -> None:
 
 
 def test_first_command_of_readme(bb: str) -> None:
-    """The command below README's first picture, by which its machine halts; it needs all its steps."""
+    """README's first command writes the lines below it, of which the champion's needs all its steps."""
     text = (TOP / "README.md").read_text(encoding="utf-8")
-    ((machine, limit, verdict),) = re.findall(
-        r"!\[.*\n\n    \$ echo (\S+) \| (?:\./)?bb decide --steps (\d+)\n    (.*)\n", text
-    )
-    assert machine == CHAMPION
-    assert replies([bb, "decide", "--steps", limit], [machine]) == [verdict]
-    (line,) = replies([bb, "decide", "--steps", str(int(verdict.split()[2]) - 1)], [machine])
+    block = re.search(r"    \$ \./bb (decide .*)\n((?:    .*\n)+)", text)
+    assert block is not None
+    words, shown = block[1].split(), [line.strip() for line in block[2].splitlines()]
+    assert ended([bb, *words], cwd=str(TOP)).output.decode().splitlines() == shown
+    (verdict,) = [line for line in shown if line.startswith(CHAMPION)]
+    (line,) = replies([bb, "decide", "--steps", str(int(verdict.split()[2]) - 1)], [CHAMPION])
     assert kind_of(line) == "undecided"
