@@ -55,8 +55,12 @@ export class Run {
     const end = row === null ? this.end(engine, upto) : { step: upto, halts: row.state === "Z" };
     const found = row ?? /** @type {Row} */ (this.rowAt(engine, end.step));
     const last = { upto, ...end, low: found.low, wide: found.wide };
-    this.lasts.push(last);
+    this.know(last);
     return last;
+  }
+
+  know(/** @type {Last} */ last) {
+    this.lasts.some(({ upto }) => upto === last.upto) || this.lasts.push(last);
   }
 
   /** @returns {Row | null} the row of a step; null where the run ends before */

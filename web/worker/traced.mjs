@@ -81,6 +81,7 @@ export function growthOf(engine, asked) {
 export function pictured(engine, asked) {
   const { machine, cells, upto, width, height, fit, palette } = asked;
   const run = runOf(asked);
+  fit.end && run.know({ ...fit.end, upto: fit.end.step, halts: true });
   const whole = run.last(engine, Math.min(upto, fit.last));
   const { home, opening } = fitted(width, height, { last: whole.step, ...spanOf(whole) }, fit.pair);
   const view = asked.view ?? (fit.opens ? opening : home);
