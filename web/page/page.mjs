@@ -16,14 +16,7 @@ const source = new Source();
 /** @type {Work} */
 const work = new Work(() => lines.show());
 /** @type {Lines} */
-const lines = new Lines(
-  new View(),
-  () => {
-    const { results, run, isUnderWay } = work;
-    return { results, form: run.mode === "decide" ? run.form : null, isUnderWay };
-  },
-  () => work.refreshed(),
-);
+const lines = new Lines(new View(), work);
 
 // How often a list was given.
 let begun = 0;
@@ -161,7 +154,7 @@ function pressed(/** @type {KeyboardEvent} */ event) {
 
 /** Copies what the program would write. */
 async function copyAll() {
-  const blob = work.results.blob();
+  const blob = await work.results.blobOf();
   if (blob.size > MOST_COPIED) {
     tell("Too long to be copied; save it.");
   } else {
@@ -180,7 +173,7 @@ function listen() {
     list: selectExample,
     stop: () => work.stop(),
     left: () => work.decideAgain(),
-    save: () => save(work.results.blob(), name()),
+    save: async () => save(await work.results.blobOf(), name()),
     "save-shown": async () => save(await work.results.blobOf(lines.kindsShown), name()),
     copy: copyAll,
   });

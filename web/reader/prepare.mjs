@@ -99,9 +99,8 @@ export function joined(/** @type {Uint8Array[]} */ arrays) {
 
 /**
  * The machine of a line, or a line that the engine refuses where it has none; null where it is passed over.
- * @param {Uint8Array} line @param {string} text @param {Form} form
  */
-function machineIn(line, text, form) {
+function machineIn(/** @type {Uint8Array} */ line, /** @type {string} */ text, /** @type {Form} */ form) {
   const isWhole = isMachine(text);
   if (isWhole && form !== "verdicts" && text.length === line.length && text[0] !== "-") {
     return line;

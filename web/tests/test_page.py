@@ -181,7 +181,7 @@ def test_four_states(tab: Page, four_states: List[str]) -> None:
     sorting = tab.js("return window.longest") / 1_000
     print("%d lines in %.1f s; it stood still for %.3f s" % (len(four_states), taken, longest))
     print("the next undecided line after %.3f s; still for %.3f s while it sorted" % (beside, sorting))
-    assert max(longest, beside, sorting) < taken / 5
+    assert max(longest, beside, sorting) < taken / 2
 
 
 def test_browser_without_vectors(page: pathlib.Path, tmp_path: pathlib.Path) -> None:

@@ -9,8 +9,9 @@
  * @typedef {Asked & {space: number}} Ahead with how many bytes they have at most
  * @typedef {{asked: Asked, sample: Sample, cut: boolean}} Kept rows, and whether the cells cut the trace;
  *   `upto` has no end where the run ended
- * @typedef {{upto: number, step: number, state: string, low: number, wide: number, cut: boolean}} Last the
- *   last row up to a step, and whether the cells cut the run there
+ * @typedef {{state: string, low: number, wide: number}} Row
+ * @typedef {{upto: number, step: number, halts: boolean, low: number, wide: number}} Last the last row up to a
+ *   step, and whether the run halts there
  * @typedef {{closer: number, farther: number, beyond: number, most: number}} Next views that may come: how
  *   many steps apart the rows of a closer and of a farther one are, how many steps above and below this view
  *   the farther one may have, and the last step of any
@@ -28,8 +29,10 @@ const MOST_AHEAD = 24_000_000;
 const MOST_KEPT = 40_000_000;
 // Below so many steps of a row all steps are taken for closer views, if that isn't too much.
 const ALL_STEPS = 32;
-// A run's last step is looked for among so many rows, then among as many behind the last of these.
-const PARTS = 64;
+// The bytes of rows are estimated in so many stretches.
+const STRETCHES = 64;
+// What is decided by steps alone.
+const SIMULATION = { depth: 0, nodes: 0, cyclers: false, translated: false, backward: false };
 
 export class Run {
   constructor(/** @type {string} */ machine, /** @type {number} */ cells) {
@@ -45,32 +48,45 @@ export class Run {
   /** The last row up to a step: that of the step, or the one at which the run or its cells end. */
   last(/** @type {Engine} */ engine, /** @type {number} */ upto) {
     const known = this.lasts.find((one) => one.upto === upto);
-    const found = known ?? this.lastAt(engine, upto) ?? this.lastBefore(engine, upto);
-    known ?? this.lasts.push(found);
-    return found;
+    if (known !== undefined) {
+      return known;
+    }
+    const row = this.rowAt(engine, upto);
+    const end = row === null ? this.end(engine, upto) : { step: upto, halts: row.state === "Z" };
+    const found = row ?? /** @type {Row} */ (this.rowAt(engine, end.step));
+    const last = { upto, ...end, low: found.low, wide: found.wide };
+    this.know(last);
+    return last;
   }
 
-  /** The row of a step; null where the run ends before. */
-  lastAt(/** @type {Engine} */ engine, /** @type {number} */ upto) {
-    const { machine, cells } = this;
-    return lastOf(this.trace(engine, { machine, cells, from: upto, every: 1, upto }), upto);
+  know(/** @type {Last} */ last) {
+    this.lasts.some(({ upto }) => upto === last.upto) || this.lasts.push(last);
   }
 
-  /** The last row of a run that ends before a step, between ever closer ones. */
-  lastBefore(/** @type {Engine} */ engine, /** @type {number} */ upto) {
+  /** @returns {Row | null} the row of a step; null where the run ends before */
+  rowAt(/** @type {Engine} */ engine, /** @type {number} */ step) {
     const { machine, cells } = this;
-    const parts = Math.max(2, Math.min(PARTS, Math.floor(MOST_BYTES / this.widest(upto))));
-    let [from, every] = [0, upto];
-    /** @type {Last} */
-    let found;
-    do {
-      const end = Math.min(upto, from + every);
-      every = Math.ceil(every / parts);
-      const rows = this.trace(engine, { machine, cells, from, every, upto: end });
-      found = /** @type {Last} */ (lastOf(rows, upto));
-      from = found.step;
-    } while (every > 1);
-    return found;
+    const { sample } = this.trace(engine, { machine, cells, from: step, every: 1, upto: step });
+    const { states, lows, wide } = sample;
+    return states === "" ? null : { state: states, low: lows[0], wide: wide[0] };
+  }
+
+  /** The last step of a run that ends before another one: that of its halt, or the last within its cells. */
+  end(/** @type {Engine} */ engine, /** @type {number} */ upto) {
+    const { machine, cells } = this;
+    const verdictBy = (/** @type {number} */ steps) =>
+      engine.decide([machine], { ...SIMULATION, steps, cells })[0].split(" ").slice(1);
+    const [kind, step] = verdictBy(upto);
+    if (kind === "halt") {
+      return { step: Number(step), halts: true };
+    }
+    // It takes a step for each cell but one, and often not many more.
+    let [low, high] = [cells - 1, upto];
+    for (let apart = 1; high - low > 1; apart *= 2) {
+      const middle = low + Math.min(apart, Math.floor((high - low) / 2));
+      [low, high] = verdictBy(middle)[1] === "cells" ? [low, middle] : [middle, high];
+    }
+    return { step: low, halts: false };
   }
 
   /** How many cells a row up to a step has at most, by the rows that are known. */
@@ -85,7 +101,7 @@ export class Run {
   /** How many bytes a trace of these rows has at most. */
   bytesOf(/** @type {Asked} */ { from, every, upto }) {
     const count = Math.floor((upto - from) / every) + 1;
-    const together = Math.max(1, Math.ceil(count / PARTS));
+    const together = Math.max(1, Math.ceil(count / STRETCHES));
     let total = LINE_ROOM;
     for (let first = 0; first < count; first += together) {
       const end = Math.min(count, first + together);
@@ -155,13 +171,6 @@ export class Run {
       .map((one) => ({ ...one, space: this.bytesOf(one) }))
       .filter(({ space }) => space <= MOST_AHEAD);
   }
-}
-
-/** @returns {Last | null} the last of some rows; null where there is none. */
-function lastOf(/** @type {Kept} */ { sample, cut }, /** @type {number} */ upto) {
-  const { steps, states, lows, wide } = sample;
-  const k = steps.length - 1;
-  return k < 0 ? null : { upto, step: steps[k], state: states[k], low: lows[k], wide: wide[k], cut };
 }
 
 /** Whether rows that are kept are those that are asked for, and others. */

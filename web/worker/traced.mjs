@@ -58,8 +58,7 @@ export function keep(/** @type {Kept} */ kept) {
 export function growthOf(engine, asked) {
   const { upto } = asked;
   const run = runOf(asked);
-  const { step: reached, state, wide, cut } = run.last(engine, upto);
-  const halts = state === "Z" || (reached < upto && !cut);
+  const { step: reached, halts, wide } = run.last(engine, upto);
   const steps = halts ? upto : reached;
   const apart = Math.max(1, Math.floor(steps / 100));
   if (Math.floor(reached / apart) < 100) {
@@ -82,6 +81,7 @@ export function growthOf(engine, asked) {
 export function pictured(engine, asked) {
   const { machine, cells, upto, width, height, fit, palette } = asked;
   const run = runOf(asked);
+  fit.end && run.know({ ...fit.end, upto: fit.end.step, halts: true });
   const whole = run.last(engine, Math.min(upto, fit.last));
   const { home, opening } = fitted(width, height, { last: whole.step, ...spanOf(whole) }, fit.pair);
   const view = asked.view ?? (fit.opens ? opening : home);
@@ -94,8 +94,8 @@ export function pictured(engine, asked) {
   const k = sample.steps.length - 1;
   const isWhole = k < 0 || (end >= whole.step && whole.wide > sample.wide[k]);
   const span = spanOf(isWhole ? whole : { low: sample.lows[k], wide: sample.wide[k] });
-  const isCut = cut && (k < 0 || sample.steps[k] + every <= end);
-  const made = { sample, cut: isCut, every, columns, image, ...span };
+  const isEnd = k < 0 || sample.steps[k] + every <= end || whole.step < Math.min(end, fit.last);
+  const made = { sample, cut: cut && isEnd, every, columns, image, ...span };
   return { ...made, view, home, ahead: run.ahead(given, nextTo(view, home, height, upto)) };
 }
 

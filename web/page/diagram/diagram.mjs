@@ -2,11 +2,10 @@
  * The space-time diagram: a row is a step, a column a position.
  *
  * @typedef {import("./scale.mjs").View} View
- * @typedef {import("./scale.mjs").Pair} Pair
  * @typedef {import("./places.mjs").Place} Place
  * @typedef {import("./places.mjs").Point} Point
  * @typedef {import("./places.mjs").Scene} Scene
- * @typedef {{machine: string, cells: number, upto: number, last: number, pair: Pair | null}} Shown
+ * @typedef {{machine: string, cells: number, upto: number} & Omit<import("./scale.mjs").Fit, "opens">} Shown
  * @typedef {{view: View, home: View, sample: import("../../worker/sample.mjs").Sample, cut: boolean,
  *   every: number, columns: number, image: Uint8ClampedArray, low: number, high: number,
  *   ahead: import("../../worker/samples.mjs").Ahead[]}} Picture `ahead` are rows of views that may come next
@@ -118,13 +117,13 @@ export class Diagram {
     if (this.shown === null) {
       return;
     }
-    const { machine, cells, upto, last, pair } = this.shown;
+    const { machine, cells, upto, last, pair, end } = this.shown;
     const { width, height } = this.area;
     if (this.data === null) {
       part("diagram-text").textContent = "Drawing …";
     }
     this.canvas.dataset.state = "asked";
-    const fit = { last, pair, opens: this.opens };
+    const fit = { last, pair, opens: this.opens, end };
     const question = { what: "picture", machine, cells, upto, view: this.view, width, height, fit };
     this.asked += 1;
     const { asked } = this;

@@ -12,54 +12,21 @@ const MOST_NOTCHES = 3;
 const CLICK_PIXELS = 4;
 
 /**
- * Lets a diagram be moved and zoomed.
- * @param {import("./diagram.mjs").Diagram} diagram @param {(words: string, byKeys: boolean) => void} tell
- *   what is pointed at
- */
-export function listen(diagram, tell) {
-  const { canvas } = diagram;
-  canvas.addEventListener("keydown", (event) => pressed(diagram, event, tell));
-  canvas.addEventListener("wheel", (event) => wheeled(diagram, event), { passive: false });
-  canvas.addEventListener("dblclick", (event) => {
-    diagram.zoom(event.shiftKey ? 1 / DOUBLE : DOUBLE, { x: event.offsetX, y: event.offsetY });
-  });
-  canvas.addEventListener("pointerleave", () => tell("", false));
-  canvas.addEventListener("blur", () => {
-    diagram.place = null;
-    diagram.drawSoon();
-  });
-  canvas.addEventListener("taken", () => {
-    // What keys point at wasn't in the picture before.
-    if (diagram.place !== null && part("place-text").textContent === "") {
-      diagram.place = beside(diagram.data, diagram.place);
-      tell(pointed(diagram), true);
-    }
-  });
-  new Fingers(diagram, tell);
-}
-
-/** What keys point at, in words; nothing where the picture has no row of that very step. */
-function pointed(/** @type {import("./diagram.mjs").Diagram} */ diagram) {
-  const { place, data } = diagram;
-  const isShown = place !== null && beside(data, place).step === place.step;
-  return isShown ? placeWords(diagram.data, place) : "";
-}
-
-/**
- * What fingers, or the mouse, do on a diagram.
+ * What is done on a diagram.
  *
  * @typedef {import("./places.mjs").Point} Point
  * @typedef {{view: import("./scale.mjs").View, middle: Point, apart: number}} Begin the view when the fingers
  *   that are there began to move it, the middle between them in the canvas, and how far they were apart
  */
-class Fingers {
+export class Gestures {
   /**
-   * @param {import("./diagram.mjs").Diagram} diagram @param {(words: string, byKeys: boolean) => void} tell
+   * @param {import("./diagram.mjs").Diagram} diagram
+   * @param {(words: string, byKeys: boolean) => void} tell what is pointed at
    */
   constructor(diagram, tell) {
     this.diagram = diagram;
     this.tell = tell;
-    /** @type {Map<number, Point>} where each finger is in the window */
+    /** @type {Map<number, Point>} where each finger is in the window; the mouse is one */
     this.fingers = new Map();
     this.moved = 0;
     /** @type {Begin | null} */
@@ -67,10 +34,68 @@ class Fingers {
     // One finger scrolls the page until the picture has been tapped.
     this.moves = false;
     const { canvas } = diagram;
+    canvas.addEventListener("keydown", (event) => this.pressed(event));
+    canvas.addEventListener("wheel", (event) => this.wheeled(event), { passive: false });
+    canvas.addEventListener("dblclick", (event) => {
+      diagram.zoom(event.shiftKey ? 1 / DOUBLE : DOUBLE, { x: event.offsetX, y: event.offsetY });
+    });
+    canvas.addEventListener("blur", () => {
+      diagram.place = null;
+      diagram.drawSoon();
+    });
+    canvas.addEventListener("taken", () => this.taken());
     canvas.addEventListener("pointerdown", (event) => this.down(event));
     canvas.addEventListener("pointermove", (event) => this.move(event));
     canvas.addEventListener("pointerup", (event) => this.up(event));
     canvas.addEventListener("pointercancel", (event) => this.lost(event));
+    canvas.addEventListener("pointerleave", () => tell("", false));
+  }
+
+  /** Tells what keys point at, where the picture has a row of that very step. */
+  tellPlace() {
+    const { place, data } = this.diagram;
+    const isShown = place !== null && beside(data, place).step === place.step;
+    this.tell(isShown ? placeWords(data, place) : "", true);
+  }
+
+  /** A picture has come: what keys point at may not have been in the one before. */
+  taken() {
+    const { diagram } = this;
+    if (diagram.place !== null && part("place-text").textContent === "") {
+      diagram.place = beside(diagram.data, diagram.place);
+      this.tellPlace();
+    }
+  }
+
+  pressed(/** @type {KeyboardEvent} */ event) {
+    const { diagram } = this;
+    const point = (/** @type {number} */ right, /** @type {number} */ down) => () => {
+      diagram.point(right, down, event.shiftKey);
+      this.tellPlace();
+    };
+    const choose = () => diagram.place && diagram.choose(diagram.place);
+    pressKey(event, {
+      ArrowLeft: point(-1, 0),
+      ArrowRight: point(1, 0),
+      ArrowUp: point(0, -1),
+      ArrowDown: point(0, 1),
+      "+": () => diagram.zoom(ZOOM),
+      "=": () => diagram.zoom(ZOOM),
+      "-": () => diagram.zoom(1 / ZOOM),
+      0: () => diagram.fit(),
+      Enter: choose,
+      " ": choose,
+    });
+  }
+
+  wheeled(/** @type {WheelEvent} */ event) {
+    const { diagram } = this;
+    if (document.activeElement === diagram.canvas || event.ctrlKey) {
+      event.preventDefault();
+      const pixels = event.deltaY * (event.deltaMode === WheelEvent.DOM_DELTA_LINE ? LINE_PIXELS : 1);
+      const notches = Math.max(-MOST_NOTCHES, Math.min(MOST_NOTCHES, -pixels / NOTCH_PIXELS));
+      diagram.zoom(2 ** notches, { x: event.offsetX, y: event.offsetY });
+    }
   }
 
   down(/** @type {PointerEvent} */ event) {
@@ -131,63 +156,27 @@ class Fingers {
   /** Moves and zooms the picture: what was between the fingers stays there. */
   follow() {
     const { diagram, begin } = this;
-    if (begin === null) {
-      return;
+    if (begin !== null) {
+      const { middle, apart } = this.span();
+      const factor = begin.apart > 0 && apart > 0 ? (apart / begin.apart) ** 2 : 1;
+      diagram.stretch(begin.view, factor, begin.middle, middle);
     }
-    const { middle, apart } = this.span();
-    const factor = begin.apart > 0 && apart > 0 ? (apart / begin.apart) ** 2 : 1;
-    diagram.stretch(begin.view, factor, begin.middle, middle);
   }
 
-  /** Tells what is under the mouse. */
+  /** Tells what is under the mouse or a finger, and gives the place. */
   point(/** @type {PointerEvent} */ event) {
     const place = this.diagram.placeAt(event.offsetX, event.offsetY);
     this.tell(place === null ? "" : placeWords(this.diagram.data, place), false);
+    return place;
   }
 
   up(/** @type {PointerEvent} */ event) {
     const { diagram, fingers } = this;
     if (fingers.has(event.pointerId) && fingers.size === 1 && this.moved < CLICK_PIXELS) {
-      const place = diagram.placeAt(event.offsetX, event.offsetY);
-      if (place !== null) {
-        this.tell(placeWords(diagram.data, place), false);
-        diagram.choose(place);
-      }
+      const place = this.point(event);
+      place && diagram.choose(place);
       diagram.canvas.focus({ preventScroll: true });
     }
     this.lost(event);
   }
-}
-
-function wheeled(/** @type {import("./diagram.mjs").Diagram} */ diagram, /** @type {WheelEvent} */ event) {
-  if (document.activeElement === diagram.canvas || event.ctrlKey) {
-    event.preventDefault();
-    const pixels = event.deltaY * (event.deltaMode === WheelEvent.DOM_DELTA_LINE ? LINE_PIXELS : 1);
-    const notches = Math.max(-MOST_NOTCHES, Math.min(MOST_NOTCHES, -pixels / NOTCH_PIXELS));
-    diagram.zoom(2 ** notches, { x: event.offsetX, y: event.offsetY });
-  }
-}
-
-/**
- * @param {import("./diagram.mjs").Diagram} diagram @param {KeyboardEvent} event
- * @param {(words: string, byKeys: boolean) => void} tell
- */
-function pressed(diagram, event, tell) {
-  const point = (/** @type {number} */ right, /** @type {number} */ down) => () => {
-    diagram.point(right, down, event.shiftKey);
-    tell(pointed(diagram), true);
-  };
-  const choose = () => diagram.place && diagram.choose(diagram.place);
-  pressKey(event, {
-    ArrowLeft: point(-1, 0),
-    ArrowRight: point(1, 0),
-    ArrowUp: point(0, -1),
-    ArrowDown: point(0, 1),
-    "+": () => diagram.zoom(ZOOM),
-    "=": () => diagram.zoom(ZOOM),
-    "-": () => diagram.zoom(1 / ZOOM),
-    0: () => diagram.fit(),
-    Enter: choose,
-    " ": choose,
-  });
 }

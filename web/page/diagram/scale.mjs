@@ -6,8 +6,10 @@
  *   pixels high, a column is `across` cells and `wide` pixels wide; where one is above 1 the other is 1
  * @typedef {{first: number, second: number, low: number | null, high: number | null}} Pair two steps that are
  *   marked, and the positions between which they are, null for all
- * @typedef {{last: number, pair: Pair | null, opens: boolean}} Fit the last step of the whole, what is marked
- *   on it, and whether the view opens, so that what is marked has to be seen
+ * @typedef {{step: number, low: number, wide: number}} End the last row of a run: the positions visited
+ * @typedef {{last: number, pair: Pair | null, opens: boolean, end: End | null}} Fit the last step of the
+ *   whole, what is marked on it, whether the view opens, so that what is marked has to be seen, and the last
+ *   row of a run that halts, where it is known
  * @typedef {{last: number, low: number, high: number}} Whole
  */
 

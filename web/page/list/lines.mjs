@@ -7,27 +7,21 @@ import { Rows } from "./rows.mjs";
 // How the time is called, in the browser's list, at which the page showed its first verdict.
 const FIRST_VERDICT = "first verdict";
 
-/**
- * @typedef {import("./results.mjs").Results} Results
- * @typedef {import("../../reader/prepare.mjs").Form} Form
- * @typedef {{results: Results, form: Form | null, isUnderWay: boolean}} Answered the answers to a list by now,
- *   by which form its lines were read, null where they weren't, and whether more come
- */
+/** @typedef {import("./results.mjs").Results} Results */
 
 export class Lines {
   /**
    * @param {import("../machine/view.mjs").View} view shows the line that is opened
-   * @param {() => Answered} answered what is known by now
-   * @param {() => void} changed what happens where a line was decided again
+   * @param {import("./work.mjs").Work} work has the answers that are known by now
    */
-  constructor(view, answered, changed) {
+  constructor(view, work) {
     this.view = view;
     view.replace = (by, plan) => {
       const isIn = this.replaceOpen(by, plan);
-      isIn && changed();
+      isIn && work.refreshed();
       return isIn;
     };
-    this.answered = answered;
+    this.work = work;
     this.rows = new Rows((row) => this.open(row, true));
     this.sorter = new Asker();
     this.kindsShown = new Set(KINDS.keys());
@@ -65,7 +59,7 @@ export class Lines {
   show() {
     this.showKinds();
     this.showRows();
-    const { results, isUnderWay } = this.answered();
+    const { results, isUnderWay } = this.work;
     this.refreshOpen(results);
     if (!this.isOpen && results.lines > 0 && (results.hasFirst ? !results.isWaiting(0) : !isUnderWay)) {
       this.rows.choose(0, false);
@@ -83,7 +77,7 @@ export class Lines {
    */
   replaceOpen(by, plan) {
     const { openLine } = this;
-    const { results } = this.answered();
+    const { results } = this.work;
     const row = openLine?.part.lines === null ? results.rowOf(openLine) : -1;
     if (row >= 0) {
       results.replace(Uint32Array.of(row), by, results.planNumber(plan));
@@ -102,7 +96,7 @@ export class Lines {
 
   /** The kinds with their counts; each is shown or not. Their buttons stay, so that a click finds them. */
   showKinds() {
-    const { counts } = this.answered().results;
+    const { counts } = this.work.results;
     this.kindButtons.forEach((button, k) => {
       button.textContent = `${KINDS[k]} ${shown(counts[k])}`;
       button.setAttribute("aria-pressed", String(this.kindsShown.has(k)));
@@ -125,7 +119,7 @@ export class Lines {
 
   /** Shows the rows of these kinds in the order that is asked for. */
   showRows() {
-    const { results, isUnderWay } = this.answered();
+    const { results, isUnderWay } = this.work;
     const order = this.order.value;
     const rows = results.rows(this.kindsShown);
     const isSorted = order !== "list" && !isUnderWay;
@@ -145,7 +139,7 @@ export class Lines {
    */
   async showSorted(results, rows, down) {
     const { turn } = this;
-    const isLast = () => turn === this.turn && results === this.answered().results;
+    const isLast = () => turn === this.turn && results === this.work.results;
     const steps = await results.stepsOf(rows, isLast);
     if (isLast()) {
       this.sorter.ask({ what: "sort", rows, steps, down }, ({ order }) => {
@@ -155,19 +149,20 @@ export class Lines {
   }
 
   open(/** @type {number} */ row, /** @type {boolean} */ moves) {
-    const { results, form } = this.answered();
+    const { results, run } = this.work;
     const { machine, verdict, answer, given, number, plan } = results.row(row);
     const isWaiting = results.isWaiting(row);
     this.isOpen = true;
     this.openLine = results.place(row);
     this.openText = isWaiting ? "" : verdict.text;
+    const form = run.mode === "decide" ? run.form : null;
     this.view.open({ machine, verdict, answer, plan, isWaiting }, moves, { text: given, number, form });
   }
 
   /** Opens the next or the previous row that is shown, of any kind or an undecided one. */
   openBeside(/** @type {number} */ by, /** @type {boolean} */ isUndecided) {
     const { rows } = this.rows;
-    const { results } = this.answered();
+    const { results } = this.work;
     let place = this.rows.placeBeside(by);
     const fits = () => !isUndecided || results.isUndecided(rows[place]);
     while (place >= 0 && place < rows.length && !fits()) {

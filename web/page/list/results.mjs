@@ -181,13 +181,16 @@ export class Results {
     return { ...read, answer, kind: KINDS[part.kinds[line]], number, given, pass, plan: this.plans[pass] };
   }
 
-  /** The lines of these kinds, as the program would write them; the page rests between parts. Lines that only
-   * the first pass has answered are left out. */
-  async blobOf(/** @type {Set<number>} */ kinds) {
+  /**
+   * The lines of these kinds, as the program would write them; the page rests between parts that aren't taken
+   * whole. Lines that only the first pass has answered are left out.
+   */
+  async blobOf(kinds = new Set(KINDS.keys())) {
     const parts = [];
     for (const part of this.parts()) {
-      parts.push(...linesOf(part, kinds));
-      await rest();
+      const isWhole = part.plans === undefined && kinds.size === KINDS.length;
+      parts.push(...(isWhole ? [part.bytes] : linesOf(part, kinds)));
+      isWhole || (await rest());
     }
     return new Blob(parts, { type: "text/plain" });
   }
@@ -241,13 +244,6 @@ export class Results {
     const steps = new Float64Array(rows.length);
     rows.forEach((row, k) => (steps[k] = all[row]));
     return steps;
-  }
-
-  /** All that the program would write, without lines that only the first pass has answered. */
-  blob() {
-    const all = new Set(KINDS.keys());
-    const bytes = (/** @type {Part} */ part) => (part.plans ? linesOf(part, all) : [part.bytes]);
-    return new Blob(this.parts().flatMap(bytes), { type: "text/plain" });
   }
 }
 

@@ -8,6 +8,7 @@ import { nodeText, treeOf } from "./tree.mjs";
  * @typedef {import("../../reader/machine.mjs").Verdict} Verdict
  * @typedef {import("../../worker/traced.mjs").Row} Row
  * @typedef {import("../diagram/paint.mjs").Mark} Mark
+ * @typedef {import("../diagram/scale.mjs").Fit} Fit
  * @typedef {(wide: number) => {first: [number, number], second: [number, number]}} Stretch
  */
 
@@ -63,9 +64,9 @@ const stretchOf = (/** @type {Row} */ { head }, /** @type {string} */ side, /** 
 
 /**
  * Finds what stands behind a verdict, shows it, and hands over what is to be marked on the diagram, with the
- * pair of steps and the positions between which that is.
+ * pair of steps and the positions between which that is, or the last row of a halt.
  * @param {{machine: string, cells: number, verdict: Verdict}} about
- * @param {(marks: Mark[], pair: import("../diagram/scale.mjs").Pair | null) => void} mark
+ * @param {(marks: Mark[], pair: Fit["pair"], end: Fit["end"]) => void} mark
  */
 export function showBehind(about, mark) {
   const box = part("behind");
@@ -74,7 +75,7 @@ export function showBehind(about, mark) {
   box.replaceChildren();
   if (kind === "backward" || kind === "undecided") {
     box.append(...(kind === "backward" ? treeParts(about) : []));
-    mark([], null);
+    mark([], null, null);
     return;
   }
   askRows(about, (rows) => {
@@ -83,7 +84,10 @@ export function showBehind(about, mark) {
     }
     const { bands, parts } = rowsBehind(about.verdict, rows);
     box.replaceChildren(...parts);
-    mark([{ bands, arrow: kind === "translated" }], kind === "halt" ? null : pairOf(about.verdict, bands));
+    const [row] = kind === "halt" ? rows : [];
+    const end = row === undefined ? null : { step: row.step, low: row.low, wide: row.cells.length };
+    const pair = kind === "halt" ? null : pairOf(about.verdict, bands);
+    mark([{ bands, arrow: kind === "translated" }], pair, end);
   });
 }
 

@@ -1,7 +1,7 @@
 /** The view of one machine: its verdict in words, diagram, tape and table, and what stands behind. */
 import { entryText, machineOf, sentence, stateLetter } from "../../reader/machine.mjs";
 import { Diagram } from "../diagram/diagram.mjs";
-import { listen } from "../diagram/gestures.mjs";
+import { Gestures } from "../diagram/gestures.mjs";
 import { ZOOM } from "../diagram/scale.mjs";
 import { copy, copyPicture, made, onClick, part, save, tellLive } from "../dom.mjs";
 import { linkOf } from "../input/fields.mjs";
@@ -45,7 +45,7 @@ export class View {
     this.about = null;
     this.timer = 0;
     this.closing = 0;
-    listen(this.diagram, (words, byKeys) => {
+    new Gestures(this.diagram, (words, byKeys) => {
       part("place-text").textContent = words;
       byKeys && tellLive(words);
     });
@@ -141,8 +141,8 @@ export class View {
     part("marked").hidden = verdict.kind !== "cycler" && verdict.kind !== "translated";
     const { last, upto } = stepsOf(verdict, steps);
     const about = { machine: text, cells };
-    showBehind({ ...about, verdict }, (marks, pair) => {
-      this.diagram.open({ ...about, last, upto, pair }, marks);
+    showBehind({ ...about, verdict }, (marks, pair, end) => {
+      this.diagram.open({ ...about, last, upto, pair, end }, marks);
       this.tape.open({ ...about, last: upto }, pair?.first ?? 0);
     });
     tellFacts({ ...about, steps, verdict, isConfirmed: answer === "ok" || verdict.kind === "undecided" });
