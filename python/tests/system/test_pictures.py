@@ -55,15 +55,23 @@ def test_chosen_positions() -> None:
     assert rows[2][1:] == [BLACK, BLACK]
 
 
-def test_scaled_down() -> None:
+@pytest.mark.parametrize("upto, rows, across", [(4_000, 10, 2), (5_000, 11, 3)])
+def test_scaled_down(upto: int, rows: int, across: int) -> None:
     """A picture of more than 2,000 positions is scaled down: a pixel has the mean colour of its cells."""
-    picture = budlarem.picture(GOES_RIGHT, 4_000, rows=10)
-    rows = rows_of(picture)
-    assert (len(rows[0]), len(rows)) == (1_793, 8)
-    assert (picture.across, picture.is_part) == (2, False)
-    # Step 1,024: the head is on position 1,024, which is 0; position 1,025 isn't visited yet.
-    mean = tuple(round((a + b) / 2) for a, b in zip(WHITE, GREY))
-    assert rows[2] == [BLACK] * 512 + [mean] + [GREY] * (1_793 - 513)
+    picture = budlarem.picture(GOES_RIGHT, upto, rows=rows)
+    assert (picture.across, picture.is_part, picture.left) == (across, False, 0)
+    pixels = rows_of(picture)
+    wide = -(-(picture.right + 1) // across)
+    assert {len(row) for row in pixels} == {wide}
+    # In step n cells 0 to n - 1 are 1, the head is on a 0, and nothing else is visited.
+    step = 2 * picture.every
+    cells = [BLACK] * step + [WHITE] + [GREY] * (across * wide - step - 1)
+    means = (zip(*cells[begin : begin + across]) for begin in range(0, len(cells), across))
+    assert pixels[2] == [tuple(round(sum(part) / across) for part in parts) for parts in means]
+    twice = rows_of(budlarem.picture(GOES_RIGHT, upto, rows=rows, scale=2))
+    assert (len(twice[0]), len(twice)) == (2 * wide, 2 * len(pixels))
+    cut = budlarem.picture(GOES_RIGHT, upto, rows=rows, columns=100)
+    assert (cut.across, cut.is_part, len(rows_of(cut)[0])) == (1, True, 100)
 
 
 @pytest.mark.parametrize("option", ["every", "rows", "columns", "scale"])
@@ -73,8 +81,12 @@ def test_sizes_below_one(option: str) -> None:
         budlarem.picture(GOES_RIGHT, 3, **asked)
 
 
-def test_sizes_that_are_too_large() -> None:
-    """They are refused by a line that says what would do."""
+def test_what_cannot_be_drawn() -> None:
+    """What is too large is refused by a line that says what would do."""
+    with pytest.raises(budlarem.PictureError, match="no position"):
+        budlarem.picture(GOES_RIGHT, 3, left=5, right=4)
+    with pytest.raises(budlarem.MachineError):
+        budlarem.picture("1RA", 3)
     with pytest.raises(budlarem.PictureError, match="160,000,000,000 pixels.*lower scale to 2500"):
         budlarem.picture(GOES_RIGHT, 3, scale=100_000)
     with pytest.raises(budlarem.PictureError, match="lower scale to 2500"):

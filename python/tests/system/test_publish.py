@@ -256,7 +256,7 @@ def require_names(place: Place) -> None:
 
 
 def test_run(bb: str, tmp_path: pathlib.Path) -> None:
-    """A run's folder says its limits; one that isn't at its end, or kept only some verdicts, is refused."""
+    """A run's folder says its limits."""
     place = Place(bb, tmp_path / "of_run", 400, 5)
     case = Case(tmp_path / "run", place.list.read_bytes())
     case.run()
@@ -268,16 +268,6 @@ def test_run(bb: str, tmp_path: pathlib.Path) -> None:
         about = json.load(file) if file else {}
     assert about["passes"] == case.words[1::2]
     assert about["decided_by"] == about["checked_by"]
-    os.unlink(place.out)
-    kept = Case(tmp_path / "kept", place.list.read_bytes())
-    kept.run(str(kept.list), "--keep", "left")
-    done = place.publish("--verdicts", str(kept.out))
-    assert (
-        done.returncode == 2 and "only the verdicts that --keep left kept" in done.stderr and not place.left()
-    ), done.stderr
-    os.unlink(case.out / "summary.json")
-    done = place.publish("--verdicts", str(case.out))
-    assert done.returncode == 2 and "isn't at its end" in done.stderr and not place.left(), done.stderr
 
 
 @pytest.mark.slow

@@ -110,7 +110,8 @@ def test_unit_tests_by_each_python(tmp_path: pathlib.Path) -> None:
 def test_types_and_layout() -> None:
     status, output = run(["/usr/bin/python3", "-m", "mypy", "python/src", "python/tests"], cwd=TOP)
     assert status == 0, output
-    assert run(["black", "--check", "--quiet", "src", "tests", "setup.py", "build_wheel.py"])[0] == 0
+    status, output = run(["black", "--check", "--quiet", "--config", "pyproject.toml", "python"], cwd=TOP)
+    assert status == 0, output
 
 
 def test_examples_of_docstrings() -> None:
