@@ -25,8 +25,6 @@ from .limits import Limits, in_range
 from .pictures import COLOURS, HEAD, UNVISITED, png, png_of_colours, spread
 from .verdicts import Verdict, size_of, verdicts_of
 
-__all__ = ["Report", "ReportError", "report"]
-
 # The plots, and the numbers that each has.
 _PLOTS = {
     "steps of halts, second steps of pairs": ("halt steps", "cycler second", "translated second"),

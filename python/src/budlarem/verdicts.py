@@ -10,20 +10,6 @@ from typing import Callable, ClassVar, Dict, Iterable, Iterator, List, Optional,
 from ._text import LONGEST_SHOWN, LONGEST_VALUE, Words
 from .limits import whole
 
-__all__ = [
-    "Answer",
-    "Backward",
-    "Cycler",
-    "Extent",
-    "Halt",
-    "Refused",
-    "Translated",
-    "Undecided",
-    "Verdict",
-    "is_machine",
-    "parse",
-]
-
 STATES = "ABCDEFGHIJKLMNOPQRSTUVWXY"
 MOST_SYMBOLS = 10
 # How many bytes the longest machine has.

@@ -6,14 +6,15 @@ import json
 import math
 import os
 import pathlib
-import pytest
 import runpy
 import signal
 import subprocess
 import time
+from typing import Any, Callable, Dict, Iterator, List, Tuple
+
+import pytest
 from support import TOP, restore_signals
 from support.program import as_lines, ended, options_of_pass
-from typing import Any, Callable, Dict, Iterator, List, Tuple
 
 SCRIPT = str(TOP / "tools" / "five_states")
 DOCUMENTS = TOP / "docs"

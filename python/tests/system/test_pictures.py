@@ -3,14 +3,14 @@
 from __future__ import annotations
 
 import io
-import pytest
 import re
-from support import TOP
-from support.machines import CHAMPION, CHAMPION_OF_FOUR
-from support.program import kind_of, replies
 from typing import Any, List, Tuple
 
 import budlarem
+import pytest
+from support import TOP
+from support.machines import CHAMPION, CHAMPION_OF_FOUR
+from support.program import kind_of, replies
 
 Image: Any = pytest.importorskip("PIL.Image", reason="Python has no PIL (Debian: python3-pil)")
 GOES_RIGHT = "1RA1RA"

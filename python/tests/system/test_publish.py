@@ -7,7 +7,6 @@ import hashlib
 import json
 import os
 import pathlib
-import pytest
 import random
 import resource
 import signal
@@ -15,11 +14,13 @@ import subprocess
 import sys
 import tarfile
 import time
+from typing import Any, Callable, Dict, List, Optional, Tuple
+
+import pytest
 from support import restore_signals
 from support.machines import mixed
 from support.program import as_lines, ended, options
 from support.runs import Case, is_at_work, seen
-from typing import Any, Callable, Dict, List, Optional, Tuple
 
 FIRST = (300, 64, 10, 100)
 PASS = "steps=300,cells=64,depth=10,nodes=100"

@@ -7,15 +7,16 @@ import importlib
 import json
 import os
 import pathlib
-import pytest
 import re
 import shutil
 import subprocess
 import sys
+from typing import Dict, List, Mapping, Optional, Tuple
+
+import pytest
 from support import TOP
 from support.program import ended
 from support.runs import expected, words_of
-from typing import Dict, List, Mapping, Optional, Tuple
 
 PACKAGE = TOP / "python"
 WHEEL = re.compile(

@@ -8,7 +8,6 @@ import importlib.util
 import itertools
 import os
 import pathlib
-import pytest
 import re
 import subprocess
 import sys
@@ -16,6 +15,7 @@ from typing import Any, List, Tuple
 from unittest import mock
 
 import budlarem
+import pytest
 from budlarem import Agreement, growth, lists, pictures, reports
 from budlarem.growth import Growth, grown
 

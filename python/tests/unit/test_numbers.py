@@ -6,13 +6,13 @@ import importlib.util
 import io
 import os
 import pathlib
-import pytest
 import resource
 import subprocess
 import sys
 from typing import List
 from unittest import mock
 
+import pytest
 from budlarem.commands import words
 from budlarem.limits import limits_of
 from budlarem.numbers import whole_number
