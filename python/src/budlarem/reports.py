@@ -304,8 +304,8 @@ def report(
     how their cells grow.
 
     An undecided machine is run again, up to `steps` steps and `cells` cells, on so many `threads` (as many as
-    there are cores where not said). The list is read once and not held. The file that is at `path` when this is
-    called is replaced whole; a link there isn't followed. A notebook shows what is given back.
+    there are cores where not said). The list is read once and not held. The file that is at `path` when this
+    is called is replaced whole; a link there isn't followed. A notebook shows what is given back.
 
     Raises ReportError where numpy or matplotlib is missing, before anything is read; ValueError with its
     place for a text that is no verdict line; OSError where the file can't be written, where `path` is a link

@@ -246,8 +246,8 @@ def parse(line: str) -> Verdict:
 
 
 def verdicts_of(items: Iterable[Union[str, Verdict]], name: str) -> Iterator[Verdict]:
-    """The verdicts of verdicts and lines, which may have fields behind a tab. Raises ValueError, TypeError, with
-    the place in the list, which is called so."""
+    """The verdicts of verdicts and lines, which may have fields behind a tab. Raises ValueError, TypeError,
+    with the place in the list, which is called so."""
     for place, item in enumerate(items):
         if not isinstance(item, VERDICTS):
             try:

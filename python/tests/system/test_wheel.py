@@ -58,8 +58,8 @@ def run(
     cwd: pathlib.Path = PACKAGE,
     given: Optional[str] = None,
 ) -> Tuple[int, str]:
-    """The status of a command and all that it writes, in an environment with these variables, in which nothing
-    else says where the package or the library is."""
+    """The status of a command and all that it writes, in an environment with these variables, in which
+    nothing else says where the package or the library is."""
     hidden = ("PYTHONPATH", "BB_LIBRARY", "PYTHONHOME", "VIRTUAL_ENV")
     bare = {name: value for name, value in os.environ.items() if name not in hidden}
     written, both = subprocess.PIPE, subprocess.STDOUT

@@ -86,7 +86,10 @@ def test_a_pass() -> None:
 
 
 # Writes a line that never ends, after some that do.
-ENDLESS = "import sys\nwrite = sys.stdout.buffer.write\nwrite(b'1RA1RA\\n' * 300)\nwhile True: write(b'1RA1RA,' * 9999)"
+ENDLESS = (
+    "import sys\nwrite = sys.stdout.buffer.write\nwrite(b'1RA1RA\\n' * 300)\n"
+    "while True: write(b'1RA1RA,' * 9999)"
+)
 
 
 def command(*given: str) -> "subprocess.CompletedProcess[str]":
