@@ -155,7 +155,7 @@ def test_wheel(bb: str, library: pathlib.Path, tmp_path: pathlib.Path) -> None:
         require_first_run(inside)
         require_metadata(inside)
         run_unit_tests(inside, folder / "pytest", "-o", "pythonpath=tests")
-        assert run([command, "decide"], cwd=folder, given="1RZ---, x\n")[1] == "1RZ--- halt 1 1\tx\n"
+        assert "1RZ--- halt 1 1\tx\n" in run([command, "decide"], cwd=folder, given="1RZ---, x\n")[1]
         require_runner(bb, command, folder)
         require_cut_library(command, folder)
 
@@ -199,4 +199,4 @@ def require_cut_library(command: str, folder: pathlib.Path) -> None:
         sentence = "has %d bytes, and that of this package has %d: it was cut" % (length, len(whole))
         assert status == 3 and sentence in output
     library.write_bytes(whole)
-    assert run([command, "decide"], cwd=folder, given="1RZ---\n")[1] == "1RZ--- halt 1 1\n"
+    assert "1RZ--- halt 1 1\n" in run([command, "decide"], cwd=folder, given="1RZ---\n")[1]
