@@ -4,13 +4,13 @@ from __future__ import annotations
 
 import os
 import pathlib
-import pytest
 import tempfile
-from support import TOP
-from support.runner import RunCase
 from typing import Iterator
 
 import budlarem
+import pytest
+from support import TOP
+from support.runner import RunCase
 
 # Files there need no disk, so that the tests take no time for it.
 MEMORY = "/dev/shm"

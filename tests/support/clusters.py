@@ -3,8 +3,8 @@
 from __future__ import annotations
 
 import contextlib
-import pathlib
 import os
+import pathlib
 import shutil
 import socket
 import subprocess

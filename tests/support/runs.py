@@ -155,7 +155,7 @@ def kill_often(case: Case, count: int, chance: random.Random, *words: str) -> in
     """Kills runs at random moments, each of which goes on after the one before; how many were killed before
     their end. After one that came to its end it begins anew."""
     kills, whole = 0, 0
-    while kills < count and whole < count:
+    while kills < count and whole < count + 5:
         if killed(case, chance.randint(0, 4), "--piece", str(chance.randint(50, 150)), *words):
             kills += 1
         else:

@@ -45,8 +45,8 @@ def _ending(command: str) -> Callable[[int, Optional[FrameType]], NoReturn]:
 
 
 def _heed_signals(command: str) -> None:
-    """Has signals end the process until the command heeds them itself. Those that are ignored stay so; without
-    a sentence of its own a command is ended by SIGTERM and SIGHUP as other programs are."""
+    """Has signals end the process until the command heeds them itself. Those that are ignored stay so;
+    without a sentence of its own a command is ended by SIGTERM and SIGHUP as other programs are."""
     for number in _NAMES if command in _ENDS else (_signal.SIGINT,):
         if _signal.getsignal(number) != _signal.SIG_IGN:
             _signal.signal(number, _ending(command))

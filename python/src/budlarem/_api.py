@@ -1,5 +1,6 @@
 """The calls and types of the package, which `budlarem` imports at their first use."""
 
+from ._archive import PublishError
 from ._library import LibraryError
 from .claims import Said, WORDS, Word
 from .engine import Configuration, MachineError, Trace, check, check_bytes, decide, decide_bytes, trace
@@ -9,7 +10,7 @@ from .limits import Limits, LimitsError, Plan
 from .lists import Agreement, Carried, Comparison, compare, decide_carried
 from .normal_forms import Normal, distinct, normal
 from .pictures import Picture, PictureError, picture
-from .publishing import PublishError, Published, UnconfirmedError, publish
+from .publishing import Published, UnconfirmedError, publish
 from .reading import Columns, EncodingError, EndlessLineError, Form, Passed, Reading, Readings, Reason
 from .reading import Rewriting, read
 from .reports import Report, ReportError, report

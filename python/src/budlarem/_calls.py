@@ -1,5 +1,5 @@
-"""Lists cut into batches of bounded bytes, and calls of the library over them in threads of their own, so that
-the thread of the caller hears an interruption."""
+"""Lists cut into batches of bounded bytes, and calls of the library over them in threads of their own, so
+that the thread of the caller hears an interruption."""
 
 from __future__ import annotations
 

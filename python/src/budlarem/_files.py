@@ -1,5 +1,5 @@
-"""Files that are written whole or not at all, through the handles of their directories, and checksums of what is
-written.
+"""Files that are written whole or not at all, through the handles of their directories, and checksums of what
+is written.
 
 A path may lead somewhere else from one moment to the next: a folder is moved, removed, or a link is pointed
 elsewhere. The handle stays with the directory that was opened.
@@ -65,8 +65,8 @@ def _errors_at(path: str) -> Iterator[None]:
 
 
 class Pin:
-    """A file that keeps its numbers while this is open: they are given to no other file. It takes over the open
-    file."""
+    """A file that keeps its numbers while this is open: they are given to no other file. It takes over the
+    open file."""
 
     def __init__(self, number: int) -> None:
         self._number = number

@@ -1,5 +1,5 @@
-"""Whether this process was forked from one with threads. It is imported before anything else, so that it knows
-of all forks."""
+"""Whether this process was forked from one with threads. It is imported before anything else, so that it
+knows of all forks."""
 
 from __future__ import annotations
 

@@ -35,8 +35,8 @@ _CALLS = {
 
 
 class LibraryError(OSError):
-    """The library `libbb.so` isn't there, was cut short, or can't be loaded. The text says where it was looked
-    for."""
+    """The library `libbb.so` isn't there, was cut short, or can't be loaded. The text says where it was
+    looked for."""
 
 
 def places() -> List[pathlib.Path]:
@@ -69,8 +69,8 @@ def loaded() -> ctypes.CDLL:
 
 
 def require_whole(path: pathlib.Path) -> None:
-    """Raises LibraryError where a library was cut short: a call into the missing part would end the process by
-    SIGBUS. That of a wheel has as many bytes as the wheel says, any other as many as its headers name."""
+    """Raises LibraryError where a library was cut short: a call into the missing part would end the process
+    by SIGBUS. That of a wheel has as many bytes as the wheel says, any other as many as its headers name."""
     try:
         with open(path, "rb") as file:
             size = os.fstat(file.fileno()).st_size

@@ -1,5 +1,5 @@
-"""The claim of a line of somebody's list on its machine: a verdict, or the word and numbers of a record; and the
-translation of a table's words."""
+"""The claim of a line of somebody's list on its machine: a verdict, or the word and numbers of a record; and
+the translation of a table's words."""
 
 from __future__ import annotations
 

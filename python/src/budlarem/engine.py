@@ -13,17 +13,6 @@ from ._text import LONGEST_GIVEN, LONGEST_SHOWN, LONGEST_VALUE
 from .limits import Limits, Plan, in_range, whole
 from .verdicts import VERDICTS, Answer, Refused, Verdict, hold_fields, verdict_of
 
-__all__ = [
-    "Configuration",
-    "MachineError",
-    "Trace",
-    "check",
-    "check_bytes",
-    "decide",
-    "decide_bytes",
-    "trace",
-]
-
 # How many bytes a block has at most that is checked with large tapes; and from how many cells on a call costs
 # the tapes, so that batches are no smaller where claims are checked.
 _LARGE, _LARGE_TAPES = 1 << 22, 1 << 20

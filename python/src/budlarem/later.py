@@ -9,8 +9,6 @@ from .engine import Configuration, check, trace
 from .limits import Limits, in_range, whole
 from .verdicts import VERDICTS, Answer, Cycler, Halt, Translated, Verdict
 
-__all__ = ["Place", "at"]
-
 # A verdict that says where its machine is, after how many steps whatever.
 _Placing = Union[Halt, Cycler, Translated]
 

@@ -10,8 +10,6 @@ from typing import Any, ClassVar, Dict, Tuple
 from ._text import LONGEST_VALUE
 from .numbers import whole_number
 
-__all__ = ["Limits", "LimitsError", "Plan"]
-
 
 class LimitsError(ValueError):
     """A limit is out of its range.

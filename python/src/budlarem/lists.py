@@ -15,8 +15,6 @@ from .reading.files import Source
 from .verdicts import Backward, Cycler, Halt, OfMachine, Refused, Translated, Undecided, Verdict, is_machine
 from .verdicts import verdicts_of
 
-__all__ = ["Agreement", "Carried", "Comparison", "Normal", "compare", "decide_carried", "distinct", "normal"]
-
 
 @dataclasses.dataclass(frozen=True)
 class Carried:

@@ -17,8 +17,6 @@ from typing import Dict, Iterable, Iterator, List, NamedTuple, Optional, Tuple
 from .engine import MachineError, trace
 from .verdicts import STATES, Translated, Verdict, is_machine
 
-__all__ = ["Form", "Normal", "distinct", "form_of", "normal", "turned"]
-
 _TURNED = {"L": "R", "R": "L"}
 
 

@@ -14,8 +14,6 @@ from ._files import naming
 from .engine import Configuration, trace
 from .limits import in_range, whole
 
-__all__ = ["Picture", "PictureError", "picture"]
-
 # The colours of the symbols 0 to 9, then of a position not visited yet, then of the head.
 COLOURS = [
     (255, 255, 255), (20, 20, 20), (60, 110, 200), (240, 180, 40), (60, 150, 80),

@@ -20,8 +20,6 @@ from .runner.errors import FolderError
 from .runner.list_run import FinishedRun
 from .verdicts import Answer
 
-__all__ = ["PublishError", "Published", "UnconfirmedError", "publish"]
-
 Path = Union[str, "os.PathLike[str]"]
 
 

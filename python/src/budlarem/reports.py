@@ -25,8 +25,6 @@ from .limits import Limits, in_range
 from .pictures import COLOURS, HEAD, UNVISITED, png, png_of_colours, spread
 from .verdicts import Verdict, size_of, verdicts_of
 
-__all__ = ["Report", "ReportError", "report"]
-
 # The plots, and the numbers that each has.
 _PLOTS = {
     "steps of halts, second steps of pairs": ("halt steps", "cycler second", "translated second"),
@@ -306,8 +304,8 @@ def report(
     how their cells grow.
 
     An undecided machine is run again, up to `steps` steps and `cells` cells, on so many `threads` (as many as
-    there are cores where not said). The list is read once and not held. The file that is at `path` when this is
-    called is replaced whole; a link there isn't followed. A notebook shows what is given back.
+    there are cores where not said). The list is read once and not held. The file that is at `path` when this
+    is called is replaced whole; a link there isn't followed. A notebook shows what is given back.
 
     Raises ReportError where numpy or matplotlib is missing, before anything is read; ValueError with its
     place for a text that is no verdict line; OSError where the file can't be written, where `path` is a link

@@ -10,20 +10,6 @@ from typing import Callable, ClassVar, Dict, Iterable, Iterator, List, Optional,
 from ._text import LONGEST_SHOWN, LONGEST_VALUE, Words
 from .limits import whole
 
-__all__ = [
-    "Answer",
-    "Backward",
-    "Cycler",
-    "Extent",
-    "Halt",
-    "Refused",
-    "Translated",
-    "Undecided",
-    "Verdict",
-    "is_machine",
-    "parse",
-]
-
 STATES = "ABCDEFGHIJKLMNOPQRSTUVWXY"
 MOST_SYMBOLS = 10
 # How many bytes the longest machine has.
@@ -260,8 +246,8 @@ def parse(line: str) -> Verdict:
 
 
 def verdicts_of(items: Iterable[Union[str, Verdict]], name: str) -> Iterator[Verdict]:
-    """The verdicts of verdicts and lines, which may have fields behind a tab. Raises ValueError, TypeError, with
-    the place in the list, which is called so."""
+    """The verdicts of verdicts and lines, which may have fields behind a tab. Raises ValueError, TypeError,
+    with the place in the list, which is called so."""
     for place, item in enumerate(items):
         if not isinstance(item, VERDICTS):
             try:

@@ -6,14 +6,15 @@ import ast
 import collections
 import os
 import pathlib
-import pytest
 import random
 import subprocess
 import sys
+from typing import Callable, Counter, Iterator, List, Tuple
+
+import pytest
 from support import TOP
 from support.machines import mixed, seldom_halting
 from support.program import as_lines, ended, options
-from typing import Callable, Counter, Iterator, List, Tuple
 
 AGAIN = str(TOP / "python" / "src" / "budlarem" / "again.py")
 # What it may have of lines.

@@ -5,17 +5,29 @@ from __future__ import annotations
 import contextlib
 import os
 import pathlib
-import pytest
 import random
 import signal
 import subprocess
 import time
+from typing import Dict, Iterator, List, Tuple
+
+import pytest
 from support.clusters import Cluster, changed_package, cluster
 from support.machines import CHAMPION
 from support.program import MAX_CELLS, MAX_STEPS, as_lines
-from support.runs import LONG_MACHINE, PASSES, Case, Process, decided, expected, is_at_work, kill_often
-from support.runs import random_list, require_interrupted, seen
-from typing import Dict, Iterator, List, Tuple
+from support.runs import (
+    LONG_MACHINE,
+    PASSES,
+    Case,
+    Process,
+    decided,
+    expected,
+    is_at_work,
+    kill_often,
+    random_list,
+    require_interrupted,
+    seen,
+)
 
 pytestmark = pytest.mark.needs(modules=("distributed",))
 # A run of LONG_MACHINE at these limits takes seconds.

@@ -4,12 +4,13 @@ from __future__ import annotations
 
 import os
 import pathlib
-import pytest
 import re
 import subprocess
 import sys
-from support import TOP, require
 from typing import List, Sequence, Set
+
+import pytest
+from support import TOP, require
 
 # It completes the last word of a command line, in bash by the function that was given for its first word.
 BASH = """

@@ -6,14 +6,15 @@ import json
 import math
 import os
 import pathlib
-import pytest
 import runpy
 import signal
 import subprocess
 import time
+from typing import Any, Callable, Dict, Iterator, List, Tuple
+
+import pytest
 from support import TOP, restore_signals
 from support.program import as_lines, ended, options_of_pass
-from typing import Any, Callable, Dict, Iterator, List, Tuple
 
 SCRIPT = str(TOP / "tools" / "five_states")
 DOCUMENTS = TOP / "docs"
@@ -59,8 +60,8 @@ def passes(summary: Dict[str, Any]) -> List[Tuple[int, Tuple[int, ...]]]:
 
 @pytest.mark.slow
 def test_sample(bb: str, tmp_path: pathlib.Path) -> None:
-    """Each thousandth machine: its counts, what is left of it, and the share of each kind, which is about that
-    in the whole list."""
+    """Each thousandth machine: its counts, what is left of it, and the share of each kind, which is about
+    that in the whole list."""
     status, printed = ending(start(tmp_path / "out", "--every", "1000", "--parts", "8"))
     assert status == 0, printed
     found = summary_in(tmp_path / "out")
@@ -141,8 +142,8 @@ def is_left(group: int) -> bool:
 
 @pytest.mark.slow
 def test_interruptions(tmp_path: pathlib.Path) -> None:
-    """It is ended by each of these signals after some pieces more, and all that it runs, which SIGKILL is sent
-    to too; then it goes on, and gives what docs/four-states.md has."""
+    """It is ended by each of these signals after some pieces more, and all that it runs, which SIGKILL is
+    sent to too; then it goes on, and gives what docs/four-states.md has."""
     out, asked = tmp_path / "out", ("--states", "4", "--parts", "20", "--threads", "1")
     for number, status in ((signal.SIGINT, 130), (signal.SIGTERM, 143), (signal.SIGKILL, -9)):
         seen, until = pieces_in(out), time.monotonic() + 300

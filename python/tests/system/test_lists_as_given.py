@@ -6,20 +6,20 @@ import gzip
 import json
 import os
 import pathlib
-import pytest
 import random
 import re
 import sys
 import time
+from typing import Dict, Iterator, List, Sequence, Tuple
+
+import budlarem
+import pytest
+from budlarem import Form, Halt, Judgement, Limits, Undecided, Verdict
+from budlarem.normal_forms import form_of
 from support import TOP
 from support.machines import mixed, uniform
 from support.program import Ended, as_lines, ended, options
 from support.terminals import on_terminal
-from typing import Dict, Iterator, List, Sequence, Tuple
-
-import budlarem
-from budlarem import Form, Halt, Judgement, Limits, Undecided, Verdict
-from budlarem.normal_forms import form_of
 
 FORMS = json.loads((TOP / "tests" / "support" / "forms.json").read_text(encoding="utf-8"))
 DOCUMENT = TOP / "docs" / "python.md"

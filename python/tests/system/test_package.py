@@ -3,17 +3,17 @@
 from __future__ import annotations
 
 import itertools
-import pytest
 import random
 import signal
 import sys
-from support.machines import mixed
-from support.program import PLANS, ROWS, SIMULATION, as_lines, ended, options
-from support.runs import WHERE, interrupted
 from typing import Iterator, List, Sequence, Tuple
 
 import budlarem
+import pytest
 from budlarem import Limits, Plan
+from support.machines import mixed
+from support.program import PLANS, ROWS, SIMULATION, as_lines, ended, options
+from support.runs import WHERE, interrupted
 
 Row = Tuple[int, int, int, int]
 MEMORY = """

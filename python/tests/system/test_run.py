@@ -7,16 +7,28 @@ import itertools
 import json
 import os
 import pathlib
-import pytest
 import random
 import resource
 import signal
 import subprocess
 import time
-from support.program import MAX_CELLS, MAX_STEPS
-from support.runs import LONG_MACHINE, PASSES, Case, expected, is_at_work, kill_often, killed, most_memory
-from support.runs import random_list, require_interrupted, seen
 from typing import Callable, List, Tuple
+
+import pytest
+from support.program import MAX_CELLS, MAX_STEPS
+from support.runs import (
+    LONG_MACHINE,
+    PASSES,
+    Case,
+    expected,
+    is_at_work,
+    kill_often,
+    killed,
+    most_memory,
+    random_list,
+    require_interrupted,
+    seen,
+)
 
 # Limits at which a line costs nothing to speak of.
 QUICK_PASS = (50, 64, 3, 10)

@@ -5,13 +5,14 @@ from __future__ import annotations
 import contextlib
 import os
 import pathlib
-import pytest
 import shutil
 import signal
 import subprocess
 import sys
-from support.runs import PASSES, Case, expected, random_list, seen, words_of
 from typing import Callable, Dict, Iterator, Optional, Tuple
+
+import pytest
+from support.runs import PASSES, Case, expected, random_list, seen, words_of
 
 # Limits at which a line costs nothing to speak of, and words by which a list takes a second or more.
 QUICK_PASS = (50, 64, 3, 10)

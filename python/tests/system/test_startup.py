@@ -5,16 +5,17 @@ from __future__ import annotations
 import itertools
 import os
 import pathlib
-import pytest
 import re
 import signal
 import subprocess
 import sys
 import time
+from typing import Dict, List, Optional, Tuple
+
+import pytest
 from support import restore_signals
 from support.program import MAX_CELLS, MAX_STEPS
 from support.runs import LONG_MACHINE
-from typing import Dict, List, Optional, Tuple
 
 LONG_PASS = "steps=%d,cells=%d" % (MAX_STEPS, MAX_CELLS)
 ENDLESS = LONG_MACHINE[:-1] + b" halt %d 1\n" % MAX_STEPS

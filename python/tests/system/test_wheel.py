@@ -7,15 +7,16 @@ import importlib
 import json
 import os
 import pathlib
-import pytest
 import re
 import shutil
 import subprocess
 import sys
+from typing import Dict, List, Mapping, Optional, Tuple
+
+import pytest
 from support import TOP
 from support.program import ended
 from support.runs import expected, words_of
-from typing import Dict, List, Mapping, Optional, Tuple
 
 PACKAGE = TOP / "python"
 WHEEL = re.compile(
@@ -57,8 +58,8 @@ def run(
     cwd: pathlib.Path = PACKAGE,
     given: Optional[str] = None,
 ) -> Tuple[int, str]:
-    """The status of a command and all that it writes, in an environment with these variables, in which nothing
-    else says where the package or the library is."""
+    """The status of a command and all that it writes, in an environment with these variables, in which
+    nothing else says where the package or the library is."""
     hidden = ("PYTHONPATH", "BB_LIBRARY", "PYTHONHOME", "VIRTUAL_ENV")
     bare = {name: value for name, value in os.environ.items() if name not in hidden}
     written, both = subprocess.PIPE, subprocess.STDOUT
@@ -110,7 +111,8 @@ def test_unit_tests_by_each_python(tmp_path: pathlib.Path) -> None:
 def test_types_and_layout() -> None:
     status, output = run(["/usr/bin/python3", "-m", "mypy", "python/src", "python/tests"], cwd=TOP)
     assert status == 0, output
-    assert run(["black", "--check", "--quiet", "src", "tests", "setup.py", "build_wheel.py"])[0] == 0
+    status, output = run(["black", "--check", "--quiet", "--config", "pyproject.toml", "python"], cwd=TOP)
+    assert status == 0, output
 
 
 def test_examples_of_docstrings() -> None:
@@ -153,7 +155,7 @@ def test_wheel(bb: str, library: pathlib.Path, tmp_path: pathlib.Path) -> None:
         require_first_run(inside)
         require_metadata(inside)
         run_unit_tests(inside, folder / "pytest", "-o", "pythonpath=tests")
-        assert run([command, "decide"], cwd=folder, given="1RZ---, x\n")[1] == "1RZ--- halt 1 1\tx\n"
+        assert "1RZ--- halt 1 1\tx\n" in run([command, "decide"], cwd=folder, given="1RZ---, x\n")[1]
         require_runner(bb, command, folder)
         require_cut_library(command, folder)
 
@@ -197,4 +199,4 @@ def require_cut_library(command: str, folder: pathlib.Path) -> None:
         sentence = "has %d bytes, and that of this package has %d: it was cut" % (length, len(whole))
         assert status == 3 and sentence in output
     library.write_bytes(whole)
-    assert run([command, "decide"], cwd=folder, given="1RZ---\n")[1] == "1RZ--- halt 1 1\n"
+    assert "1RZ--- halt 1 1\n" in run([command, "decide"], cwd=folder, given="1RZ---\n")[1]

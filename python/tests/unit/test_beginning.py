@@ -7,11 +7,11 @@ import gzip
 import io
 import os
 import pathlib
-import pytest
 import shlex
 import unittest.mock
 from typing import Iterator, List, Tuple
 
+import pytest
 from budlarem import PublishError, commands, publish
 from budlarem._text import LONGEST_GIVEN
 from budlarem.runner import errors, input

@@ -6,12 +6,12 @@ import argparse
 import contextlib
 import dataclasses
 import io
-import pytest
 import types
 import unittest.mock
 from concurrent.futures import CancelledError, Future
 from typing import Any, Dict, Iterator, List, Optional, Tuple
 
+import pytest
 from budlarem import commands
 from budlarem.commands import run as command
 from budlarem.runner import chunks, dask, progress

@@ -5,7 +5,6 @@ from __future__ import annotations
 import io
 import itertools
 import os
-import pytest
 import re
 import subprocess
 import sys
@@ -13,6 +12,7 @@ import threading
 from typing import Any, Iterator, List, Tuple
 
 import budlarem
+import pytest
 from budlarem import Answer, Limits, Plan
 from budlarem._library import CLEAN, Room
 

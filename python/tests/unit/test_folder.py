@@ -8,18 +8,18 @@ import fcntl
 import itertools
 import os
 import pathlib
-import pytest
 import random
 import shutil
 import unittest.mock
 import zlib
-from support.runner import LIST, PASSES, SMALL, Answering, RunCase, expected
 from typing import Any, Callable, Dict, Iterator, List, Sequence, Tuple
 
 import budlarem
+import pytest
 from budlarem import Limits, _api, _files, _library, publish
 from budlarem.runner import chunks, folder, list_run
 from budlarem.runner.errors import FolderError, MovedError, RunError
+from support.runner import LIST, PASSES, SMALL, Answering, RunCase, expected
 
 
 def contents(top: pathlib.Path) -> Dict[str, bytes]:

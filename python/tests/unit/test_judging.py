@@ -5,19 +5,19 @@ from __future__ import annotations
 import io
 import json
 import pathlib
-import pytest
 import random
-from support import TOP
 from typing import Iterable, List, Optional, Tuple
 from unittest import mock
 
 import budlarem
+import pytest
 from budlarem import WORDS, Columns, Form, Halt, Judgement, Limits, Said, Word
 from budlarem.claims import read_words, said_by
 from budlarem.judging import sources
 from budlarem.normal_forms import form_of
 from budlarem.numbers import number_of, numbers_in
 from budlarem.reading.files import Source
+from support import TOP
 
 CHAMPION = "1RB1LB_1LA1RZ"
 CYCLER = "0RB---_0LA---"

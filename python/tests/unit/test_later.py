@@ -3,10 +3,10 @@
 from __future__ import annotations
 
 import itertools
-import pytest
 from typing import Any, Dict, Iterator, List, Tuple
 
 import budlarem
+import pytest
 from budlarem import Cycler, Extent, Limits, LimitsError, Place, Translated, at, parse
 
 CHAMPION = "1RB1LB_1LA1RZ"

@@ -8,16 +8,14 @@ import importlib.util
 import itertools
 import os
 import pathlib
-import pytest
 import re
-import struct
 import subprocess
 import sys
-import zlib
 from typing import Any, List, Tuple
 from unittest import mock
 
 import budlarem
+import pytest
 from budlarem import Agreement, growth, lists, pictures, reports
 from budlarem.growth import Growth, grown
 
@@ -156,19 +154,6 @@ def test_a_halt_comes_with_its_steps_and_cells() -> None:
     assert grown(FOUR_STATES, 106).growth is Growth.ROOT
 
 
-def size(picture: budlarem.Picture) -> Tuple[int, ...]:
-    return struct.unpack(">II", picture.png[16:24])
-
-
-def test_sizes() -> None:
-    assert size(budlarem.picture(CHAMPION, 100)) == (4, 7)
-    assert size(budlarem.picture(CHAMPION, 100, scale=3)) == (12, 21)
-    sampled = budlarem.picture("1RA1RA", 100, rows=30)
-    assert (sampled.every, size(sampled)) == (4, (101, 26))
-    part = budlarem.picture("1RA1RA", 100, every=10, rows=5, left=-1, right=8)
-    assert (size(part), part.last, part.is_cut, part.is_part) == ((10, 5), 40, True, True)
-
-
 def test_rows_are_those_of_the_whole_trace() -> None:
     for machine in (
         CHAMPION,
@@ -183,36 +168,6 @@ def test_rows_are_those_of_the_whole_trace() -> None:
         assert list(budlarem.trace(machine, 500, every=3)) == rows[::3]
         chosen, every = pictures.spread(machine, 500, 65_536, 20)
         assert chosen == rows[::every] and len(chosen) <= 20 and (every == 1 or len(chosen) > 10)
-
-
-def test_a_wide_run_is_scaled_down() -> None:
-    whole = budlarem.picture("1RA1RA", 5_000, rows=11)
-    assert (whole.across, whole.is_part, (whole.left, whole.right)) == (3, False, (0, 4_608))
-    assert size(whole) == (1_537, 10)
-    data = zlib.decompress(whole.png[whole.png.index(b"IDAT") + 4 : -16])
-    lines = [data[k + 1 : k + 1 + 3 * 1_537] for k in range(0, len(data), 1 + 3 * 1_537)]
-    black, white, grey = (pictures.COLOURS[k] for k in (1, 0, pictures.UNVISITED))
-    # Step 512: 512 cells are 1, the head is on a 0, and nothing else is visited.
-    wanted = [black] * 512 + [white] + [grey] * (3 * 1_537 - 513)
-    for pixel in range(1_537):
-        cells = wanted[3 * pixel : 3 * pixel + 3]
-        mean = [round(sum(cell[part] for cell in cells) / 3) for part in range(3)]
-        assert list(lines[1][3 * pixel : 3 * pixel + 3]) == mean
-    twice = budlarem.picture("1RA1RA", 5_000, rows=11, scale=2)
-    assert size(twice) == (3_074, 20)
-    cut = budlarem.picture("1RA1RA", 5_000, rows=11, columns=100)
-    assert (cut.across, cut.is_part, size(cut)) == (1, True, (100, 10))
-
-
-def test_what_cannot_be_drawn() -> None:
-    with pytest.raises(budlarem.PictureError, match="lower scale to 2500"):
-        budlarem.picture("1RA1RA", 3, scale=100_000)
-    with pytest.raises(budlarem.PictureError, match="no position"):
-        budlarem.picture("1RA1RA", 3, left=5, right=4)
-    with pytest.raises(budlarem.LimitsError):
-        budlarem.picture("1RA1RA", 3, rows=0)
-    with pytest.raises(budlarem.MachineError):
-        budlarem.picture("1RA", 3)
 
 
 def test_it_is_shown_and_saved(tmp_path: pathlib.Path) -> None:

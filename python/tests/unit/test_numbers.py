@@ -6,13 +6,13 @@ import importlib.util
 import io
 import os
 import pathlib
-import pytest
 import resource
 import subprocess
 import sys
 from typing import List
 from unittest import mock
 
+import pytest
 from budlarem.commands import words
 from budlarem.limits import limits_of
 from budlarem.numbers import whole_number
@@ -86,7 +86,10 @@ def test_a_pass() -> None:
 
 
 # Writes a line that never ends, after some that do.
-ENDLESS = "import sys\nwrite = sys.stdout.buffer.write\nwrite(b'1RA1RA\\n' * 300)\nwhile True: write(b'1RA1RA,' * 9999)"
+ENDLESS = (
+    "import sys\nwrite = sys.stdout.buffer.write\nwrite(b'1RA1RA\\n' * 300)\n"
+    "while True: write(b'1RA1RA,' * 9999)"
+)
 
 
 def command(*given: str) -> "subprocess.CompletedProcess[str]":

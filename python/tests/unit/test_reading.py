@@ -3,22 +3,22 @@
 from __future__ import annotations
 
 import gzip
-import hypothesis
 import io
 import itertools
 import json
 import os
 import pathlib
-import pytest
-from hypothesis import strategies as st
-from support import TOP
 from typing import Any, Dict, Iterator, List, Set
 
 import budlarem
+import hypothesis
+import pytest
 from budlarem import Columns, EncodingError, Form, Passed, Reading, Rewriting
 from budlarem._text import LONGEST_LINE
 from budlarem.reading.files import find_encoding
 from budlarem.reading.values import ADVICE
+from hypothesis import strategies as st
+from support import TOP
 
 CHAMPION = "1RB1LB_1LA1RZ"
 FORMS = TOP / "tests" / "support" / "forms.json"

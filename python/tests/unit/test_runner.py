@@ -10,21 +10,33 @@ import io
 import itertools
 import json
 import os
-import pytest
 import random
 import re
 import shutil
 import unittest.mock
 import zlib
 from concurrent.futures import Executor, Future
-from support.runner import KINDS, LIST, MIDDLE, PASSES, SMALL, Answering, KeptProgress, Late, RunCase
-from support.runner import counts_of, expected, resealed
 from typing import Any, Callable, List, Sequence, Tuple
 
 import budlarem
+import pytest
 from budlarem import Limits, _files, commands, counts
 from budlarem.runner import chunks, folder, input, journal, passes
 from budlarem.runner.errors import CheckError, FolderError, MovedError, RunError, WordsError
+from support.runner import (
+    KINDS,
+    LIST,
+    MIDDLE,
+    PASSES,
+    SMALL,
+    Answering,
+    KeptProgress,
+    Late,
+    RunCase,
+    counts_of,
+    expected,
+    resealed,
+)
 
 
 def test_lists_and_passes(case: RunCase) -> None:

@@ -5,19 +5,19 @@ from __future__ import annotations
 import contextlib
 import dataclasses
 import gzip
-import hypothesis
 import itertools
 import os
 import pathlib
-import pytest
 import unittest.mock
-from hypothesis import strategies as st
-from support.runner import KINDS, LIST, MIDDLE, PASSES, SMALL, RunCase, counts_of, expected
 from typing import Any, Iterator, List
 
+import hypothesis
+import pytest
 from budlarem import _files
 from budlarem.runner import chunks, input, journal, passes
 from budlarem.runner.errors import ReplyError, RunError
+from hypothesis import strategies as st
+from support.runner import KINDS, LIST, MIDDLE, PASSES, SMALL, RunCase, counts_of, expected
 
 
 def taken(blocks: Iterator[bytes], lines: int, size: int) -> List[bytes]:

@@ -5,11 +5,11 @@ from __future__ import annotations
 import dataclasses
 import pickle
 import pydoc
-import pytest
 import re
 from typing import Any, List
 
 import budlarem
+import pytest
 from budlarem import Limits, LimitsError, Plan, _api
 
 CHAMPION = "1RB1LB_1LA1RZ"

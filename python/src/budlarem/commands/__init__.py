@@ -22,8 +22,6 @@ from .claims import add_claims, add_judge
 from .machines import add_machines, add_runs
 from .run import add_command as add_run
 
-__all__ = ["main", "run_and_exit", "words"]
-
 
 def words() -> argparse.ArgumentParser:
     """The reader of the command line."""

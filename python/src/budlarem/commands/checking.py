@@ -20,13 +20,15 @@ from ..runner.progress import TerminalLine, count_of
 from ..verdicts import Answer
 from .shared import add_command, add_file, add_greatest_limits, add_number, greatest_limits, source_of
 
-_CHECK = """Checks verdict lines, whoever wrote them, and writes an answer to each line, the bytes of bb check:
-ok, its claim holds; bad, it doesn't; over, it names more than the limits have, or its run needs more cells;
-open, it claims nothing; unread, it is no verdict line. Standard error gets the counts at the end, and the
-first line that is neither ok nor open, with the reason. Status 1 where there is one. A gzip is read.
+_CHECK = """Checks verdict lines, whoever wrote them, and writes an answer to each line, the bytes of bb
+check: ok, its claim holds; bad, it doesn't; over, it names more than the limits have, or its run
+needs more cells; open, it claims nothing; unread, it is no verdict line. Standard error gets the
+counts at the end, and the first line that is neither ok nor open, with the reason. Status 1
+where there is one. A gzip is read.
 
-A claim costs what it names, whatever the limits, so these are the greatest where they aren't given. The tapes
-of each thread then take 134 MB. Whoever fears a claim of 10^12 steps, which takes hours, gives --steps."""
+A claim costs what it names, whatever the limits, so these are the greatest where they aren't given. The
+tapes of each thread then take 134 MB. Whoever fears a claim of 10^12 steps, which takes hours, gives
+--steps."""
 
 
 def counts_text(found: Checked) -> str:

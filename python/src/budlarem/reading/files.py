@@ -1,5 +1,5 @@
-"""The lines of what a list may be: a path, a file of bytes, or an iterable of lines. Other encodings and formats
-than text in UTF-8 are known by their first bytes."""
+"""The lines of what a list may be: a path, a file of bytes, or an iterable of lines. Other encodings and
+formats than text in UTF-8 are known by their first bytes."""
 
 from __future__ import annotations
 

@@ -1,5 +1,5 @@
-"""The folder of a run: its lock, what it was begun with, and which of its files are the run's own. Other files
-are somebody else's, and no run changes them."""
+"""The folder of a run: its lock, what it was begun with, and which of its files are the run's own. Other
+files are somebody else's, and no run changes them."""
 
 from __future__ import annotations
 

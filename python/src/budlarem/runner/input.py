@@ -1,4 +1,5 @@
-"""A list as a run reads it: as a stream that is cut between lines, and of the right form, a machine a line."""
+"""A list as a run reads it: as a stream that is cut between lines, and of the right form, a machine a
+line."""
 
 from __future__ import annotations
 

@@ -1,5 +1,5 @@
-"""A whole run: its passes one after another, the summary that it leaves, and whether verdicts and journals go with
-that."""
+"""A whole run: its passes one after another, the summary that it leaves, and whether verdicts and journals go
+with that."""
 
 from __future__ import annotations
 
@@ -28,7 +28,8 @@ _AGAIN = "run the command of that folder again, which writes both anew"
 
 
 def _checksum_of(fields: Dict[str, Any]) -> Optional[Checksum]:
-    """The checksum of verdicts that a summary says; None where an earlier version of this package wrote it."""
+    """The checksum of verdicts that a summary says; None where an earlier version of this package wrote
+    it."""
     return None if "verdicts" not in fields else Checksum.of_fields(fields["verdicts"])
 
 
@@ -111,7 +112,8 @@ class FinishedRun:
             ) from None
 
     def require_journals(self) -> None:
-        """Raises FolderError where the journal of a pass, if it is still there, isn't of this run. OSError."""
+        """Raises FolderError where the journal of a pass, if it is still there, isn't of this run.
+        OSError."""
         for number, one in enumerate(self.summary.passes, 1):
             with self._journal(number) as journal:
                 if journal is not None:
