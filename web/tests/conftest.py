@@ -28,7 +28,7 @@ def tab(browser: Page) -> Iterator[Page]:
 @pytest.fixture(scope="session")
 def forms() -> Dict[str, Any]:
     """Lines and lists with their readings, which the page and the package share."""
-    found: Dict[str, Any] = json.loads((TOP / "scripts/tests/forms.json").read_text(encoding="utf-8"))
+    found: Dict[str, Any] = json.loads((TOP / "tests/support/forms.json").read_text(encoding="utf-8"))
     return found
 
 
