@@ -8,14 +8,11 @@ const PATIENCE_MILLISECONDS = 400;
 
 const text = (/** @type {string} */ id) => part(id).textContent ?? "";
 
-/** The engine's module. */
-async function compiled() {
-  return WebAssembly.compile(Uint8Array.from(atob(text("module")), (one) => one.charCodeAt(0)));
-}
-
 const url = URL.createObjectURL(new Blob([text("worker")], { type: "text/javascript" }));
 /** @type {Promise<WebAssembly.Module | null>} ends when the module is compiled; null where it isn't */
-export const ready = isSupported() ? compiled() : Promise.resolve(null);
+export const ready = isSupported()
+  ? WebAssembly.compile(Uint8Array.from(atob(text("module")), (one) => one.charCodeAt(0)))
+  : Promise.resolve(null);
 /** Does something with the module once it is compiled; nothing where it can't be. */
 const onceReady = (/** @type {(module: WebAssembly.Module | null) => void} */ act) => {
   ready.then(act, () => undefined);

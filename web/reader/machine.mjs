@@ -13,8 +13,8 @@ export const KINDS = ["halt", "cycler", "translated", "backward", "undecided", "
 /** The answers to a verdict line, as they are shown. */
 export const ANSWERS = ["ok", "open", "bad", "over", "unread"];
 
-/** @type {Verdict} */
-const NO_VERDICT = { kind: "refused", numbers: [], side: "", text: "" };
+/** @type {{machine: string, verdict: Verdict}} what a line says that is no verdict line: nothing */
+export const UNREAD = { machine: "", verdict: { kind: "refused", numbers: [], side: "", text: "" } };
 
 /** @returns {Machine} the machine of a text that the engine took for one */
 export function machineOf(/** @type {string} */ text) {
@@ -34,20 +34,15 @@ function entryOf(/** @type {string} */ text) {
   if (text === "---") {
     return null;
   }
-  const next = text[2] === "Z" ? -1 : stateNumber(text[2]);
+  const next = text[2] === "Z" ? -1 : text.charCodeAt(2) - 65;
   return { write: Number(text[0]), move: text[1] === "R" ? 1 : -1, next };
 }
-
-const stateNumber = (/** @type {string} */ letter) => letter.charCodeAt(0) - 65;
 
 export const stateLetter = (/** @type {number} */ state) => state < 0 ? "Z" : String.fromCharCode(65 + state);
 
 /** An entry as machines have it. */
 export const entryText = (/** @type {Entry | null} */ entry) =>
   entry === null ? "---" : `${entry.write}${entry.move > 0 ? "R" : "L"}${stateLetter(entry.next)}`;
-
-/** @returns {{machine: string, verdict: Verdict}} what a line says that is no verdict line: nothing */
-export const unreadLine = () => ({ machine: "", verdict: NO_VERDICT });
 
 /**
  * The machine's text of a verdict line, and what is said of it.

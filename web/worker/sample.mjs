@@ -18,8 +18,6 @@ const LOWEST_BITS = 0x01010101;
 const TOGETHER = 0x10204080;
 const NIBBLE = 15;
 
-export const bitsFor = (/** @type {number} */ symbols) => symbols === 2 ? 1 : 4;
-
 /** How many bytes so many cells take, each row's beginning with one of its own. */
 export const bytesFor = (/** @type {number} */ cells, /** @type {number} */ bits) =>
   Math.ceil((cells * bits) / 8);
@@ -81,7 +79,7 @@ export function rowsOf(sample, first, apart, count) {
 /** @returns {Sample} the rows of a trace of a machine with so many symbols */
 export function readTrace(/** @type {Uint8Array} */ text, /** @type {number} */ symbols) {
   const { begins, states, ...columns } = columnsOf(text);
-  const bits = bitsFor(symbols);
+  const bits = symbols === 2 ? 1 : 4;
   const pack = bits === 1 ? packTwo : packMore;
   const steps = Float64Array.from(columns.steps);
   const [heads, lows, wide] = [columns.heads, columns.lows, columns.wide].map((all) => Int32Array.from(all));

@@ -10,8 +10,8 @@
  * @typedef {{asked: Asked, sample: Sample, cut: boolean}} Kept rows, and whether the cells cut the trace;
  *   `upto` has no end where the run ended
  * @typedef {{state: string, low: number, wide: number}} Row
- * @typedef {{upto: number, step: number, halts: boolean, low: number, wide: number}} Last the last row up to a
- *   step, and whether the run halts there
+ * @typedef {{upto: number, step: number, halts: boolean, low: number, wide: number}} Last the last row up to
+ *   a step, and whether the run halts there
  * @typedef {{closer: number, farther: number, beyond: number, most: number}} Next views that may come: how
  *   many steps apart the rows of a closer and of a farther one are, how many steps above and below this view
  *   the farther one may have, and the last step of any

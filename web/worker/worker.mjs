@@ -65,21 +65,13 @@ function answered(given, { mode, plan }, starts = startsOf(given).slice()) {
   const reply = host.checkBytes(verdicts, { steps, cells, depth, nodes }, count).bytes;
   const lines = readLines(verdicts, mode === "decide" ? starts : null);
   const answers = readAnswers(reply, count);
-  if (mode === "check") {
-    refuseUnread(lines.kinds, answers);
-  }
+  // Lines that are no verdict lines say nothing, whatever word they have.
+  answers.forEach((answer, k) => answer === UNREAD && (lines.kinds[k] = REFUSED));
   const kindCounts = tallied(lines.kinds, KINDS.length);
   const answerCounts = tallied(answers, ANSWERS.length);
   const written =
     mode === "decide" ? { bytes: verdicts, lines: null } : { bytes: reply, lines: verdicts.slice() };
   return { ...written, ...lines, answers, kindCounts, answerCounts, held: host.held };
-}
-
-/** Lines that are no verdict lines say nothing, whatever word they have. */
-function refuseUnread(/** @type {Uint8Array} */ kinds, /** @type {Uint8Array} */ answers) {
-  for (let k = 0; k < kinds.length; k += 1) {
-    kinds[k] = answers[k] === UNREAD ? REFUSED : kinds[k];
-  }
 }
 
 /**

@@ -69,8 +69,6 @@ export function listenToFiles(take, fill) {
 const beginsWith = (/** @type {Uint8Array} */ bytes, /** @type {number[]} */ mark) =>
   bytes.length >= mark.length && mark.every((byte, at) => bytes[at] === byte);
 
-export const isGzip = (/** @type {Uint8Array} */ begin) => beginsWith(begin, GZIP);
-
 /**
  * The name of the encoding or format that begins so; null for bytes that may be UTF-8.
  * @returns {string | null}
@@ -88,10 +86,6 @@ export function encodingOf(/** @type {Uint8Array} */ begin) {
   return 3 * zeros > 2 * first.length ? "UTF-32 text" : "UTF-16 text";
 }
 
-/** The sentence for a list that is no text in UTF-8, with advice. */
-export const encodingWords = (/** @type {string} */ encoding) =>
-  `The list is ${encoding}, which the page doesn’t read. Give it as text in UTF-8.`;
-
 /** A list that can't be read, for which the message gives the reason. */
 export class ListError extends Error {
   constructor(/** @type {string} */ message) {
@@ -103,7 +97,7 @@ export class ListError extends Error {
 /** The bytes of a list, unpacked where they are compressed by gzip. */
 export async function unpacked(/** @type {Blob} */ blob) {
   const begin = await beginOf(blob);
-  if (!isGzip(begin)) {
+  if (!beginsWith(begin, GZIP)) {
     return blob;
   }
   const { DecompressionStream: Unpacker } = /** @type {any} */ (globalThis);
@@ -125,7 +119,7 @@ export async function unpacked(/** @type {Blob} */ blob) {
 export async function requireUtf8(/** @type {Blob} */ blob) {
   const encoding = encodingOf(await beginOf(blob));
   if (encoding !== null) {
-    throw new ListError(encodingWords(encoding));
+    throw new ListError(`The list is ${encoding}, which the page doesn’t read. Give it as text in UTF-8.`);
   }
 }
 

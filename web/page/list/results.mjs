@@ -4,7 +4,7 @@
  * @typedef {import("../../worker/worker.mjs").Part} Part
  * @typedef {{part: Part, line: number}} Place
  */
-import { ANSWERS, KINDS, readLine, unreadLine } from "../../reader/machine.mjs";
+import { ANSWERS, KINDS, UNREAD, readLine } from "../../reader/machine.mjs";
 import { joined, lineAt } from "../../reader/prepare.mjs";
 import { BYTES_KEPT, LONGEST_SHOWN } from "../../reader/words.mjs";
 import { startsOf, stepsIn } from "../../worker/replies.mjs";
@@ -102,10 +102,6 @@ export class Results {
     this.again += plan >= LARGER ? by : 0;
   }
 
-  openRows() {
-    return this.rowsBy(({ plans }, line) => plans?.[line] === FIRST_PASS);
-  }
-
   machineAt(/** @type {number} */ row) {
     const { part, line } = this.place(row);
     const from = part.starts[line];
@@ -173,7 +169,7 @@ export class Results {
     const end = Math.min(part.starts[line + 1], part.starts[line] + LONGEST_SHOWN);
     const answer = ANSWERS[part.answers[line]];
     const written = decoder.decode(text.subarray(part.starts[line], end)).replace(/[\r\n]+$/, "");
-    const read = answer === "unread" ? unreadLine() : readLine(written);
+    const read = answer === "unread" ? UNREAD : readLine(written);
     const number = part.first + (part.numbers === null ? line : part.numbers[line]);
     const { source, places } = part;
     const given = source === null || places === null ? null : lineAt(source, places[line], BYTES_KEPT);

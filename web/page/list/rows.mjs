@@ -3,8 +3,8 @@
  *
  * @typedef {import("./results.mjs").Results} Results
  * @typedef {import("../../worker/worker.mjs").Part} Part
- * @typedef {{element: HTMLElement, of: Part, line: number, bytes: Uint8Array, isChosen: boolean}} Drawn a row that stands in the page, and of which line of which part it is, with the
- *   bytes that the part had
+ * @typedef {{element: HTMLElement, of: Part, line: number, bytes: Uint8Array, isChosen: boolean}} Drawn a row
+ *   that stands in the page, and of which line of which part it is, with the bytes that the part had
  */
 import { shown } from "../../reader/machine.mjs";
 import { readingOf } from "../../reader/reading.mjs";

@@ -5,10 +5,13 @@ import { larger, refuse } from "../input/fields.mjs";
 import { makeReady } from "../workers.mjs";
 import { Holdouts, Pieces } from "./pieces.mjs";
 import { Pool } from "./pool.mjs";
-import { Results } from "./results.mjs";
+import { FIRST_PASS, Results } from "./results.mjs";
 import { statusOf, underWayWords } from "./status.mjs";
 
-/** @typedef {import("../../worker/worker.mjs").Asked} Asked */
+/**
+ * @typedef {import("../../worker/worker.mjs").Asked} Asked
+ * @typedef {import("../../worker/worker.mjs").Part} Part
+ */
 
 const MOST_WORKERS = 8;
 const REFRESH_MILLISECONDS = 250;
@@ -87,10 +90,12 @@ export class Work {
     const source = new Pieces(blob, start, workersFor(blob.size));
     const isFirst = mode === "decide" && plan.steps > FIRST_STEPS;
     const first = { ...asked, plan: { ...plan, steps: FIRST_STEPS } };
+    /** @type {(part: Part, line: number) => boolean} whether only the first pass has answered a line */
+    const isOpen = ({ plans }, line) => plans?.[line] === FIRST_PASS;
     this.beginPool(workersFor(blob.size), isFirst ? first : asked, {
       piece: () => source.next(),
       part: (one, read) => (isFirst ? this.results.addFirst(one, read) : this.results.add(one, read)),
-      end: () => this.decideRows(this.results.openRows(), plan, 0),
+      end: () => this.decideRows(this.results.rowsBy(isOpen), plan, 0),
     });
     this.beginClock();
   }

@@ -9,7 +9,6 @@ import { nodeText, treeOf } from "./tree.mjs";
  * @typedef {import("../../worker/traced.mjs").Row} Row
  * @typedef {import("../diagram/paint.mjs").Mark} Mark
  * @typedef {import("../diagram/scale.mjs").Fit} Fit
- * @typedef {(wide: number) => {first: [number, number], second: [number, number]}} Stretch
  */
 
 const MOST_NODES = 100_000;
