@@ -3,12 +3,13 @@
 from __future__ import annotations
 
 import dataclasses
+import functools
 import itertools
 import math
 import os
 import struct
 import zlib
-from typing import Dict, Iterable, List, Optional, Sequence, Tuple, Union
+from typing import Iterable, List, Optional, Sequence, Tuple, Union
 
 from ._files import naming
 from .engine import Configuration, trace
@@ -118,24 +119,17 @@ def places(row: Configuration, left: int, right: int, has_head: bool = True) -> 
     return bytes(shown)
 
 
-def means(places: bytes, across: int) -> bytes:
-    """The mean colours of so many places each, three bytes a pixel: red, green, blue."""
-    found = bytearray()
-    known: Dict[bytes, bytes] = {}
-    for begin in range(0, len(places), across):
-        part = places[begin : begin + across]
-        mean = known.get(part)
-        if mean is None:
-            mean = known[part] = _mean(part)
-        found += mean
-    return bytes(found)
+def means(places: bytes, across: int, is_rounded: bool = True) -> bytes:
+    """The mean colours of so many places each, three bytes a pixel: red, green, blue; rounded, or cut off."""
+    parts = (places[begin : begin + across] for begin in range(0, len(places), across))
+    return b"".join(_mean(part, len(part) // 2 if is_rounded else 0) for part in parts)
 
 
-def _mean(places: bytes) -> bytes:
-    """The mean colour of places, rounded."""
-    count = len(places)
-    sums = [sum(COLOURS[place][part] for place in places) for part in range(3)]
-    return bytes((2 * total + count) // (2 * count) for total in sums)
+@functools.lru_cache(maxsize=1 << 16)
+def _mean(part: bytes, more: int) -> bytes:
+    """The mean colour of places, to whose sums so much is added."""
+    sums = (sum(COLOURS[place][colour] for place in part) for colour in range(3))
+    return bytes((total + more) // len(part) for total in sums)
 
 
 def _chunk(kind: bytes, data: bytes) -> bytes:
