@@ -174,20 +174,19 @@ def _refuse_large(rows: int, columns: int, scale: int) -> None:
     raise PictureError("%s; lower rows or columns" % size)
 
 
-def drawn(
+def _drawn(
     chosen: Sequence[Configuration],
     every: int,
-    is_cut: bool = False,
-    *,
-    columns: Optional[int] = None,
-    left: Optional[int] = None,
-    right: Optional[int] = None,
-    scale: int = 1,
+    is_cut: bool,
+    scale: int,
+    columns: Optional[int],
+    *sides: Optional[int],
 ) -> Picture:
-    """The picture of these rows. Raises PictureError where there are none, or too many pixels."""
+    """The picture of these rows, between these sides. Raises PictureError where there are none, or too many
+    pixels."""
     if not chosen:
         raise PictureError("no step to show")
-    first, last, is_part = stretch(chosen, columns, left, right)
+    first, last, is_part = stretch(chosen, columns, *sides)
     if last < first:
         raise PictureError("no position to show")
     across = 1 if columns is not None else -(-(last - first + 1) // MOST_WIDE)
@@ -236,8 +235,7 @@ def picture(
     for name, asked in (("rows", rows), ("columns", columns), ("scale", scale)):
         if asked is not None:
             in_range(name, asked, 1, 2**64 - 1)
-    shown = {"columns": columns, "left": left, "right": right}
-    positions = {name: number if number is None else whole(name, number) for name, number in shown.items()}
+    sides = [side if side is None else whole(name, side) for name, side in (("left", left), ("right", right))]
     if every is None:
         chosen, apart = spread(machine, upto, cells, rows)
         is_cut = False
@@ -246,6 +244,4 @@ def picture(
         chosen = list(itertools.islice(trace(machine, upto, cells, every=apart), rows + 1))
         is_cut = len(chosen) > rows
         del chosen[rows:]
-    return drawn(
-        chosen, apart, is_cut, columns=columns, left=positions["left"], right=positions["right"], scale=scale
-    )
+    return _drawn(chosen, apart, is_cut, scale, columns, *sides)
