@@ -3,12 +3,13 @@
 from __future__ import annotations
 
 import dataclasses
+import functools
 import itertools
 import math
 import os
 import struct
 import zlib
-from typing import Dict, Iterable, List, Optional, Sequence, Tuple, Union
+from typing import Iterable, List, Optional, Sequence, Tuple, Union
 
 from ._files import naming
 from .engine import Configuration, trace
@@ -118,24 +119,17 @@ def places(row: Configuration, left: int, right: int, has_head: bool = True) -> 
     return bytes(shown)
 
 
-def means(places: bytes, across: int) -> bytes:
-    """The mean colours of so many places each, three bytes a pixel: red, green, blue."""
-    found = bytearray()
-    known: Dict[bytes, bytes] = {}
-    for begin in range(0, len(places), across):
-        part = places[begin : begin + across]
-        mean = known.get(part)
-        if mean is None:
-            mean = known[part] = _mean(part)
-        found += mean
-    return bytes(found)
+def means(places: bytes, across: int, is_rounded: bool = True) -> bytes:
+    """The mean colours of so many places each, three bytes a pixel: red, green, blue; rounded, or cut off."""
+    parts = (places[begin : begin + across] for begin in range(0, len(places), across))
+    return b"".join(_mean(part, len(part) // 2 if is_rounded else 0) for part in parts)
 
 
-def _mean(places: bytes) -> bytes:
-    """The mean colour of places, rounded."""
-    count = len(places)
-    sums = [sum(COLOURS[place][part] for place in places) for part in range(3)]
-    return bytes((2 * total + count) // (2 * count) for total in sums)
+@functools.lru_cache(maxsize=1 << 16)
+def _mean(part: bytes, more: int) -> bytes:
+    """The mean colour of places, to whose sums so much is added."""
+    sums = (sum(COLOURS[place][colour] for place in part) for colour in range(3))
+    return bytes((total + more) // len(part) for total in sums)
 
 
 def _chunk(kind: bytes, data: bytes) -> bytes:
@@ -180,20 +174,19 @@ def _refuse_large(rows: int, columns: int, scale: int) -> None:
     raise PictureError("%s; lower rows or columns" % size)
 
 
-def drawn(
+def _drawn(
     chosen: Sequence[Configuration],
     every: int,
-    is_cut: bool = False,
-    *,
-    columns: Optional[int] = None,
-    left: Optional[int] = None,
-    right: Optional[int] = None,
-    scale: int = 1,
+    is_cut: bool,
+    scale: int,
+    columns: Optional[int],
+    *sides: Optional[int],
 ) -> Picture:
-    """The picture of these rows. Raises PictureError where there are none, or too many pixels."""
+    """The picture of these rows, between these sides. Raises PictureError where there are none, or too many
+    pixels."""
     if not chosen:
         raise PictureError("no step to show")
-    first, last, is_part = stretch(chosen, columns, left, right)
+    first, last, is_part = stretch(chosen, columns, *sides)
     if last < first:
         raise PictureError("no position to show")
     across = 1 if columns is not None else -(-(last - first + 1) // MOST_WIDE)
@@ -242,8 +235,7 @@ def picture(
     for name, asked in (("rows", rows), ("columns", columns), ("scale", scale)):
         if asked is not None:
             in_range(name, asked, 1, 2**64 - 1)
-    shown = {"columns": columns, "left": left, "right": right}
-    positions = {name: number if number is None else whole(name, number) for name, number in shown.items()}
+    sides = [side if side is None else whole(name, side) for name, side in (("left", left), ("right", right))]
     if every is None:
         chosen, apart = spread(machine, upto, cells, rows)
         is_cut = False
@@ -252,6 +244,4 @@ def picture(
         chosen = list(itertools.islice(trace(machine, upto, cells, every=apart), rows + 1))
         is_cut = len(chosen) > rows
         del chosen[rows:]
-    return drawn(
-        chosen, apart, is_cut, columns=columns, left=positions["left"], right=positions["right"], scale=scale
-    )
+    return _drawn(chosen, apart, is_cut, scale, columns, *sides)

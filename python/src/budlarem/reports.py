@@ -22,7 +22,7 @@ from .counts import KINDS, VerdictCounts
 from .engine import Configuration
 from .growth import Grown, Growth, grown
 from .limits import Limits, in_range
-from .pictures import COLOURS, HEAD, UNVISITED, png, png_of_colours, spread
+from .pictures import means, places, png, png_of_colours, spread
 from .verdicts import Verdict, size_of, verdicts_of
 
 # The plots, and the numbers that each has.
@@ -100,10 +100,9 @@ def gathered(verdicts: Iterable[Union[str, Verdict]], most: int) -> Gathered:
     return found
 
 
-def _modules() -> Tuple[Any, Any]:
-    """The figures of matplotlib, and numpy, which comes with it. Raises ReportError."""
+def _modules() -> Tuple[Any, Any, Any]:
+    """What is needed of matplotlib. Raises ReportError."""
     try:
-        import numpy
         from matplotlib import rc_context
         from matplotlib.figure import Figure
         from matplotlib.ticker import MaxNLocator
@@ -112,12 +111,12 @@ def _modules() -> Tuple[Any, Any]:
             "a report needs matplotlib (%s): pip install matplotlib, or on Debian apt install"
             " python3-matplotlib" % error
         ) from None
-    return numpy, (rc_context, Figure, MaxNLocator)
+    return rc_context, Figure, MaxNLocator
 
 
 def plot(counts: Counter[int], name: str) -> str:
     """A distribution as an SVG image."""
-    rc_context, figure_of, locator_of = _modules()[1]
+    rc_context, figure_of, locator_of = _modules()
     with rc_context({"svg.hashsalt": name, "svg.fonttype": "none", "font.size": 9, "text.color": _INK}):
         figure = figure_of(figsize=(4.6, 2.4), layout="constrained")
         axes = figure.subplots()
@@ -158,24 +157,14 @@ def _colour(axes: Any) -> None:
 def diagram(rows: Sequence[Configuration]) -> bytes:
     """A space-time diagram of at most SIZE by SIZE pixels, as a PNG file. Where more positions were visited,
     a pixel has the mean colour of some."""
-    numpy = _modules()[0]
     low = min(row.low for row in rows)
     high = max(row.low + len(row.cells) for row in rows)
     together = -(-(high - low) // SIZE)
     wide = -(-(high - low) // together)
-    places = numpy.full((len(rows), wide * together), UNVISITED, numpy.uint8)
-    for place, row in zip(places, rows):
-        cells = numpy.frombuffer(row.cells.encode(), numpy.uint8)
-        place[row.low - low : row.low - low + len(cells)] = cells - ord("0")
-        if together == 1 and row.position < high:
-            place[row.position - low] = HEAD
+    lines = [places(row, low, low + wide * together - 1, together == 1) for row in rows]
     if together == 1:
-        return png([line.tobytes() for line in places], 1)
-    together_places = places.reshape(len(rows), wide, together)
-    palette = numpy.array(COLOURS, numpy.float32)
-    parts = [palette[:, part][together_places].mean(axis=2) for part in range(3)]
-    mean = numpy.stack(parts, axis=2).astype(numpy.uint8)
-    return png_of_colours(wide, len(rows), (line.tobytes() for line in mean))
+        return png(lines, 1)
+    return png_of_colours(wide, len(rows), (means(line, together, False) for line in lines))
 
 
 @dataclasses.dataclass(frozen=True)
@@ -307,7 +296,7 @@ def report(
     there are cores where not said). The list is read once and not held. The file that is at `path` when this
     is called is replaced whole; a link there isn't followed. A notebook shows what is given back.
 
-    Raises ReportError where numpy or matplotlib is missing, before anything is read; ValueError with its
+    Raises ReportError where matplotlib is missing, before anything is read; ValueError with its
     place for a text that is no verdict line; OSError where the file can't be written, where `path` is a link
     or a folder, or where another file is made there meanwhile.
     """

@@ -22,7 +22,7 @@ from budlarem.growth import Growth, grown
 CHAMPION = "1RB1LB_1LA1RZ"
 FOUR_STATES = "1RB1LB_1LA0LC_1RZ1LD_1RD0RA"
 UNDECIDED = "0RB1LD_0RC1RD_0RD---_1LA0RB"
-HAS_PLOTS = all(importlib.util.find_spec(name) for name in ("numpy", "matplotlib"))
+HAS_PLOTS = importlib.util.find_spec("matplotlib") is not None
 
 
 def agreement(first: str, second: str, undefined_steps: bool = False) -> Agreement:

@@ -118,7 +118,7 @@ def command(*given: str) -> "subprocess.CompletedProcess[str]":
 def test_commands(tmp_path: pathlib.Path) -> None:
     every = [["read"], ["decide"], ["normal"], ["judge", "-"], ["compare", "/dev/null", "-"]]
     every.append(["check", "--cells", "1000"])
-    if all(importlib.util.find_spec(name) for name in ("numpy", "matplotlib")):
+    if importlib.util.find_spec("matplotlib") is not None:
         every.append(["report", "--out", str(tmp_path / "report.html")])
     for given in every:
         ended = command(*given)

@@ -8,8 +8,8 @@ import os
 import sys
 from typing import BinaryIO, Counter, Dict, Iterator, Optional, Sequence, Union
 
-from ..claims import WORDS, Sayings, Word, read_words, translation_of
-from ..judging import Judgement, Judging, judge
+from ..claims import WORDS, Sayings, Word, read_words
+from ..judging import Judgement, Judging, judge, translation_in
 from ..judging.sources import Twice
 from ..judging.values import Placed
 from ..limits import GREATEST, Limits, Plan
@@ -80,17 +80,13 @@ class VerdictReader(ListReader):
         self.print_passed(sayings.passed + collections.Counter(empty), source.undecoded)
 
     def _print_translation(self, source: Twice) -> None:
-        """Prints the translation of the words in a table's column of verdicts. Raises ValueError where
-        several columns may be that."""
-        layout = source.form.layout
-        if layout is None:
-            return
-        if layout.doubts:
-            raise ValueError("%s: %s: say which" % (self.name, layout.doubts[0]))
-        if "verdict" in layout.columns:
-            sayings = Sayings(source.lines(), source.form, self.words)
-            for line in translation_of(sayings, layout, self.words).lines:
-                self.print_line(line)
+        """Prints the translation of a table's words. Raises ValueError where several columns may have them."""
+        try:
+            translation = translation_in(source, self.words, lambda what, lines: None)
+        except ValueError as error:
+            raise ValueError("%s: %s" % (self.name, error)) from None
+        for line in translation.lines if translation is not None else ():
+            self.print_line(line)
 
 
 def do_compare(asked: argparse.Namespace) -> int:

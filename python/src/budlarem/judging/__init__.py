@@ -67,7 +67,7 @@ def judge(
     """
     source = Twice(theirs, form, columns)
     words = WORDS if words is None else words
-    translation = _translation(source, words, tell)
+    translation = translation_in(source, words, tell)
     if undefined_steps is None:
         sayings = counted(Sayings(source.lines(), source.form, words), "looked at for steps at ---", tell)
         undefined_steps = counts_undefined_steps(sayings, limits, checker, threads)
@@ -78,7 +78,7 @@ def judge(
     return Judging(decided, lists, checker, undefined_steps, threads, TheirList(source, said, translation))
 
 
-def _translation(source: Twice, words: Dict[str, Word], tell: Tell) -> Optional[Translation]:
+def translation_in(source: Twice, words: Dict[str, Word], tell: Tell) -> Optional[Translation]:
     """The translation of a table's words; None where the list has none. Raises ValueError where two columns
     may have the verdicts or their numbers."""
     layout = source.form.layout
