@@ -12,9 +12,7 @@ from support import TOP
 from support.machines import CHAMPION, CHAMPION_OF_FOUR
 from support.program import ended, kind_of, replies
 
-Image: Any = pytest.importorskip(
-    "PIL.Image", reason="Python has no PIL (Debian: python3-pil)"
-)
+Image: Any = pytest.importorskip("PIL.Image", reason="Python has no PIL (Debian: python3-pil)")
 GOES_RIGHT = "1RA1RA"
 WHITE, BLACK, GREY, RED = (255, 255, 255), (20, 20, 20), (225, 225, 225), (220, 30, 30)
 
@@ -23,25 +21,18 @@ def rows_of(picture: budlarem.Picture) -> List[List[Tuple[int, ...]]]:
     """The rows of a picture, each pixel as its colour."""
     image = Image.open(io.BytesIO(picture.png)).convert("RGB")
     pixels = list(image.getdata())
-    return [
-        pixels[begin : begin + image.width]
-        for begin in range(0, len(pixels), image.width)
-    ]
+    return [pixels[begin : begin + image.width] for begin in range(0, len(pixels), image.width)]
 
 
 def test_champion_of_four_states() -> None:
     """Its whole run: 107 steps over 14 cells, from -10 to 3."""
     picture = budlarem.picture(CHAMPION_OF_FOUR, 107, scale=2)
     rows = rows_of(picture)
-    assert len(rows) == 216 and all(
-        len(row) == 28 for row in rows
-    ), "two pixels a place"
+    assert len(rows) == 216 and all(len(row) == 28 for row in rows), "two pixels a place"
     assert (picture.every, picture.is_cut, picture.is_part) == (1, False, False)
     assert rows[0][20] == rows[1][21] == RED, "the head begins at 0"
     assert {*rows[0]} == {RED, GREY}, "nothing else is visited at first"
-    assert (
-        rows[-1][::2].count(BLACK) == 13
-    ), "13 cells aren't 0 at the halt, the head on the one that is"
+    assert rows[-1][::2].count(BLACK) == 13, "13 cells aren't 0 at the halt, the head on the one that is"
 
 
 def test_sampled_steps() -> None:
@@ -63,9 +54,7 @@ def test_chosen_positions() -> None:
     ), "a wide picture is cut about its middle"
     assert rows[50] == [BLACK] * 5 + [RED] + [GREY] * 5
     rows = rows_of(budlarem.picture(GOES_RIGHT, 3, left=-1, right=1))
-    assert [row[0] for row in rows] == [
-        GREY
-    ] * 4, "positions that aren't visited are grey"
+    assert [row[0] for row in rows] == [GREY] * 4, "positions that aren't visited are grey"
     assert rows[2][1:] == [BLACK, BLACK]
 
 
@@ -80,12 +69,8 @@ def test_scaled_down(upto: int, rows: int, across: int) -> None:
     # In step n cells 0 to n - 1 are 1, the head is on a 0, and nothing else is visited.
     step = 2 * picture.every
     cells = [BLACK] * step + [WHITE] + [GREY] * (across * wide - step - 1)
-    means = (
-        zip(*cells[begin : begin + across]) for begin in range(0, len(cells), across)
-    )
-    assert pixels[2] == [
-        tuple(round(sum(part) / across) for part in parts) for parts in means
-    ]
+    means = (zip(*cells[begin : begin + across]) for begin in range(0, len(cells), across))
+    assert pixels[2] == [tuple(round(sum(part) / across) for part in parts) for parts in means]
     twice = rows_of(budlarem.picture(GOES_RIGHT, upto, rows=rows, scale=2))
     assert (len(twice[0]), len(twice)) == (2 * wide, 2 * len(pixels))
     cut = budlarem.picture(GOES_RIGHT, upto, rows=rows, columns=100)
@@ -105,9 +90,7 @@ def test_what_cannot_be_drawn() -> None:
         budlarem.picture(GOES_RIGHT, 3, left=5, right=4)
     with pytest.raises(budlarem.MachineError):
         budlarem.picture("1RA", 3)
-    with pytest.raises(
-        budlarem.PictureError, match="160,000,000,000 pixels.*lower scale to 2500"
-    ):
+    with pytest.raises(budlarem.PictureError, match="160,000,000,000 pixels.*lower scale to 2500"):
         budlarem.picture(GOES_RIGHT, 3, scale=100_000)
     with pytest.raises(budlarem.PictureError, match="lower scale to 2500"):
         budlarem.picture(GOES_RIGHT, 3, scale=2_501)
@@ -123,7 +106,5 @@ def test_first_command_of_readme(bb: str) -> None:
     words, shown = block[1].split(), [line.strip() for line in block[2].splitlines()]
     assert ended([bb, *words], cwd=str(TOP)).output.decode().splitlines() == shown
     (verdict,) = [line for line in shown if line.startswith(CHAMPION)]
-    (line,) = replies(
-        [bb, "decide", "--steps", str(int(verdict.split()[2]) - 1)], [CHAMPION]
-    )
+    (line,) = replies([bb, "decide", "--steps", str(int(verdict.split()[2]) - 1)], [CHAMPION])
     assert kind_of(line) == "undecided"
