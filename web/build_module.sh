@@ -8,6 +8,7 @@
 # web/narrow.py has narrowed its pointers to 32 bits; the kit's files are only read, and a folder of links
 # stands for it meanwhile. Standard error tells what it does.
 set -eu
+[ $# -eq 0 ] || { echo "build_module.sh: it takes no arguments" >&2; exit 2; }
 web=$(cd "$(dirname "$0")" && pwd)
 module=$web/out/bb.wasm
 calls='bb_decide bb_decide_line bb_check bb_check_line bb_trace'
