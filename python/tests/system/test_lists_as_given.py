@@ -190,10 +190,13 @@ def test_random_forms(count: int) -> None:
     """Random machines in random forms come back as they were, or are refused."""
     back = 0
     for machine, line in lines_in_some_form(count):
+        if not machine.strip("-_") and line.startswith("|"):  # A table's rule.
+            continue
         (reading,) = budlarem.read([line])
         # The one form in which the program itself reads another machine.
-        is_other = "_" not in line and budlarem.is_machine(line.strip())
-        right = (line.strip() if is_other else machine, None)
+        joined = machine.replace("_", "")
+        is_other = line.strip().startswith(joined) and budlarem.is_machine(joined)
+        right = (joined if is_other else machine, None)
         assert reading.machine in right, line
         back += reading.machine == machine
     assert back > 0.6 * count
