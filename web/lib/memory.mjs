@@ -1,6 +1,8 @@
 /** The memory of the engine, and what is said where it can't be had. */
 
 const NEWLINE = 10;
+const NEWLINES = 0x0a0a0a0a;
+const LOWER_BITS = 0x7f7f7f7f;
 
 /** The memory that a call needs can't be had. The engine stays usable, with fewer cells or shorter lists. */
 export class MemoryError extends Error {
@@ -18,13 +20,31 @@ export class UnsupportedError extends Error {
   }
 }
 
-/** The number of lines; a last one without a newline counts if it isn't empty. */
+/** The bytes in words of four, from the first place on at which a word can begin: `first`. */
+export function wordsOf(/** @type {Uint8Array} */ { buffer, byteOffset, length }) {
+  const first = Math.min(-byteOffset & 3, length);
+  const count = (length - first) >> 2;
+  return { words: new Int32Array(buffer, count > 0 ? byteOffset + first : 0, count), first };
+}
+
+/** A byte's upper bit for each newline among the four of a word; 0 where there is none. */
+export function newlinesIn(/** @type {number} */ word) {
+  const differs = word ^ NEWLINES;
+  return ~(((differs & LOWER_BITS) + LOWER_BITS) | differs | LOWER_BITS);
+}
+
+/**
+ * The number of lines; a last one without a newline counts if it isn't empty. Newlines are counted in four
+ * bytes at once: `indexOf` takes three times as long for lines of machines.
+ */
 export function countLines(/** @type {Uint8Array} */ bytes) {
+  const { words, first } = wordsOf(bytes);
+  const rest = [bytes.subarray(0, first), bytes.subarray(first + 4 * words.length)];
   let count = bytes.length > 0 && bytes[bytes.length - 1] !== NEWLINE ? 1 : 0;
-  for (let at = bytes.indexOf(NEWLINE); at >= 0; at = bytes.indexOf(NEWLINE, at + 1)) {
-    count += 1;
+  for (let at = 0; at < words.length; at += 1) {
+    count += Math.imul(newlinesIn(words[at]) >>> 7, 0x01010101) >>> 24;
   }
-  return count;
+  return rest.reduce((sum, part) => sum + part.filter((byte) => byte === NEWLINE).length, count);
 }
 
 const PAGE = 65_536;
