@@ -116,7 +116,7 @@ def test_disguised_machines_are_found(rng: random.Random, count: int) -> None:
 @pytest.mark.parametrize("change, status", [("", 0), ('"huge", ', 1)])
 def test_kinds_of_one_letter_are_refused(tmp_path: pathlib.Path, change: str, status: int) -> None:
     """Kinds that begin with the same letter, when the module loads."""
-    for name in ("worker/replies.mjs", "reader/machine.mjs"):
+    for name in ("worker/replies.mjs", "reader/machine.mjs", "lib/memory.mjs"):
         text = (TOP / "web" / name).read_text(encoding="utf-8")
         path = tmp_path / name
         path.parent.mkdir()
