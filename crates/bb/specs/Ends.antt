@@ -11,14 +11,14 @@ use Rattle.bb_run.specs.Ends.{DecideEnds, DecideInOneRunEnds, TraceEnds}
 use Rattle.bb_command.specs.declared.command.Work.{Work}
 use Rattle.bb_command.specs.declared.command.Work.TheVariants.{Decide, Check, Trace}
 
--- memory ran out before the work was begun: nothing is read and nothing written
+-- an allocation failed before the work started: nothing is read and nothing written
 pub record IsNotBegun (left left_then held held_then : Option (List ℕ)) (end : Result Summary Fault)
     : Type 0 where
   pub fault : end ≡ Err Memory
   pub unread : left_then ≡ left
   pub unwritten : held_then ≡ held
 
--- how work that was begun ends: on a list to decide as `Decides` says; for a trace nothing is read
+-- the result of started work: for a list to decide by `Decides`; a trace reads nothing
 abbrev pub WorkEnds : (Plan → Type 0) → Work → Bounds → Option (List ℕ) → Option (List ℕ) → Option (List ℕ)
     → Option (List ℕ) → Result Summary Fault → Type 0
 WorkEnds Decides (Decide plan) bounds left left_then held held_then end = Decides plan
@@ -27,8 +27,8 @@ WorkEnds Decides Check bounds left left_then held held_then end =
 WorkEnds Decides (Trace text) bounds left left_then held held_then end =
     (left_then ≡ left) × TraceEnds bounds (string_bytes text) held held_then end
 
--- how serving ends, with the summary of the definition of a verdict: as the work does, or without having
--- begun
+-- the result of serving, with the summary by the definition of a verdict: that of the work, or a failure
+-- before its start
 abbrev pub ServeEnds : Work → Bounds → Option (List ℕ) → Option (List ℕ) → Option (List ℕ)
     → Option (List ℕ) → Result Summary Fault → Type 0
 ServeEnds work bounds left left_then held held_then end =

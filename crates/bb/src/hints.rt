@@ -1,12 +1,13 @@
-//! Hints that a terminal gets beside an answer: what the input is, where it is no list of lines, and how a
-//! number is written.
+//! Hints on a terminal beside an answer: the kind of an input without lines, and the form of a number.
+
+ghost use Rattle.std.specs.Prelude.{◌≡◌, None};
 
 use arrayvec::ArrayString;
 use std::fmt;
 use std::fmt::{Display, Formatter};
 use std::io::{Read, Result};
 
-/// What the first bytes of an input show, where its first line can't be a machine's or a verdict line.
+/// The kind of an input by its first bytes, if its first line can't be a machine or a verdict line.
 #[derive(Clone, Copy, Debug, PartialEq, Eq)]
 pub enum InputHint {
     /// They are those of a gzip file.
@@ -17,7 +18,7 @@ pub enum InputHint {
     CarriageReturn,
 }
 
-/// A reader that hands each call on as it is, and keeps what the first bytes show.
+/// A reader that forwards each call, and keeps a hint from the first bytes.
 #[derive(Drop)]
 pub struct Hinted<R> {
     inner: R,
@@ -26,8 +27,11 @@ pub struct Hinted<R> {
 }
 
 impl<R> Hinted<R> {
-    /// Reads from `inner`, of which nothing was read yet.
-    pub fn new(inner: R) -> Self {
+    /// Reads from `inner`, before its first read.
+    pub fn new(inner: R) -> Self
+        ensures inner { result.inner ≡ inner }
+        ensures hint { result.hint ≡ None }
+    {
         Hinted {
             inner,
             hint: None,
@@ -35,8 +39,10 @@ impl<R> Hinted<R> {
         }
     }
 
-    /// What the first bytes read show, if they show what to do.
-    pub fn hint(&self) -> Option<InputHint> {
+    /// The hint from the first bytes, if any.
+    pub fn hint(&self) -> Option<InputHint>
+        ensures { result ≡ self.now.hint }
+    {
         self.hint
     }
 }
@@ -55,7 +61,7 @@ impl<R: Read> Read for Hinted<R> {
     }
 }
 
-/// The hint that the first bytes of an input give, if they give one.
+/// The hint from the first bytes of an input, if any.
 pub fn input_hint(bytes: &[u8]) -> Option<InputHint> {
     if bytes.starts_with(b"\x1f\x8b") {
         return Some(InputHint::Gzip);
@@ -90,7 +96,7 @@ impl Display for InputHint {
 }
 
 /// A number without separators, for a word such as `1,000,000`, `--steps=1_000_000` or `1e6`. None for other
-/// words, and where the number has more than 20 digits.
+/// words, and for more than 20 digits.
 #[cold]
 #[inline(never)]
 pub fn plain_number(word: &str) -> Option<ArrayString<20>> {

@@ -1,4 +1,4 @@
-//! `bb`: verdicts on small Turing machines. `docs/model.md` says what a verdict is.
+//! `bb`: verdicts on small Turing machines. `docs/definitions.md` defines them.
 #![tactic(auto)]
 
 ghost use Rattle.std.specs.Prelude.{◌≡◌, IfErr, IfOk, map};
@@ -11,7 +11,7 @@ mod serve;
 #[cfg(test)]
 mod tests;
 
-use bb_command::{Advice, Asked, Numbers, Stop, ask, numbers_given};
+use bb_command::{Advice, Asked, Numbers, Stop, ask, parse_numbers};
 use bb_lines::fault::Fault;
 use bb_lines::watched::Watched;
 use bb_run::Summary;
@@ -29,15 +29,15 @@ use std::process::ExitCode;
 fn main(rt: HostRuntime) -> ExitCode {
     let arguments = match read_arguments(&rt) {
         Ok(arguments) => arguments,
-        Err(stop) => return ExitCode::from(tell_stop(&rt, &stop, None)),
+        Err(stop) => return ExitCode::from(report_stop(&rt, &stop, None)),
     };
-    let status = match asked(rt.alloc(), arguments.as_slice()) {
+    let status = match parse_request(rt.alloc(), arguments.as_slice()) {
         Ok(asked) => answer_request(&rt, &asked),
         Err(stop) => {
-            let numbers = given(rt.alloc(), arguments.as_slice()).ok();
-            let status = tell_stop(&rt, &stop, numbers);
+            let numbers = parse_numbers_of(rt.alloc(), arguments.as_slice()).ok();
+            let status = report_stop(&rt, &stop, numbers);
             if let Stop::Words(_) = stop {
-                let _ = tell_plain_numbers(&rt, arguments.as_slice());
+                let _ = print_plain_numbers(&rt, arguments.as_slice());
             }
             status
         }
@@ -52,23 +52,22 @@ fn words_of<'a>(alloc: Global, arguments: &'a [String]) -> Result<Vec<&'a str>, 
     arguments.iter().map(|word| word.as_str()).collect(alloc)
 }
 
-/// What the arguments ask for.
-fn asked(alloc: Global, arguments: &[String]) -> Result<Asked, Stop>
+/// The request of the arguments.
+fn parse_request(alloc: Global, arguments: &[String]) -> Result<Asked, Stop>
     ensures asked { IfOk result (IsAskedBy (words_meant (map string_bytes arguments.now))) }
     ensures stop { IfErr result (IsStopOf (words_meant (map string_bytes arguments.now))) }
 {
     ask(alloc, words_of(alloc, arguments)?.as_slice())
 }
 
-/// The numbers that the arguments give for the limits.
-fn given(alloc: Global, arguments: &[String]) -> Result<Numbers, Stop>
+/// The numbers for the limits among the arguments.
+fn parse_numbers_of(alloc: Global, arguments: &[String]) -> Result<Numbers, Stop>
     ensures given { IfOk result (AreGivenBy (map string_bytes arguments.now)) }
 {
-    numbers_given(alloc, words_of(alloc, arguments)?.as_slice())
+    parse_numbers(alloc, words_of(alloc, arguments)?.as_slice())
 }
 
-/// Does what is asked for, tells a fault, and gives the exit status. A file that can't be opened is a failed
-/// read.
+/// Does the work, reports a fault, and returns the exit status. A file that can't be opened is a failed read.
 fn answer_request(rt: &HostRuntime, asked: &Asked) -> u8 {
     let counts = Counts::default();
     let (end, error, hint) = match &asked.file {
@@ -79,7 +78,7 @@ fn answer_request(rt: &HostRuntime, asked: &Asked) -> u8 {
         None => serve_input(rt, asked, None, rt.stdin(), &counts),
     };
     if let (Ok(_), Some(hint)) = (&end, hint) {
-        let _ = tell_hint(rt, hint);
+        let _ = print_hint(rt, hint);
     }
     if let Err(fault) = &end {
         let _ = eprintln!(rt; "{fault}");
@@ -91,9 +90,8 @@ fn answer_request(rt: &HostRuntime, asked: &Asked) -> u8 {
     status(&end)
 }
 
-/// Does what is asked for with this input, which has so many bytes where that is known, and shows the
-/// progress. Beside the end come the error that made it a fault and what the input's first bytes show, where
-/// there are such.
+/// Does the work with this input, of `size` bytes if known, and shows the progress. Returns the result with
+/// the error behind a fault and the hint on the input, if any.
 fn serve_input<'a, R: Read + Drop>(
     rt: &'a HostRuntime,
     asked: &Asked,
@@ -123,16 +121,16 @@ fn serve_input<'a, R: Read + Drop>(
     (end, error, hint)
 }
 
-/// Prints on a terminal what the input's first bytes show.
-fn tell_hint(rt: &HostRuntime, hint: InputHint) -> io::Result<()> {
+/// Prints the hint on the input, on a terminal.
+fn print_hint(rt: &HostRuntime, hint: InputHint) -> io::Result<()> {
     if !rt.stderr().is_terminal() {
         return Ok(());
     }
     rt.eprintln(hint)
 }
 
-/// Prints on a terminal how the numbers among the arguments are written that have separators.
-fn tell_plain_numbers(rt: &HostRuntime, arguments: &[String]) -> io::Result<()> {
+/// Prints on a terminal the plain form of numbers with separators among the arguments.
+fn print_plain_numbers(rt: &HostRuntime, arguments: &[String]) -> io::Result<()> {
     if !rt.stderr().is_terminal() {
         return Ok(());
     }
@@ -144,10 +142,10 @@ fn tell_plain_numbers(rt: &HostRuntime, arguments: &[String]) -> io::Result<()> 
     Ok(())
 }
 
-/// Tells why nothing is done, and gives the exit status: that of the stop, or 3 where help or the version
-/// can't be written.
-fn tell_stop(rt: &HostRuntime, stop: &Stop, numbers: Option<Numbers>) -> u8 {
-    match (tell(rt, stop, numbers), stop) {
+/// Prints the reason for doing no work, and returns the exit status: that of the stop, or 3 if help or the
+/// version can't be written.
+fn report_stop(rt: &HostRuntime, stop: &Stop, numbers: Option<Numbers>) -> u8 {
+    match (print_stop(rt, stop, numbers), stop) {
         (Err(_), Stop::Help(_)) => {
             let _ = eprintln!(rt; "{}", Fault::Write);
             3
@@ -156,11 +154,11 @@ fn tell_stop(rt: &HostRuntime, stop: &Stop, numbers: Option<Numbers>) -> u8 {
     }
 }
 
-/// Prints help to standard output, and any other cause to standard error; on a terminal, also which of the
-/// limits were refused and what would do. It isn't inlined: where the watched run's function begins hangs on
-/// the functions before it (`docs/speed.md`).
+/// Prints help to standard output, and any other cause to standard error; on a terminal, also the refused
+/// limits and accepted values. It isn't inlined: the alignment of the single-pass run depends on the
+/// functions before it (`docs/performance.md`).
 #[inline(never)]
-fn tell(rt: &HostRuntime, stop: &Stop, numbers: Option<Numbers>) -> io::Result<()> {
+fn print_stop(rt: &HostRuntime, stop: &Stop, numbers: Option<Numbers>) -> io::Result<()> {
     match stop {
         Stop::Help(text) => rt.print(text),
         Stop::Words(text) => rt.eprint(text),

@@ -1,4 +1,4 @@
-//! What the progress of `bb` shows, and when.
+//! The content of the progress line of `bb`, and its conditions.
 
 use bb_command::Work;
 use bb_run::{AnswerCounts, VerdictCounts};
@@ -7,14 +7,14 @@ use std::io::IsTerminal;
 use std::os::unix::fs::{FileTypeExt, MetadataExt};
 use std::{fmt, fs};
 
-/// What the lines of a list came to so far: those of machines, and those of claims.
+/// The counts of a list so far: of machines, and of claims.
 #[derive(Default, Drop)]
 pub struct Counts {
     pub verdicts: VerdictCounts,
     pub answers: AnswerCounts,
 }
 
-/// The counts of each kind of which there are any.
+/// The counts of each kind, without zeros.
 #[derive(Clone, Copy)]
 pub struct CountsByKind<'a> {
     counts: &'a Counts,
@@ -23,8 +23,8 @@ pub struct CountsByKind<'a> {
 }
 
 impl<'a> CountsByKind<'a> {
-    /// What is shown while this work is done. None for a trace, where standard error is no terminal, and
-    /// where standard output is neither a file nor the null device.
+    /// The counts to show during this work. None for a trace, if standard error is no terminal, and if
+    /// standard output is neither a file nor the null device.
     pub fn of(rt: &HostRuntime, work: &Work, counts: &'a Counts) -> Option<CountsByKind<'a>> {
         let is_check = match work {
             Work::Decide(_) => false,
@@ -68,12 +68,12 @@ impl Display for CountsByKind<'_> {
     }
 }
 
-/// Writes how many lines there are of each kind of which there are any.
+/// Writes the number of lines of each kind, without zeros.
 fn write_kinds<W: fmt::Write>(f: &mut Formatter<W>, kinds: &[(&'static str, u64)]) -> fmt::Result {
     let mut between = "";
     for (name, count) in kinds {
         if *count > 0 {
-            let (number, unit) = shortened(*count);
+            let (number, unit) = shorten(*count);
             write!(f, "{between}{number}{unit} {name}")?;
             between = ", ";
         }
@@ -81,9 +81,9 @@ fn write_kinds<W: fmt::Write>(f: &mut Formatter<W>, kinds: &[(&'static str, u64)
     Ok(())
 }
 
-/// A count in at most five columns, where it has at most ten digits: in thousands or millions, rounded down,
-/// where it has more than five.
-fn shortened(count: u64) -> (u64, &'static str) {
+/// A count of at most ten digits in at most five columns: more than five digits in thousands or millions,
+/// rounded down.
+fn shorten(count: u64) -> (u64, &'static str) {
     if count < 100_000 {
         (count, "")
     } else if count < 10_000_000 {
@@ -93,7 +93,7 @@ fn shortened(count: u64) -> (u64, &'static str) {
     }
 }
 
-/// Whether what is written to standard output is kept in a file, or not at all, so that nobody looks on.
+/// Whether standard output is a file or the null device, so that nobody watches it.
 fn is_output_kept(rt: &HostRuntime) -> bool {
     let Ok(output) = fs::metadata(rt, "/dev/stdout") else {
         return false;

@@ -1,4 +1,4 @@
-//! Does what was asked for, and says how it ended.
+//! Does the work of a request, and returns its result.
 ghost use Rattle.std.specs.Prelude.{◌≡◌, ◌≢◌, ◌⊎◌, ◌↔◌, false, true};
 ghost use Rattle.std.specs.String.{string_bytes};
 ghost use Rattle.bb_machine.specs.declared.plan.Plan.{Plan};
@@ -22,9 +22,8 @@ use bb_tape::RingTape;
 use std::alloc::Global;
 use std::io::{Read, Write};
 
-/// Does what is asked for on rings and a path of its own, which take no memory once they are made. For a
-/// trace nothing is read. The summary of a list that is decided has the exact cost of each machine by the
-/// definition of a verdict.
+/// Does the work of a request on rings and a path of its own, allocated once. A trace reads nothing. The
+/// summary of a decided list has the exact cost of each machine by the definition of a verdict.
 pub fn serve<R: Read, W: Write>(
     alloc: Global,
     asked: &Asked,
@@ -34,12 +33,13 @@ pub fn serve<R: Read, W: Write>(
     requires reader { is_marked reader.old ≡ false }
     requires writer { is_marked writer.old ≡ false }
 
-    // How the work ends, and what is read and written then; or memory ran out before it began.
+    // The result of the work, the input read and the output written; or an allocation failure before it
+    // started.
     ensures ends { ServeEnds asked.now.work asked.now.limits
         (R.remaining (watched_inner reader.old)) (R.remaining (watched_inner reader.new))
         (W.contents (watched_inner writer.old)) (W.contents (watched_inner writer.new)) result }
 
-    // What stands behind each verdict that deciding writes.
+    // The meaning of each verdict written.
     ensures borne_out { (plan : Plan) → asked.now.work ≡ Work.Decide plan
         → VerdictsAreBorneOut asked.now.limits plan }
 
@@ -63,9 +63,9 @@ pub fn serve<R: Read, W: Write>(
     }
 }
 
-/// The same as [`serve`], byte for byte, but each machine of a list is decided in one run, so that a halt or
-/// a pair costs about what its verdict names, and the summary has what was made. The lines of a list are
-/// counted in `counts` as they are answered.
+/// The same as [`serve`], byte for byte, but each machine of a list is decided in one run: a halt or a pair
+/// costs about as many steps as its verdict names, and the summary has the steps really made. `counts` has
+/// the lines answered so far.
 pub fn serve_in_one_run<R: Read, W: Write>(
     alloc: Global,
     asked: &Asked,
@@ -76,12 +76,13 @@ pub fn serve_in_one_run<R: Read, W: Write>(
     requires reader { is_marked reader.old ≡ false }
     requires writer { is_marked writer.old ≡ false }
 
-    // How the work ends, and what is read and written then; or memory ran out before it began.
+    // The result of the work, the input read and the output written; or an allocation failure before it
+    // started.
     ensures ends { ServeInOneRunEnds asked.now.work asked.now.limits
         (R.remaining (watched_inner reader.old)) (R.remaining (watched_inner reader.new))
         (W.contents (watched_inner writer.old)) (W.contents (watched_inner writer.new)) result }
 
-    // What stands behind each verdict that deciding writes.
+    // The meaning of each verdict written.
     ensures borne_out { (plan : Plan) → asked.now.work ≡ Work.Decide plan
         → VerdictsAreBorneOut asked.now.limits plan }
 
@@ -165,7 +166,7 @@ fn trace_text<W: Write>(
     }
 }
 
-/// The program's exit status: 0 where the summary is clean, 1 where it isn't, 3 for a fault.
+/// The program's exit status: 0 for a clean summary, 1 for another one, 3 for a fault.
 pub fn status(end: &Result<Summary, Fault>) -> u8
     ensures { result ≡ end_status end.now }
 {

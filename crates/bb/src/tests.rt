@@ -1,9 +1,9 @@
-//! Command lines from end to end, over bytes in memory, with answers that were worked out by hand.
+//! Command lines from end to end, over bytes in memory, with answers worked out by hand.
 
 use crate::progress::Counts;
 use crate::serve::{serve, serve_in_one_run, status};
 use arrayvec::ArrayString;
-use bb_command::{Asked, Numbers, Stop, ask, numbers_given};
+use bb_command::{Asked, Numbers, Stop, ask, parse_numbers};
 use bb_lines::fault::Fault;
 use bb_lines::watched::Watched;
 use bb_machine::limits::{MAX_CELLS, MAX_LEVELS, MAX_NODES, MAX_STEPS};
@@ -12,14 +12,14 @@ use std::fmt::Write;
 use std::process::Abort;
 use std::test::Fail;
 
-/// What `decide` with these options asks for.
+/// The request of `decide` with these options.
 fn asked_with(rt: &(impl Abort + AllocGlobal), options: &[&'static str]) -> Asked {
     let mut words: Vec<&str> = ["bb", "decide"].to_vec(rt.alloc()).expect(rt, "memory");
     words.extend_from_slice(options).expect(rt, "memory");
     ask(rt.alloc(), words.as_slice()).expect(rt, "a command line")
 }
 
-/// What the program ends in and writes on `decide` with these options.
+/// The result and the output of `decide` with these options.
 fn decided(
     rt: &(impl Abort + AllocGlobal),
     options: &[&'static str],
@@ -38,7 +38,7 @@ fn decided(
     (end, writer.into_inner())
 }
 
-/// The same of `serve`, whose summary has the cost by the definition of a verdict.
+/// The same by `serve`: its summary has the cost by the definition of a verdict.
 fn served(
     rt: &(impl Abort + AllocGlobal),
     options: &[&'static str],
@@ -88,8 +88,8 @@ fn three_lines_are_decided_by_running_alone(rt: HostRuntime) {
     }
 }
 
-/// Holds what `serve` counts of a machine, by the definition of a verdict: steps, nodes and levels; and that
-/// deciding it in one run writes the same for no more steps.
+/// Checks the cost of a machine by `serve`: steps, nodes and levels by the definition of a verdict. One run
+/// writes the same for no more steps.
 fn assert_cost(
     rt: &(impl Abort + AllocGlobal),
     options: &[&'static str],
@@ -298,8 +298,8 @@ fn refuses_limits(rt: HostRuntime) {
     }
 }
 
-/// Words, the numbers that they give for steps, cells, levels and nodes, accepted or not, and whether they
-/// ask for a trace.
+/// Words, their numbers for steps, cells, levels and nodes, accepted or not, and whether they request a
+/// trace.
 static GIVEN: [(&[&str], [u64; 4], bool); 4] = [
     (
         &["decide", "--cells=4", "--depth=3"],
@@ -319,7 +319,7 @@ static GIVEN: [(&[&str], [u64; 4], bool); 4] = [
     (&["decide"], [1_000_000, 65_536, 300, 1_000_000], false),
 ];
 
-/// With ample memory the numbers are given: no clause says that memory is left.
+/// With ample memory the numbers are there: no clause promises memory.
 #[test]
 fn gives_the_numbers_of_limits(rt: HostRuntime) {
     for (words, given, is_of_trace) in &GIVEN {
@@ -332,14 +332,14 @@ fn gives_the_numbers_of_limits(rt: HostRuntime) {
     }
 }
 
-/// The numbers that these words give.
+/// The numbers of these words.
 fn numbers_of(rt: &(impl Abort + AllocGlobal), words: &[&'static str]) -> Numbers {
     let mut all: Vec<&str> = ["bb"].to_vec(rt.alloc()).expect(rt, "memory");
     all.extend_from_slice(words).expect(rt, "memory");
-    numbers_given(rt.alloc(), all.as_slice()).expect(rt, "numbers")
+    parse_numbers(rt.alloc(), all.as_slice()).expect(rt, "numbers")
 }
 
-/// Words that are no command line, and what the text that refuses them names.
+/// Wrong command lines, and a part of the message for each.
 static NO_COMMAND_LINES: [(&[&str], &str); 14] = [
     (&["decide", "--steps=x"], "--steps"),
     (&["decide", "--cells=18446744073709551616"], "--cells"),
@@ -389,7 +389,7 @@ fn tells_what_it_is_asked(rt: HostRuntime) {
     }
 }
 
-/// Help is one literal: each range in it is that of the limits' constants.
+/// Help is one literal: each range in it is the one of the limits' constants.
 #[test]
 fn help_gives_the_ranges_of_limits(rt: HostRuntime) -> Result<(), Fail> {
     for (least, most) in [

@@ -8,7 +8,7 @@ use Rattle.bb_sim.specs.declared.meter.Meter.{Meter}
 use Rattle.bb_cert.specs.declared.verdict.Verdict.{Verdict}
 use Rattle.bb_cert.specs.declared.verdict.Verdict.TheVariants.{Backward, Undecided}
 use Rattle.bb_decide.specs.Fingerprint.{CostsWhatItNames, SearchesCollide, most_steps, named_step}
-use Rattle.bb_decide.specs.Keys.{spread}
+use Rattle.bb_decide.specs.FingerprintKeys.{spread}
 use Rattle.bb_decide.specs.OneRun.{CountsRuns}
 use Rattle.bb_decide.specs.Sure.{IsFoundByRun, NoneIsSmaller}
 use Rattle.bb_decide.specs.Verdict.{IsVerdict}

@@ -1,7 +1,7 @@
 -- What a call leaves in its caller's buffer: this project's own.
 use Rattle.std.specs.Prelude.{◌≡◌, ℕ, ◌<◌, ◌≤◌, List, ◌++◌, length, drop}
 
--- bytes of which this holds now begin the buffer; what it had behind them stays, and the count is theirs
+-- bytes with this property now start the buffer; the bytes after them are unchanged, and the count is theirs
 pub record IsFilled (Holds : List ℕ → Type 0) (old new : List ℕ) (count : ℕ) : Type 0 where
   pub bytes : List ℕ
   pub holds : Holds bytes
@@ -9,8 +9,7 @@ pub record IsFilled (Holds : List ℕ → Type 0) (old new : List ℕ) (count : 
   pub fits : length bytes ≤ length old
   pub filled : new ≡ bytes ++ drop (length bytes) old
 
--- there are bytes of which this holds, as many as the count, which is more than the buffer has; it stays as
--- it was
+-- there are bytes with this property, as many as the count, more than the buffer has; it is unchanged
 pub record IsTooShort (Holds : List ℕ → Type 0) (old new : List ℕ) (count : ℕ) : Type 0 where
   pub bytes : List ℕ
   pub holds : Holds bytes

@@ -1,4 +1,4 @@
--- What a call is asked for, put together from its numbers and its bytes: this project's own.
+-- The request of a call, put together from its numbers and its bytes: this project's own.
 use Rattle.std.specs.Prelude.{ℕ, Bool, List}
 use Rattle.bb_machine.specs.Limits.{Bounds}
 use Rattle.bb_machine.specs.Machine.{Table}

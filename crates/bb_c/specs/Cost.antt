@@ -1,11 +1,11 @@
--- What the verdict on one line costs, where small limits are tried first.
+-- The cost of the verdict on one line, with a first try under small limits.
 use Rattle.std.specs.Prelude.{◌≡◌, ℕ, ◌+◌, ◌*◌, ◌<◌, ◌≤◌, ◌⊎◌, false, max, min}
 use Rattle.bb_machine.specs.Limits.{Bounds}
 use Rattle.bb_machine.specs.Machine.{Table}
 use Rattle.bb_machine.specs.declared.plan.Plan.{Plan}
 use Rattle.bb_cert.specs.declared.verdict.Verdict.{Verdict}
 use Rattle.bb_decide.specs.Fingerprint.{SearchesCollide, most_steps, named_step}
-use Rattle.bb_decide.specs.Keys.{spread}
+use Rattle.bb_decide.specs.FingerprintKeys.{spread}
 use Rattle.bb_decide.specs.OneRun.{MakesRuns}
 use Rattle.bb_decide.specs.Sure.{IsFoundByRun}
 use Rattle.bb_decide.specs.Verdict.{IsVerdict}
@@ -14,7 +14,7 @@ use Rattle.bb_decide.specs.Verdict.{IsVerdict}
 abbrev pub first_steps : Bounds → ℕ
 first_steps bounds = min bounds.steps 4096
 
--- the limits of the first try, which asks for no tree
+-- the limits of the first try, without a tree
 abbrev pub few_bounds : Bounds → Bounds
 few_bounds bounds = record { steps = first_steps bounds; cells = min bounds.cells 1024; depth = 0; nodes = 0 }
 
@@ -47,16 +47,16 @@ pub record CountsBoth (table : Table) (bounds : Bounds) (plan : Plan) (steps : �
   pub is_then_made : AreRunSteps table bounds plan then_made
   pub sum : steps ≡ tried + then_made
 
--- so many steps were counted: where the limit of cells is small, those within the limits; else those of the
--- first try, and where it finds nothing those within the limits too
+-- so many steps were counted: for a small limit of cells, those within the limits; else those of the first
+-- try, and if it finds nothing, those within the limits too
 abbrev pub CountsTries : Table → Bounds → Plan → ℕ → Type 0
 CountsTries table bounds plan steps = ((bounds.cells ≤ 1024) × AreRunSteps table bounds plan steps)
     ⊎ ((1024 < bounds.cells) × FindsByRun table (few_bounds bounds) (without_trees plan)
     × AreRunSteps table (few_bounds bounds) (without_trees plan) steps)
     ⊎ ((1024 < bounds.cells) × CountsBoth table bounds plan steps)
 
--- a verdict cost no more steps than what it names allows, or, where the first try finds nothing, than that
--- and the first try's steps, unless both searches are on and collide up to there
+-- a verdict cost no more steps than its numbers allow, or, if the first try finds nothing, than that and the
+-- first try's steps, unless both searches are in use and collide up to there
 abbrev pub CostsInTwoTries : Table → Bounds → Plan → ℕ → Verdict → Type 0
 CostsInTwoTries table bounds plan steps verdict =
     (SearchesCollide spread table bounds plan (max (named_step bounds verdict) (first_steps bounds)) → ⊥)

@@ -1,4 +1,4 @@
--- What a call that traces gives: this project's own.
+-- The result of a call for a trace: this project's own.
 use Rattle.std.specs.Prelude.{◌≡◌, ℕ, List}
 use Rattle.bb_machine.specs.Limits.{Bounds}
 use Rattle.bb_run.specs.Sample.{IsSampledTrace}

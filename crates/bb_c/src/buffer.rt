@@ -1,4 +1,4 @@
-//! What a call puts into its caller's buffer, and its status.
+//! The caller's buffer, and the status of a call.
 ghost use Rattle.std.specs.Prelude.{◌≡◌, ◌≢◌, ◌⊎◌, ◌≤◌, IsTrue, length};
 ghost use Rattle.bb_c.specs.Buffer.{IsFilled, IsTooShort};
 
@@ -18,7 +18,7 @@ pub(crate) const MEMORY: u32 = 3;
 pub(crate) const SHORT: u32 = 4;
 
 /// Puts the bytes at the buffer's begin, if it has room for all, and answers the status.
-pub(crate) fn give(bytes: &[u8], clean: bool, out: &mut [u8], count: &mut usize) -> u32
+pub(crate) fn fill_buffer(bytes: &[u8], clean: bool, out: &mut [u8], count: &mut usize) -> u32
     ensures clean { result ≡ CLEAN → IsTrue clean }
     ensures not_clean { result ≡ NOT_CLEAN → IsTrue clean → ⊥ }
     ensures filled { (result ≡ CLEAN) ⊎ (result ≡ NOT_CLEAN)

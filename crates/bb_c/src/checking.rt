@@ -9,7 +9,7 @@ ghost use Rattle.bb_run.specs.CheckSummary.{IsFine};
 ghost use Rattle.bb_c.specs.Buffer.{IsFilled, IsTooShort, IsUntouched};
 ghost use Rattle.bb_c.specs.Call.{IsVerdictLine, bounds_of};
 
-use crate::buffer::{CLEAN, LIMITS, MEMORY, NOT_CLEAN, SHORT, give};
+use crate::buffer::{CLEAN, LIMITS, MEMORY, NOT_CLEAN, SHORT, fill_buffer};
 use bb_cert::{Answer, Line, Verdict, check, read_line};
 use bb_lines::watched::Watched;
 use bb_machine::{Limits, Machine};
@@ -44,7 +44,7 @@ pub extern "C" fn bb_check(
         → IsTooShort (AreReplies (IsCheckReply (bounds_of steps cells depth nodes)) (lines list.now))
         out.old out.new count.new }
 
-    // A buffer that is always long enough.
+    // A buffer long enough for any list.
     ensures enough { 7 * length (lines list.now) ≤ length out.old → result ≢ SHORT }
 
     ensures status { result ≤ SHORT }
@@ -54,7 +54,7 @@ pub extern "C" fn bb_check(
         return LIMITS;
     };
     match answers(alloc, &limits, list) {
-        Ok((replies, clean)) => give(replies.as_slice(), clean, out, count),
+        Ok((replies, clean)) => fill_buffer(replies.as_slice(), clean, out, count),
         Err(_) => MEMORY,
     }
 }
@@ -98,7 +98,7 @@ pub extern "C" fn bb_check_line(
     ensures short { result ≡ SHORT
         → IsTooShort (IsCheckReply (bounds_of steps cells depth nodes) line.now) out.old out.new count.new }
 
-    // A buffer that is always long enough.
+    // A buffer long enough for any line.
     ensures enough { 6 ≤ length out.old → result ≢ SHORT }
 
     ensures status { result ≤ SHORT }
@@ -108,10 +108,10 @@ pub extern "C" fn bb_check_line(
         return LIMITS;
     };
     match read_line(line) {
-        None => give(b"unread", false, out, count),
-        Some(Line::Refusal(_)) => give(Answer::Open.word(), true, out, count),
+        None => fill_buffer(b"unread", false, out, count),
+        Some(Line::Refusal(_)) => fill_buffer(Answer::Open.word(), true, out, count),
         Some(Line::Claim(machine, verdict)) => match answer(alloc, &limits, &machine, &verdict) {
-            Ok(answer) => give(answer.word(), answer.is_fine(), out, count),
+            Ok(answer) => fill_buffer(answer.word(), answer.is_fine(), out, count),
             Err(_) => MEMORY,
         },
     }

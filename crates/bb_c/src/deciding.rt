@@ -6,7 +6,7 @@ ghost use Rattle.bb_machine.specs.Limits.{IsAccepted};
 ghost use Rattle.bb_machine.specs.Machine.{IsMachine, IsMachineLine, text};
 ghost use Rattle.bb_cert.specs.verdict.Verdict.{HasNumbers};
 ghost use Rattle.bb_decide.specs.Fingerprint.{CostsWhatItNames};
-ghost use Rattle.bb_decide.specs.Keys.{spread};
+ghost use Rattle.bb_decide.specs.FingerprintKeys.{spread};
 ghost use Rattle.bb_decide.specs.Sure.{IsFoundByRun, NoneIsSmaller};
 ghost use Rattle.bb_decide.specs.Verdict.{IsVerdict};
 ghost use Rattle.bb_decide.specs.Cost.{IsWithinCost};
@@ -17,7 +17,7 @@ ghost use Rattle.bb_c.specs.Call.{bounds_of, plan_of};
 ghost use Rattle.bb_decide.specs.OneRun.{CountsRuns};
 ghost use Rattle.bb_c.specs.Cost.{CostsInTwoTries, CountsTries, IsWithinTwoTries, few_bounds};
 
-use crate::buffer::{CLEAN, LIMITS, MEMORY, NOT_CLEAN, SHORT, give};
+use crate::buffer::{CLEAN, LIMITS, MEMORY, NOT_CLEAN, SHORT, fill_buffer};
 use arrayvec::ArrayVec;
 use bb_cert::{LINE_BUFFER, Verdict, line_into, lines_are_short, refusal_into};
 use bb_decide::laws::small_limits_decide;
@@ -57,10 +57,10 @@ pub extern "C" fn bb_decide(
         → IsTooShort (AreReplies (IsReply (bounds_of steps cells depth nodes)
         (plan_of cyclers translated backward)) (lines list.now)) out.old out.new count.new }
 
-    // A buffer that is always long enough.
+    // A buffer long enough for any list.
     ensures enough { length list.now + 98 * length (lines list.now) ≤ length out.old → result ≢ SHORT }
 
-    // What stands behind each verdict.
+    // The meaning of each verdict.
     ensures borne_out { VerdictsAreBorneOut (bounds_of steps cells depth nodes)
         (plan_of cyclers translated backward) }
 
@@ -77,7 +77,7 @@ pub extern "C" fn bb_decide(
         backward,
     };
     match verdicts(alloc, &limits, plan, list) {
-        Ok((replies, clean)) => give(replies.as_slice(), clean, out, count),
+        Ok((replies, clean)) => fill_buffer(replies.as_slice(), clean, out, count),
         Err(_) => MEMORY,
     }
 }
@@ -131,10 +131,10 @@ pub extern "C" fn bb_decide_line(
         → IsTooShort (IsReply (bounds_of steps cells depth nodes)
         (plan_of cyclers translated backward) line.now) out.old out.new count.new }
 
-    // A buffer that is always long enough.
+    // A buffer long enough for any line.
     ensures enough { length line.now + 97 ≤ length out.old → result ≢ SHORT }
 
-    // What stands behind each verdict.
+    // The meaning of each verdict.
     ensures borne_out { VerdictsAreBorneOut (bounds_of steps cells depth nodes)
         (plan_of cyclers translated backward) }
 
@@ -150,7 +150,7 @@ pub extern "C" fn bb_decide_line(
         Ok(machine) => machine,
         Err(refused) => {
             refusal_into(refused.column, &mut reply);
-            return give(reply.as_slice(), false, out, count);
+            return fill_buffer(reply.as_slice(), false, out, count);
         }
     };
     let plan = Plan {
@@ -159,12 +159,12 @@ pub extern "C" fn bb_decide_line(
         backward,
     };
     match verdict_line(alloc, &limits, plan, &machine, &mut reply) {
-        Ok(()) => give(reply.as_slice(), true, out, count),
+        Ok(()) => fill_buffer(reply.as_slice(), true, out, count),
         Err(_) => MEMORY,
     }
 }
 
-/// Puts the line of a machine and its verdict into a text, which is empty.
+/// Writes the line of a machine and its verdict into an empty text.
 fn verdict_line(
     alloc: Global,
     limits: &Limits,

@@ -1,5 +1,5 @@
-//! Calls with ample memory: each succeeds, with the bytes that were worked out by hand. No clause says that
-//! memory is left, so a call that only answers `MEMORY` would be proved.
+//! Calls with ample memory: each succeeds, with bytes worked out by hand. No clause promises memory, so a
+//! call with no other answer than `MEMORY` would be proved.
 
 use crate::buffer::{CLEAN, LIMITS, MEMORY, NOT_CLEAN, SHORT};
 use crate::checking::{bb_check, bb_check_line};
@@ -10,7 +10,7 @@ use std::process::Abort;
 /// How many bytes the caller's buffer has.
 const ROOM: usize = 400;
 
-/// What a call left: its status, and the bytes of its reply.
+/// The result of a call: its status, and the bytes of its reply.
 fn assert_reply(rt: &impl Abort, status: u32, out: &[u8], count: usize, wanted: (u32, &[u8])) {
     assert_eq!(rt; status, wanted.0);
     assert!(rt; count <= out.len());
@@ -59,8 +59,8 @@ fn lists_are_decided(rt: HostRuntime) {
     }
 }
 
-/// Lines, and the status and the reply to each. The cells are more than the first try has: a halt that it
-/// finds, and a machine for which the second one is needed.
+/// Lines, with the status and the reply to each. The cells are more than the first try has: one halt found by
+/// it, and one machine for the second try.
 static LINES: [(&[u8], u32, &[u8]); 4] = [
     (b"1RB1LB_1LA1RZ", 0, b"1RB1LB_1LA1RZ halt 6 4"),
     (b"0RB---_0LA---", 0, b"0RB---_0LA--- cycler 2 4"),
@@ -92,7 +92,7 @@ fn lines_are_decided(rt: HostRuntime) {
     }
 }
 
-/// A claim that is true, one that is false, one that needs more than the limits, a refusal, and no claim.
+/// A true claim, a false one, one beyond the limits, a refusal, and no claim.
 const CLAIMS: &[u8] = b"1RB1LB_1LA1RZ halt 6 4
 1RB1LB_1LA1RZ halt 6 5
 1RA1RA translated R 1001 1002 1 1

@@ -6,16 +6,16 @@ ghost use Rattle.bb_c.specs.Buffer.{IsFilled, IsTooShort, IsUntouched};
 ghost use Rattle.bb_c.specs.Call.{bounds_of};
 ghost use Rattle.bb_c.specs.Sample.{IsSampledText};
 
-use crate::buffer::{CLEAN, LIMITS, MEMORY, NOT_CLEAN, SHORT, give};
+use crate::buffer::{CLEAN, LIMITS, MEMORY, NOT_CLEAN, SHORT, fill_buffer};
 use bb_lines::watched::Watched;
 use bb_machine::Limits;
 use bb_run::run_sampled_trace;
 use bb_tape::{Memory, RingTape};
 use std::alloc::Global;
 
-/// Puts lines of a machine's trace into a buffer, each with a newline: those of the steps `from`, `from +
+/// Writes lines of a machine's trace into a buffer, each with a newline: those of the steps `from`, `from +
 /// every` and so on, up to the last one inside the limits. A line has the step, the state, the position of
-/// the head, the position of the first cell, and the cells. To a line that is no machine's text it is the
+/// the head, the position of the first cell, and the cells. For a line without a machine it writes the
 /// refusal.
 #[unsafe(no_mangle)]
 pub extern "C" fn bb_trace(
@@ -46,14 +46,14 @@ pub extern "C" fn bb_trace(
     let Ok(limits) = Limits::new(steps, cells, 0, 0) else {
         return LIMITS;
     };
-    match traced(alloc, &limits, from, every, line) {
-        Ok((lines, clean)) => give(lines.as_slice(), clean, out, count),
+    match add_samples(alloc, &limits, from, every, line) {
+        Ok((lines, clean)) => fill_buffer(lines.as_slice(), clean, out, count),
         Err(_) => MEMORY,
     }
 }
 
 /// The lines of some of the steps of a machine's run, and whether the limit of cells cut off nothing of it.
-fn traced(
+fn add_samples(
     alloc: Global,
     limits: &Limits,
     from: u64,

@@ -6,9 +6,9 @@ pub use Rattle.bb_cert.proofs.record_lemmas.Comparing.{agree_of_cells, cells_of_
 pub use Rattle.bb_cert.proofs.record_lemmas.Comparing.{number_narrow}
 pub use Rattle.bb_cert.proofs.record_lemmas.Comparing.{numbered}
 pub use Rattle.bb_cert.proofs.record_lemmas.Comparing.{extent_of_records, stays}
-pub use Rattle.bb_cert.proofs.record_lemmas.Courses.{at_step, followed_at_first, followed_farther}
-pub use Rattle.bb_cert.proofs.record_lemmas.Courses.{followed_nearer}
-pub use Rattle.bb_cert.proofs.verdict_lemmas.Extents.{told_is_one, told_is_said}
+pub use Rattle.bb_cert.proofs.record_lemmas.ReplayStates.{at_step, followed_at_first, followed_farther}
+pub use Rattle.bb_cert.proofs.record_lemmas.ReplayStates.{followed_nearer}
+pub use Rattle.bb_cert.proofs.verdict_lemmas.Extents.{claimed_is_one, claimed_is_said}
 pub use Rattle.bb_cert.proofs.record_lemmas.Heads.{runs_before}
 pub use Rattle.bb_cert.proofs.verdict_lemmas.Lengths.{length-line, length-verdict_text}
 pub use Rattle.bb_cert.proofs.verdict_lemmas.Lines.{line_unique}

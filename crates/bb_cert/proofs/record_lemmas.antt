@@ -7,6 +7,6 @@ pub mod Heads
 pub mod Tops
 pub mod Stretches
 pub mod UnderWay
-pub mod Courses
+pub mod ReplayStates
 pub mod Comparing
-pub mod KeptCourses
+pub mod KeptReplays

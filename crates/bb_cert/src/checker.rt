@@ -1,4 +1,4 @@
-//! The checker of a claim, whoever made it.
+//! The checker of a claim from any source.
 
 pub mod answer;
 pub mod checking;

@@ -1,3 +1,3 @@
-//! What a verdict claims: the laws of claims.
+//! The claim of a verdict, and the laws of claims.
 
 pub mod laws;

@@ -1,4 +1,4 @@
-//! Verdicts on machines, and the lines in which they are written.
+//! Verdicts on machines, and their lines.
 #![tactic(auto)]
 
 pub mod checker;

@@ -1,4 +1,4 @@
-//! The records of one side of a run, and the one with which a later one is compared.
+//! The records of one side of a run, and the kept one, to be compared with a later one.
 ghost use Rattle.std.specs.Prelude.{◌≡◌, ◌≢◌, ◌↔◌, ◌+ℤ◌, ◌-ℤ◌, ◌≤ℤ◌, pos, IsTrue};
 ghost use Rattle.bb_tape.specs.TapeView.{IsInside};
 ghost use Rattle.bb_sim.specs.CellsBetween.{cells_between};
@@ -14,20 +14,20 @@ use bb_sim::Runner;
 use bb_tape::Tape;
 use bb_tape::widening::widen_to;
 
-/// The record of a side that is kept, and how far the head has come back since. A record's number is how far
-/// out the head is where it is made.
+/// The kept record of a side, and the head's position nearest to the start since. A record's number is the
+/// distance of its head from the start.
 #[derive(Clone, Copy, Debug)]
 pub struct Records {
-    /// The side whose records they are.
+    /// The side of the records.
     pub side: Side,
-    /// The runner where it made the kept record; at position 0 before there is one.
+    /// The runner at the kept record; at position 0 before the first one.
     pub kept: Runner,
     /// The head's least position since then on the right, its greatest on the left.
     pub nearest: i64,
 }
 
 impl Records {
-    /// The records of a side of a run that stands at its start: none.
+    /// The records of a side of a run at its start: none.
     pub fn new(side: Side, start: Runner) -> Records
         ensures { result ≡ record { side = side; kept = start; nearest = pos 0 } }
     {
@@ -49,7 +49,7 @@ impl Records {
         };
     }
 
-    /// Keeps the record that the runner has just made.
+    /// Keeps the record just made by the runner.
     pub fn keep_record(&mut self, runner: &Runner)
         ensures { self.new ≡ with_kept self.old runner.now }
     {
@@ -57,8 +57,8 @@ impl Records {
         self.nearest = runner.position();
     }
 
-    /// Keeps what other records of the same side keep. The side isn't written, so a loop for one side stays
-    /// one.
+    /// Copies the kept record of other records of the same side. The side isn't written, so a loop for one
+    /// side stays one.
     #[inline(always)]
     pub fn copy_kept(&mut self, other: &Records)
         ensures { self.new ≡ record self.old { kept = other.now.kept; nearest = other.now.nearest } }
@@ -67,8 +67,8 @@ impl Records {
         self.nearest = other.nearest;
     }
 
-    /// Whether a record is kept that agrees with the one that the runner has just made. The kept one's tape
-    /// may be widened.
+    /// Whether the kept record, if any, agrees with the one just made by the runner. The kept one's tape may
+    /// be widened.
     pub fn agrees<T: Tape>(&self, runner: &Runner, run: &T, saved: &mut T) -> bool
         requires limit { (T.view saved.old).limit ≡ (T.view run.now).limit }
         requires comparable { IsKeptInStateOf self.now runner.now
@@ -89,8 +89,8 @@ impl Records {
         self.has_same_cells(runner, run, saved)
     }
 
-    /// How the kept record and the one that the runner has just made, which agree, lie. It isn't inlined:
-    /// where the searches begin beside the watched run hangs on it (docs/speed_tried.md).
+    /// The extent of the kept record and the one just made by the runner, if they agree. It isn't inlined:
+    /// the alignment of the searches beside the single-pass run depends on it (docs/performance-tried.md).
     #[inline(never)]
     pub fn extent(&self, runner: &Runner) -> Extent
         requires nearest { IsNarrow self.now.nearest }
@@ -105,8 +105,8 @@ impl Records {
         }
     }
 
-    /// Whether the cells from the nearest position out to the kept record are those that lie as far before
-    /// the one that the runner has just made.
+    /// Whether the cells from the nearest position out to the kept record equal those just as far before the
+    /// record just made by the runner.
     fn has_same_cells<T: Tape>(&self, runner: &Runner, run: &T, saved: &T) -> bool
         requires comparable { IsComparable self.now runner.now (T.view saved.now) (T.view run.now) }
         requires far { IsInside (T.view saved.now) self.now.nearest }
@@ -121,8 +121,8 @@ impl Records {
     }
 }
 
-/// On which side the last step widened the window, after which the runner stands here; none where it didn't.
-/// Before that step the window had so many cells.
+/// The side on which the last step widened the window, if it did. Before that step the window had `cells`
+/// cells.
 #[inline(always)]
 pub fn widened_side(runner: &Runner, cells: u64) -> Option<Side>
     ensures { TellsWidening runner.now cells result }

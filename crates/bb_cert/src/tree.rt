@@ -1,4 +1,4 @@
-//! The tree of what could come before a halt, and the walk through it.
+//! The backward tree of configurations before a halt, and the walk through it.
 
 pub mod path;
 mod rules;

@@ -2,7 +2,7 @@
 
 pub mod line;
 pub mod reader;
-/// Where a machine's records lie: to the left of the start or to the right.
+/// The side of a machine's records: left or right of the start.
 #[derive(Clone, Copy, Debug, PartialEq, Eq)]
 pub enum Side {
     /// The left.
@@ -11,7 +11,7 @@ pub enum Side {
     R,
 }
 
-/// Which limit left a machine undecided.
+/// The limit that left a machine undecided.
 #[derive(Clone, Copy, Debug, PartialEq, Eq)]
 pub enum Why {
     /// The limit of steps.
@@ -20,20 +20,20 @@ pub enum Why {
     Cells,
 }
 
-/// How two records that agree lie on the tape.
+/// The extent of two agreeing records on the tape.
 #[derive(Clone, Copy, Debug, PartialEq, Eq)]
 pub struct Extent {
     /// How many cells farther out the second one is.
     pub shift: u64,
-    /// How many cells agree: from the first one's head back to the least far out that the head is until the
-    /// second, both counted.
+    /// The number of agreeing cells: from the first record's head to the head's position nearest to the start
+    /// until the second, both included.
     pub length: u64,
 }
 
-/// What is found out about a machine. Steps are counted from the start, which is step 0.
+/// The verdict on a machine. Steps count from the start, step 0.
 #[derive(Clone, Copy, Debug, PartialEq, Eq)]
 pub enum Verdict {
-    /// It halts after so many steps, with so many cells that aren't 0.
+    /// It halts after so many steps, with so many nonzero cells.
     Halt {
         steps: u64,
         score: u64,
@@ -43,14 +43,14 @@ pub enum Verdict {
         first: u64,
         second: u64,
     },
-    /// The records of a side at two steps agree; a claim may tell how they lie.
+    /// The records of a side at two steps agree; a claim may give their extent.
     Translated {
         side: Side,
         first: u64,
         second: u64,
         extent: Option<Extent>,
     },
-    /// The tree of what could come before a halt ends in so many levels, with so many nodes.
+    /// The backward tree ends in so many levels, with so many nodes.
     Backward {
         levels: u64,
         nodes: u64,

@@ -1,4 +1,4 @@
--- What a command line asks for, and why one asks for nothing that can be done: this project's own.
+-- The request of a command line, and the reasons for refusing one: this project's own.
 use Rattle.std.specs.Prelude.{◌≡◌, ◌≢◌, ◌⊎◌, ℕ, Bool, false, true, not, List, [], ◌∷◌, Some, None, codes}
 use Rattle.std.specs.Prelude.{unwrap_or}
 use Rattle.std.specs.Prelude.{option_map, if◌then◌else◌}
@@ -31,14 +31,14 @@ words_meant (name ∷ word ∷ command ∷ []) =
     else name ∷ word ∷ command ∷ []
 words_meant words = words
 
--- the words are a command line and name this command, and the rows tell what they give for its options and
+-- the words are a command line and name this command, and the rows have the values of its options and
 -- arguments
 pub record Gives (words : List Text) (command : Text) (rows : List Row) : Type 0 where
   pub no_fault : fault_of command_line words ≡ []
   pub values : subcommand_of command_line words ≡ Some (command, rows)
 
--- the number that a text says: digits, a `+` may stand in front. 0 for any other text, which no command line
--- has there
+-- the number with this text: digits, after an optional `+`. 0 for any other text, which no command line has
+-- there
 abbrev pub number_in : Text → ℕ
 number_in text =
     if is_unsigned_in 0 18446744073709551615 text then digits_value 10 (without_leading_plus text) else 0
@@ -103,7 +103,7 @@ pub record AsksToTrace (rows : List Row) (asked : Asked) : Type 0 where
   pub limits : asked.limits ≡ trace_bounds rows
   pub file : asked.file ≡ None
 
--- this is what the words ask for
+-- the request of the words
 abbrev pub IsAskedBy : List Text → Asked → Type 0
 IsAskedBy words asked = (rows : List Row)
     × ((Gives words (codes "decide") rows × AsksToDecide rows asked)
@@ -124,7 +124,7 @@ abbrev pub GivesNumbers : List Text → Text → (List Row → Bounds) → Bool 
 GivesNumbers words command bounds is_of_trace numbers = (rows : List Row) × Gives words command rows
     × (bounds_of numbers ≡ bounds rows) × (numbers.is_of_trace ≡ is_of_trace)
 
--- the numbers that the words give for the limits of what they ask for, accepted or not
+-- the numbers of the words for the limits of their request, accepted or not
 abbrev pub AreGivenBy : List Text → Numbers → Type 0
 AreGivenBy words numbers = GivesNumbers words (codes "decide") list_bounds false numbers
     ⊎ (GivesNumbers words (codes "check") list_bounds false numbers
@@ -139,15 +139,15 @@ IsLimitsStop bounds (Help text) = ⊥
 IsLimitsStop bounds (Words text) = ⊥
 IsLimitsStop bounds Memory = ⊥
 
--- the words are a command line, and what they ask for is refused
+-- the words are a command line, and their request is refused
 pub record IsRefused (words : List Text) (stop : Stop) : Type 0 where
   pub rows : List Row
   pub refused : (Gives words (codes "decide") rows × IsLimitsStop (list_bounds rows) stop)
       ⊎ ((Gives words (codes "check") rows × IsLimitsStop (list_bounds rows) stop)
       ⊎ (Gives words (codes "trace") rows × IsLimitsStop (trace_bounds rows) stop))
 
--- why words give nothing, by the kinds of error that they have: help or the version is asked for, or they are
--- no command line, or an allocation failed
+-- the reason for a stop, by the kinds of error of the words: a request for help or the version, a wrong
+-- command line, or an allocation failure
 abbrev pub IsWordsStop : Kinds → Stop → Type 0
 IsWordsStop kinds (Help text) = IsAmong DisplayHelp kinds ⊎ IsAmong DisplayVersion kinds
 IsWordsStop kinds (Words text) =
@@ -159,7 +159,7 @@ IsWordsStop kinds Memory = Unit {0}
 abbrev pub IsNumbersStop : List Text → Stop → Type 0
 IsNumbersStop words stop = IsWordsStop (fault_of command_line words) stop
 
--- why nothing is done: the words give nothing, or what they ask for is refused
+-- the reason for doing nothing: an error of the words, or a refused request
 abbrev pub IsStopOf : List Text → Stop → Type 0
 IsStopOf words (Help text) = IsNumbersStop words (Help text)
 IsStopOf words (Words text) = IsNumbersStop words (Words text)

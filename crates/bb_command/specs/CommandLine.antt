@@ -15,7 +15,7 @@ number_rule name = record (new_rule name) {
   parser = Some (Unsigned 0 18446744073709551615);
 }
 
--- what stands for an option that isn't given
+-- the default of an option
 abbrev pub by_default : Text → Rule → Rule
 by_default text rule = record rule { defaults = text ∷ [] }
 

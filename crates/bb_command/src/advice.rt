@@ -1,4 +1,4 @@
-//! What helps where limits are refused.
+//! Advice on refused limits.
 
 use crate::command::Numbers;
 use bb_machine::LimitFault;
@@ -6,12 +6,12 @@ use bb_machine::limits::{MAX_CELLS, MAX_LEVELS, MAX_NODES, MAX_STEPS};
 use std::fmt;
 use std::fmt::{Display, Formatter};
 
-/// Which number was refused, and which would do.
+/// The refused number, and an accepted value.
 #[derive(Drop)]
 pub struct Advice {
     /// The fault of the limits.
     pub fault: LimitFault,
-    /// The numbers that were given for them.
+    /// The numbers on the command line.
     pub numbers: Numbers,
 }
 

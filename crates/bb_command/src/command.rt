@@ -1,4 +1,4 @@
-//! The command line: what is asked for, under which limits.
+//! The command line: the work and its limits.
 ghost use Rattle.std.specs.Prelude.{◌≡◌, ◌⊎◌, false, true, IfErr, IfOk, Some, codes, map, option_map};
 ghost use Rattle.std.specs.String.{string_bytes};
 ghost use Rattle.clap.specs.declared.builder.command.Command.TheViews.{out-Command as fields_of};
@@ -43,7 +43,7 @@ use clap::error::ErrorKind;
 use clap::{Arg, ArgAction, ArgMatches, Command, Error, value_parser};
 use std::alloc::{AllocError, Global};
 
-/// What is to be done.
+/// The work to do.
 #[derive(Debug, Drop)]
 pub enum Work {
     /// A verdict for each machine of a list, by these deciders.
@@ -54,23 +54,23 @@ pub enum Work {
     Trace(String),
 }
 
-/// A command line that was read.
+/// A parsed command line.
 #[derive(Debug, Drop)]
 pub struct Asked {
-    /// What is to be done.
+    /// The work to do.
     pub work: Work,
-    /// Under which limits.
+    /// Its limits.
     pub limits: Limits,
-    /// Where the list is read from; standard input where there is none. A trace reads none.
+    /// The list's file; standard input if none. A trace reads none.
     pub file: Option<String>,
 }
 
-/// Why a command line asks for nothing that can be done.
+/// The reason for doing no work.
 #[derive(Debug, Drop)]
 pub enum Stop {
-    /// Help or the version was asked for; this is its text.
+    /// A request for help or the version; this is its text.
     Help(String),
-    /// The words are no command line; this says why.
+    /// A wrong command line; this is the reason.
     Words(String),
     /// The limits are refused.
     Limits(LimitFault),
@@ -79,7 +79,8 @@ pub enum Stop {
 }
 
 impl Stop {
-    /// The program's exit status: 0 after help or the version, 3 where memory ran out, 2 for a refusal.
+    /// The program's exit status: 0 after help or the version, 3 after an allocation failure, 2 for a
+    /// refusal.
     pub fn status(&self) -> u8
         ensures { result ≡ stop_status self.now }
     {
@@ -102,10 +103,10 @@ impl From<AllocError> for Stop {
     }
 }
 
-/// Reads a command line. The first word is the program's name.
+/// Parses a command line. The first word is the program's name.
 ///
-/// The words are read first, then the limits are tested. Help may be asked for by a word too: `bb help` and
-/// `bb help COMMAND`.
+/// Words come before limits: a wrong word is reported even if limits are wrong too. `bb help` and `bb help
+/// COMMAND` request help too.
 pub fn ask(alloc: Global, words: &[&str]) -> Result<Asked, Stop>
     ensures asked { IfOk result (IsAskedBy (words_meant (map (λ word. word.now) words.now))) }
     ensures stop { IfErr result (IsStopOf (words_meant (map (λ word. word.now) words.now))) }
@@ -119,7 +120,7 @@ pub fn ask(alloc: Global, words: &[&str]) -> Result<Asked, Stop>
     }
 }
 
-/// Reads a command line in which help is asked for by an option alone.
+/// Parses a command line with requests for help by an option alone.
 fn read_words(alloc: Global, words: &[&str]) -> Result<Asked, Stop>
     ensures asked { IfOk result (IsAskedBy (map (λ word. word.now) words.now)) }
     ensures stop { IfErr result (IsStopOf (map (λ word. word.now) words.now)) }
@@ -140,23 +141,23 @@ fn read_words(alloc: Global, words: &[&str]) -> Result<Asked, Stop>
     }
 }
 
-/// The numbers that a command line gives for its limits, accepted or not.
+/// The numbers for the limits on a command line, accepted or not.
 #[derive(Clone, Copy, Debug)]
 pub struct Numbers {
-    /// What is given for the steps.
+    /// The number of steps.
     pub steps: u64,
-    /// What is given for the cells.
+    /// The number of cells.
     pub cells: u64,
-    /// What is given for the levels.
+    /// The number of levels.
     pub depth: u64,
-    /// What is given for the nodes.
+    /// The number of nodes.
     pub nodes: u64,
-    /// Whether they are those of a trace, whose steps are given by `--upto`, and which has no tree.
+    /// Whether they are those of a trace: its steps are the value of `--upto`, and it has no tree.
     pub is_of_trace: bool,
 }
 
-/// Reads the numbers that a command line gives for its limits, whether or not they are accepted.
-pub fn numbers_given(alloc: Global, words: &[&str]) -> Result<Numbers, Stop>
+/// Parses the numbers for the limits, accepted or not.
+pub fn parse_numbers(alloc: Global, words: &[&str]) -> Result<Numbers, Stop>
     ensures given { IfOk result (AreGivenBy (map (λ word. word.now) words.now)) }
     ensures stop { IfErr result (IsNumbersStop (map (λ word. word.now) words.now)) }
 {
@@ -174,7 +175,7 @@ pub fn numbers_given(alloc: Global, words: &[&str]) -> Result<Numbers, Stop>
     }
 }
 
-/// The numbers that are given for a trace.
+/// The numbers for a trace.
 fn trace_numbers(matches: &ArgMatches<'_>) -> Numbers
     ensures given { bounds_of result ≡ trace_bounds (rows_of (found_of matches.now)) }
     ensures trace { result.is_of_trace ≡ true }
@@ -188,7 +189,7 @@ fn trace_numbers(matches: &ArgMatches<'_>) -> Numbers
     }
 }
 
-/// The numbers that are given for a list.
+/// The numbers for a list.
 fn list_numbers(matches: &ArgMatches<'_>) -> Numbers
     ensures given { bounds_of result ≡ list_bounds (rows_of (found_of matches.now)) }
     ensures trace { result.is_of_trace ≡ false }
@@ -202,7 +203,7 @@ fn list_numbers(matches: &ArgMatches<'_>) -> Numbers
     }
 }
 
-/// What the program's help says after the commands.
+/// The end of the program's help, after the commands.
 const ABOUT_ALL: &str = "\
 bb help COMMAND and bb COMMAND --help say more of a command.
 
@@ -216,7 +217,7 @@ trace was cut, 2 the command line was refused, 3 memory, reading or writing fail
 Example:
   printf '1RB1LB_1LA1RZ\\n' | bb decide      writes  1RB1LB_1LA1RZ halt 6 4";
 
-/// What the help of `decide` says after its options.
+/// The end of the help of `decide`, after its options.
 const ABOUT_DECIDE: &str = "\
 In: a machine on each line of FILE or of standard input.
 Out: for each line, in order, the machine and one of
@@ -238,7 +239,7 @@ Status: 0 every line was a machine, 1 a line was refused, 2 the command line was
 Example:
   printf '1RB1LB_1LA1RZ\\n' | bb decide      writes  1RB1LB_1LA1RZ halt 6 4";
 
-/// What the help of `check` says after its options.
+/// The end of the help of `check`, after its options.
 const ABOUT_CHECK: &str = "\
 In: a verdict, as decide writes them, on each line of FILE or of standard input.
 Out: for each line, in order, one of
@@ -256,7 +257,7 @@ was refused, 3 memory, reading or writing failed.
 Example:
   echo '1RB1LB_1LA1RZ halt 6 4' | bb check     writes  ok";
 
-/// What the help of `trace` says after its options.
+/// The end of the help of `trace`, after its options.
 const ABOUT_TRACE: &str = "\
 In: a machine's text, as an argument. Out: a line for each step, from 0 to the halt or to
 the last step that is asked for: STEP STATE POSITION CELLS, the cells one digit each, over
@@ -363,7 +364,7 @@ fn command<'a>(alloc: Global, name: &'a str, about: &'a str, more: &'a str) -> C
     Command::new(alloc, name).about(about).after_help(more)
 }
 
-/// The cells of a tape unless others are asked for: 2^16.
+/// The default number of cells: 2^16.
 const DEFAULT_CELLS: &str = "65536";
 
 fn steps<'a>(alloc: Global) -> Arg<'a>
@@ -456,14 +457,14 @@ fn positional<'a>(alloc: Global, name: &'a str, shown: &'a str, help: &'a str) -
     Arg::new(alloc, name).value_name(shown).help(help)
 }
 
-/// What is said where help is asked for by a word, of more than one command.
+/// The message after `bb help` with more than one command.
 const MORE_THAN_ONE: &str = "\
 error: 'bb help' takes one command: decide, check or trace
 
 For more information, try '--help'.
 ";
 
-/// What an error of reading these words stops.
+/// The stop for a parse error.
 fn stop_of(alloc: Global, error: &Error, words: &[&str]) -> Result<Stop, AllocError>
     ensures { IfOk result (IsKindStop (kind_of error.now)) }
 {
@@ -485,9 +486,9 @@ fn decide_of(alloc: Global, matches: &ArgMatches<'_>) -> Result<Asked, Stop>
         ⊎ IsLimitsStop (list_bounds (rows_of (found_of matches.now))) stop) }
 {
     let plan = Plan {
-        cyclers: !given(matches, "no-cyclers"),
-        translated: !given(matches, "no-translated"),
-        backward: !given(matches, "no-backward"),
+        cyclers: !has_option(matches, "no-cyclers"),
+        translated: !has_option(matches, "no-translated"),
+        backward: !has_option(matches, "no-backward"),
     };
     let limits = list_limits(matches)?;
     let file = list_file(alloc, matches)?;
@@ -512,15 +513,15 @@ fn check_of(alloc: Global, matches: &ArgMatches<'_>) -> Result<Asked, Stop>
     })
 }
 
-/// The limits that are given for a list, if they are accepted.
+/// The limits for a list, if they are accepted.
 fn list_limits(matches: &ArgMatches<'_>) -> Result<Limits, Stop>
     ensures ok { IfOk result (λ limits. limits ≡ list_bounds (rows_of (found_of matches.now))) }
     ensures stop { IfErr result (IsLimitsStop (list_bounds (rows_of (found_of matches.now)))) }
 {
-    accepted(&list_numbers(matches))
+    accept_limits(&list_numbers(matches))
 }
 
-/// The file that a list is read from.
+/// The file of a list.
 fn list_file(alloc: Global, matches: &ArgMatches<'_>) -> Result<Option<String>, AllocError>
     ensures { IfOk result (λ file.
         option_map string_bytes file ≡ first_of (codes "file") (rows_of (found_of matches.now))) }
@@ -532,7 +533,7 @@ fn list_file(alloc: Global, matches: &ArgMatches<'_>) -> Result<Option<String>, 
 }
 
 /// The limits with these numbers, if they are accepted.
-fn accepted(numbers: &Numbers) -> Result<Limits, Stop>
+fn accept_limits(numbers: &Numbers) -> Result<Limits, Stop>
     ensures ok { IfOk result (λ limits. limits ≡ bounds_of numbers.now) }
     ensures stop { IfErr result (IsLimitsStop (bounds_of numbers.now)) }
 {
@@ -544,7 +545,7 @@ fn trace_of(alloc: Global, matches: &ArgMatches<'_>) -> Result<Asked, Stop>
     ensures stop { IfErr result (λ stop. (stop ≡ Stop.Memory)
         ⊎ IsLimitsStop (trace_bounds (rows_of (found_of matches.now))) stop) }
 {
-    let limits = accepted(&trace_numbers(matches))?;
+    let limits = accept_limits(&trace_numbers(matches))?;
     let text = matches.get_str("machine").unwrap_or("");
     Ok(Asked {
         work: Work::Trace(String::from_str(alloc, text)?),
@@ -553,8 +554,8 @@ fn trace_of(alloc: Global, matches: &ArgMatches<'_>) -> Result<Asked, Stop>
     })
 }
 
-/// The number that an option gives. Each option is required or has a default, and is read as a number,
-/// so none is missing.
+/// The value of a numeric option. Each is required or has a default, and is parsed as a number, so none is
+/// missing.
 fn value(matches: &ArgMatches<'_>, name: &str) -> u64
     ensures { result ≡ number_of name.now (rows_of (found_of matches.now)) }
 {
@@ -562,7 +563,7 @@ fn value(matches: &ArgMatches<'_>, name: &str) -> u64
 }
 
 /// Whether an option without a value is given.
-fn given(matches: &ArgMatches<'_>, name: &str) -> bool
+fn has_option(matches: &ArgMatches<'_>, name: &str) -> bool
     ensures { result ≡ is_given name.now (rows_of (found_of matches.now)) }
 {
     matches.get_one::<bool>(name).unwrap_or(false)

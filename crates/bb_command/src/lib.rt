@@ -1,9 +1,8 @@
-//! The program's command line: what its words ask for, under which limits, and what would do where
-//! limits are refused.
+//! The program's command line: the work, its limits, and advice on refused limits.
 #![tactic(auto)]
 
 pub mod advice;
 pub mod command;
 
 pub use advice::Advice;
-pub use command::{Asked, Numbers, Stop, Work, ask, numbers_given};
+pub use command::{Asked, Numbers, Stop, Work, ask, parse_numbers};

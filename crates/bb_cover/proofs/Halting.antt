@@ -15,41 +15,41 @@ use Rattle.bb_sim.specs.Run.{HaltsAt}
 use Rattle.bb_sim.specs.Runner.{Stands, position_of, state_of, steps_of}
 use Rattle.bb_sim.specs.Span.{Inside, span}
 use Rattle.bb_sim.proofs.Facts.{halt_is_unique, span_grows}
-use Rattle.laws_of_verdicts.specs.Gap.{HaltsOnGap}
+use Rattle.laws_of_verdicts.specs.UndefinedEntry.{HaltsOnUndefined}
 use Rattle.laws_of_verdicts.proofs.Facts.{undefined_here}
-use Rattle.bb_cover.specs.declared.gap.Gap.{Gap}
+use Rattle.bb_cover.specs.declared.undefined.UndefinedEntry.{UndefinedEntry}
 use Rattle.bb_cover.specs.declared.halt.Halted.{Halted}
-use Rattle.bb_cover.specs.Gaps.{HaltsOn, IsGapOf}
+use Rattle.bb_cover.specs.UndefinedEntries.{HaltsOn, IsUndefinedOf}
 use Rattle.bb_cover.specs.Halts.{EndsSo}
 
-pub gap_of_halt : (table : Table) (runner : Runner) (view : TapeView) → Stands table runner view
-    → HaltsAt table (steps_of runner) → (gap : Gap) → state_of runner ≡ next.State gap.state
-    → gap.symbol ≡ cell view.content (position_of runner)
-    → HaltsOnGap table (steps_of runner) gap.state gap.symbol × IsGapOf table gap
+pub undefined_of_halt : (table : Table) (runner : Runner) (view : TapeView) → Stands table runner view
+    → HaltsAt table (steps_of runner) → (undefined : UndefinedEntry) → state_of runner ≡ next.State undefined.state
+    → undefined.symbol ≡ cell view.content (position_of runner)
+    → HaltsOnUndefined table (steps_of runner) undefined.state undefined.symbol × IsUndefinedOf table undefined
 unfolding configuration.next
-gap_of_halt table runner view stands halts gap in_state at_symbol =
+undefined_of_halt table runner view stands halts undefined in_state at_symbol =
     let here : Configuration =
     record { state = state_of runner; head = position_of runner; tape = view.content } in
     let same : halts.last ≡ here = cc in
     let entry : entry_at table (state_of runner) (cell view.content (position_of runner))
-    ≡ entry_of table gap.state gap.symbol =
+    ≡ entry_of table undefined.state undefined.symbol =
     ap (λ x. entry_at table x (cell view.content (position_of runner))) in_state
-    ∙ ap (entry_of table gap.state) (sym at_symbol) in
+    ∙ ap (entry_of table undefined.state) (sym at_symbol) in
     let none : followed (entry_at table (state_of runner) (cell view.content (position_of runner))) here
     ≡ None =
     ap (configuration.next table) (sym same) ∙ halts.no_next in
-    let is_gap : entry_of table gap.state gap.symbol ≡ Undefined = sym entry ∙ undefined_here _ here none in (
+    let is_undefined : entry_of table undefined.state undefined.symbol ≡ Undefined = sym entry ∙ undefined_here _ here none in (
       record {
         last = here;
         exists = stands.at;
         in_state = in_state;
         at_symbol = sym at_symbol;
-        gap = is_gap;
+        undefined = is_undefined;
       },
       record {
         below = subst (IsNextOf _) in_state stands.state_named;
         inside = let named = stands.symbols_named (position_of runner) in omega (arith, named, at_symbol);
-        is_gap = is_gap;
+        is_undefined = is_undefined;
       },
     )
 
@@ -71,7 +71,7 @@ needs_more_cells table bounds n steps on low wide halts inside = elim (cases_eq 
 pub ends_so : (table : Table) (bounds cut : Bounds) (n : ℕ) → cut ≡ record bounds { steps = n }
     → n ≤ bounds.steps → (runner : Runner) (view : TapeView) → Stands table runner view
     → HaltsAt table (steps_of runner) → Inside table cut (steps_of runner) → (halted : Halted)
-    → halted.score ≡ score view.content → HaltsOn table (steps_of runner) halted.gap → steps_of runner ≡ n
+    → halted.score ≡ score view.content → HaltsOn table (steps_of runner) halted.undefined → steps_of runner ≡ n
     → EndsSo table bounds n halted
 ends_so table bounds cut n is few runner view stands halts inside halted scored on at =
     subst (λ k. EndsSo table bounds k halted) at (record {

@@ -17,11 +17,11 @@ use Rattle.bb_cert.specs.claims.Claim.{Claim}
 use Rattle.bb_cert.specs.checker.Answer.{Applies, IsAnswer, IsUndecided, Rule, answer_by, is_fine, rank}
 use Rattle.bb_cert.specs.checker.Answer.{undecided, too_much_named, out_of_order, too_much_needed}
 use Rattle.bb_cert.specs.checker.Answer.{claim_holds}
-use Rattle.laws_of_verdicts.specs.Gap.{HaltsOnGap, HasOtherGap}
-use Rattle.bb_cover.specs.declared.gap.Gap.{Gap}
+use Rattle.laws_of_verdicts.specs.UndefinedEntry.{HaltsOnUndefined, HasOtherUndefined}
+use Rattle.bb_cover.specs.declared.undefined.UndefinedEntry.{UndefinedEntry}
 use Rattle.bb_cover.specs.declared.halt.Halted.{Halted}
 use Rattle.bb_cover.specs.Claims.{IsFineClaim, IsOneOf}
-use Rattle.bb_cover.specs.Gaps.{HaltsOn, IsToFill}
+use Rattle.bb_cover.specs.UndefinedEntries.{HaltsOn, IsToFill}
 use Rattle.bb_cover.specs.Halts.{EndsSo}
 
 -- a halt that a run makes is confirmed
@@ -107,27 +107,27 @@ fine_or_not bounds table verdict fine given is not =
 
 -- a `---` on which the machine halts is one of several, or none is
 
-pub one_gap : (table : Table) (n q s i j : ℕ) → HaltsOnGap table n q s → HaltsOnGap table n i j
+pub one_undefined : (table : Table) (n q s i j : ℕ) → HaltsOnUndefined table n q s → HaltsOnUndefined table n i j
     → (q ≡ i) × (s ≡ j)
-one_gap table n q s i j gap gap_too =
-    let same : gap.last ≡ gap_too.last = cc in
-    let states = sym gap.in_state ∙ ap (λ (x : Configuration). x.state) same ∙ gap_too.in_state in
-    (cc, sym gap.at_symbol ∙ ap (λ (x : Configuration). cell x.tape x.head) same ∙ gap_too.at_symbol)
+one_undefined table n q s i j undefined undefined_too =
+    let same : undefined.last ≡ undefined_too.last = cc in
+    let states = sym undefined.in_state ∙ ap (λ (x : Configuration). x.state) same ∙ undefined_too.in_state in
+    (cc, sym undefined.at_symbol ∙ ap (λ (x : Configuration). cell x.tape x.head) same ∙ undefined_too.at_symbol)
 
-pub to_fill : (table : Table) (steps score : ℕ) (on found : Option Gap) → HaltsOn table steps on
+pub to_fill : (table : Table) (steps score : ℕ) (on found : Option UndefinedEntry) → HaltsOn table steps on
     → IsOneOf table on found → IsToFill (record { table = table; verdict = Halt steps score }) found
 to_fill table steps score None None on one = λ state symbol halts.
     let same : steps ≡ halts.steps = let e = halts.says in cc in
-    on state symbol (subst (λ n. HaltsOnGap table n state symbol) (sym same) halts.gap)
+    on state symbol (subst (λ n. HaltsOnUndefined table n state symbol) (sym same) halts.undefined)
 to_fill table steps score None (Some found) on one = absurd cc
-to_fill table steps score (Some gap) None on one = λ state symbol halts.
+to_fill table steps score (Some undefined) None on one = λ state symbol halts.
     let same : steps ≡ halts.steps = let e = halts.says in cc in
-    let here = one_gap table steps gap.state gap.symbol state symbol on.0
-    (subst (λ n. HaltsOnGap table n state symbol) (sym same) halts.gap) in
-    one (subst (HasOtherGap table gap.state) (sym here.1)
-    (subst (λ q. HasOtherGap table q symbol) (sym here.0) halts.other))
-to_fill table steps score (Some gap) (Some found) on one =
+    let here = one_undefined table steps undefined.state undefined.symbol state symbol on.0
+    (subst (λ n. HaltsOnUndefined table n state symbol) (sym same) halts.undefined) in
+    one (subst (HasOtherUndefined table undefined.state) (sym here.1)
+    (subst (λ q. HasOtherUndefined table q symbol) (sym here.0) halts.other))
+to_fill table steps score (Some undefined) (Some found) on one =
     subst (λ g. IsToFill (record { table = table; verdict = Halt steps score }) (Some g)) (sym one.0) (
-      record { steps = steps; score = score; says = refl; gap = on.0; other = one.1 },
+      record { steps = steps; score = score; says = refl; undefined = on.0; other = one.1 },
       on.1,
     )

@@ -11,16 +11,16 @@ use Rattle.bb_machine.specs.declared.entry.Next.TheVariants.{State}
 use Rattle.bb_machine.specs.Machine.{Table, IsMachine}
 use Rattle.laws_of_verdicts.specs.Closed.{with_entry}
 use Rattle.laws_of_verdicts.specs.NormalForm.{IsEmpty}
-use Rattle.laws_of_verdicts.specs.Walk.{FillsGapBy, entries_of}
+use Rattle.laws_of_verdicts.specs.Walk.{FillsUndefinedBy, entries_of}
 use Rattle.bb_cover.specs.declared.asked.Asked.{Asked}
-use Rattle.bb_cover.specs.declared.gap.Gap.{Gap}
+use Rattle.bb_cover.specs.declared.undefined.UndefinedEntry.{UndefinedEntry}
 use Rattle.bb_cover.specs.declared.walk.Frame.{Frame}
 use Rattle.bb_cover.specs.declared.walk.TheConstants.{MAX_FRAMES}
 use Rattle.bb_cover.specs.Asked.{IsAsking, entries}
-use Rattle.bb_cover.specs.Gaps.{IsGapOf, gaps_of}
+use Rattle.bb_cover.specs.UndefinedEntries.{IsUndefinedOf, undefined_entries_of}
 use Rattle.bb_cover.specs.Left.{AreFrames, IsFirst, IsFrame, IsStack, left, left_of}
 use Rattle.bb_cover.proofs.Asks.{few_entries, leads_on, some_entries}
-use Rattle.bb_cover.proofs.Tables.{filled_gaps}
+use Rattle.bb_cover.proofs.Tables.{filled_undefined_entries}
 
 pub left-push : (frames : List Frame) (frame : Frame)
     → left (frames ++ frame ∷ []) ≡ left_of frame ++ left frames
@@ -58,14 +58,14 @@ split_last frames d some =
 
 -- the machine that comes next at a frame
 abbrev pub next_of : Frame → Table
-next_of frame = with_entry frame.machine frame.gap.state frame.gap.symbol
+next_of frame = with_entry frame.machine frame.undefined.state frame.undefined.symbol
     (get_or (entries frame.asked) frame.next Undefined)
 
 pub left_of-next : (frame : Frame) (n : ℕ) → IsFrame n frame
-    → left_of frame ≡ next_of frame ∷ map (with_entry frame.machine frame.gap.state frame.gap.symbol)
+    → left_of frame ≡ next_of frame ∷ map (with_entry frame.machine frame.undefined.state frame.undefined.symbol)
     (drop (frame.next + 1) (entries frame.asked))
 left_of-next frame n is =
-    ap (map (with_entry frame.machine frame.gap.state frame.gap.symbol))
+    ap (map (with_entry frame.machine frame.undefined.state frame.undefined.symbol))
     (drop-cons (entries frame.asked) frame.next Undefined is.some
     ∙ ap (λ k. get_or (entries frame.asked) frame.next Undefined ∷ drop k (entries frame.asked))
     (sym (add-one frame.next)))
@@ -80,20 +80,20 @@ left_nothing n (f ∷ frames) are none =
     absurd (omega (arith, length-append_right (left frames) (left_of f) none, more))
 
 -- the next machine has one `---` less than the frame's
-next_gaps : (frame : Frame) (n : ℕ) → IsFrame n frame → gaps_of (next_of frame) + 1 ≡ gaps_of frame.machine
-next_gaps frame n is =
+next_undefined_entries : (frame : Frame) (n : ℕ) → IsFrame n frame → undefined_entries_of (next_of frame) + 1 ≡ undefined_entries_of frame.machine
+next_undefined_entries frame n is =
     let leads = leads_on frame.asked.is_root frame.asked.states frame.asked.symbols frame.next is.some in
-    let less = filled_gaps frame.machine is.machine frame.gap.state frame.gap.symbol leads.write leads.move
-    (State leads.to) is.gap.below is.gap.inside is.gap.is_gap in
-    ap (λ e. gaps_of (with_entry frame.machine frame.gap.state frame.gap.symbol e) + 1) leads.is ∙ less
+    let less = filled_undefined_entries frame.machine is.machine frame.undefined.state frame.undefined.symbol leads.write leads.move
+    (State leads.to) is.undefined.below is.undefined.inside is.undefined.is_undefined in
+    ap (λ e. undefined_entries_of (with_entry frame.machine frame.undefined.state frame.undefined.symbol e) + 1) leads.is ∙ less
 
 -- the first that is left, and what is left behind it
 pub record FirstLeft (frames : List Frame) (frame : Frame) : Type 0 where
   pub frame_is : IsFrame (length frames - 1) frame
   pub front : IsStack (take (length frames - 1) frames)
   pub long : length (take (length frames - 1) frames) ≡ length frames - 1
-  pub room : gaps_of (next_of frame) + length frames ≤ MAX_FRAMES
-  pub is : left frames ≡ next_of frame ∷ (map (with_entry frame.machine frame.gap.state frame.gap.symbol)
+  pub room : undefined_entries_of (next_of frame) + length frames ≤ MAX_FRAMES
+  pub is : left frames ≡ next_of frame ∷ (map (with_entry frame.machine frame.undefined.state frame.undefined.symbol)
       (drop (frame.next + 1) (entries frame.asked)) ++ left (take (length frames - 1) frames))
 
 pub first_left : (frames : List Frame) (d : Frame) → IsStack frames → 0 < length frames
@@ -109,7 +109,7 @@ first_left frames d stack some =
       frame_is = is_too;
       front = frames-front zero front last (subst (AreFrames zero) parts stack);
       long = length-take-le (length frames - 1) frames (omega arith);
-      room = omega (arith, next_gaps last (length frames - 1) is_too, room, some);
+      room = omega (arith, next_undefined_entries last (length frames - 1) is_too, room, some);
       is = ap left parts ∙ left-push front last
           ∙ ap (λ l. l ++ left front) (left_of-next last (length frames - 1) is_too);
     }
@@ -118,7 +118,7 @@ first_left frames d stack some =
 pub record Passes (old new : List Frame) : Type 0 where
   pub first : Table
   pub left_was : left old ≡ first ∷ left new
-  pub room : gaps_of first + length new ≤ MAX_FRAMES
+  pub room : undefined_entries_of first + length new ≤ MAX_FRAMES
   pub stack : IsStack new
 
 pub passes_within : (frames : List Frame) (d : Frame) → IsStack frames → 0 < length frames
@@ -148,7 +148,7 @@ passes_within frames d stack some fits new is = by (get_or frames (length frames
         room = omega (arith, room, ap length now ∙ length-append front (turned ∷ []), long, some);
         stack = subst IsStack (sym now) (frames-push zero front turned first.front (record {
           machine = frame_is.machine;
-          gap = frame_is.gap;
+          undefined = frame_is.undefined;
           few = frame_is.few;
           few_symbols = frame_is.few_symbols;
           some = subst (λ (f : Frame). f.next + 1 < length (entries f.asked)) same fits;
@@ -167,7 +167,7 @@ passes_last frames d stack some ends new is =
     record {
       first = next_of last;
       left_was = first.is
-          ∙ ap (λ l. next_of last ∷ (map (with_entry last.machine last.gap.state last.gap.symbol) l
+          ∙ ap (λ l. next_of last ∷ (map (with_entry last.machine last.undefined.state last.undefined.symbol) l
           ++ left (take (length frames - 1) frames)))
           (drop_all (last.next + 1) (entries last.asked) ends)
           ∙ sym (ap (λ l. next_of last ∷ left l) is);
@@ -177,30 +177,30 @@ passes_last frames d stack some ends new is =
 
 -- going on from a machine
 
-pub fills : (table : Table) (is_root : Bool) (asked : Asked) (gap : Gap) → IsAsking table is_root asked
+pub fills : (table : Table) (is_root : Bool) (asked : Asked) (undefined : UndefinedEntry) → IsAsking table is_root asked
     → (IsTrue is_root ↔ IsEmpty table)
-    → FillsGapBy table gap.state gap.symbol (map (with_entry table gap.state gap.symbol) (entries asked))
-fills table is_root asked gap asks root = record {
+    → FillsUndefinedBy table undefined.state undefined.symbol (map (with_entry table undefined.state undefined.symbol) (entries asked))
+fills table is_root asked undefined asks root = record {
   states = asks.used_states;
   symbols = asks.used_symbols;
   uses = asks.uses;
   is_root = is_root;
   root = root;
-  machines = ap (map (with_entry table gap.state gap.symbol))
+  machines = ap (map (with_entry table undefined.state undefined.symbol))
       (ap (λ b. entries_of b asked.states asked.symbols) asks.root
       ∙ ap (λ n. entries_of is_root n asked.symbols) asks.states
       ∙ ap (entries_of is_root (min (length table) (asks.used_states + 1))) asks.symbols);
 }
 
-pub new_frame : (table : Table) → IsMachine table → (is_root : Bool) (asked : Asked) (gap : Gap) (n : ℕ)
-    → IsAsking table is_root asked → IsGapOf table gap → gaps_of table + n ≤ MAX_FRAMES
-    → IsFrame n (record { machine = table; gap = gap; asked = asked; next = 0 })
-new_frame table machine is_root asked gap n asks is room =
+pub new_frame : (table : Table) → IsMachine table → (is_root : Bool) (asked : Asked) (undefined : UndefinedEntry) (n : ℕ)
+    → IsAsking table is_root asked → IsUndefinedOf table undefined → undefined_entries_of table + n ≤ MAX_FRAMES
+    → IsFrame n (record { machine = table; undefined = undefined; asked = asked; next = 0 })
+new_frame table machine is_root asked undefined n asks is room =
     let some = asks.uses.first.some_state in
     let few = machine.states in
     record {
       machine = machine;
-      gap = is;
+      undefined = is;
       few = omega (arith, asks.states, few);
       few_symbols = omega (arith, asks.symbols, machine.symbols);
       some = some_entries asked.is_root asked.states asked.symbols (omega (arith, asks.states, some))
@@ -272,7 +272,7 @@ first_is_one a b tables one two = cc (one.1, two.1)
 pub as_first : (n : ℕ) (frame : Frame) → IsFrame n frame → IsFrame 0 frame
 as_first n frame is = record {
   machine = is.machine;
-  gap = is.gap;
+  undefined = is.undefined;
   few = is.few;
   few_symbols = is.few_symbols;
   some = is.some;

@@ -11,7 +11,7 @@ use Rattle.bb_cover.specs.declared.found.Why.{Why}
 use Rattle.bb_cover.specs.declared.found.Why.TheVariants.{Unread, NotNext, Refused, TooSoon, Beyond}
 use Rattle.bb_cover.specs.declared.list.Size.{Size}
 use Rattle.bb_cover.specs.Claims.{IsRefusedClaim}
-use Rattle.bb_cover.specs.Course.{Applies, IsAsked, IsWrong, rank}
+use Rattle.bb_cover.specs.CoverProgress.{Applies, IsAsked, IsWrong, rank}
 use Rattle.bb_cover.proofs.Steps.{one_line}
 
 module _ (bounds : Bounds) (size : Option Size) (left : List Table) (bytes : List ℕ) where

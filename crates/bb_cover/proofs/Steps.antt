@@ -9,18 +9,18 @@ use Rattle.bb_cert.specs.declared.verdict.reader.Line.TheVariants.{Claim, Refusa
 use Rattle.bb_cert.specs.verdict.Line.{IsLineOf}
 use Rattle.bb_cert.proofs.Facts.{line_unique}
 use Rattle.laws_of_verdicts.specs.Closed.{VerdictLine, with_entry}
-use Rattle.laws_of_verdicts.specs.Gap.{HaltsOnGap}
+use Rattle.laws_of_verdicts.specs.UndefinedEntry.{HaltsOnUndefined}
 use Rattle.laws_of_verdicts.specs.NormalForm.{IsEmpty}
-use Rattle.laws_of_verdicts.specs.Walk.{FillsGapBy, HaltsOnOneOf, IsWalk, LeadsTo, entries_of}
+use Rattle.laws_of_verdicts.specs.Walk.{FillsUndefinedBy, HaltsOnOneOf, IsWalk, LeadsTo, entries_of}
 use Rattle.bb_cover.specs.declared.found.Stop.{Stop}
 use Rattle.bb_cover.specs.declared.found.Why.{Why}
-use Rattle.bb_cover.specs.declared.gap.Gap.{Gap}
-use Rattle.bb_cover.specs.declared.list.Course.{Course}
+use Rattle.bb_cover.specs.declared.undefined.UndefinedEntry.{UndefinedEntry}
+use Rattle.bb_cover.specs.declared.list.CoverProgress.{CoverProgress}
 use Rattle.bb_cover.specs.Counts.{saturated}
-use Rattle.bb_cover.specs.Course.{IsWrong, Stopped, Took, TookBy, Visited}
-use Rattle.bb_cover.specs.Gaps.{IsToFill}
+use Rattle.bb_cover.specs.CoverProgress.{IsWrong, Stopped, Took, TookBy, Visited}
+use Rattle.bb_cover.specs.UndefinedEntries.{IsToFill}
 use Rattle.bb_cover.specs.Left.{FillsAt}
-use Rattle.bb_cover.proofs.Judging.{one_gap}
+use Rattle.bb_cover.proofs.Judging.{one_undefined}
 
 -- lines
 
@@ -49,7 +49,7 @@ same_test false false E one two = refl
 same_test true false E one two = let wrong = two.1 (one.0 refl) in cc
 same_test false true E one two = let wrong = one.1 (two.0 refl) in cc
 
-fills_once : (table : Table) (q s : ℕ) (a b : List Table) → FillsGapBy table q s a → FillsGapBy table q s b
+fills_once : (table : Table) (q s : ℕ) (a b : List Table) → FillsUndefinedBy table q s a → FillsUndefinedBy table q s b
     → a ≡ b
 fills_once table q s a b one two =
     let first = one.uses.least two.states two.symbols two.uses.first in
@@ -63,39 +63,39 @@ fills_once table q s a b one two =
     ∙ sym two.machines
 
 -- a machine halts on one gap, whoever says so
-one_of_gaps : (line : VerdictLine) (q s i j : ℕ) → HaltsOnOneOf line q s → HaltsOnOneOf line i j
+one_of_undefined_entries : (line : VerdictLine) (q s i j : ℕ) → HaltsOnOneOf line q s → HaltsOnOneOf line i j
     → (q ≡ i) × (s ≡ j)
-one_of_gaps line q s i j one two =
+one_of_undefined_entries line q s i j one two =
     let both = sym one.says ∙ two.says in
     let same : one.steps ≡ two.steps = cc in
-    one_gap line.table two.steps q s i j (subst (λ n. HaltsOnGap line.table n q s) same one.gap) two.gap
+    one_undefined line.table two.steps q s i j (subst (λ n. HaltsOnUndefined line.table n q s) same one.undefined) two.undefined
 
-pub leads_to : (line : VerdictLine) (gap : Option Gap) (more : List Table) → IsToFill line gap
-    → FillsAt line.table gap more → LeadsTo line more
+pub leads_to : (line : VerdictLine) (undefined : Option UndefinedEntry) (more : List Table) → IsToFill line undefined
+    → FillsAt line.table undefined more → LeadsTo line more
 leads_to line None more fill fills =
     record { filled = λ q s halts. absurd (fill q s halts); none = λ _. fills }
-leads_to line (Some gap) more fill fills = record {
+leads_to line (Some undefined) more fill fills = record {
   filled = λ q s halts.
-      let same = one_of_gaps line gap.state gap.symbol q s fill.0 halts in
-      subst (λ j. FillsGapBy line.table q j more) same.1
-      (subst (λ i. FillsGapBy line.table i gap.symbol more) same.0 fills);
-  none = λ no. absurd (no gap.state gap.symbol fill.0);
+      let same = one_of_undefined_entries line undefined.state undefined.symbol q s fill.0 halts in
+      subst (λ j. FillsUndefinedBy line.table q j more) same.1
+      (subst (λ i. FillsUndefinedBy line.table i undefined.symbol more) same.0 fills);
+  none = λ no. absurd (no undefined.state undefined.symbol fill.0);
 }
 
-pub leads_nowhere_else : (line : VerdictLine) (gap : Option Gap) (more other : List Table)
-    → IsToFill line gap → FillsAt line.table gap more → LeadsTo line other → other ≡ more
+pub leads_nowhere_else : (line : VerdictLine) (undefined : Option UndefinedEntry) (more other : List Table)
+    → IsToFill line undefined → FillsAt line.table undefined more → LeadsTo line other → other ≡ more
 leads_nowhere_else line None more other fill fills leads = leads.none fill ∙ sym fills
-leads_nowhere_else line (Some gap) more other fill fills leads =
-    fills_once line.table gap.state gap.symbol other more (leads.filled gap.state gap.symbol fill.0) fills
+leads_nowhere_else line (Some undefined) more other fill fills leads =
+    fills_once line.table undefined.state undefined.symbol other more (leads.filled undefined.state undefined.symbol fill.0) fills
 
 -- a walk that goes on from a machine, and one that begins with it
-pub goes_on : (line : VerdictLine) (gap : Option Gap) (more rest : List Table) → IsToFill line gap
-    → FillsAt line.table gap more → (tail : List VerdictLine)
+pub goes_on : (line : VerdictLine) (undefined : Option UndefinedEntry) (more rest : List Table) → IsToFill line undefined
+    → FillsAt line.table undefined more → (tail : List VerdictLine)
     → IsWalk (more ++ rest) tail ↔ IsWalk (line.table ∷ rest) (line ∷ tail)
-goes_on line gap more rest fill fills tail = (
-  λ walk. (refl, (more, leads_to line gap more fill fills, walk)),
+goes_on line undefined more rest fill fills tail = (
+  λ walk. (refl, (more, leads_to line undefined more fill fills, walk)),
   λ walk. subst (λ m. IsWalk (m ++ rest) tail)
-      (leads_nowhere_else line gap more walk.1.0 fill fills walk.1.1) walk.1.2,
+      (leads_nowhere_else line undefined more walk.1.0 fill fills walk.1.1) walk.1.2,
 )
 
 -- a line of a walk that hasn't stopped
@@ -104,20 +104,20 @@ none_of : (stop : Option Stop) → is_some stop ≡ false → stop ≡ None
 none_of None e = refl
 none_of (Some stop) e = cc
 
-pub took : (bounds : Bounds) (old : Course) (bytes : List ℕ) (new : Course) → is_some old.stop ≡ false
+pub took : (bounds : Bounds) (old : CoverProgress) (bytes : List ℕ) (new : CoverProgress) → is_some old.stop ≡ false
     → (old.stop ≡ None → Visited bounds old bytes new ⊎ Stopped bounds old bytes new)
     → Took bounds old bytes new
 took bounds old bytes new going did =
     let none = none_of old.stop going in
     subst (λ s. TookBy s bounds old bytes new) (sym none) (did none)
 
-pub stops : (bounds : Bounds) (old : Course) (bytes : List ℕ) (new : Course) (why : Why)
+pub stops : (bounds : Bounds) (old : CoverProgress) (bytes : List ℕ) (new : CoverProgress) (why : Why)
     → is_some old.stop ≡ false → IsWrong bounds old.size old.walk bytes why
     → new ≡ record old { stop = Some (record { line = saturated (old.counts.lines + 1); why = why }) }
     → Took bounds old bytes new
 stops bounds old bytes new why going wrong is = took bounds old bytes new going (λ _. inr (record {
   why = why;
   wrong = wrong;
-  stop = ap (λ (x : Course). x.stop) is;
-  counts = ap (λ (x : Course). x.counts) is;
+  stop = ap (λ (x : CoverProgress). x.stop) is;
+  counts = ap (λ (x : CoverProgress). x.counts) is;
 }))

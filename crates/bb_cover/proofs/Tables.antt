@@ -11,12 +11,12 @@ use Rattle.bb_machine.specs.declared.entry.Next.{Next}
 use Rattle.bb_machine.specs.declared.entry.Next.TheVariants.{Halt}
 use Rattle.bb_machine.specs.declared.entry.Entry.TheVariants.{Undefined, Go}
 use Rattle.bb_machine.specs.Machine.{Table, IsMachine, entry_of, symbols_of}
-use Rattle.laws_of_verdicts.specs.Closed.{all_gaps, with_entry}
+use Rattle.laws_of_verdicts.specs.Closed.{blank_table, with_entry}
 use Rattle.laws_of_verdicts.specs.NormalForm.{IsEmpty}
-use Rattle.laws_of_verdicts.proofs.Facts.{all_gaps-none, gaps, gaps-with_entry, groups_long}
+use Rattle.laws_of_verdicts.proofs.Facts.{blank_table-none, undefined_entries, undefined_entries-with_entry, groups_long}
 use Rattle.laws_of_verdicts.proofs.Facts.{length-with_entry}
-use Rattle.bb_cover.specs.declared.gap.Gap.{Gap}
-use Rattle.bb_cover.specs.Gaps.{IsGapOf, gap_in, gaps_in, gaps_of}
+use Rattle.bb_cover.specs.declared.undefined.UndefinedEntry.{UndefinedEntry}
+use Rattle.bb_cover.specs.UndefinedEntries.{IsUndefinedOf, undefined_in, undefined_entries_in, undefined_entries_of}
 
 -- the groups of a machine with one entry more
 group_long-with_entry : (table : Table) → IsMachine table → (q s : ℕ) (e : Entry) (i : ℕ) → i < length table
@@ -48,14 +48,14 @@ same_table child table machine machine_too q s e states symbols same =
 -- the machine that has only gaps
 pub all_empty : (table : Table) → IsMachine table
     → ((q : ℕ) → q < length table → (s : ℕ) → s < symbols_of table → entry_of table q s ≡ Undefined)
-    → table ≡ all_gaps (length table) (symbols_of table)
+    → table ≡ blank_table (length table) (symbols_of table)
 all_empty table machine none =
     let n = length table in
     let k = symbols_of table in
-    let long : length (all_gaps n k) ≡ n = length-replicate n (replicate k Undefined) in
-    ext_get_or [] table (all_gaps n k) (sym long) (λ i h.
+    let long : length (blank_table n k) ≡ n = length-replicate n (replicate k Undefined) in
+    ext_get_or [] table (blank_table n k) (sym long) (λ i h.
     let wide = groups_long table machine i h in
-    let group : get_or (all_gaps n k) i [] ≡ replicate k Undefined =
+    let group : get_or (blank_table n k) i [] ≡ replicate k Undefined =
     get_or-replicate n i (replicate k Undefined) [] h in
     let wide_too : length (replicate k Undefined) ≡ k = length-replicate k Undefined in
     ext_get_or Undefined (get_or table i []) (replicate k Undefined) (wide ∙ sym wide_too) (λ j inside.
@@ -69,10 +69,10 @@ pub everywhere_empty : (table : Table) → IsMachine table
     → IsEmpty table
 everywhere_empty table machine none q s =
     ap (λ t. entry_of t q s) (all_empty table machine none)
-    ∙ all_gaps-none (length table) (symbols_of table) q s
+    ∙ blank_table-none (length table) (symbols_of table) q s
 
 pub empty_is : (table : Table) → IsMachine table → IsEmpty table
-    → table ≡ all_gaps (length table) (symbols_of table)
+    → table ≡ blank_table (length table) (symbols_of table)
 empty_is table machine empty = all_empty table machine (λ q h s h'. empty q s)
 
 -- an entry outside is undefined
@@ -86,65 +86,65 @@ outside table machine q s out = elim (cases_lt q (length table)) [
 
 -- how many `---` there are
 
-gaps_in-append : (es fs : List Entry) → gaps_in (es ++ fs) ≡ gaps_in es + gaps_in fs
-gaps_in-append [] fs = omega arith
-gaps_in-append (e ∷ es) fs = let rest = gaps_in-append es fs in omega (arith, rest)
+undefined_entries_in-append : (es fs : List Entry) → undefined_entries_in (es ++ fs) ≡ undefined_entries_in es + undefined_entries_in fs
+undefined_entries_in-append [] fs = omega arith
+undefined_entries_in-append (e ∷ es) fs = let rest = undefined_entries_in-append es fs in omega (arith, rest)
 
-pub gaps_in_more : (es : List Entry) (i : ℕ) → i < length es
-    → gaps_in (take (i + 1) es) ≡ gaps_in (take i es) + gap_in (get_or es i Undefined)
-gaps_in_more es i inside =
-    let last = gaps_in-append (take i es) (get_or es i Undefined ∷ []) in
-    ap gaps_in (take_more es i Undefined inside) ∙ omega (arith, last)
+pub undefined_entries_in_more : (es : List Entry) (i : ℕ) → i < length es
+    → undefined_entries_in (take (i + 1) es) ≡ undefined_entries_in (take i es) + undefined_in (get_or es i Undefined)
+undefined_entries_in_more es i inside =
+    let last = undefined_entries_in-append (take i es) (get_or es i Undefined ∷ []) in
+    ap undefined_entries_in (take_more es i Undefined inside) ∙ omega (arith, last)
 
-pub gap_in_few : (e : Entry) → gap_in e ≤ 1
-gap_in_few Undefined = omega arith
-gap_in_few (Go write dir to) = omega arith
+pub undefined_in_few : (e : Entry) → undefined_in e ≤ 1
+undefined_in_few Undefined = omega arith
+undefined_in_few (Go write dir to) = omega arith
 
-pub gaps_in_few : (es : List Entry) → gaps_in es ≤ length es
-gaps_in_few [] = omega arith
-gaps_in_few (e ∷ es) = let one = gap_in_few e in let rest = gaps_in_few es in omega (arith, one, rest)
+pub undefined_entries_in_few : (es : List Entry) → undefined_entries_in es ≤ length es
+undefined_entries_in_few [] = omega arith
+undefined_entries_in_few (e ∷ es) = let one = undefined_in_few e in let rest = undefined_entries_in_few es in omega (arith, one, rest)
 
-gaps_of-append : (gs hs : Table) → gaps_of (gs ++ hs) ≡ gaps_of gs + gaps_of hs
-gaps_of-append [] hs = omega arith
-gaps_of-append (g ∷ gs) hs = let rest = gaps_of-append gs hs in omega (arith, rest)
+undefined_entries_of-append : (gs hs : Table) → undefined_entries_of (gs ++ hs) ≡ undefined_entries_of gs + undefined_entries_of hs
+undefined_entries_of-append [] hs = omega arith
+undefined_entries_of-append (g ∷ gs) hs = let rest = undefined_entries_of-append gs hs in omega (arith, rest)
 
-pub gaps_of_more : (gs : Table) (i : ℕ) → i < length gs
-    → gaps_of (take (i + 1) gs) ≡ gaps_of (take i gs) + gaps_in (get_or gs i [])
-gaps_of_more gs i inside =
-    ap gaps_of (take_more gs i [] inside) ∙ omega (arith, gaps_of-append (take i gs) (get_or gs i [] ∷ []))
+pub undefined_entries_of_more : (gs : Table) (i : ℕ) → i < length gs
+    → undefined_entries_of (take (i + 1) gs) ≡ undefined_entries_of (take i gs) + undefined_entries_in (get_or gs i [])
+undefined_entries_of_more gs i inside =
+    ap undefined_entries_of (take_more gs i [] inside) ∙ omega (arith, undefined_entries_of-append (take i gs) (get_or gs i [] ∷ []))
 
 -- at most as many as there are entries
-few_gaps : (n : ℕ) (gs : Table) → ((q : ℕ) → q < length gs → length (get_or gs q []) ≤ n)
-    → gaps_of gs ≤ length gs * n
-few_gaps n [] wide = omega arith
-few_gaps n (g ∷ gs) wide =
-    let rest = few_gaps n gs (λ q h. wide (suc q) (omega (arith, h))) in
-    omega (arith, wide 0 (omega arith), gaps_in_few g, rest)
+few_undefined_entries : (n : ℕ) (gs : Table) → ((q : ℕ) → q < length gs → length (get_or gs q []) ≤ n)
+    → undefined_entries_of gs ≤ length gs * n
+few_undefined_entries n [] wide = omega arith
+few_undefined_entries n (g ∷ gs) wide =
+    let rest = few_undefined_entries n gs (λ q h. wide (suc q) (omega (arith, h))) in
+    omega (arith, wide 0 (omega arith), undefined_entries_in_few g, rest)
 
-pub machine_few_gaps : (table : Table) → IsMachine table → gaps_of table ≤ 250
-machine_few_gaps table machine =
-    let few = few_gaps 10 table (λ q h.
+pub machine_few_undefined_entries : (table : Table) → IsMachine table → undefined_entries_of table ≤ 250
+machine_few_undefined_entries table machine =
+    let few = few_undefined_entries 10 table (λ q h.
     let most = machine.symbols in omega (arith, groups_long table machine q h, most)) in
     omega (arith, few, machine.states)
 
 -- the laws' count is the same
 
-same_in : (es : List Entry) → gaps_in es + 0 ≡ gaps (es ∷ [])
+same_in : (es : List Entry) → undefined_entries_in es + 0 ≡ undefined_entries (es ∷ [])
 same_in [] = omega arith
 same_in (Undefined ∷ es) = let rest = same_in es in omega (arith, rest)
 same_in (Go write dir to ∷ es) = let rest = same_in es in omega (arith, rest)
 
-pub same_gaps : (gs : Table) → gaps_of gs ≡ gaps gs
-same_gaps [] = refl
-same_gaps (g ∷ gs) = omega (arith, same_in g, same_gaps gs)
+pub same_undefined_entries : (gs : Table) → undefined_entries_of gs ≡ undefined_entries gs
+same_undefined_entries [] = refl
+same_undefined_entries (g ∷ gs) = omega (arith, same_in g, same_undefined_entries gs)
 
 -- one `---` less
-pub filled_gaps : (table : Table) → IsMachine table → (q s write : ℕ) (dir : _) (to : Next)
+pub filled_undefined_entries : (table : Table) → IsMachine table → (q s write : ℕ) (dir : _) (to : Next)
     → q < length table → s < symbols_of table → entry_of table q s ≡ Undefined
-    → gaps_of (with_entry table q s (Go write dir to)) + 1 ≡ gaps_of table
-filled_gaps table machine q s write dir to below inside gap =
-    simp same_gaps (omega (arith, gaps-with_entry table machine q s write dir to below inside gap))
+    → undefined_entries_of (with_entry table q s (Go write dir to)) + 1 ≡ undefined_entries_of table
+filled_undefined_entries table machine q s write dir to below inside undefined =
+    simp same_undefined_entries (omega (arith, undefined_entries-with_entry table machine q s write dir to below inside undefined))
 
-pub some_gaps : (table : Table) → IsMachine table → (gap : Gap) → IsGapOf table gap → 0 < gaps_of table
-some_gaps table machine gap is =
-    omega (arith, filled_gaps table machine gap.state gap.symbol 0 dir.R Halt is.below is.inside is.is_gap)
+pub some_undefined_entries : (table : Table) → IsMachine table → (undefined : UndefinedEntry) → IsUndefinedOf table undefined → 0 < undefined_entries_of table
+some_undefined_entries table machine undefined is =
+    omega (arith, filled_undefined_entries table machine undefined.state undefined.symbol 0 dir.R Halt is.below is.inside is.is_undefined)

@@ -7,10 +7,10 @@ use Rattle.bb_cert.specs.declared.verdict.Why.TheVariants as reason
 use Rattle.bb_cert.specs.declared.verdict.Verdict.TheVariants.{Undecided}
 use Rattle.bb_cert.specs.checker.Answer.{IsAnswer}
 use Rattle.bb_cert.proofs.Facts.{answer_is_unique}
-use Rattle.laws_of_verdicts.specs.Closed.{VerdictLine, all_gaps}
+use Rattle.laws_of_verdicts.specs.Closed.{VerdictLine, blank_table}
 use Rattle.laws_of_verdicts.specs.NormalForm.{IsEmpty}
 use Rattle.laws_of_verdicts.specs.Walk.{HaltsOnOneOf, IsWalk}
-use Rattle.laws_of_verdicts.proofs.Facts.{all_gaps-none}
+use Rattle.laws_of_verdicts.proofs.Facts.{blank_table-none}
 use Rattle.bb_cover.specs.declared.counts.Counts.{Counts}
 use Rattle.bb_cover.specs.declared.found.Found.{Found}
 use Rattle.bb_cover.specs.declared.found.Found.TheVariants.{Covers, Stops}
@@ -20,7 +20,7 @@ use Rattle.bb_cover.specs.declared.found.Why.TheVariants.{Unread, NotNext, Refus
 use Rattle.bb_cover.specs.declared.list.Size.{Size}
 use Rattle.bb_cover.specs.Claims.{AreTrueLines}
 use Rattle.bb_cover.specs.Counts.{AreCounts, saturated}
-use Rattle.bb_cover.specs.Course.{Applies, IsWrong, rank}
+use Rattle.bb_cover.specs.CoverProgress.{Applies, IsWrong, rank}
 use Rattle.bb_cover.specs.Covering.{CoverIsUnique, HasLeft, IsFound, IsWholeWalk, IsWrongAt, StopsAt}
 use Rattle.bb_cover.proofs.Steps.{one_line}
 use Rattle.bb_cover.proofs.Wholes.{IsNextLine, behind, head_asked, none_applies, same_true}
@@ -90,23 +90,23 @@ walked_undecided (t ∷ left) (o ∷ other) walk =
 -- a walk goes along these lines, which are some, and so their first machine is that with no entry
 
 first_is_root : (n k : ℕ) (lines tail : List VerdictLine) → lines ≢ []
-    → IsWalk (all_gaps n k ∷ []) (lines ++ tail) → (i j : ℕ) (tail_too : List VerdictLine)
-    → IsWalk (all_gaps i j ∷ []) (lines ++ tail_too) → all_gaps n k ≡ all_gaps i j
+    → IsWalk (blank_table n k ∷ []) (lines ++ tail) → (i j : ℕ) (tail_too : List VerdictLine)
+    → IsWalk (blank_table i j ∷ []) (lines ++ tail_too) → blank_table n k ≡ blank_table i j
 first_is_root n k [] tail some walk i j tail_too walk_too = absurd (some refl)
 first_is_root n k (line ∷ lines) tail some walk i j tail_too walk_too = sym walk.0 ∙ walk_too.0
 
 walk_from : (size : Size) (left : List Table) (lines : List VerdictLine) → HasLeft (Some size) left lines
-    → IsWalk (all_gaps size.states size.symbols ∷ []) (lines ++ map undecided left)
+    → IsWalk (blank_table size.states size.symbols ∷ []) (lines ++ map undecided left)
 walk_from size left lines has = (has.1 (map undecided left)).0 (undecided_walk left)
 
 -- what is left after these lines, where a walk of some size goes along them
 next_line_of : (size : Option Size) (left : List Table) (lines : List VerdictLine) → HasLeft size left lines
     → (n k : ℕ) (line : VerdictLine) (tail : List VerdictLine)
-    → IsWalk (all_gaps n k ∷ []) (lines ++ line ∷ tail) → IsNextLine size left line.table
+    → IsWalk (blank_table n k ∷ []) (lines ++ line ∷ tail) → IsNextLine size left line.table
 next_line_of None left lines has n k line tail walk =
-    let first : IsWalk (all_gaps n k ∷ []) (line ∷ tail) =
-    subst (λ l. IsWalk (all_gaps n k ∷ []) (l ++ line ∷ tail)) has.0 walk in
-    record { rest = []; asked = (subst IsEmpty (sym first.0) (all_gaps-none n k), refl) }
+    let first : IsWalk (blank_table n k ∷ []) (line ∷ tail) =
+    subst (λ l. IsWalk (blank_table n k ∷ []) (l ++ line ∷ tail)) has.0 walk in
+    record { rest = []; asked = (subst IsEmpty (sym first.0) (blank_table-none n k), refl) }
 next_line_of (Some size) left lines has n k line tail walk =
     let root = first_is_root n k lines (line ∷ tail) has.0 walk size.states size.symbols
     (map undecided left) (walk_from size left lines has) in
@@ -136,9 +136,9 @@ module _ (bounds : Bounds) (bytes : List (List ℕ)) where
       let there = behind bounds first.before long.item long.more first.verdicts second.verdicts
       first.are_true true_too in
       let tail = map undecided second.left in
-      let walk : IsWalk (all_gaps size.states size.symbols ∷ [])
+      let walk : IsWalk (blank_table size.states size.symbols ∷ [])
       (first.verdicts ++ there.line ∷ (there.later ++ tail)) =
-      subst (IsWalk (all_gaps size.states size.symbols ∷ []))
+      subst (IsWalk (blank_table size.states size.symbols ∷ []))
       (ap (λ l. l ++ tail) there.whole
       ∙ append_assoc first.verdicts (there.line ∷ there.later) tail)
       (walk_from size second.left second.verdicts has) in

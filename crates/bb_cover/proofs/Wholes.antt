@@ -13,10 +13,10 @@ use Rattle.bb_machine.specs.Machine.{Table, IsMachine, symbols_of}
 use Rattle.bb_cert.specs.checker.Answer.{IsAnswer}
 use Rattle.bb_cert.specs.claims.Claim.{Claim}
 use Rattle.laws_of_verdicts.specs.Closed as closed
-use Rattle.laws_of_verdicts.specs.Closed.{VerdictLine, all_gaps}
+use Rattle.laws_of_verdicts.specs.Closed.{VerdictLine, blank_table}
 use Rattle.laws_of_verdicts.specs.NormalForm.{IsEmpty}
 use Rattle.laws_of_verdicts.specs.Walk.{AreWalked, IsWalk}
-use Rattle.laws_of_verdicts.proofs.Facts.{all_gaps-none, contains_cases, covers_decide, normal_form_covers}
+use Rattle.laws_of_verdicts.proofs.Facts.{blank_table-none, contains_cases, covers_decide, normal_form_covers}
 use Rattle.laws_of_verdicts.proofs.Facts.{walks_are_in_normal_form}
 use Rattle.bb_cover.specs.declared.counts.Counts.{Counts}
 use Rattle.bb_cover.specs.declared.found.Found.{Found}
@@ -24,13 +24,13 @@ use Rattle.bb_cover.specs.declared.found.Found.TheVariants.{Covers, Stops}
 use Rattle.bb_cover.specs.declared.found.Stop.{Stop}
 use Rattle.bb_cover.specs.declared.found.Why.{Why}
 use Rattle.bb_cover.specs.declared.found.Why.TheVariants.{Unread, NotNext, Refused, TooSoon, Beyond}
-use Rattle.bb_cover.specs.declared.list.Course.{Course}
+use Rattle.bb_cover.specs.declared.list.CoverProgress.{CoverProgress}
 use Rattle.bb_cover.specs.declared.list.Cover.{Cover}
 use Rattle.bb_cover.specs.declared.list.Size.{Size}
 use Rattle.bb_cover.specs.Claims.{AreTrueLines, IsTrueLine}
 use Rattle.bb_cover.specs.Counts.{AreCounts, no_counts, saturated}
-use Rattle.bb_cover.specs.Course.{Applies, EndsTooSoon, IsAsked, IsFoundBy, IsWrong, Stopped, TookBy, Visited}
-use Rattle.bb_cover.specs.Course.{size_after}
+use Rattle.bb_cover.specs.CoverProgress.{Applies, EndsTooSoon, IsAsked, IsFoundBy, IsWrong, Stopped, TookBy, Visited}
+use Rattle.bb_cover.specs.CoverProgress.{size_after}
 use Rattle.bb_cover.specs.Covering.{CoversSize, DecidesSize, HasLeft, IsCover, IsFound, IsWholeWalk}
 use Rattle.bb_cover.specs.Covering.{IsWrongAt, StopsAt}
 use Rattle.bb_cover.proofs.Judging.{fine_claim, fine_or_not}
@@ -116,7 +116,7 @@ behind bounds (b ∷ before) bytes after (x ∷ first) (y ∷ all) one two =
 
 -- sizes
 
-same_size : (n k n' k' : ℕ) → 0 < n → all_gaps n k ≡ all_gaps n' k' → (n ≡ n') × (k ≡ k')
+same_size : (n k n' k' : ℕ) → 0 < n → blank_table n k ≡ blank_table n' k' → (n ≡ n') × (k ≡ k')
 same_size n k n' k' some same = (states, columns n n' some (some_too) same)
   where
     states : n ≡ n'
@@ -126,7 +126,7 @@ same_size n k n' k' some same = (states, columns n n' some (some_too) same)
     some_too : 0 < n'
     some_too = omega (arith, some, states)
 
-    columns : (a b : ℕ) → 0 < a → 0 < b → all_gaps a k ≡ all_gaps b k' → k ≡ k'
+    columns : (a b : ℕ) → 0 < a → 0 < b → blank_table a k ≡ blank_table b k' → k ≡ k'
     columns zero b h g e = absurd (omega (arith, h))
     columns (suc a) zero h g e = absurd (omega (arith, g))
     columns (suc a) (suc b) h g e =
@@ -138,26 +138,26 @@ pub record Begins (lines : List VerdictLine) (size : Size) : Type 0 where
   pub later : List VerdictLine
   pub whole : lines ≡ first ∷ later
   pub machine : IsMachine first.table
-  pub root : first.table ≡ all_gaps size.states size.symbols
+  pub root : first.table ≡ blank_table size.states size.symbols
 
 -- a walk along lines that begin so is one of that size
 begun_size : (lines more : List VerdictLine) (size : Size) (n k : ℕ) → Begins lines size
-    → IsWalk (all_gaps n k ∷ []) (lines ++ more) → (size.states ≡ n) × (size.symbols ≡ k)
+    → IsWalk (blank_table n k ∷ []) (lines ++ more) → (size.states ≡ n) × (size.symbols ≡ k)
 begun_size lines more size n k begins walk =
-    let walk_too : IsWalk (all_gaps n k ∷ []) (begins.first ∷ (begins.later ++ more)) =
-    subst (λ l. IsWalk (all_gaps n k ∷ []) (l ++ more)) begins.whole walk in
+    let walk_too : IsWalk (blank_table n k ∷ []) (begins.first ∷ (begins.later ++ more)) =
+    subst (λ l. IsWalk (blank_table n k ∷ []) (l ++ more)) begins.whole walk in
     let is = walk_too.0 in
     let long : length begins.first.table ≡ size.states =
     ap length begins.root ∙ length-replicate size.states (replicate size.symbols Undefined) in
     same_size size.states size.symbols n k (omega (arith, long)) (sym begins.root ∙ is)
 
 -- how far a walk has come that hasn't stopped
-pub record Going (bounds : Bounds) (past : List (List ℕ)) (course : Course) : Type 0 where
+pub record Going (bounds : Bounds) (past : List (List ℕ)) (progress : CoverProgress) : Type 0 where
   pub lines : List VerdictLine
   pub are_true : AreTrueLines bounds past lines
-  pub has_left : HasLeft course.size course.walk lines
-  pub begun : (size : Size) → course.size ≡ Some size → Begins lines size
-  pub counted : AreCounts lines course.counts
+  pub has_left : HasLeft progress.size progress.walk lines
+  pub begun : (size : Size) → progress.size ≡ Some size → Begins lines size
+  pub counted : AreCounts lines progress.counts
 
 -- and one that has
 pub record Ended (bounds : Bounds) (past : List (List ℕ)) (counts : Counts) (stop : Stop) : Type 0 where
@@ -165,19 +165,19 @@ pub record Ended (bounds : Bounds) (past : List (List ℕ)) (counts : Counts) (s
   pub bytes : List ℕ
   pub after : List (List ℕ)
   pub whole : past ≡ before ++ bytes ∷ after
-  pub course : Course
-  pub going : Going bounds before course
-  pub wrong : IsWrong bounds course.size course.walk bytes stop.why
-  pub line : stop.line ≡ saturated (course.counts.lines + 1)
-  pub counts_are : counts ≡ course.counts
+  pub progress : CoverProgress
+  pub going : Going bounds before progress
+  pub wrong : IsWrong bounds progress.size progress.walk bytes stop.why
+  pub line : stop.line ≡ saturated (progress.counts.lines + 1)
+  pub counts_are : counts ≡ progress.counts
 
-abbrev pub HasCome : Option Stop → Bounds → List (List ℕ) → Course → Type 0
-HasCome None bounds past course = Going bounds past course
-HasCome (Some stop) bounds past course = Ended bounds past course.counts stop
+abbrev pub HasCome : Option Stop → Bounds → List (List ℕ) → CoverProgress → Type 0
+HasCome None bounds past progress = Going bounds past progress
+HasCome (Some stop) bounds past progress = Ended bounds past progress.counts stop
 
 -- one line more
 
-module _ (bounds : Bounds) (past : List (List ℕ)) (bytes : List ℕ) (old new : Course)
+module _ (bounds : Bounds) (past : List (List ℕ)) (bytes : List ℕ) (old new : CoverProgress)
     (going : Going bounds past old) where
   visited_left : (visited : Visited bounds old bytes new) (size : Option Size) (walk : List Table)
       → IsAsked size walk visited.line.table visited.goes.rest → HasLeft size walk going.lines
@@ -187,7 +187,7 @@ module _ (bounds : Bounds) (past : List (List ℕ)) (bytes : List ℕ) (old new 
     some_pushed going.lines visited.line,
     λ tail.
         let line = visited.line in
-        let goes = goes_on line visited.gap visited.goes.more visited.goes.rest visited.to_fill
+        let goes = goes_on line visited.undefined visited.goes.more visited.goes.rest visited.to_fill
         visited.goes.fills tail in
         let root = ap₂ ◌∷◌ (empty_is line.table visited.is_true.is_line.0 asked.0) asked.1 in
         subst (λ ts. IsWalk (visited.goes.more ++ visited.goes.rest) tail
@@ -199,7 +199,7 @@ module _ (bounds : Bounds) (past : List (List ℕ)) (bytes : List ℕ) (old new 
     some_pushed going.lines visited.line,
     λ tail.
         let line = visited.line in
-        let goes = goes_on line visited.gap visited.goes.more visited.goes.rest visited.to_fill
+        let goes = goes_on line visited.undefined visited.goes.more visited.goes.rest visited.to_fill
         visited.goes.fills tail in
         let before = left.1 (line ∷ tail) in
         rw append_assoc (
@@ -255,14 +255,14 @@ module _ (bounds : Bounds) (past : List (List ℕ)) (bytes : List ℕ) (old new 
     bytes = bytes;
     after = [];
     whole = refl;
-    course = old;
+    progress = old;
     going = going;
     wrong = stopped.wrong;
     line = refl;
     counts_are = stopped.counts;
   }
 
-one_more : (bounds : Bounds) (past : List (List ℕ)) (bytes : List ℕ) (old new : Course) (stop : Option Stop)
+one_more : (bounds : Bounds) (past : List (List ℕ)) (bytes : List ℕ) (old new : CoverProgress) (stop : Option Stop)
     → old.stop ≡ stop → HasCome stop bounds past old → TookBy stop bounds old bytes new
     → HasCome new.stop bounds (past ++ bytes ∷ []) new
 one_more bounds past bytes old new None is come (inl visited) =
@@ -278,29 +278,29 @@ one_more bounds past bytes old new (Some stop) is come took =
       after = come.after ++ bytes ∷ [];
       whole = ap (λ l. l ++ bytes ∷ []) come.whole
           ∙ append_assoc come.before (come.bytes ∷ come.after) (bytes ∷ []);
-      course = come.course;
+      progress = come.progress;
       going = come.going;
       wrong = come.wrong;
       line = come.line;
       counts_are = come.counts_are;
     } in
-    subst (λ (c : Course). HasCome c.stop bounds (past ++ bytes ∷ []) c) (sym took)
+    subst (λ (c : CoverProgress). HasCome c.stop bounds (past ++ bytes ∷ []) c) (sym took)
     (subst (λ s. HasCome s bounds (past ++ bytes ∷ []) old) (sym is) ended)
 
 -- what is left, by the size
-left_of_size : {bounds : Bounds} {past : List (List ℕ)} {course : Course} (going : Going bounds past course)
-    {size : Option Size} → course.size ≡ size → HasLeft size course.walk going.lines
-left_of_size {course} going is = subst (λ s. HasLeft s course.walk going.lines) is going.has_left
+left_of_size : {bounds : Bounds} {past : List (List ℕ)} {progress : CoverProgress} (going : Going bounds past progress)
+    {size : Option Size} → progress.size ≡ size → HasLeft size progress.walk going.lines
+left_of_size {progress} going is = subst (λ s. HasLeft s progress.walk going.lines) is going.has_left
 
 -- a whole walk along a beginning
-walked_left : (bounds : Bounds) (past : List (List ℕ)) (course : Course) (going : Going bounds past course)
-    (more : List VerdictLine) (n k : ℕ) → IsWalk (all_gaps n k ∷ []) (going.lines ++ more)
-    → (size : Size) → course.size ≡ Some size → IsWalk course.walk more
-walked_left bounds past course going more n k walk size is =
+walked_left : (bounds : Bounds) (past : List (List ℕ)) (progress : CoverProgress) (going : Going bounds past progress)
+    (more : List VerdictLine) (n k : ℕ) → IsWalk (blank_table n k ∷ []) (going.lines ++ more)
+    → (size : Size) → progress.size ≡ Some size → IsWalk progress.walk more
+walked_left bounds past progress going more n k walk size is =
     let same = begun_size going.lines more size n k (going.begun size is) walk in
-    let left : HasLeft (Some size) course.walk going.lines = left_of_size going is in
-    (left.1 more).1 (subst (λ j. IsWalk (all_gaps size.states j ∷ []) (going.lines ++ more)) (sym same.1)
-    (subst (λ i. IsWalk (all_gaps i k ∷ []) (going.lines ++ more)) (sym same.0) walk))
+    let left : HasLeft (Some size) progress.walk going.lines = left_of_size going is in
+    (left.1 more).1 (subst (λ j. IsWalk (blank_table size.states j ∷ []) (going.lines ++ more)) (sym same.1)
+    (subst (λ i. IsWalk (blank_table i k ∷ []) (going.lines ++ more)) (sym same.0) walk))
 
 -- so a line of it is the next one
 pub record IsNextLine (size : Option Size) (left : List Table) (table : Table) : Type 0 where
@@ -312,21 +312,21 @@ pub head_asked : (left : List Table) (line : VerdictLine) (more : List VerdictLi
 head_asked [] line more walk size = absurd walk
 head_asked (t ∷ ts) line more walk size = record { rest = ts; asked = ap (λ x. x ∷ ts) (sym walk.0) }
 
-next_asked : (bounds : Bounds) (past : List (List ℕ)) (course : Course) (going : Going bounds past course)
+next_asked : (bounds : Bounds) (past : List (List ℕ)) (progress : CoverProgress) (going : Going bounds past progress)
     (line : VerdictLine) (more : List VerdictLine) (n k : ℕ)
-    → IsWalk (all_gaps n k ∷ []) (going.lines ++ line ∷ more) → (size : Option Size) → course.size ≡ size
-    → IsNextLine size course.walk line.table
-next_asked bounds past course going line more n k walk None is =
-    let left : HasLeft None course.walk going.lines = left_of_size going is in
-    let first : IsWalk (all_gaps n k ∷ []) (line ∷ more) =
-    subst (λ l. IsWalk (all_gaps n k ∷ []) (l ++ line ∷ more)) left.0 walk in
+    → IsWalk (blank_table n k ∷ []) (going.lines ++ line ∷ more) → (size : Option Size) → progress.size ≡ size
+    → IsNextLine size progress.walk line.table
+next_asked bounds past progress going line more n k walk None is =
+    let left : HasLeft None progress.walk going.lines = left_of_size going is in
+    let first : IsWalk (blank_table n k ∷ []) (line ∷ more) =
+    subst (λ l. IsWalk (blank_table n k ∷ []) (l ++ line ∷ more)) left.0 walk in
     record {
       rest = [];
-      asked = (subst IsEmpty (sym first.0) (all_gaps-none n k), refl);
+      asked = (subst IsEmpty (sym first.0) (blank_table-none n k), refl);
     }
-next_asked bounds past course going line more n k walk (Some size) is =
-    head_asked course.walk line more
-    (walked_left bounds past course going (line ∷ more) n k walk size is) size
+next_asked bounds past progress going line more n k walk (Some size) is =
+    head_asked progress.walk line more
+    (walked_left bounds past progress going (line ∷ more) n k walk size is) size
 
 -- so no reason to stop applies to it
 pub none_applies : (bounds : Bounds) (size : Option Size) (left : List Table) (bytes : List ℕ)
@@ -351,9 +351,9 @@ none_applies bounds (Some size) left bytes line Beyond is next applies =
 
 -- at the end
 
-module _ (bounds : Bounds) (all : List (List ℕ)) (course : Course) where
+module _ (bounds : Bounds) (all : List (List ℕ)) (progress : CoverProgress) where
   -- where a list stops, by the walk up to there
-  stops_after : (stop : Stop) (before after : List (List ℕ)) → all ≡ before ++ after → (here : Course)
+  stops_after : (stop : Stop) (before after : List (List ℕ)) → all ≡ before ++ after → (here : CoverProgress)
       (going : Going bounds before here) → IsWrongAt bounds here.size here.walk after stop.why
       → stop.line ≡ saturated (here.counts.lines + 1) → StopsAt bounds all here.counts stop
   stops_after stop before after whole here going wrong line = record {
@@ -371,59 +371,59 @@ module _ (bounds : Bounds) (all : List (List ℕ)) (course : Course) where
     counted = going.counted;
   }
 
-  stops_at : (stop : Stop) → Ended bounds all course.counts stop → StopsAt bounds all course.counts stop
+  stops_at : (stop : Stop) → Ended bounds all progress.counts stop → StopsAt bounds all progress.counts stop
   stops_at stop ended =
-      rw ended.counts_are (stops_after stop ended.before (ended.bytes ∷ ended.after) ended.whole ended.course
+      rw ended.counts_are (stops_after stop ended.before (ended.bytes ∷ ended.after) ended.whole ended.progress
       ended.going ended.wrong ended.line)
 
-  no_whole : (stop : Stop) → Ended bounds all course.counts stop → (n k : ℕ) → IsWholeWalk bounds all n k → ⊥
+  no_whole : (stop : Stop) → Ended bounds all progress.counts stop → (n k : ℕ) → IsWholeWalk bounds all n k → ⊥
   no_whole stop ended n k whole =
       let there = behind bounds ended.before ended.bytes ended.after ended.going.lines whole.lines
       ended.going.are_true (subst (λ l. AreTrueLines bounds l whole.lines) ended.whole whole.are_true) in
-      none_applies bounds ended.course.size ended.course.walk ended.bytes there.line stop.why there.is_true
-      (next_asked bounds ended.before ended.course ended.going there.line there.later n k
-      (subst (IsWalk (all_gaps n k ∷ [])) there.whole whole.walk) ended.course.size refl)
+      none_applies bounds ended.progress.size ended.progress.walk ended.bytes there.line stop.why there.is_true
+      (next_asked bounds ended.before ended.progress ended.going there.line there.later n k
+      (subst (IsWalk (blank_table n k ∷ [])) there.whole whole.walk) ended.progress.size refl)
       ended.wrong.applies
 
   -- the list ended too soon
-  ends_at : (stop : Stop) → EndsTooSoon course stop → Going bounds all course
-      → StopsAt bounds all course.counts stop
+  ends_at : (stop : Stop) → EndsTooSoon progress stop → Going bounds all progress
+      → StopsAt bounds all progress.counts stop
   ends_at stop ends going =
-      stops_after stop all [] (sym (append-nil all)) course going (ends.why, ends.something) ends.line
+      stops_after stop all [] (sym (append-nil all)) progress going (ends.why, ends.something) ends.line
 
   nothing_left : (left : List Table) → IsWalk left [] → left ≡ []
   nothing_left [] walk = refl
   nothing_left (t ∷ ts) walk = absurd walk
 
   -- a whole walk goes along the lines so far
-  walk_going : (n k : ℕ) (going : Going bounds all course) → IsWholeWalk bounds all n k
-      → IsWalk (all_gaps n k ∷ []) (going.lines ++ [])
+  walk_going : (n k : ℕ) (going : Going bounds all progress) → IsWholeWalk bounds all n k
+      → IsWalk (blank_table n k ∷ []) (going.lines ++ [])
   walk_going n k going whole =
-      subst (IsWalk (all_gaps n k ∷ []))
+      subst (IsWalk (blank_table n k ∷ []))
       (same_true bounds all whole.lines going.lines whole.are_true going.are_true
       ∙ sym (append-nil going.lines)) whole.walk
 
-  no_whole_yet : (stop : Stop) → EndsTooSoon course stop → (going : Going bounds all course) → (n k : ℕ)
-      → IsWholeWalk bounds all n k → (size : Option Size) → course.size ≡ size → ⊥
+  no_whole_yet : (stop : Stop) → EndsTooSoon progress stop → (going : Going bounds all progress) → (n k : ℕ)
+      → IsWholeWalk bounds all n k → (size : Option Size) → progress.size ≡ size → ⊥
   no_whole_yet stop ends going n k whole None is =
-      let left : HasLeft None course.walk going.lines = left_of_size going is in
-      subst (IsWalk (all_gaps n k ∷ []))
+      let left : HasLeft None progress.walk going.lines = left_of_size going is in
+      subst (IsWalk (blank_table n k ∷ []))
       (same_true bounds all whole.lines going.lines whole.are_true going.are_true ∙ left.0) whole.walk
   no_whole_yet stop ends going n k whole (Some size) is =
       let walk = walk_going n k going whole in
       ends.something (λ none. let both : Some size ≡ None = sym is ∙ none in cc)
-      (nothing_left course.walk (walked_left bounds all course going [] n k walk size is))
+      (nothing_left progress.walk (walked_left bounds all progress going [] n k walk size is))
 
   -- it covers a size
-  walk_of : (n k : ℕ) (going : Going bounds all course)
-      → course.size ≡ Some (record { states = n; symbols = k }) → course.walk ≡ []
-      → IsWalk (all_gaps n k ∷ []) going.lines
+  walk_of : (n k : ℕ) (going : Going bounds all progress)
+      → progress.size ≡ Some (record { states = n; symbols = k }) → progress.walk ≡ []
+      → IsWalk (blank_table n k ∷ []) going.lines
   walk_of n k going size done =
       let here : Size = record { states = n; symbols = k } in
       let left : HasLeft (Some here) [] going.lines =
       subst (λ t. HasLeft (Some here) t going.lines) done
       (left_of_size going size) in
-      subst (IsWalk (all_gaps n k ∷ [])) (append-nil going.lines) ((left.1 []).0 tt)
+      subst (IsWalk (blank_table n k ∷ [])) (append-nil going.lines) ((left.1 []).0 tt)
 
   covers_of : (n k : ℕ) (whole : IsWholeWalk bounds all n k) → closed.Covers whole.lines n k
   covers_of n k whole =
@@ -438,8 +438,8 @@ module _ (bounds : Bounds) (all : List (List ℕ)) (course : Course) where
   decides_of n k lines covers machine is states symbols =
       covers_decide lines machine is (rw (states, symbols) covers)
 
-  size_of : (n k n' k' : ℕ) (going : Going bounds all course)
-      → course.size ≡ Some (record { states = n; symbols = k }) → IsWholeWalk bounds all n' k'
+  size_of : (n k n' k' : ℕ) (going : Going bounds all progress)
+      → progress.size ≡ Some (record { states = n; symbols = k }) → IsWholeWalk bounds all n' k'
       → Covers n k ≡ Covers n' k'
   size_of n k n' k' going size whole =
       let same = begun_size going.lines [] (record { states = n; symbols = k }) n' k' (going.begun _ size)
@@ -448,9 +448,9 @@ module _ (bounds : Bounds) (all : List (List ℕ)) (course : Course) where
 
   -- what is found is so
 
-  found_covers : (n k : ℕ) (going : Going bounds all course)
-      → course.size ≡ Some (record { states = n; symbols = k }) → course.walk ≡ []
-      → CoversSize bounds all course.counts n k
+  found_covers : (n k : ℕ) (going : Going bounds all progress)
+      → progress.size ≡ Some (record { states = n; symbols = k }) → progress.walk ≡ []
+      → CoversSize bounds all progress.counts n k
   found_covers n k going size done =
       let whole : IsWholeWalk bounds all n k =
       record { lines = going.lines; are_true = going.are_true; walk = walk_of n k going size done } in
@@ -462,61 +462,61 @@ module _ (bounds : Bounds) (all : List (List ℕ)) (course : Course) where
         counted = going.counted;
       }
 
-  found_so : (stop : Option Stop) → course.stop ≡ stop → HasCome stop bounds all course → (found : Found)
-      → IsFoundBy course found → IsFound bounds all course.counts found
+  found_so : (stop : Option Stop) → progress.stop ≡ stop → HasCome stop bounds all progress → (found : Found)
+      → IsFoundBy progress found → IsFound bounds all progress.counts found
   found_so None is come (Covers n k) by = found_covers n k come by.1 by.2
   found_so (Some stop) is come (Covers n k) by = absurd (cc by.0)
   found_so None is come (Stops stop) (inl by) = absurd cc
   found_so None is come (Stops stop) (inr ends) = ends_at stop ends come
   found_so (Some other) is come (Stops stop) (inl by) =
       let same : other ≡ stop = cc in
-      stops_at stop (subst (Ended bounds all course.counts) same come)
+      stops_at stop (subst (Ended bounds all progress.counts) same come)
   found_so (Some other) is come (Stops stop) (inr ends) = absurd cc
 
-  exactly : (stop : Option Stop) → course.stop ≡ stop → HasCome stop bounds all course → (found : Found)
-      → IsFoundBy course found → (n k : ℕ) → IsWholeWalk bounds all n k → found ≡ Covers n k
+  exactly : (stop : Option Stop) → progress.stop ≡ stop → HasCome stop bounds all progress → (found : Found)
+      → IsFoundBy progress found → (n k : ℕ) → IsWholeWalk bounds all n k → found ≡ Covers n k
   exactly None is come (Covers i j) by n k whole = size_of i j n k come by.1 whole
   exactly (Some stop) is come (Covers i j) by n k whole = absurd (cc by.0)
   exactly None is come (Stops stop) (inl by) n k whole = absurd cc
   exactly None is come (Stops stop) (inr ends) n k whole =
-      absurd (no_whole_yet stop ends come n k whole course.size refl)
+      absurd (no_whole_yet stop ends come n k whole progress.size refl)
   exactly (Some other) is come (Stops stop) (inl by) n k whole = absurd (no_whole other come n k whole)
   exactly (Some other) is come (Stops stop) (inr ends) n k whole = absurd cc
 
 -- a run that begins with nothing visited
-module _ {D : Type 0} (bounds : D → Bounds) (course : D → Course) where
+module _ {D : Type 0} (bounds : D → Bounds) (progress : D → CoverProgress) where
   abbrev pub TookOwn : D → List ℕ → D → Type 0
-  TookOwn a line b = (bounds b ≡ bounds a) × TookBy (course a).stop (bounds a) (course a) line (course b)
+  TookOwn a line b = (bounds b ≡ bounds a) × TookBy (progress a).stop (bounds a) (progress a) line (progress b)
 
-  pub has_come : (lines : List (List ℕ)) (a b : D) → (course a).size ≡ None → (course a).walk ≡ []
-      → (course a).stop ≡ None → (course a).counts ≡ no_counts → FoldsTo TookOwn a lines b
-      → HasCome (course b).stop (bounds a) lines (course b)
+  pub has_come : (lines : List (List ℕ)) (a b : D) → (progress a).size ≡ None → (progress a).walk ≡ []
+      → (progress a).stop ≡ None → (progress a).counts ≡ no_counts → FoldsTo TookOwn a lines b
+      → HasCome (progress b).stop (bounds a) lines (progress b)
   has_come lines a b size walk stop counts folds = (chained_keeps TookOwn
-      (λ past d. (bounds d ≡ bounds a) × HasCome (course d).stop (bounds a) past (course d)) more lines a b
-      (refl, subst (λ s. HasCome s (bounds a) [] (course a)) (sym stop) none) folds).1
+      (λ past d. (bounds d ≡ bounds a) × HasCome (progress d).stop (bounds a) past (progress d)) more lines a b
+      (refl, subst (λ s. HasCome s (bounds a) [] (progress a)) (sym stop) none) folds).1
     where
-      none : Going (bounds a) [] (course a)
+      none : Going (bounds a) [] (progress a)
       none = record {
         lines = [];
         are_true = tt;
-        has_left = subst (λ s. HasLeft s (course a).walk []) (sym size) (refl, walk);
+        has_left = subst (λ s. HasLeft s (progress a).walk []) (sym size) (refl, walk);
         begun = λ s is. let both = sym size ∙ is in cc;
         counted = rw counts none_counted;
       }
 
       more : (past : List (List ℕ)) (d : D) (line : List ℕ) (e : D)
-          → (bounds d ≡ bounds a) × HasCome (course d).stop (bounds a) past (course d) → TookOwn d line e
-          → (bounds e ≡ bounds a) × HasCome (course e).stop (bounds a) (past ++ line ∷ []) (course e)
+          → (bounds d ≡ bounds a) × HasCome (progress d).stop (bounds a) past (progress d) → TookOwn d line e
+          → (bounds e ≡ bounds a) × HasCome (progress e).stop (bounds a) (past ++ line ∷ []) (progress e)
       more past d line e before took = (
         took.0 ∙ before.0,
-        one_more (bounds a) past line (course d) (course e) (course d).stop refl before.1
-            (subst (λ (l : Bounds). TookBy (course d).stop l (course d) line (course e)) before.0 took.1),
+        one_more (bounds a) past line (progress d) (progress e) (progress d).stop refl before.1
+            (subst (λ (l : Bounds). TookBy (progress d).stop l (progress d) line (progress e)) before.0 took.1),
       )
 
-pub is_cover : (bounds : Bounds) (all : List (List ℕ)) (course : Course)
-    → HasCome course.stop bounds all course → (cover : Cover) → cover.counts ≡ course.counts
-    → IsFoundBy course cover.found → IsCover bounds all cover
-is_cover bounds all course come cover counts found = record {
-  found = rw counts (found_so bounds all course course.stop refl come cover.found found);
-  exact = exactly bounds all course course.stop refl come cover.found found;
+pub is_cover : (bounds : Bounds) (all : List (List ℕ)) (progress : CoverProgress)
+    → HasCome progress.stop bounds all progress → (cover : Cover) → cover.counts ≡ progress.counts
+    → IsFoundBy progress cover.found → IsCover bounds all cover
+is_cover bounds all progress come cover counts found = record {
+  found = rw counts (found_so bounds all progress progress.stop refl come cover.found found);
+  exact = exactly bounds all progress progress.stop refl come cover.found found;
 }

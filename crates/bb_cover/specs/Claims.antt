@@ -8,22 +8,22 @@ use Rattle.bb_cert.specs.declared.verdict.reader.Line.TheVariants as said
 use Rattle.bb_cert.specs.checker.Answer.{IsAnswer, is_fine}
 use Rattle.bb_cert.specs.verdict.Line.{IsLineOf}
 use Rattle.laws_of_verdicts.specs.Closed.{VerdictLine}
-use Rattle.laws_of_verdicts.specs.Gap.{HasOtherGap}
+use Rattle.laws_of_verdicts.specs.UndefinedEntry.{HasOtherUndefined}
 use Rattle.bb_cover.specs.declared.claim.Judged.{Judged}
 use Rattle.bb_cover.specs.declared.claim.Judged.TheVariants.{Fine, Refused}
-use Rattle.bb_cover.specs.declared.gap.Gap.{Gap}
+use Rattle.bb_cover.specs.declared.undefined.UndefinedEntry.{UndefinedEntry}
 use Rattle.bb_cover.specs.Counts.{is_halt}
-use Rattle.bb_cover.specs.Gaps.{IsToFill}
+use Rattle.bb_cover.specs.UndefinedEntries.{IsToFill}
 
 -- the verdict is a halt
 abbrev pub IsHalt : Verdict → Type 0
 IsHalt verdict = IsTrue (is_halt verdict)
 
 -- of a `---`, if there is one, the same, where it is one of several
-abbrev pub IsOneOf : Table → Option Gap → Option Gap → Type 0
+abbrev pub IsOneOf : Table → Option UndefinedEntry → Option UndefinedEntry → Type 0
 IsOneOf table None found = found ≡ None
-IsOneOf table (Some gap) None = HasOtherGap table gap.state gap.symbol → ⊥
-IsOneOf table (Some gap) (Some other) = (other ≡ gap) × HasOtherGap table gap.state gap.symbol
+IsOneOf table (Some undefined) None = HasOtherUndefined table undefined.state undefined.symbol → ⊥
+IsOneOf table (Some undefined) (Some other) = (other ≡ undefined) × HasOtherUndefined table undefined.state undefined.symbol
 
 -- the checker's answer to the verdict is `ok` or `open`
 pub record IsFineClaim (bounds : Bounds) (table : Table) (verdict : Verdict) : Type 0 where
@@ -39,8 +39,8 @@ pub record IsRefusedClaim (bounds : Bounds) (table : Table) (verdict : Verdict) 
 
 -- the verdict is judged so
 abbrev pub IsJudged : Table → Bounds → Verdict → Judged → Type 0
-IsJudged table bounds verdict (Fine gap) = IsFineClaim bounds table verdict
-    × IsToFill (record { table = table; verdict = verdict }) gap
+IsJudged table bounds verdict (Fine undefined) = IsFineClaim bounds table verdict
+    × IsToFill (record { table = table; verdict = verdict }) undefined
 IsJudged table bounds verdict (Refused given) = IsRefusedClaim bounds table verdict given
 
 -- the bytes are the line of this machine and this verdict, which may stand in a list

@@ -5,7 +5,7 @@ use Rattle.bb_cert.specs.declared.verdict.Verdict.{Verdict}
 use Rattle.bb_cert.specs.declared.verdict.Verdict.TheVariants.{Halt, Cycler, Translated, Backward, Undecided}
 use Rattle.laws_of_verdicts.specs.Closed.{VerdictLine}
 use Rattle.bb_cover.specs.declared.counts.Counts.{Counts}
-use Rattle.bb_cover.specs.Gaps.{gaps_of}
+use Rattle.bb_cover.specs.UndefinedEntries.{undefined_entries_of}
 
 -- of five, the one for the verdict's kind
 abbrev pub by_kind : {X : Type 0} → X → X → X → X → X → Verdict → X
@@ -34,7 +34,7 @@ is_undecided = by_kind false false false false true
 
 -- an undecided line whose machine has more than one `---`
 abbrev pub is_wide : VerdictLine → Bool
-is_wide line = cond (is_undecided line.verdict) (nat_lt 1 (gaps_of line.table)) false
+is_wide line = cond (is_undecided line.verdict) (nat_lt 1 (undefined_entries_of line.table)) false
 
 -- a count stops here
 abbrev pub saturated : ℕ → ℕ

@@ -1,4 +1,4 @@
--- What a list comes to: it covers a size, or stops at a line. This project's own.
+-- The result for a list: it covers a size, or stops at a line. This project's own.
 use Rattle.std.specs.Prelude.{◌≡◌, ◌≢◌, ◌↔◌, ◌⊎◌, ℕ, ◌+◌, List, [], ◌∷◌, ◌++◌, length}
 use Rattle.std.specs.Prelude.{Option, Some, None, Result, IfOk}
 use Rattle.std.specs.Io.KnownBytes.{Consumes, IsAtEnd}
@@ -8,7 +8,7 @@ use Rattle.bb_sim.specs.Run.{Never}
 use Rattle.bb_lines.specs.declared.fault.Fault.{Fault}
 use Rattle.bb_lines.specs.Lines.{lines}
 use Rattle.laws_of_verdicts.specs.Closed as closed
-use Rattle.laws_of_verdicts.specs.Closed.{HaltsSoon, IsLeftOpen, VerdictLine, all_gaps}
+use Rattle.laws_of_verdicts.specs.Closed.{HaltsSoon, IsLeftOpen, VerdictLine, blank_table}
 use Rattle.laws_of_verdicts.specs.Walk.{IsWalk}
 use Rattle.bb_cover.specs.declared.counts.Counts.{Counts}
 use Rattle.bb_cover.specs.declared.found.Found.{Found}
@@ -20,14 +20,14 @@ use Rattle.bb_cover.specs.declared.list.Cover.{Cover}
 use Rattle.bb_cover.specs.declared.list.Size.{Size}
 use Rattle.bb_cover.specs.Claims.{AreTrueLines}
 use Rattle.bb_cover.specs.Counts.{AreCounts, saturated}
-use Rattle.bb_cover.specs.Course.{IsWrong}
+use Rattle.bb_cover.specs.CoverProgress.{IsWrong}
 
 -- the bytes of these lines are those of a walk through all machines of a size, each with a verdict to which
 -- the checker answers `ok` or `open`
 pub record IsWholeWalk (bounds : Bounds) (bytes : List (List ℕ)) (states symbols : ℕ) : Type 0 where
   pub lines : List VerdictLine
   pub are_true : AreTrueLines bounds bytes lines
-  pub walk : IsWalk (all_gaps states symbols ∷ []) lines
+  pub walk : IsWalk (blank_table states symbols ∷ []) lines
 
 -- each machine of the size halts at most a step later than one of the lines, never halts, or completes one of
 -- an undecided line, up to a change
@@ -49,14 +49,15 @@ pub record CoversSize (bounds : Bounds) (bytes : List (List ℕ)) (counts : Coun
 abbrev pub HasLeft : Option Size → List Table → List VerdictLine → Type 0
 HasLeft None left verdicts = (verdicts ≡ []) × (left ≡ [])
 HasLeft (Some size) left verdicts = (verdicts ≢ []) × ((tail : List VerdictLine) → IsWalk left tail
-    ↔ IsWalk (all_gaps size.states size.symbols ∷ []) (verdicts ++ tail))
+    ↔ IsWalk (blank_table size.states size.symbols ∷ []) (verdicts ++ tail))
 
--- at a line, or at the end of all, the walk has still to visit these machines, and the line isn't as it asks
+-- at a line, or at the end of all, the walk has still to visit these machines, and the line isn't the one
+-- expected
 abbrev pub IsWrongAt : Bounds → Option Size → List Table → List (List ℕ) → Why → Type 0
 IsWrongAt bounds size left [] why = (why ≡ TooSoon) × (size ≢ None → left ≢ [])
 IsWrongAt bounds size left (bytes ∷ more) why = IsWrong bounds size left bytes why
 
--- the list isn't as the walk asks at this line: those before it are a beginning of one
+-- the walk stops at this line: those before it are a beginning of a whole walk
 pub record StopsAt (bounds : Bounds) (bytes : List (List ℕ)) (counts : Counts) (stop : Stop) : Type 0 where
   pub before : List (List ℕ)
   pub after : List (List ℕ)
@@ -74,19 +75,19 @@ abbrev pub IsFound : Bounds → List (List ℕ) → Counts → Found → Type 0
 IsFound bounds bytes counts (Covers states symbols) = CoversSize bounds bytes counts states symbols
 IsFound bounds bytes counts (Stops stop) = StopsAt bounds bytes counts stop
 
--- what a list comes to; it covers a size wherever its lines are a whole walk
+-- the result for a list; it covers a size exactly if its lines are a whole walk
 pub record IsCover (bounds : Bounds) (bytes : List (List ℕ)) (cover : Cover) : Type 0 where
   pub found : IsFound bounds bytes cover.counts cover.found
   pub exact : (states symbols : ℕ) → IsWholeWalk bounds bytes states symbols
       → cover.found ≡ Covers states symbols
 
--- how a run ends, by the bytes left in the reader before and then: some were read; without a fault all, and
--- this is what their lines come to
+-- the result of a run, by the bytes left in the reader before and after: some were read; without a fault all,
+-- and the result is that of their lines
 abbrev pub CoverEnds : Bounds → Option (List ℕ) → Option (List ℕ) → Result Cover Fault → Type 0
 CoverEnds bounds left left_then end = (taken : List ℕ) × Consumes left left_then taken
     × IfOk end (λ cover. IsAtEnd left_then × IsCover bounds (lines taken) cover)
 
--- no list comes to two things: size or stop, and counts, are settled by its bytes
+-- no list has two results: its bytes determine size or stop, and counts
 abbrev pub CoverIsUnique : Type 0
 CoverIsUnique = (bounds : Bounds) (bytes : List (List ℕ)) (one two : Cover) → IsCover bounds bytes one
     → IsCover bounds bytes two → (one.found ≡ two.found) × (one.counts ≡ two.counts)

@@ -14,9 +14,9 @@ use Rattle.bb_cert.proofs.Facts.{length-line}
 use Rattle.bb_cover.specs.declared.found.Stop.{Stop}
 use Rattle.bb_cover.specs.declared.found.Why.{Why}
 use Rattle.bb_cover.specs.declared.found.Why.TheVariants.{Unread, NotNext, Refused}
-use Rattle.bb_cover.specs.declared.list.Course.{Course}
+use Rattle.bb_cover.specs.declared.list.CoverProgress.{CoverProgress}
 use Rattle.bb_cover.specs.declared.list.Size.{Size}
-use Rattle.bb_cover.specs.Course.{Applies, IsWrong, TookBy}
+use Rattle.bb_cover.specs.CoverProgress.{Applies, IsWrong, TookBy}
 
 module _ (line : List ℕ) where
   -- either all bytes of a line are kept, or neither they nor the line are a verdict line
@@ -58,7 +58,7 @@ module _ (line : List ℕ) where
       absurd (long.whole (Claim applies.0.table applies.0.verdict) applies.1)
   applies_to_kept bounds size left why long applies = applies
 
-  wrong_of_long : (bounds : Bounds) (old : Course) (why : Why) → IsTooLong
+  wrong_of_long : (bounds : Bounds) (old : CoverProgress) (why : Why) → IsTooLong
       → IsWrong bounds old.size old.walk (take (LINE_BUFFER + 1) line) why
       → IsWrong bounds old.size old.walk line why
   wrong_of_long bounds old why long wrong = record {
@@ -67,7 +67,7 @@ module _ (line : List ℕ) where
         wrong.first other (applies_to_kept bounds old.size old.walk other long applies);
   }
 
-  took_of_long : (stop : Option Stop) (bounds : Bounds) (old new : Course) → IsTooLong
+  took_of_long : (stop : Option Stop) (bounds : Bounds) (old new : CoverProgress) → IsTooLong
       → TookBy stop bounds old (take (LINE_BUFFER + 1) line) new → TookBy stop bounds old line new
   took_of_long (Some stop) bounds old new long took = took
   took_of_long None bounds old new long (inl visited) =
@@ -80,7 +80,7 @@ module _ (line : List ℕ) where
   })
 
 -- what the kept bytes of a line do, the line does
-pub took_of_kept : (bounds : Bounds) (line : List ℕ) (old new : Course)
+pub took_of_kept : (bounds : Bounds) (line : List ℕ) (old new : CoverProgress)
     → TookBy old.stop bounds old (take (LINE_BUFFER + 1) line) new → TookBy old.stop bounds old line new
 took_of_kept bounds line old new took = of_kept line (λ bytes. TookBy old.stop bounds old bytes new) took
     (λ long. took_of_long line old.stop bounds old new long took)

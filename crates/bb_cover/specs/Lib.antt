@@ -1,9 +1,9 @@
 pub mod Asked
 pub mod Claims
 pub mod Counts
-pub mod Course
+pub mod CoverProgress
 pub mod Covering
-pub mod Gaps
+pub mod UndefinedEntries
 pub mod Halts
 pub mod KeptBytes
 pub mod Left

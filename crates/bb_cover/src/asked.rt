@@ -1,4 +1,4 @@
-//! With which entries a walk goes on from a machine.
+//! The entries tried for an undefined transition.
 ghost use Rattle.std.specs.Prelude.{◌≡◌, ◌+◌, ◌*◌, ◌<◌, ◌≤◌, length, slice_index_or, cond};
 ghost use Rattle.bb_machine.specs.declared.entry.Entry.{Entry};
 ghost use Rattle.bb_cover.specs.Asked.{IsAsking, entries, width_of};
@@ -6,9 +6,8 @@ ghost use Rattle.bb_cover.specs.Asked.{IsAsking, entries, width_of};
 use crate::used::count_used;
 use bb_machine::{Dir, Entry, MAX_STATES, MAX_SYMBOLS, Machine, Next};
 
-/// Those that lead to one of the first so many states and write one of the first so many symbols, in their
-/// order: by what they write, to the right before to the left, by where they lead. From the machine with no
-/// entry there are none to the left.
+/// Those with a next state and a symbol among the first so many, in order: by symbol, moves to the right
+/// before moves to the left, by next state. The empty machine has none to the left.
 #[derive(Clone, Copy, Debug)]
 pub(crate) struct Asked {
     pub(crate) is_root: bool,
@@ -17,7 +16,7 @@ pub(crate) struct Asked {
 }
 
 impl Asked {
-    /// Those that name at most the first state and the first symbol that a machine doesn't use.
+    /// Those with at most the first state and the first symbol unused by a machine.
     pub(crate) fn of(machine: &Machine, is_root: bool) -> Asked
         ensures { IsAsking machine.now is_root result }
     {

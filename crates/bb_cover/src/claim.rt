@@ -1,28 +1,28 @@
-//! Whether a verdict on a machine may stand in a list, and on which `---` its machine halts.
+//! Whether a list may have a verdict on a machine, and the undefined transition of a halt.
 ghost use Rattle.std.specs.Prelude.{◌≡◌, ◌≤◌, IfOk, IsTrue, OnErr};
 ghost use Rattle.bb_cert.specs.checker.Pair.{PairHasCells};
 ghost use Rattle.bb_cert.specs.checker.Answer.{IsAnswer};
 ghost use Rattle.bb_cert.specs.tree.Path.{depth_of};
 ghost use Rattle.bb_cover.specs.Claims.{IsHalt, IsJudged, IsOneOf};
 
-use crate::gap::{Gap, has_other_gap};
+use crate::undefined::{UndefinedEntry, has_other_undefined};
 use crate::halt::{Halted, halt_at};
 use bb_cert::{Answer, Pair, Path, Verdict, check};
 use bb_machine::{Limits, Machine};
 use bb_sim::Meter;
 use bb_tape::{Memory, Tape};
 
-/// What becomes of a verdict.
+/// The judgement on a verdict.
 #[derive(Clone, Copy, Debug)]
 pub(crate) enum Judged {
     /// The checker's answer to it is `ok` or `open`; its machine halts on this one of several `---`, if on
     /// any.
-    Fine(Option<Gap>),
+    Fine(Option<UndefinedEntry>),
     /// The checker's answer is this one, `bad` or `over`.
     Refused(Answer),
 }
 
-/// Judges a verdict. A halt that is confirmed takes one run; any other claim is checked.
+/// Judges a verdict. To confirm a halt takes one run; any other claim goes to the checker.
 pub(crate) fn judge<T: Tape>(
     machine: &Machine,
     verdict: &Verdict,
@@ -68,21 +68,21 @@ fn judge_halt<T: Tape>(
     if halted.score != score {
         return refuse_halt(machine, steps, score, limits, pair, path);
     }
-    Ok(Judged::Fine(gap_to_fill(machine, halted)))
+    Ok(Judged::Fine(undefined_to_fill(machine, halted)))
 }
 
-/// The `---` on which a machine halted, where that is one of several.
-fn gap_to_fill(machine: &Machine, halted: Halted) -> Option<Gap>
-    ensures { IsOneOf machine.now halted.gap result }
+/// The undefined transition of a halt, if it is one of several.
+fn undefined_to_fill(machine: &Machine, halted: Halted) -> Option<UndefinedEntry>
+    ensures { IsOneOf machine.now halted.undefined result }
 {
-    let gap = halted.gap?;
-    if has_other_gap(machine, gap) {
-        return Some(gap);
+    let undefined = halted.undefined?;
+    if has_other_undefined(machine, undefined) {
+        return Some(undefined);
     }
     None
 }
 
-/// Judges a halt that the machine doesn't make.
+/// Judges a false claim of a halt.
 fn refuse_halt<T: Tape>(
     machine: &Machine,
     steps: u64,
@@ -105,7 +105,7 @@ fn refuse_halt<T: Tape>(
     Ok(Judged::Refused(answer))
 }
 
-/// Judges a verdict that is no halt by the checker's answer.
+/// Judges any other verdict by the checker's answer.
 fn judge_answer<T: Tape>(
     machine: &Machine,
     verdict: &Verdict,

@@ -1,9 +1,9 @@
 //! How many lines of each kind a list has.
 ghost use Rattle.std.specs.Prelude.{◌≡◌, ◌+◌, nat_lt};
 ghost use Rattle.bb_cover.specs.Counts.{counted, more_if, no_counts, saturated};
-ghost use Rattle.bb_cover.specs.Gaps.{gaps_of};
+ghost use Rattle.bb_cover.specs.UndefinedEntries.{undefined_entries_of};
 
-use crate::table::count_gaps;
+use crate::table::count_undefined_entries;
 use bb_cert::Verdict;
 use bb_machine::Machine;
 
@@ -18,7 +18,7 @@ pub struct Counts {
     pub cycler: u64,
     /// It never halts: records of a side agree.
     pub translated: u64,
-    /// It never halts: the tree of what could come before a halt ends.
+    /// It never halts: the backward tree ends.
     pub backward: u64,
     /// It is undecided.
     pub undecided: u64,
@@ -60,11 +60,11 @@ impl Counts {
     fn add_undecided(&mut self, machine: &Machine)
         ensures { self.new ≡ record self.old {
           undecided = saturated (self.old.undecided + 1);
-          wide = more_if (nat_lt 1 (gaps_of machine.now)) self.old.wide;
+          wide = more_if (nat_lt 1 (undefined_entries_of machine.now)) self.old.wide;
         } }
     {
         self.undecided = self.undecided.saturating_add(1);
-        if count_gaps(machine) > 1 {
+        if count_undefined_entries(machine) > 1 {
             self.wide = self.wide.saturating_add(1);
         }
     }

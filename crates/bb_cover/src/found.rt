@@ -1,12 +1,12 @@
-//! What a walk along a list comes to.
+//! The result of a walk along a list.
 use bb_cert::Answer;
 
-/// Why a list's line isn't as the walk asks.
+/// The reason for stopping at a line.
 #[derive(Clone, Copy, Debug, PartialEq, Eq)]
 pub enum Why {
     /// It is no line of a machine and a verdict.
     Unread,
-    /// Its machine isn't the next one; of the first line, that with no entry of some size.
+    /// Its machine isn't the next one; for the first line, an empty machine of some size.
     NotNext,
     /// The checker's answer to its claim is this one, `bad` or `over`.
     Refused(Answer),
@@ -16,19 +16,19 @@ pub enum Why {
     Beyond,
 }
 
-/// Where a list isn't as the walk asks.
+/// The line at which the walk stops.
 #[derive(Clone, Copy, Debug, PartialEq, Eq)]
 pub struct Stop {
-    /// Which line, the first being 1; one past the last where the list ends. It stops at 2^64 - 1.
+    /// The line's number, from 1; one past the last at the end of the list. It saturates at 2^64 - 1.
     pub line: u64,
     pub why: Why,
 }
 
-/// What a walk along a list comes to.
+/// The result of a walk along a list.
 #[derive(Clone, Copy, Debug, PartialEq, Eq)]
 pub enum Found {
     /// The list covers the machines of so many states and symbols.
     Covers { states: u8, symbols: u8 },
-    /// It isn't as the walk asks.
+    /// The list isn't complete.
     Stops(Stop),
 }

@@ -1,23 +1,23 @@
-//! Where and with what score a machine halts.
+//! The transition and the score of a halt.
 ghost use Rattle.std.specs.Prelude.{◌≡◌, ◌≤◌, IfOk, IsTrue, MatchOption, OnErr};
 ghost use Rattle.bb_sim.specs.Run.{HaltsAt, IsScore};
 ghost use Rattle.bb_sim.specs.Runner.{Stands, steps_of};
 ghost use Rattle.bb_sim.specs.Span.{Inside};
-ghost use Rattle.bb_cover.specs.Gaps.{HaltsOn};
+ghost use Rattle.bb_cover.specs.UndefinedEntries.{HaltsOn};
 ghost use Rattle.bb_cover.specs.Halts.{EndsSo};
 
-use crate::gap::Gap;
+use crate::undefined::UndefinedEntry;
 use bb_machine::{Entry, Limits, Machine};
 use bb_sim::{Meter, Moved, Runner};
 use bb_tape::{Memory, Tape};
 
-/// How a run ends that halts.
+/// A halt.
 #[derive(Clone, Copy, Debug)]
 pub(crate) struct Halted {
     /// How many cells aren't 0.
     pub(crate) score: u64,
-    /// On which `---`; none where it is a step into Z.
-    pub(crate) gap: Option<Gap>,
+    /// Its undefined transition; none for a step into Z.
+    pub(crate) undefined: Option<UndefinedEntry>,
 }
 
 /// Runs a machine for so many steps: how it ends, if it halts just then and within the limits; none else.
@@ -48,7 +48,7 @@ pub(crate) fn halt_at<T: Tape>(
                 }
                 return Ok(Some(Halted {
                     score: tape.score(),
-                    gap: gap_here(machine, &runner, tape),
+                    undefined: undefined_here(machine, &runner, tape),
                 }));
             }
             Moved::NoSteps => return Ok(None),
@@ -68,13 +68,13 @@ fn with_steps(limits: &Limits, steps: u64) -> Limits
     }
 }
 
-/// The `---` where a runner has halted; none in Z.
-fn gap_here<T: Tape>(machine: &Machine, runner: &Runner, tape: &T) -> Option<Gap>
+/// The undefined transition under a halted runner; none in Z.
+fn undefined_here<T: Tape>(machine: &Machine, runner: &Runner, tape: &T) -> Option<UndefinedEntry>
     requires stands { Stands machine.now runner.now (T.view tape.now) }
     requires halts { HaltsAt machine.now (steps_of runner.now) }
     ensures { HaltsOn machine.now (steps_of runner.now) result }
 {
     let state = runner.state()?;
     let symbol = tape.read(runner.position());
-    Some(Gap { state, symbol })
+    Some(UndefinedEntry { state, symbol })
 }

@@ -2,8 +2,8 @@
 ghost use Rattle.bb_cover.specs.Covering.{CoverIsUnique};
 ghost use Rattle.bb_cover.specs.Numbers.{FramesAre};
 
-/// No list comes to two things within one set of limits: its bytes settle the size that it covers, or where
-/// it stops and why, and the counts.
+/// Under one set of limits a list has one result: its bytes determine the size covered, or the line and the
+/// reason for stopping, and the counts.
 pub fn cover_is_unique()
     ensures unique { CoverIsUnique }
 {}

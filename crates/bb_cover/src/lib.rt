@@ -1,12 +1,12 @@
-//! Whether a list of verdicts settles every machine of a size: whether its lines are those of a walk in depth
-//! through all of them, each with a claim that the checker confirms.
+//! Checks whether a list of verdicts settles every machine of a size: its lines are those of a walk in depth
+//! through all of them, each with a claim confirmed by the checker.
 #![tactic(auto)]
 
 mod asked;
 mod claim;
 mod counts;
 mod found;
-mod gap;
+mod undefined;
 mod halt;
 pub mod laws;
 mod list;

@@ -10,20 +10,20 @@ ghost use Rattle.bb_cert.specs.verdict.Line.{IsLineOf};
 ghost use Rattle.bb_lines.specs.Watched.{is_marked, watched_inner};
 ghost use Rattle.laws_of_verdicts.specs.Closed.{VerdictLine};
 ghost use Rattle.bb_cover.specs.Counts.{counted, saturated};
-ghost use Rattle.bb_cover.specs.Course.{GoesOn, IsAsked, IsFoundBy};
+ghost use Rattle.bb_cover.specs.CoverProgress.{GoesOn, IsAsked, IsFoundBy};
 ghost use Rattle.bb_cover.specs.Covering.{CoverEnds};
-ghost use Rattle.bb_cover.specs.Gaps.{IsGapOf};
+ghost use Rattle.bb_cover.specs.UndefinedEntries.{IsUndefinedOf};
 
 use crate::claim::{Judged, judge};
 use crate::counts::Counts;
 use crate::found::{Found, Stop, Why};
-use crate::gap::Gap;
+use crate::undefined::UndefinedEntry;
 use crate::table::is_empty;
 use crate::text::{Text, next_text, text_of};
 use crate::walk::Walk;
 use bb_cert::{LINE_BUFFER, LineContent, Pair, Path, Verdict, read_line_in_place};
 use bb_lines::fault::Fault;
-use bb_lines::taking::{Taker, take_lines};
+use bb_lines::sink::{LineSink, drain_lines};
 use bb_lines::watched::Watched;
 use bb_machine::{Limits, Machine};
 use bb_tape::Tape;
@@ -40,43 +40,42 @@ struct Size {
 
 /// How far a walk along a list has come.
 #[derive(Drop)]
-struct Course {
+struct CoverProgress {
     /// None before the first line.
     size: Option<Size>,
     walk: Walk,
-    /// None as long as each line is as the walk asks. After that nothing changes.
+    /// None until a line is wrong. After that nothing changes.
     stop: Option<Stop>,
     counts: Counts,
 }
 
-/// What a list comes to.
+/// The result for a list.
 #[derive(Drop)]
 pub struct Cover {
     /// Whether it covers a size.
     pub found: Found,
-    /// What was visited up to the line where it stops, or to its end.
+    /// The counts of the lines before the stop, or of all lines.
     pub counts: Counts,
-    /// The machine that was still to be visited first, for whoever looks at it; empty where there is none. No
-    /// clause speaks of it.
+    /// The next machine of the walk, for messages; empty at its end. No clause mentions it.
     pub asked: Text,
-    /// The machine of the last line that has one and wasn't passed on, likewise.
+    /// The last line's machine, if it has one and the walk didn't take it, likewise.
     pub given: Text,
 }
 
-/// What takes the lines of a list.
+/// The sink for the lines of a list.
 #[derive(Drop)]
 struct Checker<'a, T> {
     limits: Limits,
     pair: &'a mut Pair<T>,
     path: &'a mut Path,
-    // The machine of the last line that had one. Each is read in its place.
+    // The machine of the last line with one. Each is read in its place.
     machine: Machine,
-    course: &'a mut Course,
-    // How many lines were visited, to be looked at meanwhile.
+    progress: &'a mut CoverProgress,
+    // The number of lines so far, for progress reports.
     seen: &'a Cell<u64>,
 }
 
-impl Course {
+impl CoverProgress {
     /// Whether the machine is the next one to be visited.
     fn asks(&self, machine: &Machine) -> bool
         ensures next { IsTrue result
@@ -100,7 +99,7 @@ impl Course {
         }
     }
 
-    /// Stops at the line after those that were visited.
+    /// Stops at the line after the visited ones.
     fn stop_for(&mut self, why: Why)
         ensures { self.new ≡ record self.old {
           stop = Some (record { line = saturated (self.old.counts.lines + 1); why = why });
@@ -112,13 +111,13 @@ impl Course {
         });
     }
 
-    /// Visits the next machine, which has this verdict, and halts on this one of several `---`, if on any.
-    /// The machine is taken where it does.
-    fn visit(&mut self, machine: &mut Machine, verdict: &Verdict, gap: Option<Gap>)
+    /// Visits the next machine, with its verdict and its undefined transition, if it halts on one of several.
+    /// The machine is moved then.
+    fn visit(&mut self, machine: &mut Machine, verdict: &Verdict, undefined: Option<UndefinedEntry>)
         requires asked { (rest : List Table) × IsAsked self.old.size self.old.walk machine.old rest }
         requires unbegun { self.old.size ≡ None → self.old.walk ≡ [] }
-        requires gap { IfSome gap (IsGapOf machine.old) }
-        ensures goes { GoesOn self.old machine.old gap self.new }
+        requires undefined { IfSome undefined (IsUndefinedOf machine.old) }
+        ensures goes { GoesOn self.old machine.old undefined self.new }
         ensures counts { let line : VerdictLine
             = record { table = machine.old; verdict = verdict.now } in
             self.new.counts ≡ counted self.old.counts line }
@@ -130,13 +129,13 @@ impl Course {
                     states: machine.states(),
                     symbols: machine.symbols(),
                 });
-                self.walk.begin(machine, gap);
+                self.walk.begin(machine, undefined);
             }
-            Some(_) => self.walk.visit(machine, gap),
+            Some(_) => self.walk.visit(machine, undefined),
         }
     }
 
-    /// What the list comes to, after its last line.
+    /// The result after the last line.
     fn found(&self) -> Found
         ensures { IsFoundBy self.now result }
     {
@@ -166,23 +165,23 @@ impl Course {
     }
 }
 
-impl<T: Tape> Taker for Checker<'_, T> {
+impl<T: Tape> LineSink for Checker<'_, T> {
     ghost use Rattle.std.specs.Prelude.{◌≡◌, ◌+◌, ◌≤◌, [], None};
     ghost use Rattle.std.proofs.Common.{rules};
     ghost use Rattle.bb_cert.specs.declared.verdict.line.TheConstants.{LINE_BUFFER};
     ghost use Rattle.bb_cert.specs.checker.Pair.{PairHasCells};
     ghost use Rattle.bb_cert.specs.tree.Path.{depth_of};
-    ghost use Rattle.bb_cover.specs.Course.{Took};
+    ghost use Rattle.bb_cover.specs.CoverProgress.{Took};
     ghost use Rattle.bb_cover.specs.KeptBytes.{took_of_kept};
 
-    ghost took = { λ a line b. (b.limits ≡ a.limits) × Took a.limits a.course.now line b.course.now };
+    ghost took = { λ a line b. (b.limits ≡ a.limits) × Took a.limits a.progress.now line b.progress.now };
 
     ghost keeps = { λ a b. (b.limits ≡ a.limits) × (b.pair.ghost_name ≡ a.pair.ghost_name)
         × (b.path.ghost_name ≡ a.path.ghost_name) × (depth_of b.path.now ≡ depth_of a.path.now)
-        × (b.course.ghost_name ≡ a.course.ghost_name) };
+        × (b.progress.ghost_name ≡ a.progress.ghost_name) };
 
     ghost is_ready = { λ c. PairHasCells T.view c.limits.cells c.pair.now
-        × (c.limits.depth ≤ depth_of c.path.now) × (c.course.now.size ≡ None → c.course.now.walk ≡ []) };
+        × (c.limits.depth ≤ depth_of c.path.now) × (c.progress.now.size ≡ None → c.progress.now.walk ≡ []) };
 
     ghost GROWS = { T.GROWS };
 
@@ -198,37 +197,37 @@ impl<T: Tape> Taker for Checker<'_, T> {
 
     ghost took_by_kept = { λ a line b took. (
       took.0,
-      took_of_kept a.limits line a.course.now b.course.now took.1,
+      took_of_kept a.limits line a.progress.now b.progress.now took.1,
     ) };
 
     fn bytes_kept(&self) -> usize {
         LINE_BUFFER + 1
     }
 
-    fn take_line(&mut self, line: &[u8]) -> Result<(), AllocError> {
-        if self.course.stop.is_some() {
+    fn accept_line(&mut self, line: &[u8]) -> Result<(), AllocError> {
+        if self.progress.stop.is_some() {
             return Ok(());
         }
-        if self.course.is_done() {
-            self.course.stop_for(Why::Beyond);
+        if self.progress.is_done() {
+            self.progress.stop_for(Why::Beyond);
             return Ok(());
         }
         let Some(verdict) = read_verdict(line, &mut self.machine) else {
-            self.course.stop_for(Why::Unread);
+            self.progress.stop_for(Why::Unread);
             return Ok(());
         };
-        if !self.course.asks(&self.machine) {
-            self.course.stop_for(Why::NotNext);
+        if !self.progress.asks(&self.machine) {
+            self.progress.stop_for(Why::NotNext);
             return Ok(());
         }
         match judge(&self.machine, &verdict, &self.limits, self.pair, self.path) {
-            Ok(Judged::Fine(gap)) => {
-                self.course.visit(&mut self.machine, &verdict, gap);
-                self.seen.set(self.course.counts.lines);
+            Ok(Judged::Fine(undefined)) => {
+                self.progress.visit(&mut self.machine, &verdict, undefined);
+                self.seen.set(self.progress.counts.lines);
                 Ok(())
             }
             Ok(Judged::Refused(answer)) => {
-                self.course.stop_for(Why::Refused(answer));
+                self.progress.stop_for(Why::Refused(answer));
                 Ok(())
             }
             Err(_) => Err(AllocError),
@@ -236,7 +235,7 @@ impl<T: Tape> Taker for Checker<'_, T> {
     }
 }
 
-/// The verdict on a machine that a line says, if it says one. The machine is read in place of another.
+/// The verdict in a line, if it has one. The machine is read in place of another.
 fn read_verdict(line: &[u8], machine: &mut Machine) -> Option<Verdict>
     ensures found { IfSome result (λ verdict. IsLineOf (Line.Claim machine.new verdict) line.now) }
     ensures none { IfNone result ((table : Table) (verdict : Verdict)
@@ -250,11 +249,11 @@ fn read_verdict(line: &[u8], machine: &mut Machine) -> Option<Verdict>
 }
 
 /// Walks along the verdict lines of a list, and checks each claim: whether they are those of a walk in depth
-/// through all machines of a size, in tree normal form. Memory is taken once, before the first line. How many
-/// lines were visited so far stands in `seen`, to be looked at meanwhile.
+/// through all machines of a size, in tree normal form. It allocates once, before the first line. `seen` has
+/// the number of lines so far.
 ///
-/// A line ends at a newline; a last line without one counts if it isn't empty. The reader is read to its end,
-/// also past a line where the list stops. After a fault it is not to be used again.
+/// A line ends at a newline; a last line without one counts if it isn't empty. Reads to end of file, also
+/// after the walk stops. After a fault, don't use the reader again.
 pub fn run_cover<R: Read, T: Tape>(
     alloc: Global,
     reader: &mut Watched<R>,
@@ -267,11 +266,11 @@ pub fn run_cover<R: Read, T: Tape>(
     requires tapes { PairHasCells T.view limits.now.cells pair.old }
     requires path { limits.now.depth ≤ depth_of path.old }
 
-    // How the run ends, and what the list comes to.
+    // The result of the run and of the walk.
     ensures ends { CoverEnds limits.now
         (R.remaining (watched_inner reader.old)) (R.remaining (watched_inner reader.new)) result }
 
-    // When each fault comes. Memory runs out where the tapes take some, or before anything is read.
+    // The fault, if any. Allocation fails only in the tapes, or before the first read.
     ensures memory { result ≡ Err Fault.Memory → IsTrue T.GROWS ⊎ (reader.new ≡ reader.old) }
     ensures read { (result ≡ Err Fault.Read) ↔ (is_marked reader.new ≡ true) }
     ensures no_write { result ≢ Err Fault.Write }
@@ -282,7 +281,7 @@ pub fn run_cover<R: Read, T: Tape>(
     let Ok(walk) = Walk::new(alloc) else {
         return Err(Fault::Memory);
     };
-    let mut course = Course {
+    let mut progress = CoverProgress {
         size: None,
         walk,
         stop: None,
@@ -293,14 +292,14 @@ pub fn run_cover<R: Read, T: Tape>(
         pair,
         path,
         machine: Machine::blank(),
-        course: &mut course,
+        progress: &mut progress,
         seen,
     };
-    take_lines(reader, &mut checker)?;
+    drain_lines(reader, &mut checker)?;
     Ok(Cover {
-        found: checker.course.found(),
-        counts: checker.course.counts,
-        asked: next_text(&checker.course.walk),
+        found: checker.progress.found(),
+        counts: checker.progress.counts,
+        asked: next_text(&checker.progress.walk),
         given: text_of(&checker.machine),
     })
 }

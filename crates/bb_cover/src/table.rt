@@ -1,14 +1,14 @@
-//! What is known of a machine, entry by entry.
+//! A machine's table, entry by entry.
 ghost use Rattle.std.specs.Prelude.{◌≡◌, ◌↔◌, ℕ, ◌+◌, ◌<◌, ◌≤◌, IsTrue, length, slice_index_or, []};
 ghost use Rattle.bb_machine.specs.declared.entry.Entry.{Entry};
 ghost use Rattle.bb_machine.specs.Machine.{IsMachine, entry_of, symbols_of};
 ghost use Rattle.laws_of_verdicts.specs.Closed.{with_entry};
 ghost use Rattle.laws_of_verdicts.specs.NormalForm.{IsEmpty};
-ghost use Rattle.bb_cover.specs.Gaps.{gap_in, gaps_in, gaps_of};
+ghost use Rattle.bb_cover.specs.UndefinedEntries.{undefined_in, undefined_entries_in, undefined_entries_of};
 
 use bb_machine::{Entry, Machine};
 
-/// Whether a machine is another one with that entry for a state and a symbol.
+/// Whether a machine is another one with this entry for a state and a symbol.
 pub(crate) fn is_with_entry(
     parent: &Machine,
     state: u8,
@@ -54,7 +54,7 @@ fn is_row(parent: &Machine, state: u8, symbol: u8, entry: Entry, child: &Machine
     true
 }
 
-/// The entry for a row and a column, where that one stands for a state and a symbol.
+/// The entry for a row and a column, with this one for a state and a symbol.
 pub(crate) fn entry_with(
     parent: &Machine,
     state: u8,
@@ -107,31 +107,31 @@ fn is_row_empty(machine: &Machine, state: u8) -> bool
 }
 
 /// How many `---` a machine has.
-pub(crate) fn count_gaps(machine: &Machine) -> usize
-    ensures { result ≡ gaps_of machine.now }
+pub(crate) fn count_undefined_entries(machine: &Machine) -> usize
+    ensures { result ≡ undefined_entries_of machine.now }
 {
     let mut count = 0;
     for state in 0..machine.states() {
-        count += count_gaps_in(machine, state);
+        count += count_undefined_entries_in(machine, state);
     }
     count
 }
 
 /// How many it has for one state.
-fn count_gaps_in(machine: &Machine, state: u8) -> usize
+fn count_undefined_entries_in(machine: &Machine, state: u8) -> usize
     requires { state < length machine.now }
-    ensures count { result ≡ gaps_in (slice_index_or machine.now state []) }
+    ensures count { result ≡ undefined_entries_in (slice_index_or machine.now state []) }
     ensures few { result ≤ 10 }
 {
     let mut count = 0;
     for symbol in 0..machine.symbols() {
-        count += count_gap(machine.entry(state, symbol));
+        count += count_undefined(machine.entry(state, symbol));
     }
     count
 }
 
-fn count_gap(entry: Entry) -> usize
-    ensures { result ≡ gap_in entry }
+fn count_undefined(entry: Entry) -> usize
+    ensures { result ≡ undefined_in entry }
 {
     match entry {
         Entry::Undefined => 1,

@@ -19,7 +19,7 @@ pub(crate) fn text_of(machine: &Machine) -> Text {
     text
 }
 
-/// The text of the next machine of a walk, empty where there is none.
+/// The text of the next machine of a walk, empty at its end.
 pub(crate) fn next_text(walk: &Walk) -> Text {
     let mut text = ArrayVec::new();
     if let Some(top) = walk.top() {
@@ -40,7 +40,7 @@ fn add_row(machine: &Machine, state: u8, text: &mut Text)
     }
 }
 
-/// Adds the entries for a state of the next machine that fills a frame's `---`.
+/// Adds the entries for a state of the next machine: a frame's machine with its undefined transition filled.
 fn add_next_row(frame: &Frame, state: u8, text: &mut Text)
     requires state { state < length frame.now.machine }
     requires frame { IsFrame 0 frame.now }
@@ -48,15 +48,15 @@ fn add_next_row(frame: &Frame, state: u8, text: &mut Text)
     add_bar(state, text);
     let entry = frame.asked.entry(frame.next);
     for symbol in 0..frame.machine.symbols() {
-        let gap = frame.gap;
+        let undefined = frame.undefined;
         add_entry(
-            entry_with(&frame.machine, gap.state, gap.symbol, entry, state, symbol),
+            entry_with(&frame.machine, undefined.state, undefined.symbol, entry, state, symbol),
             text,
         );
     }
 }
 
-/// Adds what stands before a state's entries.
+/// Adds the separator before a state's entries.
 fn add_bar(state: u8, text: &mut Text) {
     if state > 0 {
         let _added = text.try_push(b'_');

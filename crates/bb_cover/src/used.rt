@@ -1,4 +1,4 @@
-//! Which states and symbols a machine uses.
+//! The states and symbols used by a machine.
 ghost use Rattle.std.specs.Prelude.{◌≡◌, ℕ, ◌<◌, ◌≤◌, length};
 ghost use Rattle.bb_machine.specs.Entry.{IsEntryOf};
 ghost use Rattle.bb_machine.specs.Machine.{Table, symbols_of};
@@ -15,7 +15,7 @@ pub(crate) struct Used {
 }
 
 impl Used {
-    /// Takes in an entry, and the state and symbol for which it stands.
+    /// Adds an entry with its state and symbol.
     fn take_in(&mut self, state: u8, symbol: u8, entry: Entry)
         requires state { state < MAX_STATES }
         requires symbol { symbol < MAX_SYMBOLS }

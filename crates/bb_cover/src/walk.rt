@@ -2,32 +2,32 @@
 ghost use Rattle.std.specs.Prelude.{◌≡◌, ◌↔◌, ◌+◌, ◌<◌, ◌≤◌, [], ◌∷◌, ◌++◌, List};
 ghost use Rattle.std.specs.Prelude.{IfOk, IfSome, IsTrue, length, vec_capacity};
 ghost use Rattle.bb_machine.specs.Machine.{Table};
-ghost use Rattle.laws_of_verdicts.specs.Walk.{FillsGapBy};
-ghost use Rattle.bb_cover.specs.Gaps.{IsGapOf, gaps_of};
+ghost use Rattle.laws_of_verdicts.specs.Walk.{FillsUndefinedBy};
+ghost use Rattle.bb_cover.specs.UndefinedEntries.{IsUndefinedOf, undefined_entries_of};
 ghost use Rattle.bb_cover.specs.Left.{FillsAt, IsFirst, IsFrame, IsStack, VisitsNext, left};
 
 use crate::asked::Asked;
-use crate::gap::Gap;
+use crate::undefined::UndefinedEntry;
 use crate::table::{is_empty, is_with_entry};
 use bb_machine::{MAX_STATES, MAX_SYMBOLS, Machine};
 use std::alloc::{AllocError, Global};
 use std::marker::Model;
 use std::mem;
 
-/// The most machines from which a walk goes on at once: each has one `---` less than the one before it.
+/// The most open machines of a walk: each has one undefined transition less than the one before it.
 const MAX_FRAMES: usize = MAX_STATES * MAX_SYMBOLS;
 
-/// A machine that halts on one of several `---`, and how many of the entries that are asked for there were
-/// filled in so far.
+/// A machine that halts on one of several undefined transitions, and how many of the entries to try there
+/// were filled in so far.
 #[derive(Drop)]
 pub(crate) struct Frame {
     pub(crate) machine: Machine,
-    pub(crate) gap: Gap,
+    pub(crate) undefined: UndefinedEntry,
     pub(crate) asked: Asked,
     pub(crate) next: usize,
 }
 
-/// A walk, as the machines that it has still to visit. Its room is reserved once.
+/// A walk, as the list of machines still to be visited. Its room is reserved once.
 #[derive(Drop)]
 pub(crate) struct Walk {
     frames: Vec<Frame>,
@@ -47,7 +47,7 @@ impl Model for Walk {
 }
 
 impl Walk {
-    /// A walk that has nothing to visit.
+    /// A finished walk.
     pub(crate) fn new(alloc: Global) -> Result<Walk, AllocError>
         ensures { IfOk result (λ walk. walk ≡ []) }
     {
@@ -74,36 +74,36 @@ impl Walk {
         let top = &self.frames[self.frames.len() - 1];
         is_with_entry(
             &top.machine,
-            top.gap.state,
-            top.gap.symbol,
+            top.undefined.state,
+            top.undefined.symbol,
             top.asked.entry(top.next),
             machine,
         )
     }
 
-    /// Begins with a machine that is visited, and goes on with those that fill the `---`, if there is one.
-    /// The machine is taken where there is.
-    pub(crate) fn begin(&mut self, machine: &mut Machine, gap: Option<Gap>)
+    /// Starts with a visited machine, and continues with those that fill the undefined transition, if there
+    /// is one. The machine is moved then.
+    pub(crate) fn begin(&mut self, machine: &mut Machine, undefined: Option<UndefinedEntry>)
         requires done { self.old ≡ [] }
-        requires gap { IfSome gap (IsGapOf machine.old) }
-        ensures { FillsAt machine.old gap self.new }
+        requires undefined { IfSome undefined (IsUndefinedOf machine.old) }
+        ensures { FillsAt machine.old undefined self.new }
     {
         machine.show_machine();
-        if let Some(gap) = gap {
-            go_on(&mut self.frames, machine, gap);
+        if let Some(undefined) = undefined {
+            go_on(&mut self.frames, machine, undefined);
         }
     }
 
-    /// Visits the next machine, and goes on with those that fill the `---`, if there is one. The machine is
-    /// taken where there is.
-    pub(crate) fn visit(&mut self, machine: &mut Machine, gap: Option<Gap>)
+    /// Visits the next machine, and continues with those that fill the undefined transition, if there is one.
+    /// The machine is moved then.
+    pub(crate) fn visit(&mut self, machine: &mut Machine, undefined: Option<UndefinedEntry>)
         requires next { IsFirst machine.old self.old }
-        requires gap { IfSome gap (IsGapOf machine.old) }
-        ensures { VisitsNext machine.old gap self.old self.new }
+        requires undefined { IfSome undefined (IsUndefinedOf machine.old) }
+        ensures { VisitsNext machine.old undefined self.old self.new }
     {
         pass(&mut self.frames);
-        if let Some(gap) = gap {
-            go_on(&mut self.frames, machine, gap);
+        if let Some(undefined) = undefined {
+            go_on(&mut self.frames, machine, undefined);
         }
     }
 
@@ -123,7 +123,7 @@ fn pass(frames: &mut Vec<Frame>)
     requires stack { IsStack frames.old.items }
     requires some { 0 < length frames.old.items }
     ensures next { (first : Table) × (left frames.old.items ≡ first ∷ left frames.new.items)
-        × (gaps_of first + length frames.new.items ≤ MAX_FRAMES) }
+        × (undefined_entries_of first + length frames.new.items ≤ MAX_FRAMES) }
     ensures stack { IsStack frames.new.items }
     ensures capacity { vec_capacity frames.new ≡ vec_capacity frames.old }
 {
@@ -136,14 +136,14 @@ fn pass(frames: &mut Vec<Frame>)
     let _passed = frames.pop();
 }
 
-/// Goes on from a machine with those that fill one of its `---`. The machine is taken.
-fn go_on(frames: &mut Vec<Frame>, machine: &mut Machine, gap: Gap)
+/// Continues from a machine with those that fill an undefined transition. The machine is moved.
+fn go_on(frames: &mut Vec<Frame>, machine: &mut Machine, undefined: UndefinedEntry)
     requires stack { IsStack frames.old.items }
     requires capacity { MAX_FRAMES ≤ vec_capacity frames.old }
-    requires room { gaps_of machine.old + length frames.old.items ≤ MAX_FRAMES }
-    requires gap { IsGapOf machine.old gap }
+    requires room { undefined_entries_of machine.old + length frames.old.items ≤ MAX_FRAMES }
+    requires undefined { IsUndefinedOf machine.old undefined }
     ensures left { (more : List Table) × (left frames.new.items ≡ more ++ left frames.old.items)
-        × FillsGapBy machine.old gap.state gap.symbol more }
+        × FillsUndefinedBy machine.old undefined.state undefined.symbol more }
     ensures stack { IsStack frames.new.items }
     ensures capacity { MAX_FRAMES ≤ vec_capacity frames.new }
 {
@@ -152,7 +152,7 @@ fn go_on(frames: &mut Vec<Frame>, machine: &mut Machine, gap: Gap)
     let taken = mem::replace(machine, Machine::blank());
     let _pushed = frames.push(Frame {
         machine: taken,
-        gap,
+        undefined,
         asked,
         next: 0,
     });

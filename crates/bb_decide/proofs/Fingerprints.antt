@@ -73,11 +73,11 @@ total_written key tape p v low high =
     omega (arith, changed, old, new)
 
 -- the same of what is computed, modulo 2^64
-pub print_written : (key : ℤ → ℕ) (tape : Content) (p : ℤ) (old new print : ℕ) → neg_ℤ (pos MAX_CELLS) ≤ℤ p
-    → p ≤ℤ pos MAX_CELLS → old < 2 ^ 64 → print ≡ fingerprint key tape → cell tape p ≡ old
-    → (print + key p * ((new + (2 ^ 64 - old)) % 2 ^ 64) % 2 ^ 64) % 2 ^ 64
+pub current_written : (key : ℤ → ℕ) (tape : Content) (p : ℤ) (old new current : ℕ) → neg_ℤ (pos MAX_CELLS) ≤ℤ p
+    → p ≤ℤ pos MAX_CELLS → old < 2 ^ 64 → current ≡ fingerprint key tape → cell tape p ≡ old
+    → (current + key p * ((new + (2 ^ 64 - old)) % 2 ^ 64) % 2 ^ 64) % 2 ^ 64
     ≡ fingerprint key (with_cell tape p new)
-print_written key tape p old new print low high few is here =
+current_written key tape p old new current low high few is here =
     let written = total_written key tape p new low high in
     let whole : key p * (new + (2 ^ 64 - old)) + key p * old ≡ key p * new + key p * 2 ^ 64 =
     sym (mul-add (key p) (new + (2 ^ 64 - old)) old) ∙ ap (λ n. key p * n) (omega (arith, few))
@@ -92,7 +92,7 @@ print_written key tape p old new print low high few is here =
     ∙ ap (λ n. n % 2 ^ 64) same
     ∙ add-mul-mod_self_right (total key (with_cell tape p new)) (key p) (2 ^ 64)
 
-pub print-blank : (key : ℤ → ℕ) → fingerprint key blank ≡ 0
+pub current-blank : (key : ℤ → ℕ) → fingerprint key blank ≡ 0
 unfolding total
-print-blank key = ap (λ n. n % 2 ^ 64) (sum_zero _ (2 * MAX_CELLS + 1) (λ k.
+current-blank key = ap (λ n. n % 2 ^ 64) (sum_zero _ (2 * MAX_CELLS + 1) (λ k.
     ap (λ s. key (place k) * s) (cell-blank (place k)) ∙ omega arith))

@@ -3,7 +3,7 @@ pub mod Claims
 pub mod Costs
 pub mod Counted
 pub mod Cycles
-pub mod Endings
+pub mod SearchResults
 pub mod Facts
 pub mod FewCells
 pub mod Fingerprints
@@ -19,4 +19,4 @@ pub mod SoFar
 pub mod Sure
 pub mod Translations
 pub mod Verdicts
-pub mod Watched
+pub mod SinglePass

@@ -18,14 +18,14 @@ use Rattle.bb_cert.specs.declared.verdict.Verdict.{Verdict}
 use Rattle.bb_cert.specs.declared.verdict.Verdict.TheVariants.{Cycler, Translated}
 use Rattle.bb_cert.proofs.Facts.{agreeing_records_never_halt, agreeing_records_never_repeat}
 use Rattle.bb_cert.proofs.Facts.{repeats_never_halt}
-use Rattle.bb_decide.specs.declared.ending.Ending.{Ending}
-use Rattle.bb_decide.specs.declared.ending.Ending.TheVariants.{Found, Ran}
+use Rattle.bb_decide.specs.declared.search_result.SearchResult.{SearchResult}
+use Rattle.bb_decide.specs.declared.search_result.SearchResult.TheVariants.{Found, Ran}
 use Rattle.bb_decide.specs.Cycle.{CountsSearch, FindsCycle, HasNoCycle, IsCycle}
-use Rattle.bb_decide.specs.Fingerprint.{AgreesByChance, LooksAsPartner, most_steps, named_step}
+use Rattle.bb_decide.specs.Fingerprint.{AgreesByChance, MatchesPartner, most_steps, named_step}
 use Rattle.bb_decide.specs.Translation.{FindsTranslation, HasNoTranslation, IsFirstTranslation}
-use Rattle.bb_decide.specs.inside.Ending.{CostsAlone, EndingCosts, EndsBoth, EndsSearches, RanAs, Watches}
+use Rattle.bb_decide.specs.inside.SearchResult.{CostsAlone, ResultCosts, EndsBoth, EndsSearches, RanAs, MakesSinglePass}
 use Rattle.bb_decide.specs.OneRun.{IsStoppedAt}
-use Rattle.bb_decide.specs.inside.Ending.{found_of, is_settled, verdict_of_outcome}
+use Rattle.bb_decide.specs.inside.SearchResult.{found_of, is_settled, verdict_of_outcome}
 use Rattle.bb_decide.specs.Backward.{CountsTree, FindsTree}
 use Rattle.bb_decide.specs.Verdict.{IsVerdict}
 use Rattle.bb_decide.specs.Cost.{CountsWalk, MakesWalk}
@@ -66,8 +66,8 @@ module _ (table : Table) (bounds : Bounds) (key : ℤ → ℕ) (old new : Meter)
       omega (arith, (named_by_outcome table bounds outcome is counts.last counts.is_last.inside).1)
 
   -- one search alone
-  pub cycle_costs : (ending : Ending) → RanAs table bounds ending
-      → CountsSearch table bounds old new (found_of ending) → CostsAlone bounds new.steps ending
+  pub cycle_costs : (search_result : SearchResult) → RanAs table bounds search_result
+      → CountsSearch table bounds old new (found_of search_result) → CostsAlone bounds new.steps search_result
   cycle_costs (Ran outcome) ran counts = run_costs counts outcome ran
   cycle_costs (Found (Cycler first second)) ran counts =
       let steps : new.steps ≡ old.steps + second = ap (λ (m : Meter). m.steps) counts in
@@ -78,21 +78,21 @@ module _ (table : Table) (bounds : Bounds) (key : ℤ → ℕ) (old new : Meter)
   cycle_costs (Found verdict) ran counts = absurd counts
 
   -- the watched run
-  pub watched_ends : (ending : Ending) → Watches table bounds key old new (Some ending)
-      → EndsBoth table bounds ending
-  watched_ends (Ran outcome) watched = (watched.2, watched.3, watched.0)
-  watched_ends (Found (Translated side first second extent)) watched =
-      (no_cycle_beside table bounds side first second watched.0.0, watched.0.0, watched.0.1)
-  watched_ends (Found verdict) watched = absurd watched.0
+  pub single_pass_ends : (search_result : SearchResult) → MakesSinglePass table bounds key old new (Some search_result)
+      → EndsBoth table bounds search_result
+  single_pass_ends (Ran outcome) single_pass = (single_pass.2, single_pass.3, single_pass.0)
+  single_pass_ends (Found (Translated side first second extent)) single_pass =
+      (no_cycle_beside table bounds side first second single_pass.0.0, single_pass.0.0, single_pass.0.1)
+  single_pass_ends (Found verdict) single_pass = absurd single_pass.0
 
-  pub watched_costs : (ending : Ending) → Watches table bounds key old new (Some ending)
-      → EndingCosts key table bounds new.steps ending
-  watched_costs (Ran outcome) watched none = run_costs watched.1 outcome watched.2
-  watched_costs (Found verdict) watched none = cycle_costs (Found verdict) tt watched.1
+  pub single_pass_costs : (search_result : SearchResult) → MakesSinglePass table bounds key old new (Some search_result)
+      → ResultCosts key table bounds new.steps search_result
+  single_pass_costs (Ran outcome) single_pass none = run_costs single_pass.1 outcome single_pass.2
+  single_pass_costs (Found verdict) single_pass none = cycle_costs (Found verdict) tt single_pass.1
 
 -- a cycle looks as its partner does, whatever the keys
 pub cycle_looks : {table : Table} {bounds : Bounds} (key : ℤ → ℕ) {a t : ℕ} → IsCycle table bounds a t
-    → LooksAsPartner key table a t
+    → MatchesPartner key table a t
 cycle_looks key cycle = record {
   partner = cycle.partner;
   one = cycle.same.here;
@@ -101,7 +101,7 @@ cycle_looks key cycle = record {
   at_step = cycle.same.at_second;
   state = refl;
   head = refl;
-  print = refl;
+  current = refl;
 }
 
 -- where the watched run was stopped
@@ -134,9 +134,9 @@ module _ {table : Table} {bounds : Bounds} {key : ℤ → ℕ} {n : ℕ} (here :
       (named_by_outcome table bounds outcome is n here.inside).0
 
   -- what the exact search for cycles finds costs no more than it may
-  pub exact_costs : (old mid new : Meter) → old.steps ≡ 0 → CountsTo table n old mid → (ending : Ending)
-      → FindsCycle table bounds (found_of ending) → RanAs table bounds ending
-      → CountsSearch table bounds mid new (found_of ending) → EndingCosts key table bounds new.steps ending
+  pub exact_costs : (old mid new : Meter) → old.steps ≡ 0 → CountsTo table n old mid → (search_result : SearchResult)
+      → FindsCycle table bounds (found_of search_result) → RanAs table bounds search_result
+      → CountsSearch table bounds mid new (found_of search_result) → ResultCosts key table bounds new.steps search_result
   exact_costs old mid new zero counts (Found (Cycler first second)) found ran searched none =
       let one : mid.steps ≡ old.steps + n = ap (λ (m : Meter). m.steps) counts in
       let two : new.steps ≡ mid.steps + second = ap (λ (m : Meter). m.steps) searched in
@@ -146,9 +146,9 @@ module _ {table : Table} {bounds : Bounds} {key : ℤ → ℕ} {n : ℕ} (here :
   exact_costs old mid new zero counts (Found verdict) found ran searched none = absurd found
 
   -- where that finds none, the fingerprints agree by chance
-  pub chance_costs : HasNoCycle table bounds → (steps : ℕ) (ending : Ending)
-      → FindsTranslation table bounds (found_of ending) → RanAs table bounds ending
-      → EndingCosts key table bounds steps ending
+  pub chance_costs : HasNoCycle table bounds → (steps : ℕ) (search_result : SearchResult)
+      → FindsTranslation table bounds (found_of search_result) → RanAs table bounds search_result
+      → ResultCosts key table bounds steps search_result
   chance_costs nowhere steps (Found (Translated side first second extent)) found ran none =
       absurd (none (by_chance nowhere second
       (not_earlier second (λ less. here.no_record side first second less found.0.translation))))
@@ -158,8 +158,8 @@ module _ {table : Table} {bounds : Bounds} {key : ℤ → ℕ} {n : ℕ} (here :
 
 module _ (table : Table) (bounds : Bounds) where
   -- the exact search ended with a pair or a halt
-  pub settled_ends : (ending : Ending) → is_settled ending ≡ true → FindsCycle table bounds (found_of ending)
-      → RanAs table bounds ending → EndsBoth table bounds ending
+  pub settled_ends : (search_result : SearchResult) → is_settled search_result ≡ true → FindsCycle table bounds (found_of search_result)
+      → RanAs table bounds search_result → EndsBoth table bounds search_result
   settled_ends (Found (Cycler first second)) settled found ran = found
   settled_ends (Ran (outcomes.Halt n score)) settled found ran =
       (ran, found, no_translation_beside table bounds n ran.0)
@@ -167,31 +167,31 @@ module _ (table : Table) (bounds : Bounds) where
   settled_ends (Found verdict) settled found ran = absurd found
 
   -- else it found none, and then the one for records
-  pub both_end : HasNoCycle table bounds → (ending : Ending) → FindsTranslation table bounds (found_of ending)
-      → RanAs table bounds ending → EndsBoth table bounds ending
+  pub both_end : HasNoCycle table bounds → (search_result : SearchResult) → FindsTranslation table bounds (found_of search_result)
+      → RanAs table bounds search_result → EndsBoth table bounds search_result
   both_end nowhere (Found (Translated side first second extent)) found ran = (nowhere, found.0, found.1)
   both_end nowhere (Ran outcome) found ran = (ran, nowhere, found)
   both_end nowhere (Found verdict) found ran = absurd found
 
   -- by a plan
-  pub both_on : (plan : Plan) → IsTrue plan.cyclers → IsTrue plan.translated → (ending : Ending)
-      → EndsBoth table bounds ending → EndsSearches table bounds plan ending
+  pub both_on : (plan : Plan) → IsTrue plan.cyclers → IsTrue plan.translated → (search_result : SearchResult)
+      → EndsBoth table bounds search_result → EndsSearches table bounds plan search_result
   both_on plan cyclers translated (Found (Cycler first second)) ends = (cyclers, ends)
   both_on plan cyclers translated (Found (Translated side first second extent)) ends =
       (λ on. ends.0, translated, ends.1, ends.2)
   both_on plan cyclers translated (Ran outcome) ends = (ends.0, (λ on. ends.1, λ on. ends.2))
   both_on plan cyclers translated (Found verdict) ends = absurd ends
 
-  pub cyclers_on : (plan : Plan) → IsTrue plan.cyclers → (IsTrue plan.translated → ⊥) → (ending : Ending)
-      → FindsCycle table bounds (found_of ending) → RanAs table bounds ending
-      → EndsSearches table bounds plan ending
+  pub cyclers_on : (plan : Plan) → IsTrue plan.cyclers → (IsTrue plan.translated → ⊥) → (search_result : SearchResult)
+      → FindsCycle table bounds (found_of search_result) → RanAs table bounds search_result
+      → EndsSearches table bounds plan search_result
   cyclers_on plan cyclers off (Found (Cycler first second)) found ran = (cyclers, found)
   cyclers_on plan cyclers off (Ran outcome) found ran = (ran, (λ on. found, λ on. absurd (off on)))
   cyclers_on plan cyclers off (Found verdict) found ran = absurd found
 
-  pub translated_on : (plan : Plan) → (IsTrue plan.cyclers → ⊥) → IsTrue plan.translated → (ending : Ending)
-      → FindsTranslation table bounds (found_of ending) → RanAs table bounds ending
-      → EndsSearches table bounds plan ending
+  pub translated_on : (plan : Plan) → (IsTrue plan.cyclers → ⊥) → IsTrue plan.translated → (search_result : SearchResult)
+      → FindsTranslation table bounds (found_of search_result) → RanAs table bounds search_result
+      → EndsSearches table bounds plan search_result
   translated_on plan off translated (Found (Translated side first second extent)) found ran =
       (λ on. absurd (off on), translated, found.0, found.1)
   translated_on plan off translated (Ran outcome) found ran = (ran, (λ on. absurd (off on), λ on. found))

@@ -9,8 +9,8 @@ use Rattle.bb_sim.proofs.Facts.{span_grows}
 use Rattle.bb_tape.specs.Content.{Content}
 use Rattle.bb_decide.specs.Cycle.{CountsSearch, FindsCycle}
 use Rattle.bb_decide.specs.OneRun.{BreaksOff, IsStoppedAt, RunsBefore}
-use Rattle.bb_decide.specs.declared.ending.Ending.{Ending}
-use Rattle.bb_decide.specs.inside.Ending.{RanAs, found_of, is_settled}
+use Rattle.bb_decide.specs.declared.search_result.SearchResult.{SearchResult}
+use Rattle.bb_decide.specs.inside.SearchResult.{RanAs, found_of, is_settled}
 use Rattle.bb_decide.proofs.Costs.{makes_cycles}
 use Rattle.bb_decide.proofs.RunsMade.{both_open, widest}
 
@@ -65,13 +65,13 @@ module _ {key : ℤ → ℕ} {table : Table} {bounds : Bounds} where
         (omega (arith, stop_cells, least)) part
 
     -- in the search for records
-    pub breaks_in_records : {tape : Content} (second : Meter) (ending : Ending) → is_settled ending ≡ false
-        → FindsCycle table bounds (found_of ending) → RanAs table bounds ending
-        → CountsSearch table bounds first second (found_of ending) → (new : Meter)
+    pub breaks_in_records : {tape : Content} (second : Meter) (search_result : SearchResult) → is_settled search_result ≡ false
+        → FindsCycle table bounds (found_of search_result) → RanAs table bounds search_result
+        → CountsSearch table bounds first second (found_of search_result) → (new : Meter)
         → CountsPart table bounds tape second new → BreaksOff key table bounds true true tape old new
-    breaks_in_records second ending unsettled finds ran searched new part =
-        let made = makes_cycles table bounds (found_of ending) finds searched in
-        let none = both_open ending unsettled finds ran in
+    breaks_in_records second search_result unsettled finds ran searched new part =
+        let made = makes_cycles table bounds (found_of search_result) finds searched in
+        let none = both_open search_result unsettled finds ran in
         let steps : second.steps ≡ first.steps + made.steps = ap (λ (m : Meter). m.steps) made.counts in
         let cells : second.most_cells ≡ max first.most_cells (span table made.steps) =
         ap (λ (m : Meter). m.most_cells) made.counts in

@@ -19,9 +19,9 @@ use Rattle.bb_decide.specs.Cost.{CycleSteps, StepsIfMade, TranslationSteps}
 use Rattle.bb_decide.specs.Cycle.{CountsSearch, FindsCycle, HasNoCycle}
 use Rattle.bb_decide.specs.Translation.{FindsTranslation}
 use Rattle.bb_decide.specs.OneRun.{BreaksOff, CountsRefused, CountsRuns, IsStoppedAt, MakesRuns}
-use Rattle.bb_decide.specs.declared.ending.Ending.{Ending}
-use Rattle.bb_decide.specs.declared.ending.Ending.TheVariants.{Found, Ran}
-use Rattle.bb_decide.specs.inside.Ending.{AddsRuns, RanAs, Watches, found_of, is_settled}
+use Rattle.bb_decide.specs.declared.search_result.SearchResult.{SearchResult}
+use Rattle.bb_decide.specs.declared.search_result.SearchResult.TheVariants.{Found, Ran}
+use Rattle.bb_decide.specs.inside.SearchResult.{AddsRuns, RanAs, MakesSinglePass, found_of, is_settled}
 use Rattle.bb_decide.specs.Laws.{RunsAreUnique}
 use Rattle.bb_decide.proofs.Costs.{makes_cycles, makes_translations, walk_keeps}
 use Rattle.bb_decide.proofs.OneRun.{halts_nowhere}
@@ -56,29 +56,29 @@ module _ (key : ℤ → ℕ) (table : Table) (bounds : Bounds) {old new : Meter}
   pub no_search_adds : CountsRun table bounds old new → AddsRuns key table bounds false false old new
   no_search_adds counts = adds_once counts.last counts.counts (counts.is_last, refl)
 
-  pub cycles_add : (ending : Ending) → FindsCycle table bounds (found_of ending)
-      → CountsSearch table bounds old new (found_of ending) → AddsRuns key table bounds true false old new
-  cycles_add ending finds counts =
-      let made = makes_cycles table bounds (found_of ending) finds counts in
+  pub cycles_add : (search_result : SearchResult) → FindsCycle table bounds (found_of search_result)
+      → CountsSearch table bounds old new (found_of search_result) → AddsRuns key table bounds true false old new
+  cycles_add search_result finds counts =
+      let made = makes_cycles table bounds (found_of search_result) finds counts in
       adds_once made.steps made.counts (made.is_steps, refl)
 
-  pub translations_add : (ending : Ending) → FindsTranslation table bounds (found_of ending)
-      → CountsSearch table bounds old new (found_of ending) → AddsRuns key table bounds false true old new
-  translations_add ending finds counts =
-      let made = makes_translations table bounds (found_of ending) finds counts in
+  pub translations_add : (search_result : SearchResult) → FindsTranslation table bounds (found_of search_result)
+      → CountsSearch table bounds old new (found_of search_result) → AddsRuns key table bounds false true old new
+  translations_add search_result finds counts =
+      let made = makes_translations table bounds (found_of search_result) finds counts in
       adds_once made.steps made.counts (made.is_steps, refl)
 
   -- the watched run that isn't stopped
-  pub watched_adds : (ending : Ending) → Watches table bounds key old new (Some ending)
+  pub single_pass_adds : (search_result : SearchResult) → MakesSinglePass table bounds key old new (Some search_result)
       → AddsRuns key table bounds true true old new
-  watched_adds (Ran outcome) watched =
-      adds_once watched.1.last watched.1.counts (inl (watched.4, inr (watched.0, watched.1.is_last), refl))
-  watched_adds (Found (Translated side first second extent)) watched =
-      adds_once second watched.1 (inl (watched.2, inl (side, first, watched.0.0), refl))
-  watched_adds (Found verdict) watched = absurd watched.0
+  single_pass_adds (Ran outcome) single_pass =
+      adds_once single_pass.1.last single_pass.1.counts (inl (single_pass.4, inr (single_pass.0, single_pass.1.is_last), refl))
+  single_pass_adds (Found (Translated side first second extent)) single_pass =
+      adds_once second single_pass.1 (inl (single_pass.2, inl (side, first, single_pass.0.0), refl))
+  single_pass_adds (Found verdict) single_pass = absurd single_pass.0
 
 -- a search for cycles that settles nothing has found none, and the machine doesn't halt
-pub both_open : {table : Table} {bounds : Bounds} (end : Ending) → is_settled end ≡ false
+pub both_open : {table : Table} {bounds : Bounds} (end : SearchResult) → is_settled end ≡ false
     → FindsCycle table bounds (found_of end) → RanAs table bounds end
     → HaltsNowhere table bounds × HasNoCycle table bounds
 both_open {table} {bounds} (Ran outcome) is found as_told =
@@ -118,16 +118,16 @@ module _ {key : ℤ → ℕ} {table : Table} {bounds : Bounds} {n : ℕ} (stoppe
       }
 
   -- where the search for cycles settles it, no other is made
-  pub settled_adds : {new : Meter} (ending : Ending) → is_settled ending ≡ true
-      → FindsCycle table bounds (found_of ending) → RanAs table bounds ending
-      → CountsSearch table bounds first new (found_of ending) → AddsRuns key table bounds true true old new
-  settled_adds {new} ending settled finds ran searched =
-      let made = makes_cycles table bounds (found_of ending) finds searched in
+  pub settled_adds : {new : Meter} (search_result : SearchResult) → is_settled search_result ≡ true
+      → FindsCycle table bounds (found_of search_result) → RanAs table bounds search_result
+      → CountsSearch table bounds first new (found_of search_result) → AddsRuns key table bounds true true old new
+  settled_adds {new} search_result settled finds ran searched =
+      let made = makes_cycles table bounds (found_of search_result) finds searched in
       let cells : new.most_cells ≡ max first.most_cells (span table made.steps) =
       ap (λ (m : Meter). m.most_cells) made.counts in
-      adds_again made.steps 0 made.counts made.is_steps (inr (none_made ending settled finds ran, refl))
+      adds_again made.steps 0 made.counts made.is_steps (inr (none_made search_result settled finds ran, refl))
       (omega arith) (omega (arith, cells, span_grows table 0 made.steps (omega arith))) where
-        none_made : (end : Ending) → is_settled end ≡ true → FindsCycle table bounds (found_of end)
+        none_made : (end : SearchResult) → is_settled end ≡ true → FindsCycle table bounds (found_of end)
             → RanAs table bounds end → HaltsNowhere table bounds × HasNoCycle table bounds → ⊥
         none_made (Found (Cycler a b)) is found as_told made = made.1 a b found.cycle
         none_made (Ran (outcomes.Halt steps score)) is found as_told made = made.0 steps as_told.0
@@ -135,16 +135,16 @@ module _ {key : ℤ → ℕ} {table : Table} {bounds : Bounds} {n : ℕ} (stoppe
         none_made (Found verdict) is found as_told made = absurd found
 
   -- else that for records is
-  pub open_adds : {new : Meter} (second : Meter) (ending : Ending) → is_settled ending ≡ false
-      → FindsCycle table bounds (found_of ending) → RanAs table bounds ending
-      → CountsSearch table bounds first second (found_of ending) → (other : Ending)
+  pub open_adds : {new : Meter} (second : Meter) (search_result : SearchResult) → is_settled search_result ≡ false
+      → FindsCycle table bounds (found_of search_result) → RanAs table bounds search_result
+      → CountsSearch table bounds first second (found_of search_result) → (other : SearchResult)
       → FindsTranslation table bounds (found_of other)
       → CountsSearch table bounds second new (found_of other) → AddsRuns key table bounds true true old new
-  open_adds second ending unsettled finds ran searched other finds_other searched_other =
-      let made = makes_cycles table bounds (found_of ending) finds searched in
+  open_adds second search_result unsettled finds ran searched other finds_other searched_other =
+      let made = makes_cycles table bounds (found_of search_result) finds searched in
       let more = makes_translations table bounds (found_of other) finds_other searched_other in
       adds_again made.steps more.steps made.counts made.is_steps
-      (inl (both_open ending unsettled finds ran, more.is_steps)) (ap (λ (m : Meter). m.steps) more.counts)
+      (inl (both_open search_result unsettled finds ran, more.is_steps)) (ap (λ (m : Meter). m.steps) more.counts)
       (ap (λ (m : Meter). m.most_cells) more.counts)
 
 -- ---- what a decision has counted, from a meter that was begun at 0

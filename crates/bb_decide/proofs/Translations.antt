@@ -24,11 +24,11 @@ use Rattle.bb_cert.proofs.Facts.{MakesJust, agreeing_records_never_halt, makes_j
 use Rattle.bb_cert.proofs.Facts.{records_in_order, starts}
 use Rattle.bb_decide.proofs.Halting.{no_pair_in_Z}
 use Rattle.bb_decide.specs.Translation.{AgreesWithPartner, FindsTranslation, HasNoTranslation, IsTranslation}
-use Rattle.bb_decide.specs.inside.Follow.{IsReady, IsSearched, Looks}
+use Rattle.bb_decide.specs.inside.Follow.{IsReady, IsSearched, ComparesRecord}
 use Rattle.bb_decide.specs.inside.Follow.{on_side}
 use Rattle.bb_decide.specs.inside.Step.{EndsRun, HasMoved, TakesOver}
 use Rattle.bb_decide.proofs.Counted.{taken_over}
-use Rattle.bb_decide.proofs.Endings.{IsFound}
+use Rattle.bb_decide.proofs.SearchResults.{IsFound}
 use Rattle.bb_decide.proofs.OneSide.{GoesOn, HasPassed, TellsAgreement, searched_at_first, side_ends}
 use Rattle.bb_decide.proofs.OneSide.{side_goes_on}
 use Rattle.bb_decide.proofs.OneSide.{side_passes_by, side_ready}
@@ -169,7 +169,7 @@ module _ {table : Table} {n : ℕ} {after : Runner} {view saved_right saved_left
   module _ (new_right new_left : Records) (new_saved_right new_saved_left : TapeView) where
     -- the two agree
     pub tells_pair : (side : Side) → widened ≡ Some side → (verdict : Verdict)
-        → Looks side after view right left saved_right saved_left new_right new_left new_saved_right
+        → ComparesRecord side after view right left saved_right saved_left new_right new_left new_saved_right
         new_saved_left (Some verdict) → TellsAgreement table (steps_of after) verdict
     tells_pair R is verdict looks =
         side_ends taken.on_right (rw is at taken.makes).0 new_right new_saved_right verdict looks.0
@@ -178,7 +178,7 @@ module _ {table : Table} {n : ℕ} {after : Runner} {view saved_right saved_left
 
     -- or not
     pub looks_at_one : (side : Side) → widened ≡ Some side
-        → Looks side after view right left saved_right saved_left new_right new_left new_saved_right
+        → ComparesRecord side after view right left saved_right saved_left new_right new_left new_saved_right
         new_saved_left None
         → HasPassedBoth table (steps_of after) new_right new_left new_saved_right new_saved_left
     looks_at_one R is looks =

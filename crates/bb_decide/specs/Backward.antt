@@ -1,5 +1,5 @@
--- What backward reasoning finds, and what it counts. Backward reasoning is bbchallenge's; this profile of it
--- is this project's own.
+-- The result and the cost of backward reasoning. Backward reasoning is bbchallenge's; this profile of it is
+-- this project's own.
 use Rattle.std.specs.Prelude.{◌≡◌, Option, Some, None}
 use Rattle.bb_machine.specs.Limits.{Bounds}
 use Rattle.bb_machine.specs.Machine.{Table}

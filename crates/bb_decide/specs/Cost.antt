@@ -12,11 +12,11 @@ use Rattle.bb_decide.specs.Cycle.{HasNoCycle, IsFirstCycle}
 use Rattle.bb_decide.specs.Translation.{HasNoTranslation, IsFirstTranslation}
 use Rattle.bb_decide.specs.Verdict.{PassesCycles, PassesTranslations}
 
--- a search makes the steps up to what it finds first, or a whole run where there is nothing to find
+-- a search makes the steps up to its first find, or a whole run if there is nothing to find
 abbrev pub SearchSteps : Table → Bounds → (ℕ → Type 0) → Type 0 → ℕ → Type 0
 SearchSteps table bounds Finds FindsNone n = Finds n ⊎ (FindsNone × IsLastInside table bounds n)
 
--- what is made only where it is reached and on costs nothing elsewhere
+-- the cost of a part if it is reached and in use; otherwise nothing
 abbrev pub StepsIfMade : Type 0 → (ℕ → Type 0) → ℕ → Type 0
 StepsIfMade Made Steps n = (Made × Steps n) ⊎ ((Made → ⊥) × (n ≡ 0))
 
@@ -29,7 +29,7 @@ abbrev pub CycleSteps : Table → Bounds → ℕ → Type 0
 CycleSteps table bounds n =
     SearchSteps table bounds (λ t. (a : ℕ) × IsFirstCycle table bounds a t) (HasNoCycle table bounds) n
 
--- the search for records that agree is reached where, besides, no cycle was found
+-- the search for agreeing records is reached if, besides, no cycle was found
 abbrev pub MakesTranslationSearch : Table → Bounds → Plan → Type 0
 MakesTranslationSearch table bounds plan =
     HaltsNowhere table bounds × PassesCycles table bounds plan × IsTrue plan.translated

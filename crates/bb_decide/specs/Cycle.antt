@@ -1,5 +1,5 @@
--- What the search for cycles finds. It is named after bbchallenge's Cyclers; that a step is compared with its
--- partner is this project's own.
+-- The result of the search for cycles. It is named after bbchallenge's Cyclers; the comparison of a step with
+-- its partner is this project's own.
 use Rattle.std.specs.Prelude.{ℕ, ◌≤◌, Option, Some, None}
 use Rattle.bb_machine.specs.Limits.{Bounds}
 use Rattle.bb_machine.specs.Machine.{Table}

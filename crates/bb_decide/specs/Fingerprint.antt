@@ -31,7 +31,7 @@ abbrev pub fingerprint : (ℤ → ℕ) → Content → ℕ
 fingerprint key tape = total key tape % 2 ^ 64
 
 -- step s has the state, the head and the fingerprint of its partner p
-pub record LooksAsPartner (key : ℤ → ℕ) (table : Table) (p s : ℕ) : Type 0 where
+pub record MatchesPartner (key : ℤ → ℕ) (table : Table) (p s : ℕ) : Type 0 where
   pub partner : IsPartner p s
   pub one : Configuration
   pub other : Configuration
@@ -39,18 +39,18 @@ pub record LooksAsPartner (key : ℤ → ℕ) (table : Table) (p s : ℕ) : Type
   pub at_step : conf table s ≡ Some other
   pub state : one.state ≡ other.state
   pub head : one.head ≡ other.head
-  pub print : fingerprint key one.tape ≡ fingerprint key other.tape
+  pub current : fingerprint key one.tape ≡ fingerprint key other.tape
 
--- a step inside, no later than another one, looks as its partner does, and is another configuration
+-- a step inside, no later than another one, matches its partner's fingerprint, and is another configuration
 pub record AgreesByChance (key : ℤ → ℕ) (table : Table) (bounds : Bounds) (latest : ℕ) : Type 0 where
   pub first : ℕ
   pub second : ℕ
-  pub alike : LooksAsPartner key table first second
+  pub alike : MatchesPartner key table first second
   pub inside : Inside table bounds second
   pub no_later : second ≤ latest
   pub differ : alike.one ≡ alike.other → ⊥
 
--- the step that a verdict names: that of a halt, the second one of a pair; of others the limit of steps
+-- the step named in a verdict: that of a halt, the second one of a pair; for others the limit of steps
 abbrev pub named_step : Bounds → Verdict → ℕ
 named_step bounds (Halt steps score) = steps
 named_step bounds (Cycler first second) = second

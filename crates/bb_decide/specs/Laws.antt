@@ -69,8 +69,8 @@ abbrev pub LargerLimitsKeep : Type 0
 LargerLimitsKeep = (table : Table) (lower upper : Bounds) (plan : Plan) (a b : Verdict) → IsMachine table
     → NoneIsSmaller lower upper → IsVerdict table lower plan a → IsVerdict table upper plan b → StaysAs a b
 
--- what a run finds is the verdict within all limits none of which is smaller, and it is so whether trees are
--- asked for or not
+-- a verdict found by a run is the verdict within all limits none of which is smaller, with or without
+-- backward reasoning
 abbrev pub SmallLimitsDecide : Type 0
 SmallLimitsDecide = (table : Table) (lower upper : Bounds) (plan : Plan) (trees : Bool) (verdict : Verdict)
     → NoneIsSmaller lower upper → IsFoundByRun verdict

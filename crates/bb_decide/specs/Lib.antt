@@ -5,7 +5,7 @@ pub mod Cost
 pub mod Cycle
 pub mod FewCells
 pub mod Fingerprint
-pub mod Keys
+pub mod FingerprintKeys
 pub mod Laws
 pub mod OneRun
 pub mod Partner

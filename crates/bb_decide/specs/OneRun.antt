@@ -11,25 +11,24 @@ use Rattle.bb_sim.specs.Span.{span, Inside, IsLastInside}
 use Rattle.bb_cert.specs.declared.verdict.Side.{Side}
 use Rattle.bb_decide.specs.Cost.{CycleSteps, StepsIfMade, TranslationSteps}
 use Rattle.bb_decide.specs.Cycle.{HasNoCycle}
-use Rattle.bb_decide.specs.Fingerprint.{LooksAsPartner}
+use Rattle.bb_decide.specs.Fingerprint.{MatchesPartner}
 use Rattle.bb_decide.specs.Translation.{IsTranslation}
 
--- the watched run is stopped at step s: the first that looks as its partner does, where it is inside and no
+-- the single-pass run is stopped at step s: the first with its partner's fingerprint, if it is inside and no
 -- record before it agrees with its partner
 pub record IsStoppedAt (key : ℤ → ℕ) (table : Table) (bounds : Bounds) (s : ℕ) : Type 0 where
   pub partner : ℕ
-  pub alike : LooksAsPartner key table partner s
+  pub alike : MatchesPartner key table partner s
   pub inside : Inside table bounds s
-  pub first : (p t : ℕ) → LooksAsPartner key table p t → s ≤ t
+  pub first : (p t : ℕ) → MatchesPartner key table p t → s ≤ t
   pub no_record : (side : Side) (a b : ℕ) → b < s → IsTranslation table bounds side a b → ⊥
 
--- where it isn't stopped, it alone is made: up to the first record that agrees with its partner, or as a
--- whole
+-- if it isn't stopped, it is the only run: up to the first record that agrees with its partner, or as a whole
 abbrev pub RunsOnce : (ℤ → ℕ) → Table → Bounds → ℕ → ℕ → Type 0
 RunsOnce key table bounds steps latest = ((s : ℕ) → IsStoppedAt key table bounds s → ⊥)
     × TranslationSteps table bounds steps × (latest ≡ steps)
 
--- where it is stopped, the search for cycles is made after it, and that for records that agree only where no
+-- if it is stopped, the search for cycles comes after it, and the search for agreeing records only if no
 -- cycle was found and the machine doesn't halt
 pub record RunsAgain (key : ℤ → ℕ) (table : Table) (bounds : Bounds) (steps latest : ℕ) : Type 0 where
   pub stop : ℕ
@@ -42,9 +41,9 @@ pub record RunsAgain (key : ℤ → ℕ) (table : Table) (bounds : Bounds) (step
   pub sum : steps ≡ stop + (cycles + translations)
   pub is_latest : latest ≡ max stop (max cycles translations)
 
--- so many steps are made in all, the last of any run being `latest`, where the search for cycles is on or
--- not, and that for records that agree: with neither a whole run, with one the steps of that search, and only
--- with both do fingerprints count
+-- so many steps are made in all, the last of any run being `latest`, with the search for cycles in use or
+-- not, and that for agreeing records in use or not: with neither a whole run, with one the steps of that
+-- search; only with both do fingerprints count
 abbrev pub MakesRuns : (ℤ → ℕ) → Table → Bounds → (cyclers translated : Bool) → ℕ → ℕ → Type 0
 MakesRuns key table bounds false false steps latest = IsLastInside table bounds steps × (latest ≡ steps)
 MakesRuns key table bounds true false steps latest = CycleSteps table bounds steps × (latest ≡ steps)
@@ -60,9 +59,9 @@ pub record CountsRuns (key : ℤ → ℕ) (table : Table) (bounds : Bounds) (pla
     pub runs : MakesRuns key table bounds plan.cyclers plan.translated meter.steps latest
     pub most_cells : meter.most_cells ≡ span table latest
 
--- so many steps were made before the run that was refused memory, where both searches are on, the last of any
--- run being `latest`: none, if it is the watched run; those up to where that was stopped, if it is the search
--- for cycles; and those of that search too, which found nothing, if it is the one for records
+-- so many steps were made before the run that was refused memory, with both searches in use, the last of any
+-- run being `latest`: none, if it is the single-pass run; those up to its stop, if it is the search for
+-- cycles; and those of that search too, without a find, if it is the one for records
 abbrev pub StepsBefore : (ℤ → ℕ) → Table → Bounds → ℕ → ℕ → Type 0
 StepsBefore key table bounds before latest = ((before ≡ 0) × (latest ≡ 0))
     ⊎ (IsStoppedAt key table bounds before × (latest ≡ before))

@@ -1,4 +1,4 @@
--- With which step, or which record, one is compared: this project's own.
+-- The partner of a step or of a record, for comparison: this project's own.
 use Rattle.std.specs.Prelude.{◌≡◌, ℕ, ◌+◌, ◌*◌, ◌^◌, ◌<◌, ◌≤◌, ◌⊎◌}
 
 -- p is the greatest power of two below j

@@ -1,5 +1,5 @@
--- What is always found where limits reach it, and what larger limits keep. These promises are this project's
--- own.
+-- Patterns always found within reach of the limits, and verdicts kept under larger limits. These promises are
+-- this project's own.
 use Rattle.std.specs.Prelude.{◌≡◌, ℕ, ◌+◌, ◌^◌, ◌<◌, ◌≤◌, ◌⊎◌, Option, Some}
 use Rattle.bb_machine.specs.Limits.{Bounds}
 use Rattle.bb_machine.specs.Machine.{Table}
@@ -47,7 +47,7 @@ pub record NoneIsSmaller (lower upper : Bounds) : Type 0 where
   pub depth : lower.depth ≤ upper.depth
   pub nodes : lower.nodes ≤ upper.nodes
 
--- a pair, of whatever kind
+-- a pair of any kind
 abbrev pub IsPair : Verdict → Type 0
 IsPair (Cycler first second) = Unit {0}
 IsPair (Translated side first second extent) = Unit {0}

@@ -1,5 +1,5 @@
--- What the search for agreeing records finds. It is named after bbchallenge's Translated Cyclers; that a
--- record is compared with its partner is this project's own.
+-- The result of the search for agreeing records. It is named after bbchallenge's Translated Cyclers; the
+-- comparison of a record with its partner is this project's own.
 use Rattle.std.specs.Prelude.{ℕ, ◌≤◌, Option, Some, None}
 use Rattle.bb_machine.specs.Limits.{Bounds}
 use Rattle.bb_machine.specs.Machine.{Table}

@@ -1,6 +1,6 @@
--- What private functions tell one another. No public contract cites it.
+-- Definitions for private functions. No public contract cites them.
 pub mod Follow
 pub mod Search
-pub mod Ending
-pub mod Prints
+pub mod SearchResult
+pub mod Fingerprints
 pub mod Step

@@ -1,4 +1,4 @@
-//! What a machine is decided with.
+//! The tapes and the path for deciding machines.
 ghost use Rattle.std.specs.Prelude.{◌≡◌, IfOk};
 ghost use Rattle.bb_cert.specs.tree.Path.{depth_of};
 ghost use Rattle.bb_decide.specs.Bench.{BenchHasCells, HasTapes};
@@ -8,22 +8,21 @@ use bb_machine::Limits;
 use bb_tape::{Memory, Tape};
 use std::alloc::Global;
 
-/// The tapes that deciding a machine uses, and the room for its walk. Each call resets what it uses.
+/// The tapes for deciding a machine, and the room for its walk. Each call resets those it uses.
 #[derive(Drop)]
 pub struct Bench<T> {
     /// The tape of the run at work.
     pub run: T,
-    /// The tape that is kept for the cyclers, and for the right side's records.
+    /// The saved tape for cyclers, and for records of the right side.
     pub right: T,
-    /// The tape that is kept for the left side's records.
+    /// The saved tape for records of the left side.
     pub left: T,
     /// The way through the backward tree.
     pub path: Path,
 }
 
 impl<T: Tape> Bench<T> {
-    /// A bench of three tapes for machines under these limits, with a path as deep as they allow, for which
-    /// it takes memory once.
+    /// A bench of three tapes for machines under these limits. It allocates a path of their depth once.
     pub fn new(
         alloc: Global,
         run: T,

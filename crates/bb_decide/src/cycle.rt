@@ -1,6 +1,6 @@
-//! The search for a configuration that comes again, by Brent's cycle detection (R. P. Brent, "An improved
-//! Monte Carlo factorization algorithm", 1980): one configuration is kept, anew at each power of two, and
-//! each later one is compared with it.
+//! The search for a repeated configuration, by Brent's cycle detection (R. P. Brent, "An improved Monte Carlo
+//! factorization algorithm", 1980): it saves one configuration at each power of two, and compares each later
+//! one with it.
 ghost use Rattle.std.specs.Prelude.{◌≡◌, ◌*◌, ◌≤◌, Err, IfOk, IfSome, IsTrue, OnErr, OnOk};
 ghost use Rattle.bb_sim.specs.Meter.{CountsPart, IsWithinRun};
 ghost use Rattle.bb_sim.specs.Run.{Never};
@@ -9,21 +9,21 @@ ghost use Rattle.bb_cert.specs.verdict.Verdict.{HasNumbers};
 ghost use Rattle.bb_decide.specs.Bench.{BenchHasCells};
 ghost use Rattle.bb_decide.specs.Cycle.{CountsSearch, FindsCycle};
 ghost use Rattle.bb_decide.specs.FewCells.{FindsInFewCells};
-ghost use Rattle.bb_decide.specs.inside.Ending.{Seeks};
+ghost use Rattle.bb_decide.specs.inside.SearchResult.{Seeks};
 ghost use Rattle.bb_decide.specs.Sure.{FindsRepeats};
 
 use crate::bench::Bench;
-use crate::ending::{Ending, count_run, outcome_of, step_on};
+use crate::search_result::{SearchResult, count_run, outcome_of, step_on};
 use bb_cert::{Verdict, is_same};
 use bb_machine::{Limits, Machine};
 use bb_sim::{Meter, Moved, Runner};
 use bb_tape::{Memory, Tape, TapeFault};
 
-/// The pair of the first step, from step 2 on, whose configuration is that of its partner, the greatest power
-/// of two below it. None where there is none inside the limits.
+/// The first step, from step 2 on, with the configuration of its partner, the greatest power of two below it,
+/// and that partner. None if there is none inside the limits.
 ///
-/// After an error the run's tape holds the configuration up to which steps were counted; the next call resets
-/// all tapes.
+/// After an error the run's tape has the configuration of the last counted step; the next call resets all
+/// tapes.
 #[inline(never)]
 pub fn cyclers<T: Tape>(
     machine: &Machine,
@@ -48,18 +48,18 @@ pub fn cyclers<T: Tape>(
     ensures memory { OnErr result (IsTrue T.GROWS) }
 {
     machine.show_machine();
-    let ending = seek_cycle(machine, limits, bench, meter)?;
-    Ok(ending.found())
+    let search_result = seek_cycle(machine, limits, bench, meter)?;
+    Ok(search_result.found())
 }
 
-/// The same, and how the run ended where there is no such pair.
+/// The same, with the outcome of the run if there is no such pair.
 #[inline(never)]
 pub(crate) fn seek_cycle<T: Tape>(
     machine: &Machine,
     limits: &Limits,
     bench: &mut Bench<T>,
     meter: &mut Meter,
-) -> Result<Ending, Memory>
+) -> Result<SearchResult, Memory>
     requires tapes { BenchHasCells T.view limits.now.cells bench.old }
     requires room { meter.old.steps ≤ 2 * limits.now.steps }
     ensures { Seeks (FindsCycle machine.now limits.now) T.GROWS T.view machine.now limits.now
@@ -69,15 +69,15 @@ pub(crate) fn seek_cycle<T: Tape>(
     run_to_cycle(machine, &limits, bench, meter)
 }
 
-/// `seek_cycle`, inlined there, so that the limits, which are its local, stay in registers. The runner counts
-/// its steps and cells; the meter takes them over where the run ends.
+/// The body of `seek_cycle`, inlined there: the limits are its local and stay in registers. The runner counts
+/// its steps and cells, and the meter adds them at the end of the run.
 #[inline(always)]
 fn run_to_cycle<T: Tape>(
     machine: &Machine,
     limits: &Limits,
     bench: &mut Bench<T>,
     meter: &mut Meter,
-) -> Result<Ending, Memory>
+) -> Result<SearchResult, Memory>
     requires tapes { BenchHasCells T.view limits.now.cells bench.old }
     requires room { meter.old.steps ≤ 2 * limits.now.steps }
     ensures { Seeks (FindsCycle machine.now limits.now) T.GROWS T.view machine.now limits.now
@@ -93,11 +93,11 @@ fn run_to_cycle<T: Tape>(
         };
         match moved {
             Moved::Stepped => {}
-            moved => return Ok(Ending::Ran(outcome_of(moved, runner, &bench.run))),
+            moved => return Ok(SearchResult::Ran(outcome_of(moved, runner, &bench.run))),
         }
         if is_same(&runner, &bench.run, &kept, &bench.right) {
             count_run(meter, runner);
-            return Ok(Ending::Found(Verdict::Cycler {
+            return Ok(SearchResult::Found(Verdict::Cycler {
                 first: kept.steps(),
                 second: runner.steps(),
             }));
@@ -113,7 +113,7 @@ fn run_to_cycle<T: Tape>(
     }
 }
 
-/// Takes over the cells and the window of another tape. It is not inlined, so that the search keeps its
+/// Copies the cells and the window of another tape. It is not inlined, so that the search keeps its
 /// registers.
 #[cold]
 #[inline(never)]

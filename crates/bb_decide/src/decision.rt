@@ -28,7 +28,7 @@ use bb_tape::{Memory, Tape};
 
 /// Resets `meter`, decides a machine, and records the cost in `meter`.
 ///
-/// After an error nothing is said of what the tapes hold; the next call resets them.
+/// After an error the contents of the tapes are unspecified; the next call resets them.
 #[inline(always)]
 pub fn decide<T: Tape>(
     machine: &Machine,
@@ -60,7 +60,7 @@ pub fn decide<T: Tape>(
     Ok(verdict)
 }
 
-/// Says what follows from the definition of a verdict, where a proof uses it. It does nothing.
+/// States the consequences of the definition of a verdict, for proofs. It does nothing at run time.
 #[inline(always)]
 pub(crate) fn show_verdict(machine: &Machine, limits: &Limits, plan: Plan, verdict: &Verdict)
     requires verdict { IsVerdict machine.now limits.now plan verdict.now }
@@ -108,7 +108,7 @@ fn verdict_in_turn<T: Tape>(
     }
 }
 
-/// What the deciders that are on find, in their order.
+/// The result of the deciders in use, in their order.
 fn find<T: Tape>(
     machine: &Machine,
     limits: &Limits,
@@ -138,7 +138,7 @@ fn find<T: Tape>(
     backward(machine, limits, bench, meter)
 }
 
-/// What the two searches that are on find, that for cycles first.
+/// The result of the searches in use, for cycles first.
 fn search_in_turn<T: Tape>(
     machine: &Machine,
     limits: &Limits,

@@ -1,10 +1,10 @@
-//! The keys of positions, of which a tape's fingerprint is made.
+//! The keys of positions, the base of a tape's fingerprint.
 ghost use Rattle.std.specs.Prelude.{◌≡◌, ◌≢◌, ℕ, ℤ};
-ghost use Rattle.bb_decide.specs.Keys.{spread};
+ghost use Rattle.bb_decide.specs.FingerprintKeys.{spread};
 
-/// A key for each position. Whatever the keys are, equal tapes have equal fingerprints; the better they are
-/// spread, the fewer others do.
-pub trait Keys {
+/// A key for each position. For any keys, equal tapes have equal fingerprints; well-spread keys make other
+/// collisions rare.
+pub trait FingerprintKeys {
     /// The key of a position.
     ghost key_of: { Self → ℤ → ℕ };
 
@@ -17,13 +17,12 @@ pub trait Keys {
 /// 6.4, multiplicative hashing).
 pub const MULTIPLIER: u64 = 0x9E37_79B9_7F4A_7C15;
 
-/// Keys that look like random numbers: an odd number for each position, so that none has the key 0, times
-/// `MULTIPLIER`, folded once.
+/// Pseudorandom keys: an odd number for each position, so that no key is 0, times `MULTIPLIER`, folded once.
 #[derive(Clone, Copy, Debug, Default)]
 pub struct SpreadKeys;
 
-impl Keys for SpreadKeys {
-    ghost use Rattle.bb_decide.specs.Keys.{spread};
+impl FingerprintKeys for SpreadKeys {
+    ghost use Rattle.bb_decide.specs.FingerprintKeys.{spread};
 
     ghost key_of = { λ keys position. spread position };
 

@@ -20,13 +20,13 @@ pub fn runs_are_unique()
     ensures { RunsAreUnique }
 {}
 
-/// What a verdict claims holds, so the checker confirms it under the same limits.
+/// A verdict's claim holds, so the checker confirms it under the same limits.
 pub fn verdicts_hold()
     ensures claim { VerdictsHold }
     ensures confirmed { VerdictsAreConfirmed }
 {}
 
-/// Where a pattern exists and the limits reach it, it is found.
+/// A pattern within reach of the limits is found.
 pub fn patterns_are_found()
     ensures repeats { RepeatsAreFound }
     ensures records { AgreeingRecordsAreFound }
@@ -37,8 +37,8 @@ pub fn larger_limits_keep()
     ensures { LargerLimitsKeep }
 {}
 
-/// What a run finds within small limits, a halt or a pair, is the verdict within larger ones, whether trees
-/// are asked for or not.
+/// A halt or a pair found by a run within small limits is the verdict within larger ones, with or without
+/// backward reasoning.
 pub fn small_limits_decide()
     ensures { SmallLimitsDecide }
 {}

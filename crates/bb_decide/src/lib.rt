@@ -1,10 +1,10 @@
-//! Decides a machine within limits: the verdict that is defined for it, and what it cost.
+//! Decides a machine within limits: the verdict defined for it, and its cost.
 #![tactic(auto)]
 
 pub mod bench;
 pub mod cycle;
 pub mod decision;
-mod ending;
+mod search_result;
 mod fingerprint;
 pub mod keys;
 pub mod laws;
@@ -12,13 +12,13 @@ pub mod one_run;
 pub mod reasoning;
 mod record_search;
 pub mod translation;
-mod watching;
+mod single_pass;
 
 pub use bb_machine::Plan;
 pub use bench::Bench;
 pub use cycle::cyclers;
 pub use decision::decide;
-pub use keys::{Keys, SpreadKeys};
+pub use keys::{FingerprintKeys, SpreadKeys};
 pub use one_run::decide_in_one_run;
 pub use reasoning::backward;
 pub use translation::translated;

@@ -1,4 +1,4 @@
-//! The verdict on one machine by one run, watched for all that a verdict may be.
+//! The verdict on one machine by one run for all of halts, cycles and records.
 ghost use Rattle.std.specs.Prelude.{◌≡◌, ◌≤◌, ◌*◌, true, IfOk, IfSome, IsTrue, OnErr, OnOk};
 ghost use Rattle.bb_sim.specs.Run.{Never};
 ghost use Rattle.bb_cert.specs.declared.checker.answer.Answer.{Answer};
@@ -12,8 +12,8 @@ ghost use Rattle.bb_decide.specs.Bench.{BenchHasCells};
 ghost use Rattle.bb_decide.specs.FewCells.{DecidesFewCells};
 ghost use Rattle.bb_decide.specs.Fingerprint.{CostsWhatItNames};
 ghost use Rattle.bb_decide.specs.OneRun.{BreaksOff, CountsRefused, CountsRuns};
-ghost use Rattle.bb_decide.specs.inside.Ending.{AddsRuns, EndingCosts, EndsBoth, EndsSearches, PlanCosts};
-ghost use Rattle.bb_decide.specs.inside.Ending.{found_of};
+ghost use Rattle.bb_decide.specs.inside.SearchResult.{AddsRuns, ResultCosts, EndsBoth, EndsSearches, PlanCosts};
+ghost use Rattle.bb_decide.specs.inside.SearchResult.{found_of};
 ghost use Rattle.bb_decide.specs.inside.Search.{IsPromised, IsWithinRuns};
 ghost use Rattle.bb_decide.specs.Sure.{KeepsEarlier};
 ghost use Rattle.bb_decide.specs.Verdict.{IsVerdict};
@@ -22,24 +22,24 @@ ghost use Rattle.bb_decide.specs.Cost.{CountsWalk, IsWithinCost, MakesWalk};
 use crate::bench::Bench;
 use crate::cycle::seek_cycle;
 use crate::decision::show_verdict;
-use crate::ending::Ending;
-use crate::keys::Keys;
+use crate::search_result::SearchResult;
+use crate::keys::FingerprintKeys;
 use crate::reasoning::backward;
 use crate::translation::seek_translation;
-use crate::watching::watch;
+use crate::single_pass::run_single_pass;
 use bb_cert::{Verdict, Why};
 use bb_machine::{Limits, Machine, Plan};
 use bb_sim::{Meter, Outcome, simulate};
 use bb_tape::{Memory, Tape};
 
-/// Resets `meter`, decides a machine as [`decide`](crate::decide) does, and records the cost in `meter`. What
-/// ends the run first is the verdict, since a halt, a cycle and records that agree exclude one another. So a
-/// halt costs the steps that it names, a pair at most twice its second step, and what stays undecided one run
-/// and the tree; more only where the fingerprints of two different configurations agree by chance.
+/// Resets `meter`, decides a machine as [`decide`](crate::decide) does, and records the cost in `meter`. The
+/// first event of the run is the verdict, since a halt, a cycle and agreeing records exclude one another. So
+/// a halt costs the steps of its verdict, a pair at most twice its second step, an undecided machine one run
+/// and the tree. It costs more only if the fingerprints of two different configurations collide.
 ///
-/// After an error the meter has counted every step that was made; the next call resets all tapes.
+/// After an error the meter has counted every step made; the next call resets all tapes.
 #[inline(always)]
-pub fn decide_in_one_run<T: Tape, K: Keys>(
+pub fn decide_in_one_run<T: Tape, K: FingerprintKeys>(
     machine: &Machine,
     limits: &Limits,
     plan: Plan,
@@ -79,7 +79,7 @@ pub fn decide_in_one_run<T: Tape, K: Keys>(
 
 /// The verdict and its cost.
 #[inline(always)]
-fn verdict_in_one_run<T: Tape, K: Keys>(
+fn verdict_in_one_run<T: Tape, K: FingerprintKeys>(
     machine: &Machine,
     limits: &Limits,
     plan: Plan,
@@ -107,8 +107,8 @@ fn verdict_in_one_run<T: Tape, K: Keys>(
     *meter = Meter::new();
     limits.show_accepted();
     let outcome = match search_by_plan(machine, limits, plan, keys, bench, meter)? {
-        Ending::Found(verdict) => return Ok(verdict),
-        Ending::Ran(outcome) => outcome,
+        SearchResult::Found(verdict) => return Ok(verdict),
+        SearchResult::Ran(outcome) => outcome,
     };
     let why = match outcome {
         Outcome::Halt { steps, score } => return Ok(Verdict::Halt { steps, score }),
@@ -124,15 +124,15 @@ fn verdict_in_one_run<T: Tape, K: Keys>(
     }
 }
 
-/// What the searches that are on find, in one run where both are, and else how their run ended.
-fn search_by_plan<T: Tape, K: Keys>(
+/// The result of the searches in use, in one run if both are, or else the outcome of their run.
+fn search_by_plan<T: Tape, K: FingerprintKeys>(
     machine: &Machine,
     limits: &Limits,
     plan: Plan,
     keys: &K,
     bench: &mut Bench<T>,
     meter: &mut Meter,
-) -> Result<Ending, Memory>
+) -> Result<SearchResult, Memory>
     requires tapes { BenchHasCells T.view limits.now.cells bench.old }
     requires steps { meter.old.steps ≡ 0 }
     ensures ended { IfOk result (EndsSearches machine.now limits.now plan) }
@@ -151,7 +151,7 @@ fn search_by_plan<T: Tape, K: Keys>(
     if !plan.translated {
         if !plan.cyclers {
             let outcome = simulate(machine, &mut bench.run, limits, meter)?;
-            return Ok(Ending::Ran(outcome));
+            return Ok(SearchResult::Ran(outcome));
         }
         return seek_cycle(machine, limits, bench, meter);
     }
@@ -161,15 +161,15 @@ fn search_by_plan<T: Tape, K: Keys>(
     search_both(machine, limits, keys, bench, meter)
 }
 
-/// One run for both searches; where a fingerprint comes again, the exact search for cycles, and where that
-/// finds nothing, the one for records.
-fn search_both<T: Tape, K: Keys>(
+/// One run for both searches. After a repeated fingerprint it makes the exact search for cycles, and if that
+/// finds nothing, the search for records.
+fn search_both<T: Tape, K: FingerprintKeys>(
     machine: &Machine,
     limits: &Limits,
     keys: &K,
     bench: &mut Bench<T>,
     meter: &mut Meter,
-) -> Result<Ending, Memory>
+) -> Result<SearchResult, Memory>
     requires tapes { BenchHasCells T.view limits.now.cells bench.old }
     requires steps { meter.old.steps ≡ 0 }
     ensures ended { IfOk result (EndsBoth machine.now limits.now) }
@@ -178,19 +178,19 @@ fn search_both<T: Tape, K: Keys>(
     ensures cut { OnErr result (BreaksOff (K.key_of keys.now) machine.now limits.now true true
         (T.view bench.new.run).content meter.old meter.new) }
     ensures costs { IfOk result
-        (EndingCosts (K.key_of keys.now) machine.now limits.now meter.new.steps) }
+        (ResultCosts (K.key_of keys.now) machine.now limits.now meter.new.steps) }
     ensures within { IsWithinRuns 3 limits.now meter.old meter.new }
     ensures promised { IsPromised found_of machine.now T.GROWS result }
     ensures tapes { BenchHasCells T.view limits.now.cells bench.new }
     ensures path { bench.new.path ≡ bench.old.path }
 {
-    match watch(machine, limits, keys, bench, meter)? {
-        Some(ending) => return Ok(ending),
+    match run_single_pass(machine, limits, keys, bench, meter)? {
+        Some(search_result) => return Ok(search_result),
         None => {}
     }
-    let ending = seek_cycle(machine, limits, bench, meter)?;
-    if ending.is_settled() {
-        return Ok(ending);
+    let search_result = seek_cycle(machine, limits, bench, meter)?;
+    if search_result.is_settled() {
+        return Ok(search_result);
     }
     seek_translation(machine, limits, bench, meter)
 }

@@ -14,10 +14,10 @@ use bb_machine::{Limits, Machine};
 use bb_sim::Meter;
 use bb_tape::{Memory, Tape};
 
-/// The levels and the nodes of the tree of what could come before a halt, where it ends within the limits and
-/// the start matches none of its nodes. The meter's levels and nodes are begun at 0; no step is made.
+/// The levels and the nodes of the backward tree, if it ends within the limits and the start matches none of
+/// its nodes. Resets the meter's levels and nodes; it makes no step.
 ///
-/// After an error nothing is said of what the tape holds; the next call resets it.
+/// After an error the contents of the tape are unspecified; the next call resets it.
 pub fn backward<T: Tape>(
     machine: &Machine,
     limits: &Limits,

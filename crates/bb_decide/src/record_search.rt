@@ -1,20 +1,20 @@
-//! Which record of a side is kept while a search goes on, to be compared with the next.
+//! The kept record of a side during a search, for comparison with the next one.
 ghost use Rattle.std.specs.Prelude.{◌≡◌, ◌+◌, ◌<◌, ◌^◌, IfOk, IfSome, IsTrue, OnErr};
 ghost use Rattle.bb_sim.specs.Runner.{steps_of};
 ghost use Rattle.bb_cert.specs.verdict.Verdict.{HasNumbers};
-ghost use Rattle.bb_decide.specs.inside.Follow.{IsReady, Looks, LooksAtRecord, on_side};
+ghost use Rattle.bb_decide.specs.inside.Follow.{IsReady, ComparesRecord, ComparesOnSide, on_side};
 ghost use Rattle.bb_decide.specs.inside.Step.{TakesOver};
 
-use crate::ending::count_run;
+use crate::search_result::count_run;
 use bb_cert::records::Records;
 use bb_cert::{Side, Verdict};
 use bb_sim::{Meter, Runner};
 use bb_tape::{Memory, Tape};
 
-/// Looks at the record that the runner has just made on a side. Where there is no memory to keep it, the
-/// meter takes the run over.
+/// Compares the record just made by the runner on a side. If there is no memory to keep it, the meter adds
+/// the run.
 #[inline(always)]
-pub fn look_on<T: Tape>(
+pub fn compare_record<T: Tape>(
     side: Side,
     right: &mut Records,
     left: &mut Records,
@@ -29,7 +29,7 @@ pub fn look_on<T: Tape>(
     requires ready { IsReady (on_side side right.old left.old) runner.now
         (on_side side (T.view saved_right.old) (T.view saved_left.old)) (T.view run.now) }
     requires room { meter.old.steps + steps_of runner.now < 2 ^ 64 }
-    ensures looks { IfOk result (Looks side runner.now (T.view run.now) right.old left.old
+    ensures looks { IfOk result (ComparesRecord side runner.now (T.view run.now) right.old left.old
         (T.view saved_right.old) (T.view saved_left.old) right.new left.new
         (T.view saved_right.new) (T.view saved_left.new)) }
     ensures numbers { IfOk result (λ found. IfSome found HasNumbers) }
@@ -40,17 +40,17 @@ pub fn look_on<T: Tape>(
     ensures cut { OnErr result (TakesOver runner.now meter.old meter.new) }
 {
     match side {
-        Side::R => look_at_record(right, runner, run, saved_right, meter),
-        Side::L => look_at_record(left, runner, run, saved_left, meter),
+        Side::R => compare_on_side(right, runner, run, saved_right, meter),
+        Side::L => compare_on_side(left, runner, run, saved_left, meter),
     }
 }
 
-/// Compares the record that the runner has just made with the kept one. The verdict where they agree; else
-/// the record is kept, if it is its turn; where there is no memory to keep it, the meter takes the run over.
-/// The records and the runner are locals of a loop: they stay in registers, since the call that isn't inlined
-/// gets copies of them.
+/// Compares the record just made by the runner with the kept one. Returns the verdict if they agree;
+/// otherwise it keeps the record, if it is its turn. If there is no memory to keep it, the meter adds the
+/// run. The records and the runner are locals of a loop: they stay in registers, since the call that isn't
+/// inlined gets copies.
 #[inline(always)]
-fn look_at_record<T: Tape>(
+fn compare_on_side<T: Tape>(
     records: &mut Records,
     runner: &Runner,
     run: &T,
@@ -60,7 +60,7 @@ fn look_at_record<T: Tape>(
     requires limit { (T.view saved.old).limit ≡ (T.view run.now).limit }
     requires ready { IsReady records.old runner.now (T.view saved.old) (T.view run.now) }
     requires room { meter.old.steps + steps_of runner.now < 2 ^ 64 }
-    ensures { LooksAtRecord T.GROWS records.old runner.now (T.view run.now) (T.view saved.old) records.new
+    ensures { ComparesOnSide T.GROWS records.old runner.now (T.view run.now) (T.view saved.old) records.new
         (T.view saved.new) meter.old meter.new result }
 {
     let mut looked = *records;
@@ -69,7 +69,8 @@ fn look_at_record<T: Tape>(
     Ok(found)
 }
 
-/// `look_at_record`, not inlined. A record is kept if its number is at least twice that of the kept one.
+/// The body of `compare_on_side`, not inlined. It keeps a record with at least twice the number of the kept
+/// one.
 #[cold]
 #[inline(never)]
 fn compare_and_keep<T: Tape>(
@@ -82,7 +83,7 @@ fn compare_and_keep<T: Tape>(
     requires limit { (T.view saved.old).limit ≡ (T.view run.now).limit }
     requires ready { IsReady records.old runner (T.view saved.old) (T.view run.now) }
     requires room { meter.old.steps + steps_of runner < 2 ^ 64 }
-    ensures { LooksAtRecord T.GROWS records.old runner (T.view run.now) (T.view saved.old) records.new
+    ensures { ComparesOnSide T.GROWS records.old runner (T.view run.now) (T.view saved.old) records.new
         (T.view saved.new) meter.old meter.new result }
 {
     if records.agrees(&runner, run, saved) {

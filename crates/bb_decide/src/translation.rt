@@ -1,4 +1,4 @@
-//! The search for records that agree.
+//! The search for agreeing records.
 ghost use Rattle.std.specs.Prelude.{◌≡◌, ◌*◌, ◌≤◌, IfOk, IfSome, IsTrue, OnErr};
 ghost use Rattle.bb_sim.specs.Meter.{CountsPart, IsWithinRun};
 ghost use Rattle.bb_sim.specs.Run.{Never};
@@ -6,13 +6,13 @@ ghost use Rattle.bb_cert.specs.claims.Claim.{Claim};
 ghost use Rattle.bb_cert.specs.verdict.Verdict.{HasNumbers};
 ghost use Rattle.bb_decide.specs.Bench.{BenchHasCells};
 ghost use Rattle.bb_decide.specs.Cycle.{CountsSearch};
-ghost use Rattle.bb_decide.specs.inside.Ending.{Seeks};
+ghost use Rattle.bb_decide.specs.inside.SearchResult.{Seeks};
 ghost use Rattle.bb_decide.specs.Sure.{FindsAgreeingRecords};
 ghost use Rattle.bb_decide.specs.Translation.{FindsTranslation};
 
 use crate::bench::Bench;
-use crate::ending::{Ending, count_run, outcome_of, step_on};
-use crate::record_search::look_on;
+use crate::search_result::{SearchResult, count_run, outcome_of, step_on};
+use crate::record_search::compare_record;
 use bb_cert::records::{Records, widened_side};
 use bb_cert::{Side, Verdict};
 use bb_machine::{Limits, Machine};
@@ -20,10 +20,10 @@ use bb_sim::{Meter, Moved, Runner};
 use bb_tape::{Memory, Tape};
 
 /// The first record of either side, from record 2 on, that agrees with its partner, the record of that side
-/// whose number is the greatest power of two below its own. None where there is none inside the limits.
+/// numbered by the greatest power of two below its own number. None if there is none inside the limits.
 ///
-/// After an error the run's tape holds the configuration up to which steps were counted; the next call resets
-/// all tapes.
+/// After an error the run's tape has the configuration of the last counted step; the next call resets all
+/// tapes.
 #[inline(never)]
 pub fn translated<T: Tape>(
     machine: &Machine,
@@ -46,18 +46,18 @@ pub fn translated<T: Tape>(
     ensures path { bench.new.path ≡ bench.old.path }
     ensures memory { OnErr result (IsTrue T.GROWS) }
 {
-    let ending = seek_translation(machine, limits, bench, meter)?;
-    Ok(ending.found())
+    let search_result = seek_translation(machine, limits, bench, meter)?;
+    Ok(search_result.found())
 }
 
-/// The same, and how the run ended where there is no such record.
+/// The same, with the outcome of the run if there is no such record.
 #[inline(never)]
 pub(crate) fn seek_translation<T: Tape>(
     machine: &Machine,
     limits: &Limits,
     bench: &mut Bench<T>,
     meter: &mut Meter,
-) -> Result<Ending, Memory>
+) -> Result<SearchResult, Memory>
     requires tapes { BenchHasCells T.view limits.now.cells bench.old }
     requires room { meter.old.steps ≤ 2 * limits.now.steps }
     ensures { Seeks (FindsTranslation machine.now limits.now) T.GROWS T.view machine.now limits.now
@@ -67,15 +67,15 @@ pub(crate) fn seek_translation<T: Tape>(
     run_to_records(machine, &limits, bench, meter)
 }
 
-/// `seek_translation`, inlined there, so that the limits, which are its local, stay in registers. The runner
-/// counts its steps and cells; the meter takes them over where the run ends.
+/// The body of `seek_translation`, inlined there: the limits are its local and stay in registers. The runner
+/// counts its steps and cells, and the meter adds them at the end of the run.
 #[inline(always)]
 fn run_to_records<T: Tape>(
     machine: &Machine,
     limits: &Limits,
     bench: &mut Bench<T>,
     meter: &mut Meter,
-) -> Result<Ending, Memory>
+) -> Result<SearchResult, Memory>
     requires tapes { BenchHasCells T.view limits.now.cells bench.old }
     requires room { meter.old.steps ≤ 2 * limits.now.steps }
     ensures { Seeks (FindsTranslation machine.now limits.now) T.GROWS T.view machine.now limits.now
@@ -92,15 +92,15 @@ fn run_to_records<T: Tape>(
         };
         match moved {
             Moved::Stepped => {}
-            moved => return Ok(Ending::Ran(outcome_of(moved, runner, &bench.run))),
+            moved => return Ok(SearchResult::Ran(outcome_of(moved, runner, &bench.run))),
         }
         right.pass(runner.position());
         left.pass(runner.position());
-        // A record is made exactly where the window becomes wider.
+        // A step makes a record exactly if it widens the window.
         let Some(side) = widened_side(&runner, cells) else {
             continue;
         };
-        match look_on(
+        match compare_record(
             side,
             &mut right,
             &mut left,
@@ -112,7 +112,7 @@ fn run_to_records<T: Tape>(
         )? {
             Some(verdict) => {
                 count_run(meter, runner);
-                return Ok(Ending::Found(verdict));
+                return Ok(SearchResult::Found(verdict));
             }
             None => {}
         }

@@ -1,6 +1,6 @@
--- How a run over lines ends, and what is written by then. The words go on from std's `Appends`: where the
--- bytes that a writer holds are known, they are told of as they were before and as they are now. `Reply` is
--- which texts are a reply to a line. This project's own.
+-- The result of a run over lines, and the output written by then. The names follow std's `Appends`: if the
+-- bytes of a writer are known, they are related before and after. `Reply` is the relation of a line to its
+-- replies. This project's own.
 use Rattle.std.specs.Prelude.{◌≡◌, ℕ, ◌<◌, ◌≤◌, List, ◌++◌, length, take, Option, Result, Ok, Err}
 use Rattle.std.specs.Io.KnownBytes.{Appends, Consumes, IsAtEnd}
 use Rattle.bb_lines.specs.declared.fault.Fault.{Fault}
@@ -44,10 +44,10 @@ MatchEnd (Err Memory) fine memory read write = memory
 MatchEnd (Err Read) fine memory read write = read
 MatchEnd (Err Write) fine memory read write = write
 
--- how a run over the lines of a reader ends, by the bytes left in the reader and those that the writer holds,
--- before and then: without fault the reader is at its end, the replies to all lines are written, and what the
--- run gives sums the lines up; after an allocation failure the replies to the first few lines, not all; after
--- a failed read those to the lines that a newline ended; after a failed write a prefix
+-- the result of a run over the lines of a reader, by the bytes left in the reader and those of the writer,
+-- before and after: without a fault the reader is at its end, the replies to all lines are written, and the
+-- run's summary sums up the lines; after an allocation failure the replies to the first few lines, not all;
+-- after a failed read those to the lines ended by a newline; after a failed write a prefix
 abbrev pub ListEnds : {S : Type 0} → (List ℕ → List ℕ → Type 0) → (List (List ℕ) → S → Type 0)
     → Option (List ℕ) → Option (List ℕ) → Option (List ℕ) → Option (List ℕ) → Result S Fault → Type 0
 ListEnds Reply Sums left left_then held held_then end =

@@ -1,4 +1,4 @@
--- What a fault says on standard error.
+-- The text of a fault on standard error.
 use Rattle.std.specs.Prelude.{ℕ, List, codes}
 use Rattle.bb_lines.specs.declared.fault.Fault.{Fault}
 use Rattle.bb_lines.specs.declared.fault.Fault.TheVariants.{Memory, Read, Write}

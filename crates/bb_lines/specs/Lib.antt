@@ -6,4 +6,4 @@ pub mod Lines
 pub mod Cost
 pub mod Ends
 pub mod Output
-pub mod Taking
+pub mod Sink

@@ -1,4 +1,4 @@
--- What clauses read of a watched reader or writer.
+-- The parts of a marked reader or writer read by clauses.
 use Rattle.std.specs.Prelude.{ℕ, Bool}
 use Rattle.bb_lines.specs.declared.watched.Watched.{Watched}
 

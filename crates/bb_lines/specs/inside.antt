@@ -1,2 +1,2 @@
--- What private functions tell one another. No public contract cites it.
+-- Definitions for private functions. No public contract cites them.
 pub mod Progress

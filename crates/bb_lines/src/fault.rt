@@ -8,11 +8,11 @@ use std::fmt;
 /// Why a run ended before all lines were answered.
 #[derive(Clone, Copy, Debug, PartialEq, Eq)]
 pub enum Fault {
-    /// An allocation failed. What was written are the replies to the lines before the one at work.
+    /// An allocation failed. The output has the replies to the lines before the current one.
     Memory = 1,
-    /// A read failed. What was written are the replies to the lines that were complete by then.
+    /// A read failed. The output has the replies to all lines completed before it.
     Read = 2,
-    /// A write or the flush failed, or a write took no byte. What was written is a beginning of the replies.
+    /// A write or the flush failed, or a write accepted no byte. The output is a prefix of the replies.
     Write = 3,
 }
 

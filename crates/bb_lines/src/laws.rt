@@ -4,7 +4,7 @@ ghost use Rattle.bb_lines.specs.Numbers.{NumbersAreStated, fault_number};
 
 use crate::fault::Fault;
 
-/// The sizes of buffers and the cost that counts as high are the stated numbers. It does nothing.
+/// States the sizes of buffers and the threshold of a high cost as numbers. It does nothing at run time.
 pub fn numbers_are_stated()
     ensures { NumbersAreStated }
 {}

@@ -1,4 +1,4 @@
-//! Answers the lines of an input in turn: what is written is a reply to each line.
+//! Answers the lines of an input in turn, each by one line of output.
 #![tactic(auto)]
 
 pub mod fault;
@@ -6,5 +6,5 @@ pub mod laws;
 pub mod lines;
 pub mod output;
 pub mod responder;
-pub mod taking;
+pub mod sink;
 pub mod watched;

@@ -23,11 +23,11 @@ use std::io::{Read, Write};
 /// The most bytes of one read.
 pub(crate) const CHUNK: usize = 16384;
 
-/// Replies to each line of the reader and writes the replies, in order, each as a line. The reader is read to
-/// its end. Replies are buffered: they are written before the next read, when there is no room for one more,
-/// or at once where the cost was high. The writer is flushed once, at the end of a run without fault.
+/// Replies to each line of the reader, in order, one line each. Reads to end of file. Replies are buffered
+/// and written before the next read, when the buffer has no room for one more, or at once after a high cost.
+/// The writer is flushed once, at the end of a run without a fault.
 ///
-/// After a fault the reader and the writer are not to be used again.
+/// After a fault, don't use the reader and the writer again.
 pub fn run<R: Read, W: Write, A: Responder>(
     reader: &mut Watched<R>,
     writer: &mut Watched<W>,
@@ -37,7 +37,7 @@ pub fn run<R: Read, W: Write, A: Responder>(
     requires writer { is_marked writer.old ≡ false }
     requires ready { A.is_ready responder.old }
 
-    // How the run ends, and what is written then, for the bytes that it took from the reader.
+    // The result of the run and the output written, for the bytes read.
     ensures ends { ListEnds (A.replies_with responder.old)
         (λ lines _. FoldsTo A.saw responder.old lines responder.new)
         (R.remaining (watched_inner reader.old)) (R.remaining (watched_inner reader.new))
@@ -48,7 +48,7 @@ pub fn run<R: Read, W: Write, A: Responder>(
     ensures read { (result ≡ Err Fault.Read) ↔ (is_marked reader.new ≡ true) }
     ensures write { (result ≡ Err Fault.Write) ↔ (is_marked writer.new ≡ true) }
 
-    // The responder goes on as it was, whatever the end.
+    // The responder's own state survives every result.
     ensures keeps { A.keeps responder.old responder.new }
     ensures ready { A.is_ready responder.new }
 {
@@ -66,12 +66,12 @@ struct Engine<'a, R, W, A> {
     kept: ArrayVec<u8, MAX_KEPT>,
     // The last reply.
     text: ArrayVec<u8, REPLY>,
-    // The replies that aren't written yet.
+    // The replies not yet written.
     waiting: Waiting,
 }
 
 impl<'a, R: Read, W: Write, A: Responder> Engine<'a, R, W, A> {
-    // A run that has read and written nothing yet.
+    // A run before its first read and write.
     fn new(
         reader: &'a mut Watched<R>,
         writer: &'a mut Watched<W>,
@@ -123,7 +123,7 @@ impl<'a, R: Read, W: Write, A: Responder> Engine<'a, R, W, A> {
         write_and_flush(self.writer, &mut self.waiting)
     }
 
-    // Reads to the end, answers all lines that a newline ends, and keeps what stands after the last of them.
+    // Reads to end of file, answers every line ended by a newline, and keeps the rest.
     fn answer_reads(&mut self) -> Result<(), Fault>
         requires reader { is_marked self.old.reader.now ≡ false }
         requires writer { is_marked self.old.writer.now ≡ false }
@@ -183,7 +183,7 @@ impl<'a, R: Read, W: Write, A: Responder> Engine<'a, R, W, A> {
         self.reader.read(chunk)
     }
 
-    // Answers the lines that end in this piece of the input, and keeps what stands after the last of them.
+    // Answers the lines that end in this chunk of the input, and keeps the bytes after the last newline.
     fn answer_lines(&mut self, piece: &[u8]) -> Result<(), Fault>
         requires writer { is_marked self.old.writer.now ≡ false }
         requires ready { A.is_ready self.old.responder.now }
@@ -209,8 +209,8 @@ impl<'a, R: Read, W: Write, A: Responder> Engine<'a, R, W, A> {
         Ok(())
     }
 
-    // Answers the line whose first bytes are kept and whose rest is this piece, without its newline. Where
-    // nothing is kept, the line is answered where it stands. No reply of a high cost waits meanwhile.
+    // Answers the line made of the kept bytes and this chunk, without its newline. With nothing kept, it
+    // answers the line in place. No reply of a high cost waits meanwhile.
     #[inline(always)]
     fn answer_line(&mut self, piece: &[u8], most: usize) -> Result<(), Fault>
         requires most { most ≡ A.KEEP }
@@ -239,7 +239,7 @@ impl<'a, R: Read, W: Write, A: Responder> Engine<'a, R, W, A> {
         self.answer_kept()
     }
 
-    // Answers the line whose first bytes are kept. No reply of a high cost waits meanwhile.
+    // Answers the kept line. No reply of a high cost waits meanwhile.
     fn answer_kept(&mut self) -> Result<(), Fault>
         requires writer { is_marked self.old.writer.now ≡ false }
         requires ready { A.is_ready self.old.responder.now }
@@ -294,7 +294,7 @@ fn answer<W: Write, A: Responder>(
     Ok(())
 }
 
-// Keeps the first `most` bytes of what is kept and a piece that comes after it.
+// Keeps the first `most` bytes of the kept bytes followed by a chunk.
 pub(crate) fn keep_prefix(kept: &mut ArrayVec<u8, MAX_KEPT>, piece: &[u8], most: usize)
     requires kept { array_vec_len kept.old ≤ most }
     requires most { most ≤ MAX_KEPT }

@@ -1,4 +1,4 @@
-//! Bytes that wait to be written together.
+//! Buffered output.
 ghost use Rattle.std.specs.Prelude.{◌≡◌, ◌≤◌, [], ◌∷◌, ◌++◌, false};
 ghost use Rattle.std.specs.Prelude.{length, OnOk, OnErr, IsOkUnless, is_err};
 ghost use Rattle.std.specs.Io.KnownBytes.{Appends};
@@ -15,11 +15,11 @@ use std::io::Write;
 /// How many bytes may wait.
 pub const WAITING: usize = 16384;
 
-/// Bytes that wait to be written.
+/// Bytes to be written later.
 pub type Waiting = ArrayVec<u8, WAITING>;
 
-/// Lets bytes wait. What waits is written before, if there is no room for them. After an error, which is
-/// `Fault::Write`, they are lost.
+/// Buffers bytes, and writes the buffer first if it has no room for them. After an error, always
+/// `Fault::Write`, the bytes are lost.
 pub fn add<W: Write>(
     writer: &mut Watched<W>,
     waiting: &mut Waiting,
@@ -41,8 +41,8 @@ pub fn add<W: Write>(
     Ok(())
 }
 
-/// Lets a text of at most `REPLY` bytes wait, with a newline. What waits is written before, if there is no
-/// room for both. After an error the text is lost.
+/// Buffers a text of at most `REPLY` bytes and a newline, and writes the buffer first if it has no room for
+/// both. After an error the text is lost.
 #[inline(always)]
 pub fn add_line<W: Write>(
     writer: &mut Watched<W>,
@@ -66,7 +66,7 @@ pub fn add_line<W: Write>(
     Ok(())
 }
 
-/// Writes all that waits, by as many calls as it takes.
+/// Writes the whole buffer, by as many calls as necessary.
 pub fn write_waiting<W: Write>(writer: &mut Watched<W>, waiting: &mut Waiting) -> Result<(), Fault>
     requires { is_marked writer.old ≡ false }
     ensures ok { OnOk result (Appends (W.contents (watched_inner writer.old))
@@ -88,7 +88,7 @@ pub fn write_waiting<W: Write>(writer: &mut Watched<W>, waiting: &mut Waiting) -
     Ok(())
 }
 
-/// Writes all that waits, and flushes the writer once.
+/// Writes the whole buffer and flushes the writer once.
 pub fn write_and_flush<W: Write>(
     writer: &mut Watched<W>,
     waiting: &mut Waiting,

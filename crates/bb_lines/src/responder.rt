@@ -1,4 +1,4 @@
-//! What replies to a line.
+//! Responders: they reply to lines.
 ghost use Rattle.std.specs.Prelude.{◌≡◌, ℕ, ◌<◌, ◌≤◌, Bool, List, []};
 ghost use Rattle.std.specs.Prelude.{length, take, IsTrue, IfOk, OnOk, OnErr};
 ghost use Rattle.bb_lines.specs.declared.responder.TheConstants.{MAX_KEPT};
@@ -9,27 +9,27 @@ use std::alloc::AllocError;
 /// The most bytes of a reply, without its newline.
 pub const REPLY: usize = 1023;
 
-/// The most bytes of a line that are kept for any responder.
+/// The most bytes of a line kept for any responder.
 pub const MAX_KEPT: usize = 1024;
 
-/// A cost above this is high: the reply is written before the next line is begun.
+/// A cost above this is high: the reply is written before the next line starts.
 pub const HIGH_COST: u64 = 100_000;
 
-/// What replies to the lines of an input, to each with one line.
+/// Replies to each line of an input with one line.
 pub trait Responder {
-    // Which texts are a reply to a line, without a newline.
+    // The texts allowed as a reply to a line, without a newline.
     ghost replies_with: { Self → List ℕ → List ℕ → Type 0 };
 
-    // What one line does to the responder's own state, as the summary that it keeps.
+    // The effect of one line on the responder's own state, such as its summary.
     ghost saw: { Self → List ℕ → Self → Type 0 };
 
-    // What the last reply cost.
+    // The cost of the last reply.
     ghost cost: { Self → ℕ };
 
-    // What no reply changes, as the limits, or which value a reference of the responder points to.
+    // The part of the responder's state preserved by every reply: limits, targets of references.
     ghost keeps: { Self → Self → Type 0 };
 
-    // What the responder needs before each line, and has again after it.
+    // The responder's invariant, before each line and after it.
     ghost is_ready: { Self → Type 0 };
 
     // Whether a reply may allocate.
@@ -42,9 +42,9 @@ pub trait Responder {
     fn bytes_kept(&self) -> usize
         ensures { result ≡ KEEP };
 
-    /// Puts the reply to `line` into `text`, which is empty, and tells what it cost.
+    /// Appends the reply to `line` to the empty `text` and returns its cost.
     ///
-    /// `Err` is an allocation failure: nothing is said of `text` then.
+    /// `Err` is an allocation failure; the contents of `text` are then unspecified.
     fn respond(&mut self, line: &[u8], text: &mut ArrayVec<u8, REPLY>) -> Result<u64, AllocError>
         requires ready { is_ready self.old }
         requires kept { length line.now ≤ KEEP }
@@ -56,7 +56,7 @@ pub trait Responder {
         ensures ready { is_ready self.new }
         ensures grows { OnErr result (IsTrue GROWS) };
 
-    // What stays stays over many lines, and the replies stay with it.
+    // The preserved part is preserved over many lines, and so are the allowed replies.
     ghost keeps_at_first: { (a : Self) → keeps a a };
 
     ghost keeps_on: { (a b c : Self) → keeps a b → keeps b c → keeps a c };

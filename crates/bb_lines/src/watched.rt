@@ -1,4 +1,4 @@
-//! A reader or a writer that remembers whether a call of it failed.
+//! A reader or writer with a mark for its first failed call.
 ghost use Rattle.std.specs.Prelude.{◌≡◌, ◌+◌, ◌<◌, ◌^◌, ◌-◌, ◌||◌, min};
 ghost use Rattle.std.specs.Prelude.{false, true, length, IfOk, OnOk, is_err};
 ghost use Rattle.std.specs.Io.KnownBytes.{Keeps, ReadConsumes, WriteAppends};
@@ -8,12 +8,12 @@ ghost use Rattle.bb_lines.specs.Watched.{watched_inner, is_marked, reads_of};
 use std::io::{Read, Write};
 use thiserror::Error;
 
-/// A call of a watched reader or writer failed.
+/// A call of a marked reader or writer failed.
 #[derive(Clone, Copy, Debug, PartialEq, Eq, Error)]
 #[error("the call failed")]
 pub struct Failed;
 
-/// A reader or a writer with a mark, which the first failed call sets and nothing takes away.
+/// A reader or writer with a mark. The first failed call sets the mark, and nothing clears it.
 #[derive(Drop)]
 pub struct Watched<X> {
     inner: X,
@@ -42,7 +42,7 @@ impl<X> Watched<X> {
         self.mark
     }
 
-    /// What was watched.
+    /// The inner reader or writer.
     pub fn into_inner(self) -> X
         ensures { result ≡ watched_inner self }
     {
@@ -58,8 +58,8 @@ impl<X> Watched<X> {
 }
 
 impl<R: Read> Watched<R> {
-    /// Reads by one call of the inner reader. After `u64::MAX` reads it fails without a call, so that each
-    /// run ends. After `Failed` no byte was taken.
+    /// Reads by one call of the inner reader. After `u64::MAX` reads it fails without a call, so each run
+    /// ends. After `Failed` no byte was read.
     pub fn read(&mut self, buf: &mut [u8]) -> Result<usize, Failed>
         ensures bound { ReadsAtMost result buf.new }
         ensures bytes { ReadConsumes (R.remaining (watched_inner self.old))
@@ -81,7 +81,7 @@ impl<R: Read> Watched<R> {
 }
 
 impl<W: Write> Watched<W> {
-    /// Writes by one call of the inner writer. It fails too where that call took none of at least one byte.
+    /// Writes by one call of the inner writer. It also fails if that call accepted none of at least one byte.
     /// After `Failed` no byte was written.
     pub fn write(&mut self, buf: &[u8]) -> Result<usize, Failed>
         ensures bound { WritesAtMost result buf.now }

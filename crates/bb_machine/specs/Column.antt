@@ -1,4 +1,4 @@
--- Where a line that is no machine's text goes wrong. The column of a refused line is this project's
+-- The column of the first error in a line without a machine. The column of a refused line is this project's
 -- own notion.
 use Rattle.std.specs.Prelude.{◌≡◌, ℕ, ◌+◌, ◌≤◌, List, ◌++◌, length, take}
 use Rattle.bb_machine.specs.declared.machine.TheConstants.{MAX_STATES, MAX_SYMBOLS}

@@ -40,7 +40,7 @@ abbrev pub offset_of : Dir → ℤ
 offset_of L = neg_ℤ (pos 1)
 offset_of R = pos 1
 
--- what an entry that goes to a state does: its symbol, its direction as a number, its state; none for other
+-- the effect of an entry with a next state: its symbol, its direction as a number, its state; none for other
 -- entries
 abbrev pub step_of : Entry → Option Step
 step_of Undefined = None

@@ -12,8 +12,8 @@ TextsDiffer = (a b : Table) → IsMachine a → IsMachine b → text a ≡ text 
 abbrev pub ColumnIsUnique : Type 0
 ColumnIsUnique = (line : List ℕ) (a b : ℕ) → IsColumn line a → IsColumn line b → a ≡ b
 
--- of a line only its first bytes matter, where these are more than the longest text has: they are a
--- machine's text just where the whole line is, and they have the line's column
+-- only the first bytes of a line matter, if they are more than the longest text has: they are a machine's
+-- text exactly if the whole line is, and they have the line's column
 pub record PrefixIsEnough (line : List ℕ) (kept : ℕ) : Type 0 where
   pub same_text : (gs : Table) → IsMachine gs → (text gs ≡ take kept line) ↔ (text gs ≡ line)
   pub same_column : (column : ℕ) → IsColumn (take kept line) column ↔ IsColumn line column

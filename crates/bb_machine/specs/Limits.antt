@@ -30,7 +30,7 @@ Holds b Depth = MAX_LEVELS < b.depth
 Holds b Nodes = MAX_NODES < b.nodes
 Holds b DepthCells = b.cells + 1 < 2 * b.depth
 
--- the rank of a fault in the order in which faults are told
+-- the rank of a fault in the order of reports
 abbrev pub rank : LimitFault → ℕ
 rank Steps = 1
 rank Cells = 2

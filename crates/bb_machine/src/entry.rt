@@ -10,7 +10,7 @@ pub enum Dir {
     R,
 }
 
-/// Where an entry goes to: a state, counted from 0 for A, or the halting state Z.
+/// The target of a transition: a state, counted from 0 for A, or the halting state Z.
 #[derive(Clone, Copy, Debug, PartialEq, Eq)]
 pub enum Next {
     /// A state, from 0 for A.
@@ -19,8 +19,7 @@ pub enum Next {
     Halt,
 }
 
-/// What a machine does in a state at a symbol: nothing that is defined (`---`), or it writes a
-/// symbol, moves one cell and goes to a state.
+/// A transition: undefined (`---`), or a symbol to write, a move of one cell, and a next state.
 #[derive(Clone, Copy, Debug, PartialEq, Eq)]
 pub enum Entry {
     /// There is no step.
@@ -43,8 +42,8 @@ impl Dir {
         }
     }
 
-    /// Whether a direction has the letter. Either is as likely as the other, so what is tested holds of both,
-    /// 3 before and 3 after `O`: a branch between them would be guessed wrong half the time.
+    /// Whether a direction has the letter. Both are equally likely, so the test uses a property of both, 3
+    /// before and 3 after `O`: a branch between them would be mispredicted half the time.
     fn has_letter(letter: u8) -> bool
         ensures { IsTrue result ↔ ((d : Dir) × (dir_letter d ≡ letter)) }
     {
@@ -61,7 +60,7 @@ impl Dir {
         }
     }
 
-    /// The direction with the letter, where there is one.
+    /// The direction with the letter, if any.
     fn of_letter(letter: u8) -> Dir
         ensures { (d : Dir) → dir_letter d ≡ letter → result ≡ d }
     {
@@ -88,7 +87,7 @@ impl Next {
         }
     }
 
-    /// Whether the letter is that of a state of a machine with so many, or `Z`.
+    /// Whether the letter names a state of a machine with so many, or `Z`.
     fn has_letter(letter: u8, states: u8) -> bool
         requires { states ≤ MAX_STATES }
         ensures { IsTrue result ↔ ((n : Next) × IsNextOf states n × (next_letter n ≡ letter)) }
@@ -108,7 +107,7 @@ impl Next {
         }
     }
 
-    /// The state or halt with the letter, where there is one.
+    /// The state or halt with the letter, if any.
     fn of_letter(letter: u8) -> Next
         requires { (n : Next) × IsNextOf MAX_STATES n × (next_letter n ≡ letter) }
         ensures { (n : Next) → IsNextOf MAX_STATES n → next_letter n ≡ letter → result ≡ n }
@@ -138,7 +137,7 @@ impl Entry {
         }
     }
 
-    /// The fewest symbols of a machine that may have the entry.
+    /// The fewest symbols of a machine with the entry.
     pub(crate) fn named_symbols(self) -> usize
         ensures { (k symbols : ℕ) → IsEntryOf MAX_STATES k self
             → IsEntryOf MAX_STATES symbols self ↔ (result ≤ symbols) }
@@ -164,7 +163,8 @@ impl Entry {
         is_digit(first, symbols) && Dir::has_letter(second) && Next::has_letter(third, states)
     }
 
-    /// The entry whose text stands first in the bytes, or how many of them begin an entry's text.
+    /// The entry whose text starts the bytes, or else the number of leading bytes that start some entry's
+    /// text.
     pub(crate) fn read(bytes: &[u8], symbols: usize) -> Result<Entry, usize>
         requires some { 0 < symbols }
         requires few { symbols ≤ MAX_SYMBOLS }
@@ -197,7 +197,7 @@ impl Entry {
 
 ghost use Rattle.std.specs.Prelude.{◌≡◌, ◌≢◌, ◌≤◌, ◌<◌, ◌+◌, ◌↔◌, ℕ, IsTrue, MatchOption, slice_index};
 
-/// The first three bytes, with 0, which no text has, for those past the end.
+/// The first three bytes, padded with 0, a byte of no text.
 fn first_bytes(bytes: &[u8]) -> (u8, u8, u8)
     ensures { result ≡ (slice_index bytes.now 0, slice_index bytes.now 1, slice_index bytes.now 2) }
 {

@@ -32,7 +32,7 @@ pub fn column_is_unique()
     ensures { ColumnIsUnique }
 {}
 
-/// A line of which more than `LINE` first bytes are kept is read as the whole line is.
+/// Keeping more than `LINE` leading bytes of a line is enough to read it as the whole line is read.
 pub fn long_prefixes_are_enough()
     ensures { LongPrefixesAreEnough }
 {}

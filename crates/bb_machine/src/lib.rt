@@ -1,4 +1,4 @@
-//! Small Turing machines: their texts, their tables, the limits of a run, and which deciders are on.
+//! Small Turing machines: their texts, their tables, the limits of a run, and the choice of deciders.
 //!
 //! The text is bbchallenge's standard text format for Turing machines, in this project's profile.
 #![tactic(auto)]

@@ -17,7 +17,7 @@ pub const MAX_LEVELS: u64 = 10_000;
 /// The greatest limit of the nodes of one backward tree.
 pub const MAX_NODES: u64 = 1_000_000_000_000;
 
-/// Why limits are refused. Its text is what a program prints.
+/// The reason for rejecting limits. Programs print its text.
 #[derive(Clone, Copy, Debug, PartialEq, Eq)]
 pub enum LimitFault {
     /// The steps are out of their range.
@@ -76,8 +76,8 @@ impl Model for Limits {
 impl Limits {
     ghost use Rattle.bb_machine.specs.Limits.{Bounds, IsAccepted, IsFirstFault};
 
-    /// The limits of `t` steps, `s` cells, `d` levels and `n` nodes, or the first fault that holds of
-    /// them, in the order of the variants.
+    /// The limits of `t` steps, `s` cells, `d` levels and `n` nodes, or their first fault, in the order of
+    /// the variants.
     pub fn new(t: u64, s: u64, d: u64, n: u64) -> Result<Limits, LimitFault>
         ensures accepted { IfOk result (λ limits. IsAccepted limits) }
         ensures given { IfOk result
@@ -105,7 +105,7 @@ impl Limits {
         }
     }
 
-    /// Says what all limits keep to, where a proof uses it. It does nothing.
+    /// States the range of all limits, for proofs. It does nothing at run time.
     #[inline(always)]
     pub fn show_accepted(&self)
         ensures accepted { IsAccepted self.now }

@@ -1,4 +1,4 @@
-//! A machine: its table of entries, and the line that is its text.
+//! A machine: its table of entries, and its text, one line.
 ghost use Rattle.std.specs.Prelude.{◌≡◌, ◌+◌, ◌≤◌, ◌<◌, List, ◌++◌, length, codes, IfOk, IfErr, Ok};
 ghost use Rattle.std.specs.Int.RustNames.{unsigned_abs};
 ghost use Rattle.arrayvec.specs.ArrayVec.{array_vec_len};
@@ -20,21 +20,21 @@ pub const MAX_SYMBOLS: usize = 10;
 /// The bytes of the longest text: three for each entry, and one between groups.
 pub const LINE: usize = MAX_STATES * (3 * MAX_SYMBOLS + 1) - 1;
 
-/// How many slots of a table belong to one state: a power of two, so that a step finds its entry by a shift.
+/// The number of slots for one state in a table: a power of two, so a step finds its entry by a shift.
 const STRIDE: usize = 16;
 
 const SLOTS: usize = MAX_STATES * STRIDE;
 
-/// A line that is no machine's text. The column is 1 plus the number of the line's first bytes with
-/// which some machine's text begins.
+/// A line without a machine. The column is 1 plus the length of the line's longest prefix shared with the
+/// text of some machine.
 #[derive(Clone, Copy, Debug, PartialEq, Eq, Error)]
 #[error("refused at column {column}")]
 pub struct Refused {
-    /// 1 plus the length of the longest prefix of the line that begins a machine.
+    /// 1 plus the length of the longest prefix of the line that starts a machine's text.
     pub column: u32,
 }
 
-/// What the entry in a slot is: undefined, or one that goes to a state or to Z.
+/// The kind of an entry: undefined, with a next state, or into Z.
 #[derive(Clone, Copy)]
 enum Kind {
     Undefined,
@@ -42,9 +42,9 @@ enum Kind {
     Halt,
 }
 
-/// An entry where it stands in a table, in four bytes: a step of a run then finds it without a
-/// multiplication, tests one byte of it, and finds the next position by one addition. The other bytes
-/// of an undefined entry, and the state of one that goes to Z, are of no account.
+/// An entry in a table, in four bytes. A step finds it without a multiplication, tests one byte of it, and
+/// finds the next position by one addition. The other bytes of an undefined entry are unused, and so is the
+/// state of an entry into Z.
 #[derive(Clone, Copy)]
 struct Slot {
     kind: Kind,
@@ -71,8 +71,8 @@ impl Slot {
         }
     }
 
-    /// Makes it the slot of the entry whose text the first bytes are, field by field: that takes fewer
-    /// instructions than a slot that is made first and then put in its place.
+    /// Sets the slot to the entry whose text starts the bytes, field by field: that takes fewer instructions
+    /// than building a slot and moving it.
     fn set_first(&mut self, bytes: &[u8])
         requires { (e : Entry) × IsEntryOf MAX_STATES MAX_SYMBOLS e × BeginsWith bytes.now (entry_text e) }
         ensures { (e : Entry) → IsEntryOf MAX_STATES MAX_SYMBOLS e → BeginsWith bytes.now (entry_text e)
@@ -129,11 +129,10 @@ impl Slot {
     }
 }
 
-/// What an entry that goes to a state does: it writes a symbol, moves by the offset, which is -1 or 1,
-/// and goes to the state.
+/// A transition to a state: the symbol to write, the offset of the move, -1 or 1, and the state.
 #[derive(Clone, Copy, Debug, PartialEq, Eq)]
 pub struct Step {
-    /// The symbol that is written.
+    /// The symbol to write.
     pub write: u8,
     /// How far the head moves: 1 or -1.
     pub offset: i8,
@@ -141,7 +140,7 @@ pub struct Step {
     pub state: u8,
 }
 
-/// A Turing machine. Its table stands row by row in an array, each row at a multiple of `STRIDE`.
+/// A Turing machine. Its table is an array, each row at a multiple of `STRIDE`.
 #[derive(Drop)]
 pub struct Machine {
     slots: [Slot; SLOTS],
@@ -179,8 +178,8 @@ impl Machine {
         }
     }
 
-    /// The machine whose text the line is, or the column of the line where there is none. Nothing
-    /// may stand beside the text, no carriage return either.
+    /// The machine with this text, or the column of the first error. The line has nothing beside the text,
+    /// not even a carriage return.
     pub fn read(line: &[u8]) -> Result<Machine, Refused>
         ensures found { IfOk result (λ machine. IsMachine machine × (text machine ≡ line.now)) }
         ensures only { (machine : Table) → IsMachine machine → text machine ≡ line.now → result ≡ Ok machine }
@@ -221,8 +220,7 @@ impl Machine {
         self.slots[state as usize * STRIDE + symbol as usize].entry()
     }
 
-    /// What the entry for a state and a symbol does, where it goes to a state; none where it is
-    /// undefined or goes to Z.
+    /// The transition for a state and a symbol; none if it is undefined or goes to Z.
     #[inline]
     pub fn step(&self, state: u8, symbol: u8) -> Option<Step>
         requires in_states { state < length self.now }
@@ -234,7 +232,7 @@ impl Machine {
         self.slots[state as usize * STRIDE + symbol as usize].step()
     }
 
-    /// Says that the table is a machine's, where a proof uses it. It does nothing.
+    /// States that the table is a machine's, for proofs. It does nothing at run time.
     #[inline(always)]
     pub fn show_machine(&self)
         ensures machine { IsMachine self.now }

@@ -1,11 +1,11 @@
-//! Which deciders are on.
-/// Which deciders are on.
+//! The choice of deciders.
+/// The deciders in use.
 #[derive(Clone, Copy, Debug, PartialEq, Eq)]
 pub struct Plan {
-    /// Whether the cyclers are asked.
+    /// Search for cyclers.
     pub cyclers: bool,
-    /// Whether the translated cyclers are asked.
+    /// Search for translated cyclers.
     pub translated: bool,
-    /// Whether backward reasoning is asked.
+    /// Reason backward.
     pub backward: bool,
 }

@@ -1,6 +1,6 @@
 pub mod Facts
 pub mod Lengths
-pub mod Looks
+pub mod Validations
 pub mod Newlines
 pub mod CheckReplies
 pub mod CheckSummaries

@@ -12,7 +12,7 @@ use Rattle.bb_sim.specs.Span.{span, IsLastInside}
 use Rattle.bb_sim.proofs.Facts.{last_step_is_unique}
 use Rattle.bb_cert.specs.declared.verdict.Verdict.TheVariants.{Backward}
 use Rattle.bb_decide.specs.Cost.{CountsWalk, DecisionSteps, IsWithinCost, MakesWalk}
-use Rattle.bb_decide.specs.Keys.{spread}
+use Rattle.bb_decide.specs.FingerprintKeys.{spread}
 use Rattle.bb_decide.specs.OneRun.{MakesRuns}
 use Rattle.bb_decide.specs.Verdict.{IsVerdict}
 use Rattle.bb_decide.proofs.Facts.{is_tree, runs_are_unique, steps_are_bounded, steps_are_unique}

@@ -1,4 +1,4 @@
--- What stands behind each verdict that is written: this project's own.
+-- The meaning of each verdict written: this project's own.
 use Rattle.std.specs.Prelude.{ℕ, ◌*◌, ◌≤◌}
 use Rattle.bb_machine.specs.Limits.{Bounds}
 use Rattle.bb_machine.specs.Machine.{Table, IsMachine}
@@ -11,8 +11,8 @@ use Rattle.bb_machine.specs.declared.plan.Plan.{Plan}
 use Rattle.bb_decide.specs.Verdict.{IsVerdict}
 use Rattle.bb_decide.specs.Cost.{DecisionSteps}
 
--- where the verdict says that the machine never halts, no number of steps halts it; and unless the verdict is
--- undecided, a checker under the same bounds answers ok to it
+-- after a verdict of never, no number of steps halts the machine; and unless the verdict is undecided, a
+-- checker under the same bounds answers ok to it
 pub record IsBorneOut (table : Table) (bounds : Bounds) (verdict : Verdict) : Type 0 where
   pub never : SaysNever verdict → Never table
   pub confirmed : (IsUndecided verdict → ⊥) → IsAnswer table bounds verdict Ok

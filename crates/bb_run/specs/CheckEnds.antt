@@ -1,4 +1,4 @@
--- How checking a list ends: what was read, and what is written by then. This project's own.
+-- The result of checking a list: the input read, and the output written by then. This project's own.
 use Rattle.std.specs.Prelude.{ℕ, List, Option, Result}
 use Rattle.bb_machine.specs.Limits.{Bounds}
 use Rattle.bb_lines.specs.declared.fault.Fault.{Fault}

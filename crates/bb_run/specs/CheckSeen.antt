@@ -1,5 +1,4 @@
--- What checking one line does to the summary so far, and what it cost: the steps and the nodes that it
--- made.
+-- The effect of checking one line on the summary so far, and its cost: the steps and the nodes.
 use Rattle.std.specs.Prelude.{◌≡◌, ℕ, ◌+◌, ◌⊎◌, false, ◌&&◌, List}
 use Rattle.bb_machine.specs.Limits.{Bounds}
 use Rattle.bb_machine.specs.Machine.{Table}

@@ -50,8 +50,8 @@ pub record IsWithinBounds (bounds : Bounds) (peak : Meter) : Type 0 where
   pub levels : peak.most_levels ≤ bounds.depth
   pub nodes : peak.nodes ≤ bounds.nodes
 
--- `clean` says that each reply is `ok` or `open`; the peaks are within the bounds, and no less than what each
--- claim that is answered ok has; that of cells is the widest window of a replay
+-- `clean` means that each reply is `ok` or `open`; the peaks are within the bounds, and no less than those of
+-- each claim answered ok; that of cells is the widest window of a replay
 pub record IsCheckSummary (bounds : Bounds) (lines : List (List ℕ)) (summary : Summary) : Type 0 where
   pub clean : IsTrue summary.clean ↔ AllByRecursion (IsFine bounds) lines
   pub oks : AreOksWithin bounds lines summary.peak

@@ -1,4 +1,4 @@
--- How a run with a summary ends: what was read, and what is written by then. This project's own.
+-- The result of a run with a summary: the input read, and the output written by then. This project's own.
 use Rattle.std.specs.Prelude.{ℕ, List, Option, Result}
 use Rattle.std.specs.Io.KnownBytes.{Appends}
 use Rattle.bb_machine.specs.Limits.{Bounds}
@@ -16,7 +16,7 @@ abbrev pub DecideEnds : Bounds → Plan → Option (List ℕ) → Option (List �
 DecideEnds bounds plan left left_then held held_then end =
     ListEnds (IsReply bounds plan) (IsSummary bounds plan) left left_then held held_then end
 
--- the same where each machine is decided in one run: the summary is that of what was made
+-- the same for deciding each machine in one run: the summary has the steps really made
 abbrev pub DecideInOneRunEnds : Bounds → Plan → Option (List ℕ) → Option (List ℕ) → Option (List ℕ)
     → Option (List ℕ) → Result Summary Fault → Type 0
 DecideInOneRunEnds bounds plan left left_then held held_then end =

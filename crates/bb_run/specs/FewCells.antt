@@ -16,6 +16,6 @@ FewCellsAreReplied bounds plan = IsTrue plan.cyclers → (table : Table) (line r
     → IsTextOf table line → HasStepsForCells table bounds → IsReply bounds plan line reply
     → reply ≢ line_text table (Undecided Steps)
 
--- whatever the bounds and the plan
+-- for any bounds and plan
 abbrev pub AllFewCellsAreReplied : Type 0
 AllFewCellsAreReplied = (bounds : Bounds) (plan : Plan) → FewCellsAreReplied bounds plan

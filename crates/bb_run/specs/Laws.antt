@@ -5,8 +5,8 @@ use Rattle.bb_machine.specs.declared.plan.Plan.{Plan}
 use Rattle.bb_cert.specs.declared.verdict.line.TheConstants.{LINE_BUFFER}
 use Rattle.bb_run.specs.BorneOut.{VerdictsAreBorneOut}
 use Rattle.bb_run.specs.CheckReply.{IsCheckReply, unread_text}
-use Rattle.bb_run.specs.declared.looking.ReplyKind.{ReplyKind}
-use Rattle.bb_run.specs.Look.{HasForm, IsOfKind}
+use Rattle.bb_run.specs.declared.reply_validation.ReplyKind.{ReplyKind}
+use Rattle.bb_run.specs.Validation.{HasForm, IsOfKind}
 use Rattle.bb_run.specs.Reply.{IsReply}
 
 -- two replies to one line, within the same bounds and by the same plan, are the same
@@ -24,7 +24,7 @@ abbrev pub LongLinesAreUnread : Type 0
 LongLinesAreUnread = (bounds : Bounds) (line reply : List ℕ) → LINE_BUFFER < length line
     → IsCheckReply bounds line reply → reply ≡ unread_text
 
--- the verdicts are borne out, whatever the bounds and the plan
+-- the verdicts are borne out, for any bounds and plan
 abbrev pub AllVerdictsAreBorneOut : Type 0
 AllVerdictsAreBorneOut = (bounds : Bounds) (plan : Plan) → VerdictsAreBorneOut bounds plan
 
@@ -33,7 +33,7 @@ abbrev pub ReplyHasOneKind : Type 0
 ReplyHasOneKind = (line reply : List ℕ) (a b : ReplyKind) → IsOfKind a line reply → IsOfKind b line reply
     → a ≡ b
 
--- what deciding a list replies to a line has the form of a reply to it, whatever the bounds and the plan
+-- each reply of deciding a list has the form of a reply to its line, for any bounds and plan
 abbrev pub RepliesHaveForm : Type 0
 RepliesHaveForm = (bounds : Bounds) (plan : Plan) (line reply : List ℕ) → IsReply bounds plan line reply
     → HasForm line reply

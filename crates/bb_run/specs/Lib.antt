@@ -9,7 +9,7 @@ pub mod Ends
 pub mod FewCells
 pub mod KeptBytes
 pub mod Laws
-pub mod Look
+pub mod Validation
 pub mod Reply
 pub mod Sample
 pub mod Seen

@@ -1,5 +1,4 @@
--- What one line does to the summary so far, and what it cost: the steps and the nodes that deciding it
--- made.
+-- The effect of one line on the summary so far, and its cost: the steps and the nodes of deciding it.
 use Rattle.std.specs.Prelude.{◌≡◌, ℕ, ◌+◌, ◌⊎◌, false, true, List}
 use Rattle.std.specs.List.{FoldsTo}
 use Rattle.bb_machine.specs.Limits.{Bounds}
@@ -8,7 +7,7 @@ use Rattle.bb_sim.specs.declared.meter.Meter.{Meter}
 use Rattle.bb_sim.specs.Meter.{greatest_of, zero_meter}
 use Rattle.bb_machine.specs.declared.plan.Plan.{Plan}
 use Rattle.bb_decide.specs.Cost.{CountsWalk, CountsCost, IsWithinCost, MakesWalk}
-use Rattle.bb_decide.specs.Keys.{spread}
+use Rattle.bb_decide.specs.FingerprintKeys.{spread}
 use Rattle.bb_decide.specs.OneRun.{CountsRuns}
 use Rattle.bb_run.specs.declared.summary.Summary.{Summary}
 

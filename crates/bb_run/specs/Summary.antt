@@ -8,7 +8,7 @@ use Rattle.bb_cert.specs.declared.verdict.Verdict.TheVariants.{Backward}
 use Rattle.bb_machine.specs.declared.plan.Plan.{Plan}
 use Rattle.bb_decide.specs.Verdict.{IsVerdict}
 use Rattle.bb_decide.specs.Cost.{IsWithinCost, DecisionSteps}
-use Rattle.bb_decide.specs.Keys.{spread}
+use Rattle.bb_decide.specs.FingerprintKeys.{spread}
 use Rattle.bb_decide.specs.OneRun.{MakesRuns}
 use Rattle.bb_run.specs.declared.summary.Summary.{Summary}
 
@@ -33,8 +33,8 @@ pub record AreRunStepsOf (bounds : Bounds) (plan : Plan) (line : List ℕ) (step
   pub latest : ℕ
   pub are_steps : MakesRuns spread table bounds plan.cyclers plan.translated steps latest
 
--- the line is the text of a machine that has this span at the last step of any run by which it is decided
--- in one run
+-- the line is the text of a machine with this span at the last step of any run made for deciding it in one
+-- run
 pub record IsRunSpanOf (bounds : Bounds) (plan : Plan) (line : List ℕ) (width : ℕ) : Type 0 where
   pub table : Table
   pub of : IsTextOf table line
@@ -64,9 +64,9 @@ pub record IsPeak (Count : List ℕ → ℕ → Type 0) (lines : List (List ℕ)
   pub bound : AllByRecursion (λ line. (n : ℕ) → Count line n → n ≤ peak) lines
   pub reached : (peak ≡ 0) ⊎ SomeHas Count lines peak
 
--- `clean` says that each line is a machine's text; the peaks are those of the lines' steps and cells, however
--- they are counted; those of levels and nodes are no less than those of each tree that is a verdict; and none
--- is more than deciding a machine may cost
+-- `clean` means that each line is a machine's text; the peaks are those of the lines' steps and cells,
+-- however they are counted; those of levels and nodes are no less than those of each tree that is a verdict;
+-- and none is more than deciding a machine may cost
 pub record IsSummed (bounds : Bounds) (plan : Plan) (Steps Cells : List ℕ → ℕ → Type 0)
     (lines : List (List ℕ)) (summary : Summary) : Type 0 where
   pub clean : IsTrue summary.clean ↔ AllByRecursion IsMachineLine lines
@@ -79,6 +79,6 @@ pub record IsSummed (bounds : Bounds) (plan : Plan) (Steps Cells : List ℕ → 
 abbrev pub IsSummary : Bounds → Plan → List (List ℕ) → Summary → Type 0
 IsSummary bounds plan = IsSummed bounds plan (AreStepsOf bounds plan) (IsSpanOf bounds)
 
--- where each machine is decided in one run, those of the runs that were made
+-- for deciding each machine in one run, those of the runs made
 abbrev pub IsOneRunSummary : Bounds → Plan → List (List ℕ) → Summary → Type 0
 IsOneRunSummary bounds plan = IsSummed bounds plan (AreRunStepsOf bounds plan) (IsRunSpanOf bounds plan)

@@ -87,7 +87,7 @@ pub record IsUncut (bounds : Bounds) (line : List ℕ) : Type 0 where
   pub of : IsTextOf table line
   pub fits : span table bounds.steps ≤ bounds.cells
 
--- `clean` says that the line is a machine's text and its run not cut by the limit of cells; nothing is
+-- `clean` means that the line is a machine's text and its run not cut by the limit of cells; nothing is
 -- counted
 pub record IsTraceSummary (bounds : Bounds) (line : List ℕ) (summary : Summary) : Type 0 where
   pub clean : IsTrue summary.clean ↔ IsUncut bounds line

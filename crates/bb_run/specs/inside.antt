@@ -1,3 +1,3 @@
--- What private functions tell one another. No public contract cites it.
-pub mod Looking
+-- Definitions for private functions. No public contract cites them.
+pub mod Validating
 pub mod RunningOn

@@ -19,16 +19,16 @@ use bb_tape::Tape;
 use std::alloc::AllocError;
 use std::io::{Read, Write};
 
-/// What replies to the verdict lines of a list with answers.
+/// Replies to the verdict lines of a list with answers.
 #[derive(Drop)]
 struct Checker<'a, T> {
     limits: Limits,
     pair: &'a mut Pair<T>,
     path: &'a mut Path,
-    // The machine of the last line that had one. Each is read in its place.
+    // The machine of the last line with one. Each is read in its place.
     machine: Machine,
     summary: Summary,
-    // The steps and the nodes that the last line cost; 0 where nothing was run, and before the first line.
+    // The steps and nodes of the last line; 0 before the first line and for a line without a run.
     last_cost: u64,
     counts: &'a AnswerCounts,
 }
@@ -118,7 +118,7 @@ impl<T: Tape> Responder for Checker<'_, T> {
     }
 }
 
-/// Puts a word into a text, which is empty.
+/// Writes a word into an empty text.
 fn put(word: &[u8], text: &mut ArrayVec<u8, REPLY>)
     requires empty { text.old.items ≡ [] }
     requires short { length word.now ≤ REPLY }
@@ -127,11 +127,11 @@ fn put(word: &[u8], text: &mut ArrayVec<u8, REPLY>)
     text.try_extend_from_slice(word).unwrap();
 }
 
-/// Writes the answer to each verdict line of a list, `open` for each line of a refusal, and `unread` for each
-/// line that is no verdict line.
+/// Writes the answer to each verdict line of a list, `open` for each refusal, and `unread` for each other
+/// line.
 ///
-/// A line ends at a newline; a last line without one counts if it isn't empty. After a fault the
-/// reader and the writer are not to be used again.
+/// A line ends at a newline; a last line without one counts if it isn't empty. After a fault, don't use the
+/// reader and the writer again.
 pub fn run_check<R: Read, W: Write, T: Tape>(
     reader: &mut Watched<R>,
     writer: &mut Watched<W>,
@@ -144,7 +144,7 @@ pub fn run_check<R: Read, W: Write, T: Tape>(
     requires tapes { PairHasCells T.view limits.now.cells pair.old }
     requires path { limits.now.depth ≤ depth_of path.old }
 
-    // How the run ends, and what is written then.
+    // The result of the run, and the output written.
     ensures ends { CheckEnds limits.now
         (R.remaining (watched_inner reader.old)) (R.remaining (watched_inner reader.new))
         (W.contents (watched_inner writer.old)) (W.contents (watched_inner writer.new)) result }
@@ -161,8 +161,7 @@ pub fn run_check<R: Read, W: Write, T: Tape>(
     run_check_with_counts(reader, writer, limits, pair, path, &counts)
 }
 
-/// The same as [`run_check`], and counts what the lines come to. A line is counted once its reply is known,
-/// before it is written.
+/// The same as [`run_check`], with counts. A line is counted once its reply is known, before it is written.
 pub fn run_check_with_counts<R: Read, W: Write, T: Tape>(
     reader: &mut Watched<R>,
     writer: &mut Watched<W>,
@@ -176,7 +175,7 @@ pub fn run_check_with_counts<R: Read, W: Write, T: Tape>(
     requires tapes { PairHasCells T.view limits.now.cells pair.old }
     requires path { limits.now.depth ≤ depth_of path.old }
 
-    // How the run ends, and what is written then.
+    // The result of the run, and the output written.
     ensures ends { CheckEnds limits.now
         (R.remaining (watched_inner reader.old)) (R.remaining (watched_inner reader.new))
         (W.contents (watched_inner writer.old)) (W.contents (watched_inner writer.new)) result }

@@ -1,10 +1,10 @@
-//! What the lines of a list came to so far, to be looked at while the list runs.
+//! The counts of a list so far, for progress reports.
 use bb_cert::{Answer, Verdict};
 use std::cell::Cell;
 
-/// How many machines got each verdict, and how many lines were refused.
+/// The number of machines with each verdict, and of refused lines.
 ///
-/// A reader or a writer that the run calls may look at it. No clause says what is counted.
+/// A reader or a writer called by the run may look at it. No clause mentions the counts.
 #[derive(Default, Drop)]
 pub struct VerdictCounts {
     /// It halts.
@@ -13,7 +13,7 @@ pub struct VerdictCounts {
     pub cycler: Cell<u64>,
     /// It never halts: records of a side agree.
     pub translated: Cell<u64>,
-    /// It never halts: the tree of what could come before a halt ends.
+    /// It never halts: the backward tree ends.
     pub backward: Cell<u64>,
     /// Nothing was found within the limits.
     pub undecided: Cell<u64>,
@@ -37,12 +37,12 @@ impl VerdictCounts {
     }
 }
 
-/// How many verdict lines got each answer, and how many lines were none.
+/// The number of verdict lines with each answer, and of other lines.
 ///
-/// A reader or a writer that the run calls may look at it. No clause says what is counted.
+/// A reader or a writer called by the run may look at it. No clause mentions the counts.
 #[derive(Default, Drop)]
 pub struct AnswerCounts {
-    /// What is claimed holds.
+    /// The claim holds.
     pub ok: Cell<u64>,
     /// It doesn't.
     pub bad: Cell<u64>,

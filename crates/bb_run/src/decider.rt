@@ -1,4 +1,4 @@
-//! What replies to the lines of a list with verdicts, in whichever way a machine is decided.
+//! Replies to the lines of a list with verdicts, for each way to decide a machine.
 ghost use Rattle.std.specs.Prelude.{◌≡◌, ◌↔◌, false, true, IfOk, IsTrue, OnErr, OnOk};
 ghost use Rattle.bb_machine.specs.Limits.{Bounds};
 ghost use Rattle.bb_machine.specs.Machine.{Table};
@@ -35,7 +35,7 @@ use std::marker::PhantomData;
 
 /// A way to decide a machine.
 pub(crate) trait Decide {
-    // What deciding a machine within bounds, by a plan, counts.
+    // The cost of deciding a machine within bounds, by a plan.
     ghost counts: { Bounds → Plan → Table → Meter → Type 0 };
 
     /// Decides a machine, and records the cost in `meter`.
@@ -59,7 +59,7 @@ pub(crate) trait Decide {
         ensures memory { OnErr result (IsTrue T.GROWS) };
 }
 
-/// What replies to a line, each machine decided in the way of `D`.
+/// Replies to a line, each machine decided in the way of `D`.
 #[derive(Drop)]
 struct Decider<'a, T, D> {
     limits: Limits,
@@ -139,8 +139,8 @@ impl<T: Tape, D: Decide> Responder for Decider<'_, T, D> {
     }
 }
 
-/// Writes the verdict line of each machine of a list, decided in the way of `D`, and a refusal for each line
-/// that is no machine's text.
+/// Writes the verdict line of each machine of a list, decided in the way of `D`, and a refusal for each other
+/// line.
 pub(crate) fn reply_to_lines<R: Read, W: Write, T: Tape, D: Decide>(
     reader: &mut Watched<R>,
     writer: &mut Watched<W>,

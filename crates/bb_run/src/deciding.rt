@@ -40,7 +40,7 @@ impl Decide for InTurn {
     }
 }
 
-/// In one run, watched for all that a verdict may be.
+/// By a single-pass run for all verdicts.
 struct InOneRun;
 
 impl Decide for InOneRun {
@@ -60,10 +60,10 @@ impl Decide for InOneRun {
     }
 }
 
-/// Writes the verdict line of each machine of a list, and a refusal for each line that is no machine's text.
+/// Writes the verdict line of each machine of a list, and a refusal for each other line.
 ///
-/// A line ends at a newline; a last line without one counts if it isn't empty. After a fault the
-/// reader and the writer are not to be used again.
+/// A line ends at a newline; a last line without one counts if it isn't empty. After a fault, don't use the
+/// reader and the writer again.
 pub fn run_decide<R: Read, W: Write, T: Tape>(
     reader: &mut Watched<R>,
     writer: &mut Watched<W>,
@@ -76,12 +76,12 @@ pub fn run_decide<R: Read, W: Write, T: Tape>(
     requires tapes { BenchHasCells T.view limits.now.cells bench.old }
     requires path { depth_of bench.old.path ≡ limits.now.depth }
 
-    // How the run ends, and what is written then.
+    // The result of the run, and the output written.
     ensures ends { DecideEnds limits.now plan
         (R.remaining (watched_inner reader.old)) (R.remaining (watched_inner reader.new))
         (W.contents (watched_inner writer.old)) (W.contents (watched_inner writer.new)) result }
 
-    // What stands behind each verdict that is written.
+    // The meaning of each verdict written.
     ensures borne_out { VerdictsAreBorneOut limits.now plan }
     ensures few_cells { FewCellsAreReplied limits.now plan }
 
@@ -98,8 +98,8 @@ pub fn run_decide<R: Read, W: Write, T: Tape>(
     reply_to_lines::<R, W, T, InTurn>(reader, writer, limits, plan, bench, &counts)
 }
 
-/// Writes the same as [`run_decide`], but each machine is decided in one run. The summary counts what was
-/// made: less than there, where a verdict is early. A line is counted in `counts` once its reply is known,
+/// Writes the same as [`run_decide`], but decides each machine in one run. The summary has the steps really
+/// made: fewer than there, if a verdict is early. A line is counted in `counts` once its reply is known,
 /// before it is written.
 pub fn run_decide_in_one_run<R: Read, W: Write, T: Tape>(
     reader: &mut Watched<R>,
@@ -114,12 +114,12 @@ pub fn run_decide_in_one_run<R: Read, W: Write, T: Tape>(
     requires tapes { BenchHasCells T.view limits.now.cells bench.old }
     requires path { depth_of bench.old.path ≡ limits.now.depth }
 
-    // How the run ends, and what is written then.
+    // The result of the run, and the output written.
     ensures ends { DecideInOneRunEnds limits.now plan
         (R.remaining (watched_inner reader.old)) (R.remaining (watched_inner reader.new))
         (W.contents (watched_inner writer.old)) (W.contents (watched_inner writer.new)) result }
 
-    // What stands behind each verdict that is written.
+    // The meaning of each verdict written.
     ensures borne_out { VerdictsAreBorneOut limits.now plan }
     ensures few_cells { FewCellsAreReplied limits.now plan }
 

@@ -20,8 +20,8 @@ pub fn check_reply_is_unique()
     ensures long { LongLinesAreUnread }
 {}
 
-/// Where a verdict says never, no number of steps halts; the checker confirms each that isn't undecided; and
-/// deciding makes no more than three times the limit of steps.
+/// After a verdict of never, no number of steps halts. The checker confirms each verdict other than
+/// undecided. Deciding makes at most three times the limit of steps.
 pub fn verdicts_are_borne_out()
     ensures { AllVerdictsAreBorneOut }
 {}
@@ -32,7 +32,7 @@ pub fn few_cells_are_replied()
     ensures { AllFewCellsAreReplied }
 {}
 
-/// A reply to a line is of one kind, and what deciding a list replies has the form of a reply.
+/// A reply to a line is of one kind, and every reply of deciding has the form of a reply.
 pub fn replies_are_of_one_kind()
     ensures one { ReplyHasOneKind }
     ensures form { RepliesHaveForm }

@@ -1,5 +1,5 @@
 //! Engines over readers and writers: verdicts on the machines of a list, answers to verdict lines, and the
-//! trace of one machine; and a look at the replies to a list.
+//! trace of one machine; and the validation of replies to a list.
 #![tactic(auto)]
 
 mod checking;
@@ -7,7 +7,7 @@ mod counts;
 mod decider;
 mod deciding;
 pub mod laws;
-mod looking;
+mod reply_validation;
 mod rings;
 mod summary;
 mod tally;
@@ -17,7 +17,7 @@ mod words;
 pub use checking::{run_check, run_check_with_counts};
 pub use counts::{AnswerCounts, VerdictCounts};
 pub use deciding::{run_decide, run_decide_in_one_run};
-pub use looking::{KindCounts, Looked, ReplyKind, Unanswered, look};
+pub use reply_validation::{KindCounts, ReplyCheck, ReplyKind, Mismatch, validate_replies};
 pub use rings::{ring_bench, ring_pair};
 pub use summary::Summary;
 pub use tracing::{run_sampled_trace, run_trace};

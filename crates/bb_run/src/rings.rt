@@ -1,4 +1,4 @@
-//! Rings for a whole list, made once: the only memory that deciding or checking a list needs.
+//! Rings for a whole list, made once: the only memory for deciding or checking a list.
 ghost use Rattle.std.specs.Prelude.{◌≡◌, IfOk};
 ghost use Rattle.bb_cert.specs.checker.Pair.{PairHasCells};
 ghost use Rattle.bb_cert.specs.tree.Path.{depth_of};

@@ -1,4 +1,4 @@
-//! What replies to the lines of a list have in common, however its machines are decided.
+//! The common part of replies to the lines of a list, for each way to decide a machine.
 ghost use Rattle.std.specs.Prelude.{◌≡◌, ◌+◌, ◌<◌, ◌^◌, [], ◌++◌, IsFalse, IsTrue, true};
 ghost use Rattle.bb_machine.specs.Machine.{IsTextOf};
 ghost use Rattle.bb_sim.specs.Meter.{greatest_of, zero_meter};
@@ -15,13 +15,13 @@ use bb_lines::responder::REPLY;
 use bb_machine::Machine;
 use bb_sim::Meter;
 
-/// The machine that was read last, and what the lines came to so far.
+/// The machine read last, and the summary so far.
 #[derive(Drop)]
 pub(crate) struct Tally<'a> {
-    /// The machine of the last line that was one. Each is read in its place.
+    /// The machine of the last line with one. Each is read in its place.
     pub(crate) machine: Machine,
     pub(crate) summary: Summary,
-    /// The steps and the nodes that the last line cost; 0 where it was refused, and before the first line.
+    /// The steps and nodes of the last line; 0 before the first line and for a refused one.
     pub(crate) last_cost: u64,
     counts: &'a VerdictCounts,
 }
@@ -42,7 +42,7 @@ impl<'a> Tally<'a> {
         }
     }
 
-    /// Reads a line's machine. Where it has none, the text, which is empty, becomes the refusal.
+    /// Reads a line's machine. If it has none, writes the refusal into the empty text.
     #[inline(always)]
     pub(crate) fn read(&mut self, line: &[u8], text: &mut ArrayVec<u8, REPLY>) -> bool
         requires empty { text.old.items ≡ [] }
@@ -65,8 +65,8 @@ impl<'a> Tally<'a> {
         }
     }
 
-    /// Puts the line of the machine that was read and its verdict into the text, which is empty, counts it,
-    /// and answers what it cost.
+    /// Writes the line of the last machine and its verdict into the empty text, counts it, and returns its
+    /// cost.
     #[inline(always)]
     pub(crate) fn reply(
         &mut self,

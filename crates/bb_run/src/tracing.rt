@@ -33,11 +33,11 @@ use bb_tape::{Memory, Tape};
 use itoa::Buffer;
 use std::io::Write;
 
-/// Writes the configurations of a machine's run from step 0 on, a line each, up to the limit of steps
-/// or the halt; where the next step would pass the limit of cells, up to the last step inside. To a line
-/// that is no machine's text it writes its refusal.
+/// Writes the configurations of a machine's run from step 0 on, a line each, up to the limit of steps or the
+/// halt, or up to the last step within the limit of cells. For a line without a machine it writes the
+/// refusal.
 ///
-/// After a fault the writer is not to be used again.
+/// After a fault, don't use the writer again.
 pub fn run_trace<W: Write, T: Tape>(
     line: &[u8],
     limits: &Limits,
@@ -47,7 +47,7 @@ pub fn run_trace<W: Write, T: Tape>(
     requires tape { (T.view tape.old).limit ≡ limits.now.cells }
     requires writer { is_marked writer.old ≡ false }
 
-    // How the trace ends, and what is written then.
+    // The result of the trace, and the output written.
     ensures ends { TraceEnds limits.now line.now
         (W.contents (watched_inner writer.old)) (W.contents (watched_inner writer.new)) result }
 
@@ -61,11 +61,11 @@ pub fn run_trace<W: Write, T: Tape>(
     write_trace(Form::Plain, line, limits, 0, 1, tape, writer)
 }
 
-/// The same of some of the steps: `from`, `from + every` and so on, up to the last one that `run_trace`
-/// writes; each line has the position of its first cell too, before the cells. A step that isn't written
-/// costs what it costs to simulate it.
+/// The same for some of the steps: `from`, `from + every` and so on, up to the last one of `run_trace`. Each
+/// line also has the position of its first cell, before the cells. Other steps cost as much as in a
+/// simulation.
 ///
-/// After a fault the writer is not to be used again.
+/// After a fault, don't use the writer again.
 pub fn run_sampled_trace<W: Write, T: Tape>(
     line: &[u8],
     limits: &Limits,
@@ -78,7 +78,7 @@ pub fn run_sampled_trace<W: Write, T: Tape>(
     requires tape { (T.view tape.old).limit ≡ limits.now.cells }
     requires writer { is_marked writer.old ≡ false }
 
-    // How the trace ends, and what is written then.
+    // The result of the trace, and the output written.
     ensures ends { SampledEnds limits.now from every line.now
         (W.contents (watched_inner writer.old)) (W.contents (watched_inner writer.new)) result }
 
@@ -92,7 +92,7 @@ pub fn run_sampled_trace<W: Write, T: Tape>(
     write_trace(Form::WithLow, line, limits, from, every, tape, writer)
 }
 
-/// Writes the trace of a line. An allocation that failed came before the last step.
+/// Writes the trace of a line. An allocation can fail only before the last step.
 fn write_trace<W: Write, T: Tape>(
     form: Form,
     line: &[u8],
@@ -202,10 +202,10 @@ fn add_run<W: Write, T: Tape>(
     let mut runner = Runner::start(machine, tape);
     let mut left = from;
     loop {
-        match run_on(machine, &mut runner, tape, limits, left) {
-            Ok(RanOn::Whole) => add_step(form, machine, &runner, tape, writer, waiting)?,
-            Ok(RanOn::Ended) => return Ok(true),
-            Ok(RanOn::Cut) => return Ok(false),
+        match continue_run(machine, &mut runner, tape, limits, left) {
+            Ok(RunStatus::Whole) => add_step(form, machine, &runner, tape, writer, waiting)?,
+            Ok(RunStatus::Ended) => return Ok(true),
+            Ok(RunStatus::Cut) => return Ok(false),
             Err(_) => {
                 write_waiting(writer, waiting)?;
                 return Err(Fault::Memory);
@@ -215,7 +215,7 @@ fn add_run<W: Write, T: Tape>(
     }
 }
 
-/// Which fields a line of a trace has.
+/// The fields of a line of a trace.
 #[derive(Clone, Copy, Debug, PartialEq, Eq)]
 pub(crate) enum Form {
     /// The step, the state, the position of the head and the cells.
@@ -224,9 +224,9 @@ pub(crate) enum Form {
     WithLow,
 }
 
-/// Whether all the steps were made that a call of `run_on` is asked for.
+/// Whether a call of `continue_run` made all its steps.
 #[derive(Clone, Copy, Debug, PartialEq, Eq)]
-pub(crate) enum RanOn {
+pub(crate) enum RunStatus {
     /// They were.
     Whole,
     /// The machine halts before, or the limit of steps comes before.
@@ -239,13 +239,13 @@ pub(crate) enum RanOn {
 ///
 /// After an error the runner must be started again.
 #[inline(never)]
-fn run_on<T: Tape>(
+fn continue_run<T: Tape>(
     machine: &Machine,
     runner: &mut Runner,
     tape: &mut T,
     limits: &Limits,
     count: u64,
-) -> Result<RanOn, Memory>
+) -> Result<RunStatus, Memory>
     requires stands { Stands machine.now runner.old (T.view tape.old) }
     requires limit { (T.view tape.old).limit ≡ limits.now.cells }
     requires steps { steps_of runner.old ≤ limits.now.steps }
@@ -259,7 +259,7 @@ fn run_on<T: Tape>(
     ran
 }
 
-/// `run_on`, inlined there, so that the runner and the limits, which are its locals, stay in registers.
+/// The body of `continue_run`, inlined there: the runner and the limits are its locals and stay in registers.
 #[inline(always)]
 fn make_steps<T: Tape>(
     machine: &Machine,
@@ -267,7 +267,7 @@ fn make_steps<T: Tape>(
     tape: &mut T,
     limits: &Limits,
     count: u64,
-) -> Result<RanOn, Memory>
+) -> Result<RunStatus, Memory>
     requires stands { Stands machine.now runner.old (T.view tape.old) }
     requires limit { (T.view tape.old).limit ≡ limits.now.cells }
     requires steps { steps_of runner.old ≤ limits.now.steps }
@@ -279,15 +279,15 @@ fn make_steps<T: Tape>(
     for _ in 0..count {
         match runner.advance(machine, tape, limits, &mut meter)? {
             Moved::Stepped => {}
-            Moved::Halted => return Ok(RanOn::Ended),
-            Moved::NoSteps => return Ok(RanOn::Ended),
-            Moved::NoCells => return Ok(RanOn::Cut),
+            Moved::Halted => return Ok(RunStatus::Ended),
+            Moved::NoSteps => return Ok(RunStatus::Ended),
+            Moved::NoCells => return Ok(RunStatus::Cut),
         }
     }
-    Ok(RanOn::Whole)
+    Ok(RunStatus::Whole)
 }
 
-/// Lets the line of the configuration at which a runner stands wait.
+/// Buffers the line of a runner's configuration.
 fn add_step<W: Write, T: Tape>(
     form: Form,
     machine: &Machine,
@@ -313,7 +313,7 @@ fn add_step<W: Write, T: Tape>(
     add(writer, waiting, b"\n")
 }
 
-/// What stands before the cells in a line, each part with a space behind it.
+/// The fields before the cells in a line, each with a space after it.
 fn front_of(form: Form, runner: &Runner) -> ArrayVec<u8, 96>
     requires { IsNextOf MAX_STATES (state_of runner.now) }
     ensures text { result.items ≡ front_text form (steps_of runner.now) (state_of runner.now)
@@ -348,7 +348,7 @@ fn head_of(runner: &Runner) -> ArrayVec<u8, 96>
     head
 }
 
-/// The letter of the state at which a runner stands.
+/// The letter of a runner's state.
 fn letter_of(runner: &Runner) -> u8
     requires { IsNextOf MAX_STATES (state_of runner.now) }
     ensures { result ≡ next_letter (state_of runner.now) }
@@ -387,7 +387,7 @@ fn add_cells<W: Write, T: Tape>(
     Ok(())
 }
 
-/// Lets a byte wait. What waits is written before, if there is no room for it.
+/// Buffers a byte, and writes the buffer first if it is full.
 #[inline]
 fn add_byte<W: Write>(writer: &mut Watched<W>, waiting: &mut Waiting, byte: u8) -> Result<(), Fault>
     requires writer { is_marked writer.old ≡ false }

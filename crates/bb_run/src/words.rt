@@ -5,15 +5,15 @@ ghost use Rattle.std.specs.Str.Parse.{AllDigits};
 ghost use Rattle.bb_cert.specs.declared.verdict.Extent.{Extent};
 ghost use Rattle.bb_cert.specs.verdict.Line.{pair_text, records_text};
 ghost use Rattle.bb_cert.specs.verdict.Verdict.{HasExtentNumbers};
-ghost use Rattle.bb_run.specs.inside.Looking.{IsWordsOf};
+ghost use Rattle.bb_run.specs.inside.Validating.{IsWordsOf};
 
-use crate::looking::ReplyKind;
+use crate::reply_validation::ReplyKind;
 
-/// The most digits with which every number is below 2^64.
+/// The most digits of numbers surely below 2^64.
 const FEW_DIGITS: usize = 19;
 
-/// The kind of the verdict that stands behind a machine's text, the space between them included. None where
-/// there is no verdict, or where a number has more than `FEW_DIGITS` digits.
+/// The kind of the verdict after a machine's text and a space. None for no verdict, and for a number of more
+/// than `FEW_DIGITS` digits.
 pub(crate) fn kind_of_words(words: &[u8]) -> Option<ReplyKind>
     ensures { IfSome result (λ kind. IsWordsOf kind words.now) }
 {
@@ -90,7 +90,7 @@ fn are_records(first: &[u8], words: &[u8]) -> bool
     nothing.is_empty()
 }
 
-/// What stands after two numbers and the space between them, with which the bytes begin.
+/// The bytes after two numbers and the space between them.
 fn after_pair(bytes: &[u8]) -> Option<&[u8]>
     ensures { IfSome result (λ rest. (a : ℕ) × (b : ℕ) × (a < 2 ^ 64) × (b < 2 ^ 64)
         × (pair_text a b ++ rest.now ≡ bytes.now)) }
@@ -99,7 +99,7 @@ fn after_pair(bytes: &[u8]) -> Option<&[u8]>
     after_number(second)
 }
 
-/// What stands after a space, with which the bytes begin.
+/// The bytes after a space.
 fn after_space(bytes: &[u8]) -> Option<&[u8]>
     ensures { IfSome result (λ rest. 32 ∷ rest.now ≡ bytes.now) }
 {
@@ -109,7 +109,7 @@ fn after_space(bytes: &[u8]) -> Option<&[u8]>
     }
 }
 
-/// What stands after a number of few digits, with which the bytes begin.
+/// The bytes after a number of few digits.
 fn after_number(bytes: &[u8]) -> Option<&[u8]>
     ensures { IfSome result (λ rest. (n : ℕ) × (n < 2 ^ 64) × (decimal n ++ rest.now ≡ bytes.now)) }
 {

@@ -1,5 +1,5 @@
--- How many configurations there are in few cells, and what follows for a run that stays in them. These
--- notions are this project's own.
+-- The number of configurations in few cells, and its consequences for a run confined to them. These notions
+-- are this project's own.
 use Rattle.std.specs.Prelude.{◌≡◌, ◌≢◌, ℕ, ◌*◌, ◌^◌, ◌<◌, ◌≤◌, Some, length}
 use Rattle.bb_machine.specs.declared.entry.Next.TheVariants.{Halt}
 use Rattle.bb_machine.specs.Machine.{Table, IsMachine, symbols_of}

@@ -1,4 +1,4 @@
--- What a runner stands for, and what one call of `advance` does.
+-- The meaning of a runner, and the effect of one call of `advance`.
 use Rattle.std.specs.Prelude.{◌≡◌, ◌≢◌, ℕ, ◌+◌, ◌<◌, ◌≤◌, Some, length, ℤ, pos, ◌+ℤ◌, ◌-ℤ◌}
 use Rattle.bb_machine.specs.declared.entry.Next.{Next}
 use Rattle.bb_machine.specs.Entry.{IsNextOf}
@@ -52,7 +52,7 @@ pub record Stays (old new : Runner) (view_old view_new : TapeView) (meter_old me
   pub view : view_new ≡ view_old
   pub meter : meter_new ≡ meter_old
 
--- what a runner at step n answers, by the first of these that applies: the machine halts here; the limit of
+-- the result of a runner at step n, by the first condition that holds: the machine halts here; the limit of
 -- steps is reached; the next step would need more cells; else it steps
 abbrev pub Answers : Table → Bounds → ℕ → Moved → Type 0
 Answers table bounds n Halted = HaltsAt table n

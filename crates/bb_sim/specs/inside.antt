@@ -1,4 +1,4 @@
--- What private functions tell one another. No public contract cites it.
+-- Definitions for private functions. No public contract cites them.
 pub mod Advancing
 pub mod Simulating
 pub mod Widening

@@ -5,8 +5,8 @@ ghost use Rattle.bb_sim.specs.Runner.{position_of, state_of};
 use crate::runner::Runner;
 use bb_tape::Tape;
 
-/// Whether two runners, each on its tape, stand at the same configuration. The tapes are compared only where
-/// state and position are the same.
+/// Whether two runners, each on its tape, are at the same configuration. Compares the tapes only if state and
+/// position agree.
 #[inline]
 pub fn is_same<T: Tape>(runner: &Runner, tape: &T, other: &Runner, other_tape: &T) -> bool
     ensures { IsTrue result ↔ ((state_of runner.now ≡ state_of other.now)

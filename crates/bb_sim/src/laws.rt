@@ -14,7 +14,7 @@ pub fn last_step_is_unique()
     ensures { LastStepIsUnique }
 {}
 
-/// What is before a configuration exists.
+/// Every configuration before an existing one exists.
 pub fn earlier_exists()
     ensures { EarlierExists }
 {}
@@ -54,12 +54,12 @@ pub fn span_is_reached()
     ensures { SpanIsReached }
 {}
 
-/// What is counted up to a step inside is within the run's bounds.
+/// The counts up to a step inside are within the run's bounds.
 pub fn count_is_within()
     ensures { CountIsWithin }
 {}
 
-/// A run that stays in few cells meets one of its few configurations twice, or halts.
+/// A run confined to few cells halts, or repeats one of its few configurations.
 pub fn few_cells_repeat()
     ensures { FewCellsRepeat }
 {}

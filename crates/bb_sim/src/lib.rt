@@ -1,4 +1,4 @@
-//! Runs a machine step by step on any tape, within limits, and counts what it does.
+//! Runs a machine step by step on any tape, within limits, and counts steps and cells.
 #![tactic(auto)]
 
 pub mod configurations;

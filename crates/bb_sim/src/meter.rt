@@ -1,17 +1,17 @@
-//! What a run and a walk cost.
+//! The cost of runs and walks.
 ghost use Rattle.std.specs.Prelude.{◌≡◌, max};
 ghost use Rattle.bb_sim.specs.Meter.{greatest_of, zero_meter};
 
-/// What the runs and walks under one meter have cost so far.
+/// The cost so far of the runs and walks under one meter.
 #[derive(Clone, Copy, Debug, PartialEq, Eq)]
 pub struct Meter {
     /// Steps made.
     pub steps: u64,
     /// The widest window of a run, in cells.
     pub most_cells: u64,
-    /// Nodes of the backward tree that were entered.
+    /// Nodes of the backward tree entered.
     pub nodes: u64,
-    /// The most levels of the backward tree that were entered.
+    /// The most levels of the backward tree entered.
     pub most_levels: u64,
 }
 
@@ -28,7 +28,7 @@ impl Meter {
         }
     }
 
-    /// Counts the start of a run, whose window is one cell.
+    /// Counts the start of a run: its window is one cell.
     #[inline(always)]
     pub fn begin_run(&mut self)
         ensures { self.new ≡ record self.old { most_cells = max self.old.most_cells 1 } }

@@ -8,7 +8,7 @@ use crate::meter::Meter;
 use bb_machine::{Dir, Entry, Limits, Machine, Next};
 use bb_tape::{MAX_CELLS, MAX_SYMBOL, Memory, Tape};
 
-/// What a call of `Runner::advance` did. All but `Stepped` change nothing.
+/// The result of `Runner::advance`. All but `Stepped` change nothing.
 #[derive(Clone, Copy, Debug, PartialEq, Eq)]
 pub enum Moved {
     /// There is no next configuration.
@@ -21,7 +21,8 @@ pub enum Moved {
     Stepped,
 }
 
-/// A machine's run on a tape that the caller keeps: where it stands, and how far it has come.
+/// A machine's run on a tape owned by the caller: its configuration apart from the tape, its steps and its
+/// window.
 #[derive(Clone, Copy, Debug)]
 pub struct Runner {
     state: Next,
@@ -51,7 +52,7 @@ impl Runner {
     ghost use Rattle.bb_sim.specs.inside.Widening.{GoesNowhere, Widens, StepsTo};
     ghost use Rattle.bb_sim.specs.declared.runner.Moved.{Moved};
 
-    /// Resets the tape and stands at configuration 0: state A, at position 0.
+    /// Resets the tape and starts at configuration 0: state A, position 0.
     pub fn start<T: Tape>(machine: &Machine, tape: &mut T) -> Runner
         ensures stands { Stands machine.now result (T.view tape.new) }
         ensures steps { steps_of result ≡ 0 }
@@ -68,10 +69,10 @@ impl Runner {
         }
     }
 
-    /// Makes one step of the machine, if it doesn't halt here and the limits allow it.
+    /// Makes one step of the machine, unless it halts here or a limit is met.
     ///
-    /// After an error the runner must be started again; it comes only where a step would have been made. Its
-    /// steps and the tape's cells are as they were then, and its window is the one that the step needed.
+    /// `Err` comes only where a step would have been made; start the runner again after it. Steps and cells
+    /// are then unchanged, and the window is the one needed for the step.
     #[inline]
     pub fn advance<T: Tape>(
         &mut self,
@@ -111,7 +112,7 @@ impl Runner {
         if self.steps == limits.steps() {
             return Ok(Moved::NoSteps);
         }
-        let position = moved_by(self.position, step.offset);
+        let position = offset_by(self.position, step.offset);
         if !self.enter(tape, limits, position) {
             return Ok(Moved::NoCells);
         }
@@ -122,8 +123,8 @@ impl Runner {
         Ok(Moved::Stepped)
     }
 
-    /// The rest of `advance` where the entry that applies goes to no state: it is undefined, or goes
-    /// to Z. It is inlined, so that a runner that is a local of its caller stays in registers.
+    /// The rest of `advance` for an undefined transition, or one into Z. It is inlined, so that a runner that
+    /// is a local of its caller stays in registers.
     #[inline(always)]
     fn advance_to_halt<T: Tape>(
         &mut self,
@@ -158,7 +159,7 @@ impl Runner {
         Ok(Moved::Stepped)
     }
 
-    /// Says that the step where a runner stands is inside, where a proof uses it. It does nothing.
+    /// States that the runner's step is inside the limits, for proofs. It does nothing at run time.
     #[inline(always)]
     fn show_inside<T: Tape>(&self, machine: &Machine, tape: &T, limits: &Limits)
         requires stands { Stands machine.now self.now (T.view tape.now) }
@@ -193,7 +194,7 @@ impl Runner {
         true
     }
 
-    /// Writes a symbol where the head stands, goes to a state and a position, and counts the step.
+    /// Writes a symbol under the head, changes state and position, and counts the step.
     #[inline(always)]
     fn step_to<T: Tape>(
         &mut self,
@@ -258,7 +259,7 @@ impl Runner {
         }
     }
 
-    /// Where the head stands. In Z this may lie outside the window.
+    /// The head's position. In Z this may be outside the window.
     pub fn position(&self) -> i64
         ensures { result ≡ position_of self.now }
     {
@@ -303,7 +304,7 @@ fn beside(position: i64, dir: Dir) -> i64
 
 /// The position an offset of one cell away.
 #[inline]
-fn moved_by(position: i64, offset: i8) -> i64
+fn offset_by(position: i64, offset: i8) -> i64
     requires low { neg_ℤ (pos MAX_CELLS) ≤ℤ position }
     requires high { position ≤ℤ pos MAX_CELLS }
     ensures { result ≡ position +ℤ offset }

@@ -12,7 +12,7 @@ use bb_tape::{Memory, Tape};
 /// How a simulation within limits ends.
 #[derive(Clone, Copy, Debug, PartialEq, Eq)]
 pub enum Outcome {
-    /// The machine halts after so many steps, with so many cells that aren't 0.
+    /// The machine halts after so many steps, with so many nonzero cells.
     Halt { steps: u64, score: u64 },
     /// It doesn't halt within the steps.
     NoSteps,
@@ -22,7 +22,7 @@ pub enum Outcome {
 
 /// Runs a machine from its start until it halts or a limit is met.
 ///
-/// After an error the tape holds the configuration up to which steps were counted; the next run resets it.
+/// After an error the tape has the configuration of the last counted step; the next run resets it.
 #[inline(never)]
 pub fn simulate<T: Tape>(
     machine: &Machine,
@@ -47,7 +47,7 @@ pub fn simulate<T: Tape>(
     outcome
 }
 
-/// `simulate`, inlined there, so that the limits and the meter, which are its locals, stay in registers.
+/// The body of `simulate`, inlined there: limits and meter are its locals and stay in registers.
 #[inline(always)]
 fn run_machine<T: Tape>(
     machine: &Machine,

@@ -26,7 +26,7 @@ ring_content cells w =
 abbrev pub IsClear : List ℕ → Window → Type 0
 IsClear cells w = (k : ℕ) → w.high <ℤ pos k → pos k <ℤ (w.low +ℤ pos w.limit) → slice_index cells k ≡ 0
 
--- a ring with the window old can take over the cells of one with the window new
+-- a ring with the window old can copy the cells of one with the window new
 pub record CanCopy (to from : List ℕ) (old new : Window) : Type 0 where
   pub same : length to ≡ length from
   pub whole_to : length to ≡ old.limit

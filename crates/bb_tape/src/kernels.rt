@@ -6,7 +6,7 @@ ghost use Rattle.std.specs.Simd.Lanes.{chunk};
 
 use std::simd::prelude::*;
 
-/// The bytes that are worked on at a time.
+/// The bytes processed at a time.
 const LANES: usize = 32;
 
 /// Whether two slices of the same length are equal.

@@ -1,4 +1,4 @@
-//! The tape of a small Turing machine: one trait with laws, and the tapes that meet it.
+//! The tape of a small Turing machine: one trait with laws, and its implementations.
 #![tactic(auto)]
 
 mod kernels;

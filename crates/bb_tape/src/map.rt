@@ -1,4 +1,4 @@
-//! A tape kept as an ordered map of the cells that aren't 0.
+//! A tape as an ordered map of its nonzero cells.
 
 ghost use Rattle.std.specs.Prelude.{◌≡◌, ◌≤◌, ◌<◌, true, OnErr, OnOk, pos, ◌+ℤ◌, ◌≤ℤ◌};
 ghost use Rattle.bb_tape.specs.Content.{cell};
@@ -11,17 +11,17 @@ use crate::window::Window;
 use std::alloc::{AllocError, Allocator, Global};
 use std::collections::BTreeMap;
 
-/// A tape that keeps the cells that aren't 0, and takes memory as they come.
+/// A tape of the nonzero cells alone. It allocates as they appear.
 #[derive(Drop)]
 pub struct MapTape<A: Allocator = Global> {
-    /// The number k at a position stands for the symbol k + 1.
+    /// The number k at a position means symbol k + 1.
     cells: BTreeMap<i64, u8, A>,
     window: Window,
     ghost sound: { IsSound (view_of (content_of cells.entries) window) },
 }
 
 impl MapTape {
-    /// A blank tape whose window is the cell 0, and may have up to `s` cells. It takes no memory.
+    /// A blank tape with the window 0 to 0 and room for `s` cells. It allocates nothing.
     pub fn new(alloc: Global, s: u64) -> MapTape
         requires some { 0 < s }
         requires most { s ≤ MAX_CELLS }
@@ -54,7 +54,7 @@ impl<A: Allocator + Clone + Drop> MapTape<A> {
     }
 }
 
-/// Puts the entries of another map where a map's own were.
+/// Replaces the entries of a map by those of another one.
 fn copy_entries<A: Allocator + Clone>(
     to: &mut BTreeMap<i64, u8, A>,
     from: &BTreeMap<i64, u8, A>,

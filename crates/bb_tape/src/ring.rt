@@ -12,9 +12,9 @@ use crate::tape::{MAX_CELLS, Memory, Tape, TapeFault};
 use crate::window::{NEAR, Window};
 use std::alloc::Global;
 
-/// A tape of a fixed number of cells, made once: it takes no memory after that.
-/// Cell p has index p modulo the number of cells, so the cells below 0 are the last of the ring.
-/// Cells outside the window are 0, so the window may widen with nothing to clear.
+/// A tape of a fixed number of cells, allocated once. Cell p has index p modulo the number of cells, so the
+/// cells below 0 are the last of the ring. Cells outside the window are 0, so the window widens with nothing
+/// to clear.
 #[derive(Drop)]
 pub struct RingTape {
     cells: Vec<u8>,
@@ -25,7 +25,7 @@ pub struct RingTape {
 }
 
 impl RingTape {
-    /// A blank tape whose window is the cell 0, and may have up to `s` cells.
+    /// A blank tape with the window 0 to 0 and room for `s` cells.
     pub fn new(alloc: Global, s: u64) -> Result<RingTape, Memory>
         requires some { 0 < s }
         requires most { s ≤ MAX_CELLS }
@@ -80,7 +80,7 @@ impl RingTape {
     }
 }
 
-/// Whether two lists of bytes are equal, each of which stands in two pieces: a and then b, c and then d.
+/// Whether two lists of bytes are equal, each given in two slices: a and then b, c and then d.
 fn equal_in_pieces(a: &[u8], b: &[u8], c: &[u8], d: &[u8]) -> bool
     requires { length (a.now ++ b.now) ≡ length (c.now ++ d.now) }
     ensures { IsTrue result ↔ (a.now ++ b.now ≡ c.now ++ d.now) }
@@ -92,7 +92,7 @@ fn equal_in_pieces(a: &[u8], b: &[u8], c: &[u8], d: &[u8]) -> bool
     }
 }
 
-/// The same where the first piece of the one is no longer than that of the other.
+/// The same, for a first slice no longer than the other one's.
 fn equal_from_shorter(a: &[u8], b: &[u8], c: &[u8], d: &[u8]) -> bool
     requires shorter { length a.now ≤ length c.now }
     requires both { length (a.now ++ b.now) ≡ length (c.now ++ d.now) }
@@ -124,8 +124,8 @@ fn clear_ends(cells: &mut [u8], front: usize, back: usize)
     cells[back..].fill(0);
 }
 
-/// Copies the bytes before `front` and those from `back` on. It is inlined, so that where both are constants
-/// no call is left of it.
+/// Copies the bytes before `front` and those from `back` on. It is inlined, so that for constants no call
+/// remains.
 #[inline(always)]
 fn copy_ends(to: &mut [u8], from: &[u8], front: usize, back: usize)
     requires same { length to.old ≡ length from.now }
@@ -140,9 +140,9 @@ fn copy_ends(to: &mut [u8], from: &[u8], front: usize, back: usize)
     to[back..].copy_from_slice(&from[back..]);
 }
 
-/// Makes a ring's cells, whose window is `old`, those of another with the window `new`. Most windows lie near
-/// cell 0: of those rings as many cells at each end are copied whatever the windows are, which clears what
-/// was there, and leaves no length to branch on.
+/// Copies the cells of a ring with the window `new` into a ring with the window `old`. Most windows are near
+/// cell 0. For those it copies a fixed number of cells at each end, for any windows: this clears the old
+/// cells too, and leaves no length to branch on.
 #[inline(always)]
 fn copy_cells(to: &mut [u8], old: &Window, from: &[u8], new: &Window)
     requires { CanCopy to.old from.now old.now new.now }
@@ -155,7 +155,7 @@ fn copy_cells(to: &mut [u8], old: &Window, from: &[u8], new: &Window)
     }
 }
 
-/// `copy_cells`, whatever the windows are. It is not inlined, so that what copies a ring stays small.
+/// `copy_cells` for any windows. It is not inlined, so that the code around a copy stays small.
 #[cold]
 #[inline(never)]
 fn copy_far(to: &mut [u8], old: &Window, from: &[u8], new: &Window)
@@ -215,8 +215,8 @@ impl Tape for RingTape {
         }
     }
 
-    /// A step of a run waits for what is read here. So a position below 0 has a way of its own, with the
-    /// limit first in its index: the compiler adds the limit to where the cells begin, before the step comes.
+    /// A step waits for this read. So a position below 0 has a path of its own, with the limit first in its
+    /// index: the compiler adds the limit to the base address before the step.
     #[inline]
     fn read_inside(&self, p: i64) -> u8 {
         if p < 0 {
@@ -252,10 +252,10 @@ impl Tape for RingTape {
     }
 
     fn same(&self, other: &Self) -> bool {
-        let shared = self.window.shared(&other.window);
-        self.agrees(shared.low, other, shared.low, shared.width())
-            && self.is_blank_outside(shared)
-            && other.is_blank_outside(shared)
+        let intersection = self.window.intersection(&other.window);
+        self.agrees(intersection.low, other, intersection.low, intersection.width())
+            && self.is_blank_outside(intersection)
+            && other.is_blank_outside(intersection)
     }
 
     fn score(&self) -> u64 {

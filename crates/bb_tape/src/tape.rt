@@ -5,11 +5,11 @@ ghost use Rattle.bb_tape.specs.Content.{cell, score};
 ghost use Rattle.bb_tape.specs.TapeView.{TapeView, fresh, visited, written, width, IsInside};
 ghost use Rattle.bb_tape.specs.TapeView.{IsBeside, IsStretch, AgreesFrom, IsSound};
 
-/// The greatest limit that a tape may have.
+/// The greatest limit of a tape, in cells.
 pub const MAX_CELLS: u64 = 67_108_864;
 
-/// The greatest symbol that a cell may have. A machine's are 0 to 9. The walk of the backward tree writes a
-/// known symbol r as r + 1, up to 10, since its 0 is a cell of which nothing is known.
+/// The greatest symbol of a cell. A machine's symbols are 0 to 9. The walk of the backward tree writes a
+/// known symbol r as r + 1, up to 10; its 0 is an unknown cell.
 pub const MAX_SYMBOL: u8 = 10;
 
 /// An allocation failed.
@@ -28,26 +28,26 @@ pub enum TapeFault {
     Memory = 2,
 }
 
-/// A tape that is endless both ways, of which a window of a limited number of cells may be visited. Positions
-/// are signed, and a new tape's window is the cell 0 alone. A cell has a symbol from 0 to `MAX_SYMBOL`.
+/// A tape endless both ways, with a window of a limited number of cells. Positions are signed, and a new
+/// tape's window is the cell 0 alone. A cell has a symbol from 0 to `MAX_SYMBOL`.
 ///
-/// There is no way to make a tape here, nor to clone one: who is generic over it has only the tapes that it
-/// was lent. The calls that have a body here are for tapes that do them faster.
+/// The trait has no constructor and no clone: generic code has only the tapes lent to it. Calls with a body
+/// here may be overridden by faster ones.
 pub trait Tape: Drop {
     /// The cells, the window and the limit.
     ghost view: { Self → TapeView };
 
     ghost GROWS: { Bool };
 
-    /// Whether a call may take memory. No call answers `Memory` where it is false.
+    /// Whether a call may allocate. If false, no call returns `Memory`.
     const GROWS: bool;
 
     /// Makes every cell 0 and the window the cell 0 alone.
     fn reset(&mut self)
         ensures { view self.new ≡ fresh (view self.old).limit };
 
-    /// Widens the window to a cell in it or next to it.
-    /// `Cells` where it would then have more cells than the limit; it never takes memory.
+    /// Widens the window to a cell in it or next to it. `Cells` if the window would exceed the limit; it
+    /// never allocates.
     fn visit(&mut self, p: i64) -> Result<(), TapeFault>
         requires { IsBeside (view self.old) p }
         ensures ok { OnOk result (view self.new ≡ visited (view self.old) p) }
@@ -56,7 +56,7 @@ pub trait Tape: Drop {
             ↔ (pos (view self.old).limit <ℤ width (visited (view self.old) p)) }
         ensures memory { IfErr result (λ fault. fault ≡ TapeFault.Cells) };
 
-    /// Widens the window by the cell below it, where there is room for one more.
+    /// Widens the window by the cell below it, if it has room.
     fn widen_low(&mut self, p: i64)
         requires next { p ≡ (view self.old).low -ℤ pos 1 }
         requires room { width (view self.old) <ℤ pos (view self.old).limit }
@@ -65,7 +65,7 @@ pub trait Tape: Drop {
         let _below = self.visit(p);
     }
 
-    /// Widens the window by the cell above it, where there is room for one more.
+    /// Widens the window by the cell above it, if it has room.
     fn widen_high(&mut self, p: i64)
         requires next { p ≡ (view self.old).high +ℤ pos 1 }
         requires room { width (view self.old) <ℤ pos (view self.old).limit }
@@ -94,8 +94,8 @@ pub trait Tape: Drop {
         ensures err { OnErr result (view self.new ≡ view self.old) }
         ensures only_memory { OnErr result ((result ≡ Err TapeFault.Memory) × IsTrue GROWS) };
 
-    /// Takes over the cells and the window of another tape with the same limit.
-    /// After `Memory` the tape has to be reset before it is used.
+    /// Copies the cells and the window of another tape with the same limit. After `Memory`, reset the tape
+    /// before its next use.
     fn copy_from(&mut self, other: &Self) -> Result<(), TapeFault>
         requires { (view self.old).limit ≡ (view other.now).limit }
         ensures ok { OnOk result (view self.new ≡ view other.now) }
@@ -109,7 +109,7 @@ pub trait Tape: Drop {
         ensures { IsTrue result
             ↔ AgreesFrom (view self.now).content from (view other.now).content other_from len };
 
-    /// Whether all cells are the same, whatever the windows.
+    /// Whether all cells are the same, for any windows.
     fn same(&self, other: &Self) -> bool
         ensures { IsTrue result ↔ ((view self.now).content ≡ (view other.now).content) };
 
@@ -125,7 +125,7 @@ pub trait Tape: Drop {
     fn high(&self) -> i64
         ensures { result ≡ (view self.now).high };
 
-    /// The most cells that the window may have.
+    /// The most cells of the window.
     fn limit(&self) -> u64
         ensures { result ≡ (view self.now).limit };
 

@@ -5,8 +5,8 @@ ghost use Rattle.bb_tape.specs.TapeView.{visited, width};
 
 use crate::tape::{Tape, TapeFault};
 
-/// Widens the window up to any position, cell by cell.
-/// `Cells` where it would then have more cells than the limit; then nothing changes.
+/// Widens the window up to any position, cell by cell. `Cells` if the window would exceed the limit; then
+/// nothing changes.
 pub fn widen_to<T: Tape>(tape: &mut T, p: i64) -> Result<(), TapeFault>
     ensures ok { OnOk result (T.view tape.new ≡ visited (T.view tape.old) p) }
     ensures err { OnErr result (T.view tape.new ≡ T.view tape.old) }
@@ -24,7 +24,7 @@ pub fn widen_to<T: Tape>(tape: &mut T, p: i64) -> Result<(), TapeFault>
     Ok(())
 }
 
-/// Widens the window down to a position, where there is room.
+/// Widens the window down to a position, if it has room.
 fn widen_down_to<T: Tape>(tape: &mut T, p: i64)
     requires below { p ≤ℤ (T.view tape.old).low }
     requires room { width (visited (T.view tape.old) p) ≤ℤ pos (T.view tape.old).limit }
@@ -37,7 +37,7 @@ fn widen_down_to<T: Tape>(tape: &mut T, p: i64)
     }
 }
 
-/// Widens the window up to a position, where there is room.
+/// Widens the window up to a position, if it has room.
 fn widen_up_to<T: Tape>(tape: &mut T, p: i64)
     requires above { (T.view tape.old).high ≤ℤ p }
     requires room { width (visited (T.view tape.old) p) ≤ℤ pos (T.view tape.old).limit }

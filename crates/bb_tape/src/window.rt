@@ -7,7 +7,7 @@ ghost use Rattle.bb_tape.specs.RingIndex.{ring_index};
 
 use crate::tape::MAX_CELLS;
 
-/// How far from 0 a window reaches that is near: most windows of short runs are.
+/// The reach from 0 of a near window, in cells: most windows of short runs are near.
 pub(crate) const NEAR: usize = 16;
 
 /// The positions from `low` to `high`, both counted. 0 is among them.
@@ -15,7 +15,7 @@ pub(crate) const NEAR: usize = 16;
 pub(crate) struct Window {
     pub(crate) low: i64,
     pub(crate) high: i64,
-    /// The most positions that it may have.
+    /// The most positions of the window.
     pub(crate) limit: u64,
     ghost valid: { IsWindow low high limit },
 }
@@ -76,8 +76,8 @@ impl Window {
         self.high = p;
     }
 
-    /// The positions that it has in common with another, with its own limit.
-    pub(crate) fn shared(&self, other: &Window) -> Window
+    /// The intersection with another window, with its own limit.
+    pub(crate) fn intersection(&self, other: &Window) -> Window
         ensures low { result.low ≡ int_max self.now.low other.now.low }
         ensures high { result.high ≡ int_min self.now.high other.now.high }
     {
@@ -88,8 +88,8 @@ impl Window {
         }
     }
 
-    /// Whether it lies within `NEAR` cells on either side of where a ring begins and ends, and the ring has
-    /// more cells than those.
+    /// Whether the window is within `NEAR` cells of the seam of a ring, and the ring has more cells than
+    /// those.
     #[inline]
     pub(crate) fn is_near(&self) -> bool
         ensures { IsTrue result ↔ (((pos 0 -ℤ pos NEAR) ≤ℤ self.now.low) × (self.now.high <ℤ pos NEAR)
@@ -113,8 +113,7 @@ impl Window {
         (self.high + 1) as usize
     }
 
-    /// The index from which on its positions below 0 stand, in a ring of as many cells as the window may
-    /// have.
+    /// The index of its lowest position below 0, in a ring with the window's limit of cells.
     pub(crate) fn lower_at(&self) -> usize
         ensures { pos result ≡ self.now.low +ℤ pos self.now.limit }
     {

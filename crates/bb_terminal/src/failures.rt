@@ -1,4 +1,4 @@
-//! The arguments of a process, its input, and the sentences for what failed.
+//! The arguments of a process, its input, and the messages for failures.
 
 use bb_command::Stop;
 use bb_lines::fault::Fault;
@@ -6,7 +6,7 @@ use std::fs::File;
 use std::io::{Error, ErrorKind, IsTerminal};
 use std::{env, fs, io};
 
-/// Reads the process's arguments, which have to be UTF-8.
+/// Reads the process's arguments, which must be UTF-8.
 pub fn read_arguments(rt: &HostRuntime) -> Result<Vec<String>, Stop> {
     match env::args(rt) {
         Ok(arguments) => Ok(arguments.collect(rt.alloc())?),
@@ -18,15 +18,15 @@ pub fn read_arguments(rt: &HostRuntime) -> Result<Vec<String>, Stop> {
     }
 }
 
-/// Opens a file, and tells how many bytes it has where it is a regular one.
+/// Opens a file, and returns its size, if it is a regular one.
 pub fn open_list(rt: &HostRuntime, path: &String) -> io::Result<(File, Option<u64>)> {
     let file = fs::open(rt, path)?;
     let size = file.metadata().ok().filter(|data| data.is_file());
     Ok((file, size.map(|data| data.len())))
 }
 
-/// Prints on a terminal what failed and why: the list `file`, or standard input where there is none, or
-/// standard output. A pipe that nobody reads any more isn't mentioned.
+/// Prints the failed operation and the reason, on a terminal: of the list `file` or standard input, or of
+/// standard output. It doesn't mention a closed pipe.
 pub fn print_failure(
     rt: &HostRuntime,
     file: Option<&str>,

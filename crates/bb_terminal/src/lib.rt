@@ -1,5 +1,5 @@
-//! What the programs share: streams that keep their last error, progress on a terminal, and the sentences
-//! for what failed.
+//! The common part of the programs: streams that keep their last error, progress on a terminal, and the
+//! messages for failures.
 #![tactic(auto)]
 
 pub mod failures;

@@ -6,17 +6,17 @@ use std::cell::Cell;
 use std::fmt::{Display, Write};
 use std::time::{Duration, Instant};
 
-/// How long a line stands at least, in milliseconds.
+/// The least time between two lines, in milliseconds.
 const REST: u64 = 250;
 
-/// How far a list has come. It writes a line to standard error a few times a second, over the one before,
-/// when the list is read or a reply written. An error of that changes nothing.
+/// The progress of a list. It writes a line to standard error a few times a second, over the one before,
+/// after a read or a write. An error of that changes nothing.
 #[derive(Drop)]
 pub struct Progress<'a, C> {
     rt: &'a HostRuntime,
-    /// What the lines came to so far, as it is shown.
+    /// The counts so far.
     counts: C,
-    /// The bytes of the list, where they are known.
+    /// The size of the list in bytes, if known.
     size: Option<u64>,
     /// How many of them were read.
     read: Cell<u64>,
@@ -27,9 +27,12 @@ pub struct Progress<'a, C> {
 }
 
 impl<'a, C> Progress<'a, C> {
-    /// The progress of a list of so many bytes, where that is known, of which nothing was read yet. The line
-    /// has the percentage and `counts`, as far as they fit in 100 bytes.
-    pub fn new(rt: &'a HostRuntime, counts: C, size: Option<u64>) -> Self {
+    /// The progress of a list of `size` bytes, if known, before its first read. The line has the percentage
+    /// and `counts`, as far as they fit in 100 bytes.
+    pub fn new(rt: &'a HostRuntime, counts: C, size: Option<u64>) -> Self
+        ensures counts { result.counts ≡ counts }
+        ensures size { result.size ≡ size }
+    {
         Progress {
             rt,
             counts,
@@ -40,7 +43,7 @@ impl<'a, C> Progress<'a, C> {
         }
     }
 
-    /// Takes in that so many bytes were read. A list is read on only once all whole lines are done.
+    /// Adds a read of so many bytes. A list is read on only after all its whole lines are answered.
     pub fn add_read(&self, count: usize)
     where
         C: Display,
@@ -67,8 +70,8 @@ impl<'a, C> Progress<'a, C> {
         let _ = self.rt.eprint(self.line().as_str());
     }
 
-    /// The line, as a terminal takes it: from the left, and nothing after it. It is made a few times a second
-    /// and isn't inlined, so that `show`, which each read and each write calls, stays small.
+    /// The line, in a terminal's form: from the left, with nothing after it. It is made a few times a second
+    /// and isn't inlined, so that `show`, called at each read and each write, stays small.
     #[cold]
     #[inline(never)]
     fn line(&self) -> ArrayString<100>
@@ -85,7 +88,7 @@ impl<'a, C> Progress<'a, C> {
         line
     }
 
-    /// How many of a hundred bytes are of lines that are done, where the list's bytes are known.
+    /// The percentage of bytes in answered lines, if the list's size is known.
     fn percent(&self) -> Option<u64> {
         percent_of(self.done.get(), self.size?)
     }
@@ -98,8 +101,7 @@ impl<'a, C> Progress<'a, C> {
     }
 }
 
-/// How many of a hundred bytes are done; none where there are no bytes, and 100 of a file that grew
-/// meanwhile.
+/// The percentage of bytes done; none for an empty file, and 100 for a file that grew meanwhile.
 fn percent_of(done: u64, size: u64) -> Option<u64>
     ensures bounded { MatchOption result (size ≡ 0) (λ percent. percent ≤ 100) }
     ensures exact { done * 100 < 2 ^ 64

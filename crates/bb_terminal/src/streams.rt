@@ -1,12 +1,12 @@
-//! Streams that hand each call on as it is, keep the last error, and report progress.
+//! Streams that forward each call, keep the last error, and report progress.
 ghost use Rattle.std.specs.Prelude.{◌≡◌, None};
 
 use crate::progress::Progress;
 use std::fmt::Display;
 use std::io::{Error, Read, Result, Write};
 
-/// A reader or a writer that hands each call on as it is. It keeps the error of the last call that failed and
-/// reports each call that didn't fail to the progress, where there is one.
+/// A reader or a writer that forwards each call. It keeps the error of the last failed call, and reports each
+/// other call to the progress, if there is one.
 #[derive(Drop)]
 pub struct Observed<'p, 'r, X, C> {
     inner: X,
@@ -15,7 +15,7 @@ pub struct Observed<'p, 'r, X, C> {
 }
 
 impl<'p, 'r, X, C> Observed<'p, 'r, X, C> {
-    /// Observes `inner`, of which no call has failed yet.
+    /// Observes `inner`, before any failed call.
     pub fn new(inner: X, progress: Option<&'p Progress<'r, C>>) -> Self
         ensures inner { result.inner ≡ inner }
         ensures error { result.error ≡ None }
@@ -27,12 +27,14 @@ impl<'p, 'r, X, C> Observed<'p, 'r, X, C> {
         }
     }
 
-    /// The stream that is observed, which has read or written what was asked so far.
-    pub fn inner(&self) -> &X {
+    /// The observed stream.
+    pub fn inner(&self) -> &X
+        ensures { result.now ≡ self.now.inner }
+    {
         &self.inner
     }
 
-    /// Why the last call that failed did, if one did.
+    /// The reason of the last failed call, if any.
     pub fn into_error(self) -> Option<Error>
     where
         X: Drop,
@@ -78,7 +80,7 @@ impl<W: Write, C: Display> Write for Observed<'_, '_, W, C> {
     }
 }
 
-/// An error that says the same as another: of the system's errors the same number, else the same kind.
+/// An error with the same message as another: the same number of the system's, else the same kind.
 fn same_error(error: &Error) -> Error {
     match error.raw_os_error() {
         Some(code) => Error::from_raw_os_error(code),

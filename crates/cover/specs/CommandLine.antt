@@ -1,4 +1,4 @@
--- What the program's words ask for, and why they ask for nothing that can be done: this project's own.
+-- The request of the program's words, and the reasons for refusing them: this project's own.
 use Rattle.std.specs.Prelude.{◌≡◌, ◌⊎◌, List, [], ◌∷◌, true, codes, option_map}
 use Rattle.std.specs.String.{string_bytes}
 use Rattle.clap.specs.Simple.{new_shape}
@@ -23,7 +23,7 @@ command_line = record {
   subs = [];
 }
 
--- the words are a command line, and ask for the list of this file under these limits
+-- the words are a command line, with the list of this file under these limits
 pub record IsAskedBy (words : List Text) (asked : Asked) : Type 0 where
   pub no_fault : fault_of command_line words ≡ []
   pub limits : asked.limits ≡ list_bounds (matches_of command_line words)

@@ -1,4 +1,4 @@
-//! The command line: which list, under which limits.
+//! The command line: the list and its limits.
 ghost use Rattle.std.specs.Prelude.{◌≡◌, [], false, true, IfErr, IfOk, codes, map, option_map};
 ghost use Rattle.std.specs.String.{string_bytes};
 ghost use Rattle.clap.specs.Simple.{new_shape};
@@ -13,11 +13,11 @@ use clap::error::ErrorKind;
 use clap::{Arg, ArgMatches, Command, Error, value_parser};
 use std::alloc::{AllocError, Global};
 
-/// A command line that was read.
+/// A parsed command line.
 #[derive(Debug, Drop)]
 pub struct Asked {
     pub limits: Limits,
-    /// Where the list is read from; standard input where there is none.
+    /// The list's file; standard input if none.
     pub file: Option<String>,
 }
 
@@ -35,16 +35,16 @@ pub fn ask(alloc: Global, words: &[&str]) -> Result<Asked, Stop>
     Ok(Asked { limits, file })
 }
 
-/// The most cells that any limit allows: a claim may need as many unless less is asked for.
+/// The most cells of any limit, as the default: a claim may need as many.
 const MOST_CELLS: &str = "67108864";
 
-/// The most steps, and the most nodes, that any limit allows, likewise.
+/// The most steps, and the most nodes, of any limit, as the default.
 const MOST_STEPS: &str = "1000000000000";
 
-/// The most levels that any limit allows, likewise.
+/// The most levels of any limit, as the default.
 const MOST_LEVELS: &str = "10000";
 
-/// What the help says after the options.
+/// The end of the help, after the options.
 const ABOUT: &str = "\
 In: the verdict lines of a list in tree normal form, in the order of a walk in depth, as
   tools/tree_normal_form --states 4 | bb decide --steps 1000
@@ -62,7 +62,7 @@ reading or writing failed.";
 fn program<'a>(alloc: Global) -> Result<Command<'a>, AllocError>
     ensures { IfOk result (λ command. app_of command ≡ command_line) }
 {
-    bare(alloc)
+    base_command(alloc)
         .arg(limit(
             alloc,
             "steps",
@@ -91,7 +91,7 @@ fn program<'a>(alloc: Global) -> Result<Command<'a>, AllocError>
 }
 
 /// The command without its arguments.
-fn bare<'a>(alloc: Global) -> Command<'a>
+fn base_command<'a>(alloc: Global) -> Command<'a>
     ensures { app_of result
         ≡ record { top = record (new_shape (codes "cover")) { has_version = true }; subs = [] } }
 {
@@ -124,7 +124,7 @@ fn limit<'a>(alloc: Global, name: &'a str, default: &'a str, help: &'a str) -> A
         .default_value(default)
 }
 
-/// What an error of reading the words stops.
+/// The stop for a parse error.
 fn stop_of(alloc: Global, error: &Error) -> Result<Stop, AllocError>
     ensures { IfOk result (IsKindStop (kind_of error.now)) }
 {
@@ -137,7 +137,7 @@ fn stop_of(alloc: Global, error: &Error) -> Result<Stop, AllocError>
     }
 }
 
-/// The limits that are given, if they are accepted.
+/// The limits, if they are accepted.
 fn limits_of(matches: &ArgMatches<'_>) -> Result<Limits, Stop>
     ensures ok { IfOk result (λ limits. limits ≡ list_bounds (rows_of (found_of matches.now))) }
     ensures stop { IfErr result (IsLimitsStop (list_bounds (rows_of (found_of matches.now)))) }
@@ -151,7 +151,7 @@ fn limits_of(matches: &ArgMatches<'_>) -> Result<Limits, Stop>
     .map_err(Stop::Limits)
 }
 
-/// The file that the list is read from.
+/// The list's file.
 fn file_of(alloc: Global, matches: &ArgMatches<'_>) -> Result<Option<String>, AllocError>
     ensures { IfOk result (λ file.
         option_map string_bytes file ≡ first_of (codes "file") (rows_of (found_of matches.now))) }
@@ -162,7 +162,7 @@ fn file_of(alloc: Global, matches: &ArgMatches<'_>) -> Result<Option<String>, Al
     }
 }
 
-/// The number that an option gives. Each option has a default, and is read as a number, so none is missing.
+/// The value of a numeric option. Each has a default, and is parsed as a number, so none is missing.
 fn value(matches: &ArgMatches<'_>, name: &str) -> u64
     ensures { result ≡ number_of name.now (rows_of (found_of matches.now)) }
 {

@@ -1,4 +1,4 @@
-//! `cover`: whether a list of verdicts settles every machine of a size. `docs/cover.md` says what that means.
+//! `cover`: whether a list of verdicts settles every machine of a size, as defined in `docs/cover.md`.
 #![tactic(auto)]
 
 mod command;
@@ -21,15 +21,15 @@ use std::io::{IsTerminal, Read};
 use std::process::ExitCode;
 
 fn main(rt: HostRuntime) -> ExitCode {
-    let status = match asked(&rt) {
+    let status = match parse_request(&rt) {
         Ok(asked) => answer_request(&rt, &asked),
-        Err(stop) => tell_stop(&rt, &stop),
+        Err(stop) => report_stop(&rt, &stop),
     };
     ExitCode::from(status)
 }
 
-/// What the process's arguments ask for; they have to be UTF-8.
-fn asked(rt: &HostRuntime) -> Result<Asked, Stop> {
+/// The request of the process's arguments, which must be UTF-8.
+fn parse_request(rt: &HostRuntime) -> Result<Asked, Stop> {
     let arguments = read_arguments(rt)?;
     let words: Vec<&str> = arguments
         .as_slice()
@@ -39,8 +39,8 @@ fn asked(rt: &HostRuntime) -> Result<Asked, Stop> {
     ask(rt.alloc(), words.as_slice())
 }
 
-/// Walks along the list that is asked for, tells what it comes to, and gives the exit status. A file that
-/// can't be opened is a failed read.
+/// Walks along the list, reports the result, and returns the exit status. A file that can't be opened is a
+/// failed read.
 fn answer_request(rt: &HostRuntime, asked: &Asked) -> u8 {
     let seen = Cell::new(0);
     let (end, error) = match &asked.file {
@@ -53,16 +53,16 @@ fn answer_request(rt: &HostRuntime, asked: &Asked) -> u8 {
     match &end {
         Ok(cover) => {
             if let Err(error) = rt.println(Report { cover }) {
-                return tell_fault(rt, asked, Fault::Write, Some(&error));
+                return report_fault(rt, asked, Fault::Write, Some(&error));
             }
         }
-        Err(fault) => return tell_fault(rt, asked, *fault, error.as_ref()),
+        Err(fault) => return report_fault(rt, asked, *fault, error.as_ref()),
     }
     status(&end)
 }
 
-/// Walks along a list that has so many bytes, where that is known, and shows the progress. Beside the end
-/// comes the error that made it a fault, where there is one.
+/// Walks along a list of `size` bytes, if known, and shows the progress. Returns the result with the error
+/// behind a fault, if any.
 fn cover_input<R: Read + Drop>(
     rt: &HostRuntime,
     asked: &Asked,
@@ -70,7 +70,7 @@ fn cover_input<R: Read + Drop>(
     input: R,
     seen: &Cell<u64>,
 ) -> (Result<Cover, Fault>, Option<io::Error>) {
-    // What comes to standard output comes after the progress, so the two don't mix.
+    // Standard output comes after the progress, so the two don't mix.
     let progress = if rt.stderr().is_terminal() {
         Some(Progress::new(rt, LineCount { seen }, size))
     } else {
@@ -86,8 +86,8 @@ fn cover_input<R: Read + Drop>(
     (end, error)
 }
 
-/// Tells a fault, on a terminal also what failed and why, and gives the exit status.
-fn tell_fault(rt: &HostRuntime, asked: &Asked, fault: Fault, error: Option<&io::Error>) -> u8 {
+/// Reports a fault, on a terminal with the failed operation and the reason, and returns the exit status.
+fn report_fault(rt: &HostRuntime, asked: &Asked, fault: Fault, error: Option<&io::Error>) -> u8 {
     let _ = rt.eprintln(FaultText { fault });
     if let Some(error) = error {
         let file = asked.file.as_ref().map(|file| file.as_str());
@@ -96,10 +96,10 @@ fn tell_fault(rt: &HostRuntime, asked: &Asked, fault: Fault, error: Option<&io::
     3
 }
 
-/// Tells why nothing is done, and gives the exit status: that of the stop, or 3 where help or the version
-/// can't be written.
-fn tell_stop(rt: &HostRuntime, stop: &Stop) -> u8 {
-    match (tell(rt, stop), stop) {
+/// Prints the reason for doing no work, and returns the exit status: that of the stop, or 3 if help or the
+/// version can't be written.
+fn report_stop(rt: &HostRuntime, stop: &Stop) -> u8 {
+    match (print_stop(rt, stop), stop) {
         (Err(_), Stop::Help(_)) => {
             let _ = rt.eprintln(FaultText {
                 fault: Fault::Write,
@@ -111,7 +111,7 @@ fn tell_stop(rt: &HostRuntime, stop: &Stop) -> u8 {
 }
 
 /// Prints help to standard output, and any other cause to standard error.
-fn tell(rt: &HostRuntime, stop: &Stop) -> io::Result<()> {
+fn print_stop(rt: &HostRuntime, stop: &Stop) -> io::Result<()> {
     match stop {
         Stop::Help(text) => rt.print(text),
         Stop::Words(text) => rt.eprint(text),

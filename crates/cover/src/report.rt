@@ -1,4 +1,4 @@
-//! What is printed.
+//! The printed report.
 
 use bb_cert::Answer;
 use bb_cover::{Cover, Found, Stop, Text, Why};
@@ -20,7 +20,7 @@ impl Display for LineCount<'_> {
     }
 }
 
-/// What a list comes to, as one line.
+/// The result for a list, as one line.
 #[derive(Drop)]
 pub struct Report<'a> {
     pub cover: &'a Cover,
@@ -40,16 +40,16 @@ impl Display for Report<'_> {
                     counts.lines, counts.undecided, counts.wide
                 )
             }
-            Found::Stops(stop) => self.tell_stop(f, &stop),
+            Found::Stops(stop) => self.write_stop(f, &stop),
         }
     }
 }
 
 impl Report<'_> {
-    fn tell_stop<W: fmt::Write>(&self, f: &mut Formatter<W>, stop: &Stop) -> fmt::Result {
+    fn write_stop<W: fmt::Write>(&self, f: &mut Formatter<W>, stop: &Stop) -> fmt::Result {
         let line = stop.line;
-        let asked = shown(&self.cover.asked);
-        let given = shown(&self.cover.given);
+        let asked = text_of(&self.cover.asked);
+        let given = text_of(&self.cover.given);
         match stop.why {
             Why::Unread => write!(f, "line {line}: it is no verdict line"),
             Why::NotNext => write!(f, "line {line}: {asked} expected, found {given}"),
@@ -69,8 +69,8 @@ impl Report<'_> {
     }
 }
 
-/// A machine's text; that of the first line of a list isn't known before it was read.
-fn shown(text: &Text) -> &str {
+/// A machine's text; unknown for the first line of a list before it is read.
+fn text_of(text: &Text) -> &str {
     if text.is_empty() {
         return "a machine with no entry";
     }

@@ -1,4 +1,4 @@
-//! Walks along a list on rings of its own, and says how it ended.
+//! Walks along a list on rings of its own, and returns the result.
 ghost use Rattle.std.specs.Prelude.{◌≡◌, ◌≢◌, ◌↔◌, ◌⊎◌, IfOk, false, true};
 ghost use Rattle.bb_cert.specs.checker.Pair.{PairHasCells};
 ghost use Rattle.bb_cert.specs.tree.Path.{depth_of};
@@ -16,8 +16,8 @@ use std::alloc::Global;
 use std::cell::Cell;
 use std::io::Read;
 
-/// What a list comes to, on rings and a path of its own, which take no memory once they are made. Either it
-/// ends as `run_cover` says, or memory ran out before it began, and nothing was read.
+/// The result of a walk along a list, on rings and a path of its own, allocated once. It is that of
+/// `run_cover`, or an allocation failure before the first read.
 pub fn cover_list<R: Read>(
     alloc: Global,
     limits: &Limits,
@@ -49,7 +49,7 @@ fn ring_pair(alloc: Global, limits: &Limits) -> Result<(Pair<RingTape>, Path), M
     Ok((Pair { run, saved }, path))
 }
 
-/// The program's exit status: 0 where the list covers its size, 1 where it doesn't, 3 for a fault.
+/// The program's exit status: 0 if the list covers its size, 1 if it doesn't, 3 for a fault.
 pub fn status(end: &Result<Cover, Fault>) -> u8
     ensures { result ≡ end_status end.now }
 {

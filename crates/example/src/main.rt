@@ -1,5 +1,5 @@
-//! A program of one's own over `bb_run`: it decides a list that it holds in memory, with the contracts of the
-//! calls behind it, and prints the verdicts.
+//! A program of one's own over `bb_run`. It decides a list in memory, under the contracts of its calls, and
+//! prints the verdicts.
 #![tactic(auto)]
 
 use bb_decide::Plan;
@@ -9,8 +9,7 @@ use bb_machine::Limits;
 use bb_run::{Summary, VerdictCounts, ring_bench, run_decide_in_one_run};
 use std::process::ExitCode;
 
-/// Machines of two and three states that make the most steps, one that comes back to a configuration, one
-/// that goes to the right for ever, and a line that is no machine's text.
+/// Machines of two and three states with the most steps, a cycler, a translated cycler, and a wrong line.
 const LIST: &[u8] = b"1RB1LB_1LA1RZ\n1RB1RZ_1LB0RC_1LC1LA\n0RB0LB_0LA1RZ\n1RA1RA\n1rB1LB\n";
 
 const ALL: Plan = Plan {

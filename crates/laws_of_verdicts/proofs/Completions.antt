@@ -22,7 +22,7 @@ use Rattle.bb_cert.proofs.Facts.{repeats_never_halt}
 use Rattle.bb_decide.specs.Verdict.{IsVerdict}
 use Rattle.bb_decide.proofs.Facts.{cyclers_are_on, extent_is_told, found_is_verdict, is_first_agreement}
 use Rattle.bb_decide.proofs.Facts.{is_first_cycle, is_halt_within, translated_are_on, verdicts_hold}
-use Rattle.laws_of_verdicts.specs.Completion.{IsCompletion, IsInZ, MeetsNoGap, CompletionsKeepAnswers}
+use Rattle.laws_of_verdicts.specs.Completion.{IsCompletion, IsInZ, MeetsNoUndefined, CompletionsKeepAnswers}
 use Rattle.laws_of_verdicts.specs.Completion.{CompletionsKeepClaims, CompletionsKeepVerdicts}
 use Rattle.laws_of_verdicts.specs.Completion.{CompletionsNeverHalt}
 use Rattle.laws_of_verdicts.specs.Change.{Change, Renaming, changed_next}
@@ -63,7 +63,7 @@ same_images (Some c) p e = subst (AreImages unchanged (Some c)) (sym e) (record 
 module _ (table filled : Table) (completion : IsCompletion table filled) where
   same_entry : (to : Next) (symbol : ℕ) (entry : Entry) → entry_at table to symbol ≡ entry → entry ≢ Undefined
       → entry_at filled to symbol ≡ entry
-  same_entry (state.State q) symbol entry e some = completion.kept q symbol (λ gap. some (sym e ∙ gap)) ∙ e
+  same_entry (state.State q) symbol entry e some = completion.kept q symbol (λ undefined. some (sym e ∙ undefined)) ∙ e
   same_entry state.Halt symbol entry e some = e
 
   followed_kept : (c d : Configuration) (entry : Entry) → entry_at table c.state (cell c.tape c.head) ≡ entry
@@ -71,7 +71,7 @@ module _ (table filled : Table) (completion : IsCompletion table filled) where
   unfolding next
   followed_kept c d Undefined e leads = absurd cc
   followed_kept c d (Go write dir to) e leads = ap (λ x. followed x c)
-      (same_entry c.state (cell c.tape c.head) (Go write dir to) e (λ gap. cc)) ∙ leads
+      (same_entry c.state (cell c.tape c.head) (Go write dir to) e (λ undefined. cc)) ∙ leads
 
   -- each step of the machine is one of its completion
   next_kept : (c d : Configuration) → next table c ≡ Some d → next filled c ≡ Some d
@@ -120,7 +120,7 @@ module _ (table filled : Table) (completion : IsCompletion table filled) where
         absurd (omega (arith, no_later));
   }
 
-  claim_kept : (verdict : Verdict) → MeetsNoGap table verdict → Claim table verdict → Claim filled verdict
+  claim_kept : (verdict : Verdict) → MeetsNoUndefined table verdict → Claim table verdict → Claim filled verdict
   claim_kept (Halt n ones) at claim =
       let alike = alike_to n (record { here = at.here; exists = at.exists }) in
       (halts_kept n at, score_image unchanged table filled n alike ones claim.1)
@@ -135,7 +135,7 @@ module _ (table filled : Table) (completion : IsCompletion table filled) where
       )
   claim_kept verdict at claim = absurd at
 
-  verdict_kept : (bounds : Bounds) (plan : _) (verdict : Verdict) → MeetsNoGap table verdict
+  verdict_kept : (bounds : Bounds) (plan : _) (verdict : Verdict) → MeetsNoUndefined table verdict
       → IsVerdict table bounds plan verdict → IsVerdict filled bounds plan verdict
   verdict_kept bounds plan (Halt n ones) at is =
       let claim = claim_kept (Halt n ones) at (verdicts_hold table bounds plan (Halt n ones) is) in
@@ -165,7 +165,7 @@ module _ (table filled : Table) (completion : IsCompletion table filled) where
   verdict_kept bounds plan verdict at is = absurd at
 
   -- the last step that is named exists, so the span up to it is the same
-  needs_back : (bounds : Bounds) (verdict : Verdict) → MeetsNoGap table verdict → Claim table verdict
+  needs_back : (bounds : Bounds) (verdict : Verdict) → MeetsNoUndefined table verdict → Claim table verdict
       → NeedsTooMuch filled bounds verdict → NeedsTooMuch table bounds verdict
   needs_back bounds (Halt n ones) at claim needs =
       let alike = alike_to n (record { here = at.here; exists = at.exists }) in
@@ -178,7 +178,7 @@ module _ (table filled : Table) (completion : IsCompletion table filled) where
       rw (← span_image unchanged table filled b alike) needs
   needs_back bounds verdict at claim needs = absurd at
 
-  answer_kept : (bounds : Bounds) (verdict : Verdict) → MeetsNoGap table verdict → (rule : Rule)
+  answer_kept : (bounds : Bounds) (verdict : Verdict) → MeetsNoUndefined table verdict → (rule : Rule)
       → Ok ≡ answer_by rule → Applies table bounds verdict rule
       → ((other : Rule) → Applies table bounds verdict other → rank rule ≤ rank other)
       → IsAnswer filled bounds verdict Ok

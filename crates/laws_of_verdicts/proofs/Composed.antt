@@ -11,7 +11,7 @@ use Rattle.bb_machine.specs.Machine.{Table, IsMachine, entry_of, symbols_of}
 use Rattle.bb_sim.specs.Run.{Never}
 use Rattle.laws_of_verdicts.specs.Change.{Change, IsChanged, Renaming, changed_entry, changed_next, turned}
 use Rattle.laws_of_verdicts.specs.Closed.{with_entry}
-use Rattle.laws_of_verdicts.specs.Gap.{HaltsOnGap, HasOtherGap}
+use Rattle.laws_of_verdicts.specs.UndefinedEntry.{HaltsOnUndefined, HasOtherUndefined}
 use Rattle.laws_of_verdicts.proofs.ChangedRuns.{back, changed_back, cell_at, conf_image, image_of}
 use Rattle.laws_of_verdicts.proofs.ChangedNotions.{halts_image}
 use Rattle.laws_of_verdicts.proofs.Fillings.{HasNoZ, entry-either, entry-other, entry-same, length-with_entry}
@@ -126,34 +126,34 @@ never_changed change table changed is never = record {
       (changed_back change table changed is) n halts);
 }
 
-pub gap_changed : (change : Change) (table changed : Table) → IsChanged change table changed → (n q s : ℕ)
-    → HaltsOnGap table n q s → HaltsOnGap changed n (change.states.new q) (change.symbols.new s)
-gap_changed change table changed is n q s gap =
-    let there = image_of change _ _ gap.last (conf_image change table changed is n) gap.exists in
+pub undefined_changed : (change : Change) (table changed : Table) → IsChanged change table changed → (n q s : ℕ)
+    → HaltsOnUndefined table n q s → HaltsOnUndefined changed n (change.states.new q) (change.symbols.new s)
+undefined_changed change table changed is n q s undefined =
+    let there = image_of change _ _ undefined.last (conf_image change table changed is n) undefined.exists in
     record {
       last = there.there;
       exists = there.exists;
-      in_state = there.image.state ∙ ap (changed_next change) gap.in_state;
-      at_symbol = cell_at change gap.last there.there there.image gap.last.head there.there.head
-          there.image.head ∙ ap change.symbols.new gap.at_symbol;
-      gap = is.entries q s ∙ ap (changed_entry change) gap.gap;
+      in_state = there.image.state ∙ ap (changed_next change) undefined.in_state;
+      at_symbol = cell_at change undefined.last there.there there.image undefined.last.head there.there.head
+          there.image.head ∙ ap change.symbols.new undefined.at_symbol;
+      undefined = is.entries q s ∙ ap (changed_entry change) undefined.undefined;
     }
 
-pub other_gap_changed : (change : Change) (table changed : Table) → IsChanged change table changed
-    → (q s : ℕ) → HasOtherGap changed (change.states.new q) (change.symbols.new s) → HasOtherGap table q s
-other_gap_changed change table changed is q s gap =
+pub other_undefined_changed : (change : Change) (table changed : Table) → IsChanged change table changed
+    → (q s : ℕ) → HasOtherUndefined changed (change.states.new q) (change.symbols.new s) → HasOtherUndefined table q s
+other_undefined_changed change table changed is q s undefined =
     let undone = changed_back change table changed is in
     record {
-      other_state = change.states.old gap.other_state;
-      other_symbol = change.symbols.old gap.other_symbol;
+      other_state = change.states.old undefined.other_state;
+      other_symbol = change.symbols.old undefined.other_symbol;
       state_named =
-          omega (arith, (undone.states_named gap.other_state).0 gap.state_named, is.states);
+          omega (arith, (undone.states_named undefined.other_state).0 undefined.state_named, is.states);
       symbol_named =
-          omega (arith, (undone.symbols_named gap.other_symbol).0 gap.symbol_named, is.symbols);
-      other = λ same same_too. gap.other
-          (sym (change.states.new_of_old gap.other_state) ∙ ap change.states.new same)
-          (sym (change.symbols.new_of_old gap.other_symbol) ∙ ap change.symbols.new same_too);
-      gap = undone.entries gap.other_state gap.other_symbol ∙ ap (changed_entry (back change)) gap.gap;
+          omega (arith, (undone.symbols_named undefined.other_symbol).0 undefined.symbol_named, is.symbols);
+      other = λ same same_too. undefined.other
+          (sym (change.states.new_of_old undefined.other_state) ∙ ap change.states.new same)
+          (sym (change.symbols.new_of_old undefined.other_symbol) ∙ ap change.symbols.new same_too);
+      undefined = undone.entries undefined.other_state undefined.other_symbol ∙ ap (changed_entry (back change)) undefined.undefined;
     }
 
 -- the machine has no entry into Z where the changed one has none

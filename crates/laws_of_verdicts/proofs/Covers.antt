@@ -19,20 +19,20 @@ use Rattle.bb_cert.specs.claims.Claim.{Claim, SaysNever}
 use Rattle.bb_cert.proofs.Facts.{claims_never_halt}
 use Rattle.laws_of_verdicts.specs.Change.{Change, IsChanged, changed_entry, turned}
 use Rattle.laws_of_verdicts.specs.Completion.{IsCompletion}
-use Rattle.laws_of_verdicts.specs.Closed.{CoversDecide, CoversSettle, FromGap, HaltsSoon, HasMachine}
+use Rattle.laws_of_verdicts.specs.Closed.{CoversDecide, CoversSettle, FromUndefined, HaltsSoon, HasMachine}
 use Rattle.laws_of_verdicts.specs.Closed.{IsClosed, IsLeftOpen, IsSettled, Settles, VerdictLine}
-use Rattle.laws_of_verdicts.specs.Closed.{all_gaps, with_entry}
-use Rattle.laws_of_verdicts.specs.Gap.{HaltsOnGap, HasOtherGap}
+use Rattle.laws_of_verdicts.specs.Closed.{blank_table, with_entry}
+use Rattle.laws_of_verdicts.specs.UndefinedEntry.{HaltsOnUndefined, HasOtherUndefined}
 use Rattle.laws_of_verdicts.proofs.ChangedNotions.{score_image}
 use Rattle.laws_of_verdicts.proofs.ChangedRuns.{changed_back, conf_image, turned-twice}
 use Rattle.laws_of_verdicts.proofs.Completions.{completions_never_halt}
-use Rattle.laws_of_verdicts.proofs.Composed.{composed, filled_changed, gap_changed, is_composed}
-use Rattle.laws_of_verdicts.proofs.Composed.{never_changed, no_Z_before, other_gap_changed}
-use Rattle.laws_of_verdicts.proofs.Fillings.{HasNoZ, all_gaps-none, entry-either, gaps}
-use Rattle.laws_of_verdicts.proofs.Fillings.{gaps-with_entry, length-with_entry, machine-with_entry}
-use Rattle.laws_of_verdicts.proofs.Fillings.{no_Z-with_entry, other_gap, some_gap, symbols_of-with_entry}
-use Rattle.laws_of_verdicts.proofs.GapHalts.{HaltsInTable, full_never_halts, halts_next, halts_on_gap}
-use Rattle.laws_of_verdicts.proofs.GapHalts.{still_halts}
+use Rattle.laws_of_verdicts.proofs.Composed.{composed, filled_changed, undefined_changed, is_composed}
+use Rattle.laws_of_verdicts.proofs.Composed.{never_changed, no_Z_before, other_undefined_changed}
+use Rattle.laws_of_verdicts.proofs.Fillings.{HasNoZ, blank_table-none, entry-either, undefined_entries}
+use Rattle.laws_of_verdicts.proofs.Fillings.{undefined_entries-with_entry, length-with_entry, machine-with_entry}
+use Rattle.laws_of_verdicts.proofs.Fillings.{no_Z-with_entry, other_undefined, some_undefined, symbols_of-with_entry}
+use Rattle.laws_of_verdicts.proofs.UndefinedHalts.{HaltsInTable, full_never_halts, halts_next, halts_on_undefined}
+use Rattle.laws_of_verdicts.proofs.UndefinedHalts.{still_halts}
 
 -- a machine of the list, changed, that the given one completes, and that has no entry into Z
 record Stage (lines : List VerdictLine) (machine table : Table) : Type 0 where
@@ -50,14 +50,14 @@ still_completes : (table machine : Table) → IsMachine table → IsCompletion t
 still_completes table machine is completes q s entry below inside e = record {
   kept = λ i j some. elim (entry-either table is q s entry below inside i j) [
     | inl here ↦ ap₂ (entry_of machine) here.0 here.1 ∙ e ∙ sym here.2
-    | inr there ↦ completes.kept i j (λ gap. some (there.1 ∙ gap)) ∙ sym there.1
+    | inr there ↦ completes.kept i j (λ undefined. some (there.1 ∙ undefined)) ∙ sym there.1
   ];
 }
 
 -- what is found out at a stage: the machine is settled, or completes a later one with one gap less
 abbrev Found : List VerdictLine → Table → Table → Type 0
 Found lines machine table = IsSettled lines machine
-    ⊎ ((later : Table) × (suc (gaps later) ≡ gaps table) × Stage lines machine later)
+    ⊎ ((later : Table) × (suc (undefined_entries later) ≡ undefined_entries table) × Stage lines machine later)
 
 module _ (lines : List VerdictLine) (closed : IsClosed lines) (machine : Table) (is : IsMachine machine)
     (table : Table) (stage : Stage lines machine table) where
@@ -108,20 +108,20 @@ module _ (lines : List VerdictLine) (closed : IsClosed lines) (machine : Table) 
     inside =
         omega (arith, (is_changed.symbols_named there.symbol).0 there.inside, is_changed.symbols)
 
-    gap : HaltsOnGap table n q s
-    gap = gap_changed change line.table table is_changed n there.state there.symbol there.gap
+    undefined : HaltsOnUndefined table n q s
+    undefined = undefined_changed change line.table table is_changed n there.state there.symbol there.undefined
 
     scored : IsScore table n ones
     scored = score_image change line.table table n
         (λ m h. conf_image change line.table table is_changed m) ones (claim (Halt n ones) says).1
 
-    found : (entry : Entry) → entry_of machine q s ≡ entry → FromGap machine n ones s entry
+    found : (entry : Entry) → entry_of machine q s ≡ entry → FromUndefined machine n ones s entry
         → IsSettled lines machine
     found entry e does = settled (Halt n ones) says (record {
       state = q;
       symbol = s;
-      gap = gap;
-      does = subst (FromGap machine n ones s) (sym e) does;
+      undefined = undefined;
+      does = subst (FromUndefined machine n ones s) (sym e) does;
     })
 
     module _ (write t : ℕ) (dir : Dir) (e : entry_of machine q s ≡ Go write dir (to.State t)) where
@@ -167,18 +167,18 @@ module _ (lines : List VerdictLine) (closed : IsClosed lines) (machine : Table) 
           (filled_changed change line.table table line_machine stage.is_machine is_changed there.state
           there.symbol entry_there there.below there.inside)
 
-      listed_there : HasOtherGap line.table there.state there.symbol
+      listed_there : HasOtherUndefined line.table there.state there.symbol
           → HasMachine lines (with_entry line.table there.state there.symbol entry_there)
       listed_there other =
           let undone = changed_back change line.table table is_changed in
           let l = (undone.states_named t).0 named.1 in
           closed.goes_on line n ones there.state there.symbol (change.symbols.old write)
-          (change.states.old t) (turned change.mirrored dir) stage.of_list.listed says there.gap other
+          (change.states.old t) (turned change.mirrored dir) stage.of_list.listed says there.undefined other
           (omega (arith, (undone.symbols_named write).0 named.0)) (omega (arith, l, is_changed.states))
 
-      later : HasOtherGap table q s → Stage lines machine filled
+      later : HasOtherUndefined table q s → Stage lines machine filled
       later other =
-          let has = listed_there (other_gap_changed change line.table table is_changed there.state
+          let has = listed_there (other_undefined_changed change line.table table is_changed there.state
           there.symbol other) in
           record {
             of_list = record {
@@ -197,34 +197,34 @@ module _ (lines : List VerdictLine) (closed : IsClosed lines) (machine : Table) 
           }
 
       goes_on : Found lines machine table
-      goes_on = elim (cases_eq (gaps filled) 0) [
+      goes_on = elim (cases_eq (undefined_entries filled) 0) [
         | inl none ↦ inl (found (Go write dir (to.State t)) e (completions_never_halt filled machine completes
             (full_never_halts filled filled_machine no_Z none)))
         | inr more ↦ inr (
           filled,
-          gaps-with_entry table stage.is_machine q s write dir (to.State t) below inside gap.gap,
-          later (other_gap table stage.is_machine q s write dir (to.State t) below inside
-              (some_gap filled filled_machine (omega (arith, more)))),
+          undefined_entries-with_entry table stage.is_machine q s write dir (to.State t) below inside undefined.undefined,
+          later (other_undefined table stage.is_machine q s write dir (to.State t) below inside
+              (some_undefined filled filled_machine (omega (arith, more)))),
         )
       ]
 
     by_entry : (entry : Entry) → entry_of machine q s ≡ entry → Found lines machine table
     by_entry Undefined e = inl (found Undefined e
-        (still_halts table machine stage.completes n q s gap e ones scored))
+        (still_halts table machine stage.completes n q s undefined e ones scored))
     by_entry (Go write dir to.Halt) e = inl (found (Go write dir to.Halt) e
-        (halts_next table machine stage.completes n q s gap write dir e ones scored))
+        (halts_next table machine stage.completes n q s undefined write dir e ones scored))
     by_entry (Go write dir (to.State t)) e = goes_on write t dir e
 
   by_verdict : (verdict : Verdict) → line.verdict ≡ verdict → Found lines machine table
   by_verdict (Halt n ones) e =
-      let there = halts_on_gap line.table line_machine (no_Z_before change line.table table is_changed
+      let there = halts_on_undefined line.table line_machine (no_Z_before change line.table table is_changed
       stage.no_Z) n (claim (Halt n ones) e).0 in
       by_entry n ones e there _ refl
   by_verdict (Undecided why) e = inl (settled (Undecided why) e tt)
   by_verdict verdict e = inl (settled verdict e (never_halts verdict e tt))
 
 walk : (lines : List VerdictLine) → IsClosed lines → (machine : Table) → IsMachine machine → (count : ℕ)
-    (table : Table) → gaps table ≡ count → Stage lines machine table → IsSettled lines machine
+    (table : Table) → undefined_entries table ≡ count → Stage lines machine table → IsSettled lines machine
 walk lines closed machine is zero table e stage =
     elim (by_verdict lines closed machine is table stage _ refl) [
       | inl done ↦ done
@@ -243,18 +243,18 @@ all_of_replicate : {X : Type 0} (P : X → Type 0) (n : ℕ) (x : X) → P x →
 all_of_replicate P zero x here = tt
 all_of_replicate P (suc n) x here = (here, all_of_replicate P n x here)
 
-symbols_of_gaps : (n k : ℕ) → 0 < n → symbols_of (all_gaps n k) ≡ k
-symbols_of_gaps zero k some = absurd (omega arith)
-symbols_of_gaps (suc n) k some = length-replicate k Undefined
+symbols_of_undefined_entries : (n k : ℕ) → 0 < n → symbols_of (blank_table n k) ≡ k
+symbols_of_undefined_entries zero k some = absurd (omega arith)
+symbols_of_undefined_entries (suc n) k some = length-replicate k Undefined
 
 first_stage : (lines : List VerdictLine) (machine : Table) → IsMachine machine
-    → HasMachine lines (all_gaps (length machine) (symbols_of machine))
-    → Stage lines machine (all_gaps (length machine) (symbols_of machine))
+    → HasMachine lines (blank_table (length machine) (symbols_of machine))
+    → Stage lines machine (blank_table (length machine) (symbols_of machine))
 first_stage lines machine is has =
     let n = length machine in
     let k = symbols_of machine in
-    let states : length (all_gaps n k) ≡ n = length-replicate n (replicate k Undefined) in
-    let symbols = symbols_of_gaps n k is.some_state in
+    let states : length (blank_table n k) ≡ n = length-replicate n (replicate k Undefined) in
+    let symbols = symbols_of_undefined_entries n k is.some_state in
     record {
       of_list = has;
       is_machine = record {
@@ -269,14 +269,14 @@ first_stage lines machine is has =
       };
       states = states;
       symbols = symbols;
-      completes = record { kept = λ q s some. absurd (some (all_gaps-none n k q s)) };
-      no_Z = record { none = λ q s write dir e. let none = all_gaps-none n k q s in cc (e, none) };
+      completes = record { kept = λ q s some. absurd (some (blank_table-none n k q s)) };
+      no_Z = record { none = λ q s write dir e. let none = blank_table-none n k q s in cc (e, none) };
     }
 
 pub covers_settle : CoversSettle
 covers_settle lines machine is covers =
-    let root = all_gaps (length machine) (symbols_of machine) in
-    walk lines covers.closed machine is (gaps root) root refl (first_stage lines machine is covers.has_root)
+    let root = blank_table (length machine) (symbols_of machine) in
+    walk lines covers.closed machine is (undefined_entries root) root refl (first_stage lines machine is covers.has_root)
 
 -- for short
 
@@ -296,17 +296,17 @@ module _ (lines : List VerdictLine) (machine : Table) (is : IsSettled lines mach
     few = few;
   }
 
-  from_gap : (n ones s : ℕ) → is.line.verdict ≡ Halt n ones → (entry : Entry) → FromGap machine n ones s entry
+  from_undefined : (n ones s : ℕ) → is.line.verdict ≡ Halt n ones → (entry : Entry) → FromUndefined machine n ones s entry
       → HaltsSoon lines machine ⊎ (Never machine ⊎ IsLeftOpen lines machine)
-  from_gap n ones s e Undefined does = inl (halts_soon n ones e n ones does (omega arith) (omega arith))
-  from_gap n ones s e (Go write dir to.Halt) does =
+  from_undefined n ones s e Undefined does = inl (halts_soon n ones e n ones does (omega arith) (omega arith))
+  from_undefined n ones s e (Go write dir to.Halt) does =
       inl (halts_soon n ones e (n + 1) does.new_score (does.halts, does.scores) (omega arith)
       (omega (arith, does.counted)))
-  from_gap n ones s e (Go write dir (to.State t)) does = inr (inl does)
+  from_undefined n ones s e (Go write dir (to.State t)) does = inr (inl does)
 
   outcome : (verdict : Verdict) → is.line.verdict ≡ verdict → Settles is.changed verdict machine
       → HaltsSoon lines machine ⊎ (Never machine ⊎ IsLeftOpen lines machine)
-  outcome (Halt n ones) e settles = from_gap n ones settles.symbol e _ settles.does
+  outcome (Halt n ones) e settles = from_undefined n ones settles.symbol e _ settles.does
   outcome (Undecided why) e settles = inr (inr (record {
     line = is.line;
     listed = is.listed;

@@ -13,8 +13,8 @@ use Rattle.bb_machine.specs.declared.entry.Next.{Next}
 use Rattle.bb_machine.specs.declared.entry.Next.TheVariants.{State, Halt}
 use Rattle.bb_machine.specs.Entry.{IsEntryOf}
 use Rattle.bb_machine.specs.Machine.{Table, IsGroup, IsMachine, entry_of, symbols_of}
-use Rattle.laws_of_verdicts.specs.Closed.{all_gaps, with_entry}
-use Rattle.laws_of_verdicts.specs.Gap.{HasOtherGap}
+use Rattle.laws_of_verdicts.specs.Closed.{blank_table, with_entry}
+use Rattle.laws_of_verdicts.specs.UndefinedEntry.{HasOtherUndefined}
 use Rattle.laws_of_verdicts.proofs.ChangedTrees.{groups_long}
 
 -- the filled table
@@ -107,122 +107,122 @@ no_Z-with_entry table machine q s write to dir below inside no_Z = record {
 
 -- how many `---` there are
 
-abbrev gap_in : Entry → ℕ
-gap_in Undefined = 1
-gap_in (Go write dir to) = 0
+abbrev undefined_in : Entry → ℕ
+undefined_in Undefined = 1
+undefined_in (Go write dir to) = 0
 
-abbrev gaps_in : List Entry → ℕ
-gaps_in [] = 0
-gaps_in (e ∷ es) = gap_in e + gaps_in es
+abbrev undefined_entries_in : List Entry → ℕ
+undefined_entries_in [] = 0
+undefined_entries_in (e ∷ es) = undefined_in e + undefined_entries_in es
 
-abbrev pub gaps : Table → ℕ
-gaps [] = 0
-gaps (g ∷ gs) = gaps_in g + gaps gs
+abbrev pub undefined_entries : Table → ℕ
+undefined_entries [] = 0
+undefined_entries (g ∷ gs) = undefined_entries_in g + undefined_entries gs
 
-gaps_in-set : (es : List Entry) (s : ℕ) (e : Entry) → s < length es → get_or es s Undefined ≡ Undefined
-    → gap_in e ≡ 0 → suc (gaps_in (set es s e)) ≡ gaps_in es
-gaps_in-set [] s e inside gap fills = absurd (omega arith)
-gaps_in-set (x ∷ es) zero e inside gap fills =
-    let was : gap_in x ≡ 1 = ap gap_in gap in
+undefined_entries_in-set : (es : List Entry) (s : ℕ) (e : Entry) → s < length es → get_or es s Undefined ≡ Undefined
+    → undefined_in e ≡ 0 → suc (undefined_entries_in (set es s e)) ≡ undefined_entries_in es
+undefined_entries_in-set [] s e inside undefined fills = absurd (omega arith)
+undefined_entries_in-set (x ∷ es) zero e inside undefined fills =
+    let was : undefined_in x ≡ 1 = ap undefined_in undefined in
     omega (arith, was, fills)
-gaps_in-set (x ∷ es) (suc s) e inside gap fills =
-    omega (arith, gaps_in-set es s e (omega (arith, inside)) gap fills)
+undefined_entries_in-set (x ∷ es) (suc s) e inside undefined fills =
+    omega (arith, undefined_entries_in-set es s e (omega (arith, inside)) undefined fills)
 
-gaps-set : (gs : Table) (q s : ℕ) (e : Entry) → q < length gs → s < length (get_or gs q [])
-    → entry_of gs q s ≡ Undefined → gap_in e ≡ 0 → suc (gaps (with_entry gs q s e)) ≡ gaps gs
-gaps-set [] q s e below inside gap fills = absurd (omega arith)
-gaps-set (g ∷ gs) zero s e below inside gap fills =
-    omega (arith, gaps_in-set g s e inside gap fills)
-gaps-set (g ∷ gs) (suc q) s e below inside gap fills =
-    omega (arith, gaps-set gs q s e (omega (arith, below)) inside gap fills)
+undefined_entries-set : (gs : Table) (q s : ℕ) (e : Entry) → q < length gs → s < length (get_or gs q [])
+    → entry_of gs q s ≡ Undefined → undefined_in e ≡ 0 → suc (undefined_entries (with_entry gs q s e)) ≡ undefined_entries gs
+undefined_entries-set [] q s e below inside undefined fills = absurd (omega arith)
+undefined_entries-set (g ∷ gs) zero s e below inside undefined fills =
+    omega (arith, undefined_entries_in-set g s e inside undefined fills)
+undefined_entries-set (g ∷ gs) (suc q) s e below inside undefined fills =
+    omega (arith, undefined_entries-set gs q s e (omega (arith, below)) inside undefined fills)
 
-pub gaps-with_entry : (table : Table) → IsMachine table → (q s write : ℕ) (dir : _) (to : Next)
+pub undefined_entries-with_entry : (table : Table) → IsMachine table → (q s write : ℕ) (dir : _) (to : Next)
     → q < length table → s < symbols_of table → entry_of table q s ≡ Undefined
-    → suc (gaps (with_entry table q s (Go write dir to))) ≡ gaps table
-gaps-with_entry table machine q s write dir to below inside gap =
+    → suc (undefined_entries (with_entry table q s (Go write dir to))) ≡ undefined_entries table
+undefined_entries-with_entry table machine q s write dir to below inside undefined =
     let long = groups_long table machine q below in
-    gaps-set table q s (Go write dir to) below (omega (arith, long, inside)) gap refl
+    undefined_entries-set table q s (Go write dir to) below (omega (arith, long, inside)) undefined refl
 
 -- one of them
-record Gap (es : List Entry) : Type 0 where
+record UndefinedEntry (es : List Entry) : Type 0 where
   symbol : ℕ
   inside : symbol < length es
-  gap : get_or es symbol Undefined ≡ Undefined
+  undefined : get_or es symbol Undefined ≡ Undefined
 
-pub record SomeGapWithin (symbols : ℕ) (table : Table) : Type 0 where
+pub record SomeUndefinedWithin (symbols : ℕ) (table : Table) : Type 0 where
   pub state : ℕ
   pub symbol : ℕ
   pub below : state < length table
   pub inside : symbol < symbols
-  pub gap : entry_of table state symbol ≡ Undefined
+  pub undefined : entry_of table state symbol ≡ Undefined
 
-abbrev pub SomeGap : Table → Type 0
-SomeGap table = SomeGapWithin (symbols_of table) table
+abbrev pub SomeUndefined : Table → Type 0
+SomeUndefined table = SomeUndefinedWithin (symbols_of table) table
 
-some_gap_in : (es : List Entry) → 0 < gaps_in es → Gap es
-some_gap_in [] some = absurd (omega arith)
-some_gap_in (Undefined ∷ es) some = record { symbol = 0; inside = omega arith; gap = refl }
-some_gap_in (Go write dir to ∷ es) some =
-    let rest = some_gap_in es (omega (arith, some)) in
-    record { symbol = suc rest.symbol; inside = let h = rest.inside in omega (arith, h); gap = rest.gap }
+some_undefined_in : (es : List Entry) → 0 < undefined_entries_in es → UndefinedEntry es
+some_undefined_in [] some = absurd (omega arith)
+some_undefined_in (Undefined ∷ es) some = record { symbol = 0; inside = omega arith; undefined = refl }
+some_undefined_in (Go write dir to ∷ es) some =
+    let rest = some_undefined_in es (omega (arith, some)) in
+    record { symbol = suc rest.symbol; inside = let h = rest.inside in omega (arith, h); undefined = rest.undefined }
 
-some_gap_of : (n : ℕ) (table : Table) → ((i : ℕ) → i < length table → length (get_or table i []) ≡ n)
-    → 0 < gaps table → SomeGapWithin n table
-some_gap_of n [] long some = absurd (omega arith)
-some_gap_of n (g ∷ gs) long some = elim (cases_eq (gaps_in g) 0) [
+some_undefined_of : (n : ℕ) (table : Table) → ((i : ℕ) → i < length table → length (get_or table i []) ≡ n)
+    → 0 < undefined_entries table → SomeUndefinedWithin n table
+some_undefined_of n [] long some = absurd (omega arith)
+some_undefined_of n (g ∷ gs) long some = elim (cases_eq (undefined_entries_in g) 0) [
   | inl none ↦
-      let rest = some_gap_of n gs (λ i h. long (suc i) (omega (arith, h))) (omega (arith, some, none)) in
+      let rest = some_undefined_of n gs (λ i h. long (suc i) (omega (arith, h))) (omega (arith, some, none)) in
       record {
         state = suc rest.state;
         symbol = rest.symbol;
         below = let h = rest.below in omega (arith, h);
         inside = rest.inside;
-        gap = rest.gap;
+        undefined = rest.undefined;
       }
   | inr more ↦
-      let here = some_gap_in g (omega (arith, more)) in
+      let here = some_undefined_in g (omega (arith, more)) in
       let inside = here.inside in
       record {
         state = 0;
         symbol = here.symbol;
         below = omega arith;
         inside = omega (arith, inside, long 0 (omega arith));
-        gap = here.gap;
+        undefined = here.undefined;
       }
 ]
 
-pub some_gap : (table : Table) → IsMachine table → 0 < gaps table → SomeGap table
-some_gap table machine some = some_gap_of (symbols_of table) table (groups_long table machine) some
+pub some_undefined : (table : Table) → IsMachine table → 0 < undefined_entries table → SomeUndefined table
+some_undefined table machine some = some_undefined_of (symbols_of table) table (groups_long table machine) some
 
-pub no_gap : (table : Table) → IsMachine table → (q s : ℕ) → gaps table ≡ 0 → q < length table
+pub no_undefined : (table : Table) → IsMachine table → (q s : ℕ) → undefined_entries table ≡ 0 → q < length table
     → s < symbols_of table → entry_of table q s ≢ Undefined
-no_gap table machine q s none below inside gap =
-    omega (arith, none, gaps-with_entry table machine q s 0 L Halt below inside gap)
+no_undefined table machine q s none below inside undefined =
+    omega (arith, none, undefined_entries-with_entry table machine q s 0 L Halt below inside undefined)
 
 -- a `---` that is left where one is filled is another one
-pub other_gap : (table : Table) → IsMachine table → (q s write : ℕ) (dir : _) (to : Next) → q < length table
-    → s < symbols_of table → SomeGap (with_entry table q s (Go write dir to)) → HasOtherGap table q s
-other_gap table machine q s write dir to below inside some =
-    let gap = some.gap in
+pub other_undefined : (table : Table) → IsMachine table → (q s write : ℕ) (dir : _) (to : Next) → q < length table
+    → s < symbols_of table → SomeUndefined (with_entry table q s (Go write dir to)) → HasOtherUndefined table q s
+other_undefined table machine q s write dir to below inside some =
+    let undefined = some.undefined in
     elim (entry-either table machine q s (Go write dir to) below inside some.state some.symbol) [
-      | inl here ↦ let filled = here.2 in absurd (cc (filled, gap))
+      | inl here ↦ let filled = here.2 in absurd (cc (filled, undefined))
       | inr there ↦ record {
         other_state = some.state;
         other_symbol = some.symbol;
         state_named = rw (← length-with_entry table q s (Go write dir to)) some.below;
         symbol_named = rw (← symbols_of-with_entry table q s (Go write dir to)) some.inside;
         other = there.0;
-        gap = sym there.1 ∙ gap;
+        undefined = sym there.1 ∙ undefined;
       }
     ]
 
 -- all `---`
 
-pub all_gaps-none : (n k q s : ℕ) → entry_of (all_gaps n k) q s ≡ Undefined
-all_gaps-none zero k q s = refl
-all_gaps-none (suc n) k zero s = none k s where
+pub blank_table-none : (n k q s : ℕ) → entry_of (blank_table n k) q s ≡ Undefined
+blank_table-none zero k q s = refl
+blank_table-none (suc n) k zero s = none k s where
   none : (k s : ℕ) → get_or (replicate k Undefined) s Undefined ≡ Undefined
   none zero s = refl
   none (suc k) zero = refl
   none (suc k) (suc s) = none k s
-all_gaps-none (suc n) k (suc q) s = all_gaps-none n k q s
+blank_table-none (suc n) k (suc q) s = blank_table-none n k q s

@@ -9,7 +9,7 @@ mod EveryStart
 pub mod Facts
 mod Fillings
 mod Found
-mod GapHalts
+mod UndefinedHalts
 mod LaterSteps
 mod NormalForms
 mod Sums

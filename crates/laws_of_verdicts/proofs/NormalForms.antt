@@ -17,8 +17,8 @@ use Rattle.bb_sim.specs.Configuration.{Configuration, start, followed, entry_at,
 use Rattle.bb_sim.specs.Run.{conf}
 use Rattle.bb_sim.proofs.Facts.{led, run_named}
 use Rattle.laws_of_verdicts.specs.Change.{Change, IsChanged, Renaming, changed_entry, changed_next, turned}
-use Rattle.laws_of_verdicts.specs.Closed.{HasMachine, VerdictLine, all_gaps, with_entry}
-use Rattle.laws_of_verdicts.specs.Gap.{HaltsOnGap}
+use Rattle.laws_of_verdicts.specs.Closed.{HasMachine, VerdictLine, blank_table, with_entry}
+use Rattle.laws_of_verdicts.specs.UndefinedEntry.{HaltsOnUndefined}
 use Rattle.laws_of_verdicts.specs.NormalForm.{Asks, IsEmpty, Lists, NormalFormCovers}
 use Rattle.laws_of_verdicts.specs.NormalForm.{UsesFirst}
 use Rattle.laws_of_verdicts.proofs.ChangedRuns.{along}
@@ -61,10 +61,10 @@ module _ (table : Table) (states symbols : ℕ) (uses : UsesFirst table states s
   run_within = along table (IsWithin states symbols) start_within (λ c d leads before.
       followed_within c d _ (entry_within c.state (cell c.tape c.head)) before leads)
 
-  gap_within : (n q s : ℕ) → HaltsOnGap table n q s → (q < states) × (s < symbols)
-  gap_within n q s gap =
-      let within = run_within n gap.last gap.exists in
-      (subst (IsNextOf states) gap.in_state within.state, omega (arith, within.cells gap.last.head))
+  undefined_within : (n q s : ℕ) → HaltsOnUndefined table n q s → (q < states) × (s < symbols)
+  undefined_within n q s undefined =
+      let within = run_within n undefined.last undefined.exists in
+      (subst (IsNextOf states) undefined.in_state within.state, omega (arith, within.cells undefined.last.head))
 
 -- two names swapped
 
@@ -138,9 +138,9 @@ module _ (table : Table) (states symbols : ℕ) (uses : UsesFirst table states s
       let used = uses.for_these q s some in
       (state_kept q used.0, symbol_kept s used.1)
 
-  gap_image : (q s : ℕ) → entry_of table q s ≡ Undefined
+  undefined_image : (q s : ℕ) → entry_of table q s ≡ Undefined
       → entry_of table (swapped (min t states) t q) (swapped (min write symbols) write s) ≡ Undefined
-  gap_image q s gap = by_entry _ refl where
+  undefined_image q s undefined = by_entry _ refl where
     by_entry : (entry : Entry)
         → entry_of table (swapped (min t states) t q) (swapped (min write symbols) write s) ≡ entry
         → entry_of table (swapped (min t states) t q) (swapped (min write symbols) write s) ≡ Undefined
@@ -151,12 +151,12 @@ module _ (table : Table) (states symbols : ℕ) (uses : UsesFirst table states s
         let state : swapped (min t states) t q ≡ q = sym kept.0 ∙ swapped-twice (min t states) t q in
         let symbol : swapped (min write symbols) write s ≡ s =
         sym kept.1 ∙ swapped-twice (min write symbols) write s in
-        ap₂ (entry_of table) state symbol ∙ gap
+        ap₂ (entry_of table) state symbol ∙ undefined
 
   image : (q s : ℕ) (entry : Entry) → entry_of table q s ≡ entry
       → entry_of table (swapped (min t states) t q) (swapped (min write symbols) write s)
       ≡ changed_entry change (entry_of table q s)
-  image q s Undefined e = gap_image q s e ∙ sym (ap (changed_entry change) e)
+  image q s Undefined e = undefined_image q s e ∙ sym (ap (changed_entry change) e)
   image q s (Go w move then) e =
       let kept = kept_here q s (λ none. cc) in
       ap₂ (entry_of table) kept.0 kept.1 ∙ sym (entry_kept q s (entry_of table q s) refl (uses.named q s))
@@ -204,14 +204,14 @@ module _ (table : Table) (states symbols : ℕ) (uses : UsesFirst table states s
     }
 
 -- the state and symbol where a machine halts are its own
-gap_named : (table : Table) → IsMachine table → (n q s : ℕ) → HaltsOnGap table n q s
+undefined_named : (table : Table) → IsMachine table → (n q s : ℕ) → HaltsOnUndefined table n q s
     → (q < length table) × (s < symbols_of table)
-gap_named table machine n q s gap =
-    let named = run_named table machine n gap.last gap.exists in
-    (subst (IsNextOf (length table)) gap.in_state named.state, omega (arith, named.symbols gap.last.head))
+undefined_named table machine n q s undefined =
+    let named = run_named table machine n undefined.last undefined.exists in
+    (subst (IsNextOf (length table)) undefined.in_state named.state, omega (arith, named.symbols undefined.last.head))
 
 module _ (lines : List VerdictLine) (table : Table) (machine : IsMachine table) (n q s : ℕ)
-    (gap : HaltsOnGap table n q s) (goes : Asks table q s (Lists lines)) (write t : ℕ)
+    (undefined : HaltsOnUndefined table n q s) (goes : Asks table q s (Lists lines)) (write t : ℕ)
     (small : write < symbols_of table) (low : t < length table) where
   listed : (move : Dir)
       → Lists lines (with_entry table q s (Go (min write goes.symbols) move (to.State (min t goes.states))))
@@ -223,8 +223,8 @@ module _ (lines : List VerdictLine) (table : Table) (machine : IsMachine table) 
       → Lists lines (with_entry table q s (Go (min write goes.symbols) move (to.State (min t goes.states))))
       → HasMachine lines (with_entry table q s (Go write (turned mirrored move) (to.State t)))
   filled_by move mirrored unseen lists = has_filled table goes.states goes.symbols goes.uses write t small low
-      mirrored unseen machine q s (gap_within table goes.states goes.symbols goes.uses n q s gap)
-      (gap_named table machine n q s gap) move lines lists
+      mirrored unseen machine q s (undefined_within table goes.states goes.symbols goes.uses n q s undefined)
+      (undefined_named table machine n q s undefined) move lines lists
 
   has_all : (move : Dir) → HasMachine lines (with_entry table q s (Go write move (to.State t)))
   has_all move = elim (listed move) [
@@ -256,15 +256,15 @@ normal_form_covers lines states symbols is = record {
   closed = record {
     machines = is.machines;
     claims = is.claims;
-    goes_on = λ line steps score state symbol write t move listed says gap other small low.
-        has_all lines line.table (is.machines line listed) steps state symbol gap
-        (is.goes_on line steps score state symbol listed says gap other) write t small low move;
+    goes_on = λ line steps score state symbol write t move listed says undefined other small low.
+        has_all lines line.table (is.machines line listed) steps state symbol undefined
+        (is.goes_on line steps score state symbol listed says undefined other) write t small low move;
   };
   has_root = record {
     line = is.has_root.line;
     listed = is.has_root.listed;
     change = unchanged;
-    is_changed = subst (λ x. IsChanged unchanged x (all_gaps states symbols)) (sym is.has_root.is_table)
-        (same_machine (all_gaps states symbols));
+    is_changed = subst (λ x. IsChanged unchanged x (blank_table states symbols)) (sym is.has_root.is_table)
+        (same_machine (blank_table states symbols));
   };
 }

@@ -10,10 +10,10 @@ use Rattle.bb_machine.specs.declared.entry.Entry.TheVariants.{Go}
 use Rattle.bb_machine.specs.declared.entry.Next.TheVariants.{State}
 use Rattle.bb_machine.specs.Machine.{Table, symbols_of}
 use Rattle.bb_cert.specs.declared.verdict.Verdict.TheVariants.{Halt}
-use Rattle.laws_of_verdicts.specs.Closed.{VerdictLine, all_gaps, with_entry}
-use Rattle.laws_of_verdicts.specs.Gap.{HaltsOnGap, HasOtherGap}
+use Rattle.laws_of_verdicts.specs.Closed.{VerdictLine, blank_table, with_entry}
+use Rattle.laws_of_verdicts.specs.UndefinedEntry.{HaltsOnUndefined, HasOtherUndefined}
 use Rattle.laws_of_verdicts.specs.NormalForm.{Asks, IsEmpty, Lists}
-use Rattle.laws_of_verdicts.specs.Walk.{FillsGapBy, HaltsOnOneOf, IsWalk, LeadsTo, WalksAreInNormalForm}
+use Rattle.laws_of_verdicts.specs.Walk.{FillsUndefinedBy, HaltsOnOneOf, IsWalk, LeadsTo, WalksAreInNormalForm}
 use Rattle.laws_of_verdicts.specs.Walk.{entries_of, entries_to, entries_with}
 
 -- membership
@@ -119,7 +119,7 @@ to_left states write to less =
     contains_right (Go write dir.L (State to)) (entries_to write dir.R states) (entries_to write dir.L states)
     (in_entries_to write dir.L states to less)
 
-module _ (table : Table) (q s : ℕ) (more : List Table) (fills : FillsGapBy table q s more) where
+module _ (table : Table) (q s : ℕ) (more : List Table) (fills : FillsUndefinedBy table q s more) where
   abbrev states : ℕ
   states = min (length table) (fills.states + 1)
 
@@ -155,28 +155,28 @@ module _ (table : Table) (q s : ℕ) (more : List Table) (fills : FillsGapBy tab
 
 goes_on : (tables : List Table) (lines : List VerdictLine) → IsWalk tables lines → (line : VerdictLine)
     (steps score q s : ℕ) → Contains lines line → line.verdict ≡ Halt steps score
-    → HaltsOnGap line.table steps q s → HasOtherGap line.table q s → Asks line.table q s (Lists lines)
-goes_on tables [] walk line steps score q s has says gap other = let h = has.1 in absurd (omega (arith, h))
-goes_on [] (first ∷ lines) walk line steps score q s has says gap other = absurd walk
-goes_on (t ∷ tables) (first ∷ lines) walk line steps score q s has says gap other =
+    → HaltsOnUndefined line.table steps q s → HasOtherUndefined line.table q s → Asks line.table q s (Lists lines)
+goes_on tables [] walk line steps score q s has says undefined other = let h = has.1 in absurd (omega (arith, h))
+goes_on [] (first ∷ lines) walk line steps score q s has says undefined other = absurd walk
+goes_on (t ∷ tables) (first ∷ lines) walk line steps score q s has says undefined other =
     elim (contains_cases first line lines has) [
       | inl e ↦
           let leads : LeadsTo line walk.1.0 = subst (λ l. LeadsTo l walk.1.0) e walk.1.1 in
           let halts : HaltsOnOneOf line q s =
-          record { steps = steps; score = score; says = says; gap = gap; other = other } in
+          record { steps = steps; score = score; says = says; undefined = undefined; other = other } in
           asks_more line.table q s (Contains walk.1.0) (Lists (first ∷ lines))
           (λ x in_more. lists_more first lines x (visited (walk.1.0 ++ tables) lines walk.1.2 x
           (contains_left x walk.1.0 tables in_more)))
           (asks line.table q s walk.1.0 (leads.filled q s halts))
       | inr rest ↦ asks_more line.table q s (Lists lines) (Lists (first ∷ lines)) (lists_more first lines)
-          (goes_on (walk.1.0 ++ tables) lines walk.1.2 line steps score q s rest says gap other)
+          (goes_on (walk.1.0 ++ tables) lines walk.1.2 line steps score q s rest says undefined other)
     ]
 
 pub walks_are_in_normal_form : WalksAreInNormalForm
 walks_are_in_normal_form lines states symbols walked = record {
-  has_root = visited (all_gaps states symbols ∷ []) lines walked.walk (all_gaps states symbols)
-      (contains_first (all_gaps states symbols) []);
+  has_root = visited (blank_table states symbols ∷ []) lines walked.walk (blank_table states symbols)
+      (contains_first (blank_table states symbols) []);
   machines = walked.machines;
   claims = walked.claims;
-  goes_on = goes_on (all_gaps states symbols ∷ []) lines walked.walk;
+  goes_on = goes_on (blank_table states symbols ∷ []) lines walked.walk;
 }

@@ -1,5 +1,5 @@
--- Changes of a machine that leave what it does as it is: left and right swapped, its states renamed, its
--- symbols renamed. These notions are this project's own.
+-- Changes of a machine that preserve its behaviour: left and right swapped, its states renamed, its symbols
+-- renamed. These notions are this project's own.
 use Rattle.std.specs.Prelude.{◌≡◌, ℕ, ◌<◌, ◌↔◌, Bool, true, false, length}
 use Rattle.bb_machine.specs.declared.entry.Dir.{Dir}
 use Rattle.bb_machine.specs.declared.entry.Dir.TheVariants as dir
@@ -55,8 +55,8 @@ changed_entry change Undefined = Undefined
 changed_entry change (Go write to then) =
     Go (change.symbols.new write) (turned change.mirrored to) (changed_next change then)
 
--- the second machine is the first one changed: it has as many states and symbols, of which the new names are,
--- and the entry for each state and symbol is that for their old names, changed
+-- the second machine is the first one changed: it has as many states and symbols, and its entry for new names
+-- of a state and a symbol is the entry for their old names, changed
 pub record IsChanged (change : Change) (table changed : Table) : Type 0 where
   pub states : length changed ≡ length table
   pub symbols : symbols_of changed ≡ symbols_of table

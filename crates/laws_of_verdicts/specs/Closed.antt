@@ -1,5 +1,5 @@
--- Lists of verdicts that settle every machine of a size: what can be checked of such a list line by line, and
--- what it says then. These notions are this project's own.
+-- Lists of verdicts that settle every machine of a size: the conditions on such a list, line by line, and
+-- their consequence. These notions are this project's own.
 use Rattle.std.specs.Prelude.{◌≡◌, ◌⊎◌, ℕ, ◌+◌, ◌<◌, ◌≤◌, List, [], length, replicate}
 use Rattle.std.specs.Prelude.{slice_index_or, slice_set, Contains}
 use Rattle.bb_machine.specs.declared.entry.Dir.{Dir}
@@ -14,7 +14,7 @@ use Rattle.bb_cert.specs.declared.verdict.Why.{Why}
 use Rattle.bb_cert.specs.claims.Claim.{Claim}
 use Rattle.laws_of_verdicts.specs.Change.{Change, IsChanged}
 use Rattle.laws_of_verdicts.specs.Completion.{IsCompletion}
-use Rattle.laws_of_verdicts.specs.Gap.{HaltsNext, HaltsOnGap, HasOtherGap}
+use Rattle.laws_of_verdicts.specs.UndefinedEntry.{HaltsNext, HaltsOnUndefined, HasOtherUndefined}
 
 -- a line: a machine and a verdict on it
 pub record VerdictLine : Type 0 where
@@ -22,8 +22,8 @@ pub record VerdictLine : Type 0 where
   pub verdict : Verdict
 
 -- the machine of so many states and symbols with no entry but `---`
-abbrev pub all_gaps : ℕ → ℕ → Table
-all_gaps states symbols = replicate states (replicate symbols Undefined)
+abbrev pub blank_table : ℕ → ℕ → Table
+blank_table states symbols = replicate states (replicate symbols Undefined)
 
 -- the machine with that entry for that state and symbol, and its own for all others
 abbrev pub with_entry : Table → ℕ → ℕ → Entry → Table
@@ -43,30 +43,30 @@ pub record IsClosed (lines : List VerdictLine) : Type 0 where
   pub machines : (line : VerdictLine) → Contains lines line → IsMachine line.table
   pub claims : (line : VerdictLine) → Contains lines line → Claim line.table line.verdict
   pub goes_on : (line : VerdictLine) (steps score state symbol write to : ℕ) (dir : Dir)
-      → Contains lines line → line.verdict ≡ Halt steps score → HaltsOnGap line.table steps state symbol
-      → HasOtherGap line.table state symbol → write < symbols_of line.table → to < length line.table
+      → Contains lines line → line.verdict ≡ Halt steps score → HaltsOnUndefined line.table steps state symbol
+      → HasOtherUndefined line.table state symbol → write < symbols_of line.table → to < length line.table
       → HasMachine lines (with_entry line.table state symbol (Go write dir (next.State to)))
 
 -- the list is closed and has, up to a change, the machine of so many states and symbols with no entry
 pub record Covers (lines : List VerdictLine) (states symbols : ℕ) : Type 0 where
   pub closed : IsClosed lines
-  pub has_root : HasMachine lines (all_gaps states symbols)
+  pub has_root : HasMachine lines (blank_table states symbols)
 
--- what a machine does that has this entry where the one that it completes halts on a `---`
-abbrev pub FromGap : Table → (steps score symbol : ℕ) → Entry → Type 0
-FromGap machine steps score symbol Undefined = Claim machine (Halt steps score)
-FromGap machine steps score symbol (Go write dir next.Halt) = HaltsNext machine steps score symbol write
-FromGap machine steps score symbol (Go write dir (next.State to)) = Never machine
+-- the behaviour of a machine with this entry, if the machine it completes halts on a `---`
+abbrev pub FromUndefined : Table → (steps score symbol : ℕ) → Entry → Type 0
+FromUndefined machine steps score symbol Undefined = Claim machine (Halt steps score)
+FromUndefined machine steps score symbol (Go write dir next.Halt) = HaltsNext machine steps score symbol write
+FromUndefined machine steps score symbol (Go write dir (next.State to)) = Never machine
 
-pub record FillsGap (table machine : Table) (steps score : ℕ) : Type 0 where
+pub record FillsUndefined (table machine : Table) (steps score : ℕ) : Type 0 where
   pub state : ℕ
   pub symbol : ℕ
-  pub gap : HaltsOnGap table steps state symbol
-  pub does : FromGap machine steps score symbol (entry_of machine state symbol)
+  pub undefined : HaltsOnUndefined table steps state symbol
+  pub does : FromUndefined machine steps score symbol (entry_of machine state symbol)
 
--- what a verdict on a machine makes of a completion: where it is undecided, nothing
+-- the consequence of a verdict on a machine for a completion: none if it is undecided
 abbrev pub Settles : Table → Verdict → Table → Type 0
-Settles table (Halt steps score) machine = FillsGap table machine steps score
+Settles table (Halt steps score) machine = FillsUndefined table machine steps score
 Settles table (Cycler first second) machine = Never machine
 Settles table (Translated side first second extent) machine = Never machine
 Settles table (Backward levels nodes) machine = Never machine

@@ -30,30 +30,30 @@ pub record IsInZ (table : Table) (n : ℕ) : Type 0 where
 
 -- no `---` has a part in the verdict: a halt by a step into Z, or a pair. A machine that halts on a `---`
 -- goes on once that is filled, and a tree has a node for each `---`
-abbrev pub MeetsNoGap : Table → Verdict → Type 0
-MeetsNoGap table (Halt steps score) = IsInZ table steps
-MeetsNoGap table (Cycler first second) = Unit {0}
-MeetsNoGap table (Translated side first second extent) = Unit {0}
-MeetsNoGap table (Backward levels nodes) = ⊥
-MeetsNoGap table (Undecided why) = ⊥
+abbrev pub MeetsNoUndefined : Table → Verdict → Type 0
+MeetsNoUndefined table (Halt steps score) = IsInZ table steps
+MeetsNoUndefined table (Cycler first second) = Unit {0}
+MeetsNoUndefined table (Translated side first second extent) = Unit {0}
+MeetsNoUndefined table (Backward levels nodes) = ⊥
+MeetsNoUndefined table (Undecided why) = ⊥
 
 -- such a verdict is that of each completion, within the same bounds, by the same plan, in all its numbers
 abbrev pub CompletionsKeepVerdicts : Type 0
 CompletionsKeepVerdicts = (table filled : Table) (bounds : Bounds) (plan : Plan) (verdict : Verdict)
-    → IsCompletion table filled → MeetsNoGap table verdict → IsVerdict table bounds plan verdict
+    → IsCompletion table filled → MeetsNoUndefined table verdict → IsVerdict table bounds plan verdict
     → IsVerdict filled bounds plan verdict
 
 -- what such a verdict claims, however it was found, holds of each completion
 abbrev pub CompletionsKeepClaims : Type 0
 CompletionsKeepClaims = (table filled : Table) (verdict : Verdict) → IsCompletion table filled
-    → MeetsNoGap table verdict → Claim table verdict → Claim filled verdict
+    → MeetsNoUndefined table verdict → Claim table verdict → Claim filled verdict
 
 -- and the checker answers ok to it there, within the same bounds
 abbrev pub CompletionsKeepAnswers : Type 0
 CompletionsKeepAnswers = (table filled : Table) (bounds : Bounds) (verdict : Verdict)
-    → IsCompletion table filled → MeetsNoGap table verdict → IsAnswer table bounds verdict Ok
+    → IsCompletion table filled → MeetsNoUndefined table verdict → IsAnswer table bounds verdict Ok
     → IsAnswer filled bounds verdict Ok
 
--- a machine that never halts meets no `---`, so its completions never halt either, whatever the verdict is
+-- a machine that never halts meets no `---`, so its completions never halt either, for any verdict
 abbrev pub CompletionsNeverHalt : Type 0
 CompletionsNeverHalt = (table filled : Table) → IsCompletion table filled → Never table → Never filled

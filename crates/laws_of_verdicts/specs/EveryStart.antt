@@ -1,4 +1,4 @@
--- What a tree that ends says of every start: stronger than never from the blank tape. This law is this
+-- The meaning of an ending tree for every start: stronger than never from the blank tape. This law is this
 -- project's own.
 use Rattle.std.specs.Prelude.{◌≡◌, ℕ, ◌<◌, ◌≤◌, Some, None, length, ℤ}
 use Rattle.bb_machine.specs.Entry.{IsNextOf}
@@ -19,8 +19,8 @@ pub record HaltsFrom (table : Table) (c : Configuration) (n : ℕ) : Type 0 wher
   pub exists : after table c n ≡ Some last
   pub no_next : next table last ≡ None
 
--- where the tree ends in so many levels, a machine that halts, from whatever start, does so within as many
--- steps. That the start A on the blank tape matches no node isn't asked
+-- if the tree ends in so many levels, a machine that halts, from any start, does so within as many steps. The
+-- start A on the blank tape may match a node here
 abbrev pub EveryStartHaltsSoonOrNever : Type 0
 EveryStartHaltsSoonOrNever = (table : Table) (levels nodes : ℕ) (c : Configuration) (n : ℕ)
     → IsMachine table → Ends table levels nodes → IsStartOf table c → HaltsFrom table c n → n ≤ levels

@@ -1,4 +1,4 @@
--- What a pair says of all later steps. These laws are this project's own.
+-- The meaning of a pair for all later steps. These laws are this project's own.
 use Rattle.std.specs.Prelude.{◌≡◌, ℕ, ◌+◌, ◌-◌, ◌*◌, ◌≤◌, Some, pos, ◌+ℤ◌}
 use Rattle.bb_machine.specs.Machine.{Table}
 use Rattle.bb_sim.specs.Configuration.{Configuration}

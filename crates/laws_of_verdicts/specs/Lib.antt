@@ -3,7 +3,7 @@ pub mod Closed
 pub mod Completion
 pub mod EveryStart
 pub mod Found
-pub mod Gap
+pub mod UndefinedEntry
 pub mod LaterSteps
 pub mod NormalForm
 pub mod Walk

@@ -9,8 +9,8 @@ use Rattle.bb_machine.specs.Entry.{IsEntryOf}
 use Rattle.bb_machine.specs.Machine.{Table, IsMachine, entry_of, symbols_of}
 use Rattle.bb_cert.specs.declared.verdict.Verdict.TheVariants.{Halt}
 use Rattle.bb_cert.specs.claims.Claim.{Claim}
-use Rattle.laws_of_verdicts.specs.Closed.{Covers, VerdictLine, all_gaps, with_entry}
-use Rattle.laws_of_verdicts.specs.Gap.{HaltsOnGap, HasOtherGap}
+use Rattle.laws_of_verdicts.specs.Closed.{Covers, VerdictLine, blank_table, with_entry}
+use Rattle.laws_of_verdicts.specs.UndefinedEntry.{HaltsOnUndefined, HasOtherUndefined}
 
 -- the machine has entries for the first so many states and symbols alone, and they name these alone
 pub record UsesFirst (table : Table) (states symbols : ℕ) : Type 0 where
@@ -29,8 +29,8 @@ pub record Lists (lines : List VerdictLine) (table : Table) : Type 0 where
   pub listed : Contains lines line
   pub is_table : line.table ≡ table
 
--- what is asked of each machine with this gap filled by an entry that leads to a state and names at most the
--- first state and symbol that weren't used; but to the left only where the machine has an entry
+-- the machines required below each machine: with this undefined entry filled by an entry that leads to a
+-- state and names at most the first unused state and symbol; but to the left only if the machine has an entry
 pub record Asks (table : Table) (state symbol : ℕ) (Has : Table → Type 0) : Type 0 where
   pub states : ℕ
   pub symbols : ℕ
@@ -42,12 +42,12 @@ pub record Asks (table : Table) (state symbol : ℕ) (Has : Table → Type 0) : 
 
 -- the lines are true, and each machine that halts on one of several `---` goes on so
 pub record IsInNormalForm (lines : List VerdictLine) (states symbols : ℕ) : Type 0 where
-  pub has_root : Lists lines (all_gaps states symbols)
+  pub has_root : Lists lines (blank_table states symbols)
   pub machines : (line : VerdictLine) → Contains lines line → IsMachine line.table
   pub claims : (line : VerdictLine) → Contains lines line → Claim line.table line.verdict
   pub goes_on : (line : VerdictLine) (steps score state symbol : ℕ) → Contains lines line
-      → line.verdict ≡ Halt steps score → HaltsOnGap line.table steps state symbol
-      → HasOtherGap line.table state symbol → Asks line.table state symbol (Lists lines)
+      → line.verdict ≡ Halt steps score → HaltsOnUndefined line.table steps state symbol
+      → HasOtherUndefined line.table state symbol → Asks line.table state symbol (Lists lines)
 
 -- a list in normal form covers its size
 abbrev pub NormalFormCovers : Type 0

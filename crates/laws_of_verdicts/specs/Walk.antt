@@ -11,8 +11,8 @@ use Rattle.bb_machine.specs.declared.entry.Next.TheVariants as next
 use Rattle.bb_machine.specs.Machine.{Table, IsMachine, symbols_of}
 use Rattle.bb_cert.specs.declared.verdict.Verdict.TheVariants.{Halt}
 use Rattle.bb_cert.specs.claims.Claim.{Claim}
-use Rattle.laws_of_verdicts.specs.Closed.{VerdictLine, all_gaps, with_entry}
-use Rattle.laws_of_verdicts.specs.Gap.{HaltsOnGap, HasOtherGap}
+use Rattle.laws_of_verdicts.specs.Closed.{VerdictLine, blank_table, with_entry}
+use Rattle.laws_of_verdicts.specs.UndefinedEntry.{HaltsOnUndefined, HasOtherUndefined}
 use Rattle.laws_of_verdicts.specs.NormalForm.{IsEmpty, IsInNormalForm, UsesFirst}
 
 -- the machine uses the first so many states and symbols, and not fewer
@@ -36,8 +36,9 @@ entries_of is_root states zero = []
 entries_of is_root states (suc write) =
     entries_of is_root states write ++ entries_with is_root states write
 
--- the machines with this gap filled by entries that name at most the first state and symbol that aren't used
-pub record FillsGapBy (table : Table) (state symbol : ℕ) (more : List Table) : Type 0 where
+-- the machines with this undefined entry filled by entries that name at most the first unused state and
+-- symbol
+pub record FillsUndefinedBy (table : Table) (state symbol : ℕ) (more : List Table) : Type 0 where
   pub states : ℕ
   pub symbols : ℕ
   pub uses : Uses table states symbols
@@ -51,13 +52,13 @@ pub record HaltsOnOneOf (line : VerdictLine) (state symbol : ℕ) : Type 0 where
   pub steps : ℕ
   pub score : ℕ
   pub says : line.verdict ≡ Halt steps score
-  pub gap : HaltsOnGap line.table steps state symbol
-  pub other : HasOtherGap line.table state symbol
+  pub undefined : HaltsOnUndefined line.table steps state symbol
+  pub other : HasOtherUndefined line.table state symbol
 
--- the machines to which a line leads: those with this gap filled; none from any other line
+-- the machines to which a line leads: those with this undefined entry filled; none from any other line
 pub record LeadsTo (line : VerdictLine) (more : List Table) : Type 0 where
   pub filled : (state symbol : ℕ) → HaltsOnOneOf line state symbol
-      → FillsGapBy line.table state symbol more
+      → FillsUndefinedBy line.table state symbol more
   pub none : ((state symbol : ℕ) → HaltsOnOneOf line state symbol → ⊥) → more ≡ []
 
 -- the lines are those of a walk in depth that has still to visit these machines, in this order
@@ -70,7 +71,7 @@ IsWalk (table ∷ tables) (line ∷ lines) = (line.table ≡ table)
 
 -- true lines in the order of the walk that begins at the machine with no entry
 pub record AreWalked (lines : List VerdictLine) (states symbols : ℕ) : Type 0 where
-  pub walk : IsWalk (all_gaps states symbols ∷ []) lines
+  pub walk : IsWalk (blank_table states symbols ∷ []) lines
   pub machines : (line : VerdictLine) → Contains lines line → IsMachine line.table
   pub claims : (line : VerdictLine) → Contains lines line → Claim line.table line.verdict
 

@@ -116,7 +116,7 @@ fn is_next(byte: u8, states: usize) -> bool {
     byte == b'Z' || byte.is_ascii_uppercase() && (byte.wrapping_sub(b'A') as usize) < states
 }
 
-/// Whether an entry's text that names only so many states and symbols begins with the bytes.
+/// Whether the text of an entry within so many states and symbols starts with the bytes.
 fn begins_entry(bytes: &[u8], states: usize, symbols: usize) -> bool {
     match bytes {
         [] => true,
@@ -130,7 +130,7 @@ fn begins_entry(bytes: &[u8], states: usize, symbols: usize) -> bool {
     }
 }
 
-/// The column of a line that is no machine's text, 0 of one that is.
+/// The column of a wrong line, 0 for a machine's text.
 fn expected(line: &[u8]) -> usize {
     for symbols in 2..MAX_SYMBOLS + 1 {
         for states in 1..MAX_STATES + 1 {
@@ -198,7 +198,7 @@ fn other_lines_are_refused_with_their_column(rt: HostRuntime) {
     }
 }
 
-/// More states or symbols than a machine has, and lines that go on after the longest one.
+/// More states or symbols than a machine has, and lines that continue after the longest one.
 #[test]
 fn larger_machines_are_refused(rt: HostRuntime) -> Result<(), Fail> {
     for (groups, entries, column) in [(26, 10, 775), (26, 2, 175), (1, 11, 31), (25, 11, 31)] {
@@ -211,14 +211,14 @@ fn larger_machines_are_refused(rt: HostRuntime) -> Result<(), Fail> {
     Ok(())
 }
 
-/// The entry that writes a 1 and halts to the right.
+/// The entry with a 1, a halt and a move to the right.
 const TO_HALT: Entry = Entry::Go {
     write: 1,
     dir: Dir::R,
     next: Next::Halt,
 };
 
-/// A state, a symbol, and the entry that stands there.
+/// A state, a symbol, and their entry.
 type Row = (u8, u8, Entry);
 
 /// Of the five-state champion.
@@ -249,7 +249,7 @@ static ENTRIES_OF_THREE_SYMBOLS: [Row; 2] = [
     ),
 ];
 
-/// A state and a symbol of the five-state champion, and what its entry does; none where it halts.
+/// A state and a symbol of the five-state champion, and its step; none for the halt.
 static STEPS: [(u8, u8, Option<Step>); 2] = [
     (
         0,
@@ -329,7 +329,7 @@ fn each_changed_byte_of_larger_machines_is_too(rt: HostRuntime) {
     are_read_with_each_byte(&rt, &MACHINES[12..]);
 }
 
-/// Limits of steps, cells, levels and nodes, the fault that they have, and its text.
+/// Limits of steps, cells, levels and nodes, their fault, and its text.
 const FAULTS: [([u64; 4], LimitFault, &str); 6] = [
     (
         [1_000_000_000_001, 0, 10_001, 1_000_000_000_001],

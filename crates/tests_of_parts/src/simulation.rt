@@ -1,4 +1,4 @@
-//! Runs step by step, as they were worked out by hand, and runs that meet a limit at its end.
+//! Runs step by step, worked out by hand, and runs that meet a limit at its end.
 ghost use Rattle.std.specs.Prelude.{◌≡◌};
 
 use bb_machine::{Limits, Machine};
@@ -6,7 +6,7 @@ use bb_sim::{Meter, Moved, Outcome, Runner, simulate};
 use bb_tape::{MapTape, RingTape, Tape};
 use std::process::Abort;
 
-/// A configuration: the state's letter, the head's position, the positions that have a 1, and the span.
+/// A configuration: the state's letter, the head's position, the positions of each 1, and the span.
 type Seen = (char, i64, &'static [i64], i64);
 
 const CELLS: u64 = 64;
@@ -56,7 +56,7 @@ static RUNS: [Run; 4] = [
             ('Z', 1, &[-1, 0, 1, 2, 3], 5),
         ],
     ),
-    // A run that goes on to the right.
+    // A run to the right, without end.
     (
         b"1RB0RA_1LA---",
         &[
@@ -71,7 +71,7 @@ static RUNS: [Run; 4] = [
             ('A', 4, &[], 5),
         ],
     ),
-    // A run whose configurations come again.
+    // A run with a repeated configuration.
     (
         b"1RB0RB_1LA1LA",
         &[
@@ -109,7 +109,7 @@ fn is_seen(rt: &impl Abort, runner: &Runner, step: usize, seen: &Seen) {
     assert_eq!(rt; span(runner), Some(cells), "at step {step}");
 }
 
-/// Holds the cells of a tape against the positions that have a 1.
+/// Compares the cells of a tape with the positions of each 1.
 fn has_ones<T: Tape>(rt: &impl Abort, tape: &T, step: usize, ones: &[i64]) {
     for position in -40..41 {
         let symbol = u8::from(ones.contains(&position));
@@ -121,7 +121,7 @@ fn has_ones<T: Tape>(rt: &impl Abort, tape: &T, step: usize, ones: &[i64]) {
     }
 }
 
-/// Holds the run of a machine against what was worked out.
+/// Compares the run of a machine with the expected one.
 fn follows<T: Tape>(rt: &impl Abort, mut tape: T, text: &[u8], run: &[Seen])
     requires { (T.view tape).limit ≡ CELLS }
 {
@@ -141,7 +141,7 @@ fn follows<T: Tape>(rt: &impl Abort, mut tape: T, text: &[u8], run: &[Seen])
     }
 }
 
-/// How a simulation ends, and what it counts.
+/// The outcome of a simulation, and its counts.
 type End = (&'static [u8], u64, u64, Outcome, u64, u64);
 
 /// The text, the limits of steps and cells, the outcome, the steps counted and the most cells.

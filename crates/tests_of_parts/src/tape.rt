@@ -11,7 +11,7 @@ use linked_list_allocator::LocalHeap;
 use std::process::Abort;
 use std::test::Fail;
 
-/// The symbol that a cell has after a write, which is undone.
+/// The symbol of a cell after a write, undone then.
 fn written_and_undone<T: Tape>(tape: &mut T, p: i64, v: u8) -> Result<u8, TapeFault>
     requires inside { IsInside (T.view tape.old) p }
     requires symbol { v ≤ MAX_SYMBOL }
@@ -71,7 +71,7 @@ fn copies_in_three_cells<T: Tape>(rt: &impl Abort, tape: &mut T, other: &mut T) 
     Ok(())
 }
 
-/// Widens a blank tape with limit 3 to positions that aren't next to its window.
+/// Widens a blank tape with limit 3 to positions away from its window.
 fn reaches_in_three_cells<T: Tape>(rt: &impl Abort, tape: &mut T) -> Result<(), Fail>
     requires { T.view tape.old ≡ fresh 3 }
 {
@@ -134,8 +134,7 @@ fn a_ring_is_made_where_there_is_memory(rt: HostRuntime) {
     assert!(rt; (-70..71).all(|p| tape.read(p) == 0));
 }
 
-/// Puts symbols into the cells from `from` on, below `cells`, and gives the first that was refused, or
-/// `cells`.
+/// Writes symbols into the cells from `from` on, below `cells`. Returns the first refused one, or `cells`.
 fn write_upwards<T: Tape>(tape: &mut T, from: u8, cells: u8) -> u8
     requires { IsBeside (T.view tape.old) (pos from) }
     ensures { (T.view tape.new).limit ≡ (T.view tape.old).limit }
@@ -152,12 +151,12 @@ fn write_upwards<T: Tape>(tape: &mut T, from: u8, cells: u8) -> u8
     cells
 }
 
-/// Whether the first cells have the symbols that `write_upwards` puts there, and no other cell has one.
+/// Whether the first cells have the symbols of `write_upwards`, and all others are 0.
 fn has_written<T: Tape>(tape: &T, cells: u8) -> bool {
     (0..cells).all(|k| tape.read(i64::from(k)) == k % 10 + 1) && tape.score() == u64::from(cells)
 }
 
-/// How much of a heap is left, in turn: what is refused then works once there is memory.
+/// The bytes left of a heap, in turn: a refused call works once there is memory.
 #[test]
 fn each_allocation_of_a_map_refused(rt: HostRuntime) -> Result<(), Fail> {
     let ample = LocalHeap::new(rt.alloc(), 1 << 13)?;

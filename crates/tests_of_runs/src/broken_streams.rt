@@ -1,4 +1,4 @@
-//! Lists and traces over broken streams: what is written by then, and which fault it is.
+//! Lists and traces over broken streams: the output so far, and the fault.
 
 use crate::support::engine::Engine;
 use crate::support::rows::{ALL, DEFAULTS};
@@ -124,7 +124,7 @@ fn a_write_of_a_list_fails(rt: HostRuntime) {
     }
 }
 
-/// A list into sinks that take no byte, can't be flushed, or take a byte a call.
+/// A list into writers that accept no byte, can't be flushed, or accept a byte a call.
 #[test]
 fn a_list_goes_into_odd_sinks(rt: HostRuntime) {
     for engine in Engine::BOTH {
@@ -193,7 +193,7 @@ fn a_write_of_a_trace_fails(rt: HostRuntime) {
     }
 }
 
-/// A trace into sinks that take no byte, can't be flushed, or take a byte a call.
+/// A trace into writers that accept no byte, can't be flushed, or accept a byte a call.
 #[test]
 fn a_trace_goes_into_odd_sinks(rt: HostRuntime) {
     assert_traced(&rt, MACHINE, Sink::of(0, 128), Err(Fault::Write), b"");

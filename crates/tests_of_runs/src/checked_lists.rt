@@ -1,4 +1,4 @@
-//! Answers to lists of verdict lines, which were worked out by hand, and to the lists that deciding writes.
+//! Answers to lists of verdict lines, worked out by hand, and to the lists written by deciding.
 
 use crate::support::checking::{assert_checked, checked_on_rings};
 use crate::support::rows::{DEFAULTS, Row};
@@ -103,7 +103,7 @@ static PAIRS_AND_OTHERS: [Row; 8] = [
     ),
 ];
 
-/// Lines with a shift and a length, and lines that are none.
+/// Lines with a shift and a length, and other lines.
 static EXTENTS_AND_OTHERS: [Row; 6] = [
     (
         DEFAULTS,
@@ -146,7 +146,7 @@ static EXTENTS_AND_OTHERS: [Row; 6] = [
     ),
 ];
 
-/// Checks what a reader gives, on rings, into a sink, and answers whether it was clean.
+/// Checks a reader's list, on rings, into a writer, and returns whether it was clean.
 fn checked_over(
     rt: &(impl Abort + AllocGlobal),
     reader: Pieces,
@@ -200,7 +200,7 @@ fn sums_up_claims(rt: HostRuntime) {
     assert_eq!(rt; end, Ok(summary));
 }
 
-/// How a line begins, the byte that follows, and the length of the line.
+/// The start of a line, the next byte, and the length of the line.
 static UNREAD: [(&[u8], u8, usize); 10] = [
     (b"------ halt 0 0", b'0', 104),
     (b"------ halt 0 0", b'0', 1_022),
@@ -214,7 +214,7 @@ static UNREAD: [(&[u8], u8, usize); 10] = [
     (b"1RZ--- halt 1 1", 255, 16),
 ];
 
-/// Such a line, and a claim that is right.
+/// Such a line, and a right claim.
 fn unread_and_ok(
     rt: &impl AllocGlobal,
     begin: &[u8],

@@ -1,4 +1,4 @@
-//! Verdicts are checked at the limits that they come from: each decided line is ok, and all others are open.
+//! Verdicts checked under their own limits: each decided line is ok, and all others are open.
 
 use crate::decided_lists::decided_lists;
 use crate::support::checking::{checked_on_maps, checked_on_rings};
@@ -102,7 +102,7 @@ fn are_verdicts(rt: &(impl Abort + AllocGlobal), verdicts: &[u8]) {
     assert_eq!(rt; refused, 4);
 }
 
-/// Decides the lines and checks what was written, on both tapes.
+/// Decides the lines and checks the output, on both tapes.
 fn decide_and_check(rt: &(impl Abort + AllocGlobal), limits: &Limits, plan: Plan) {
     let (_, verdicts) = decided_on_rings(rt, limits, plan, LINES);
     let (_, by_maps) = decided_on_maps(rt, limits, plan, LINES);

@@ -1,7 +1,7 @@
-//! How many steps are counted where a call is refused memory: all that were made.
+//! Steps counted after an allocation failure: all those made.
 //!
-//! The machine writes a 1 in each of its six steps, the last into Z. Its configurations 1, 2 and 4 are kept
-//! for the search for cycles. Its first record on the right comes at step 1, its first two on the left at
+//! The machine writes a 1 in each of its six steps, the last into Z. The search for cycles keeps its
+//! configurations 1, 2 and 4. Its first record on the right comes at step 1, its first two on the left at
 //! steps 3 and 4; each is kept.
 
 use crate::failed_allocations::refusing_bench;
@@ -14,7 +14,7 @@ use std::process::Abort;
 
 const MACHINE: &[u8] = b"1RB1LB_1LA1RZ";
 
-/// What makes a run.
+/// The kinds of calls that make a run.
 #[derive(Clone, Copy, Debug)]
 enum Call {
     Simulate,
@@ -23,8 +23,8 @@ enum Call {
     DecideInOneRun,
 }
 
-/// The steps that a call counts which is refused memory, by the tape of the run, the right or the left one,
-/// after so many calls of it that take memory.
+/// The steps counted by a call after an allocation failure, by its tape, that of the run, the right or the
+/// left one, after so many of its calls that allocate.
 fn counted(rt: &(impl Abort + AllocGlobal), call: Call, before: [u64; 3]) -> u64 {
     let limits = Limits::new(30, 64, 10, 100).expect(rt, "limits");
     let machine = Machine::read(MACHINE).expect(rt, "a machine");

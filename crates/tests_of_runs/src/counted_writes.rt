@@ -13,8 +13,8 @@ use bb_sim::Meter;
 use bb_tape::{MapTape, RingTape, Tape};
 use std::process::Abort;
 
-/// The limits, a machine, and the most writes that deciding it makes, on all tapes together: one for each
-/// step, two for each node.
+/// The limits, a machine, and the most writes of deciding it, on all tapes together: one for each step, two
+/// for each node.
 static DECIDED: [(Four, &[u8], u64); 4] = [
     (DEFAULTS, b"0RB---_0LA---", 1_000_004),
     ([3, 65_536, 300, 1_000_000], b"0RB---_0LA---", 17),
@@ -76,8 +76,8 @@ fn deciding_writes_once_a_step_and_twice_a_node(rt: HostRuntime) {
     }
 }
 
-/// In one run the first cycle is suspected and found, twice 4 steps, and the first records that agree are
-/// found at step 2; with fewer steps the run and the tree are made.
+/// In one run the first cycle is suspected and found, twice 4 steps, and the first agreeing records are found
+/// at step 2; with fewer steps the run and the tree are made.
 static IN_ONE_RUN: [u64; 4] = [8, 3 + 8, 2, 1];
 
 #[test]
@@ -88,8 +88,8 @@ fn deciding_in_one_run_writes_once_a_step_and_twice_a_node(rt: HostRuntime) {
     }
 }
 
-/// A claim, its answer, the least and the most steps and the most nodes that checking it counts, and the most
-/// writes on both tapes.
+/// A claim, its answer, the least and the most steps and the most nodes of checking it, and the most writes
+/// on both tapes.
 static CHECKED: [(&[u8], &[u8], [u64; 2], u64, u64); 4] = [
     (b"1RB1LB_1LA1RZ halt 5 4", b"bad\n", [0, 5], 0, 5),
     (
@@ -103,7 +103,7 @@ static CHECKED: [(&[u8], &[u8], [u64; 2], u64, u64); 4] = [
     (b"0RB---_0LA--- backward 2 3", b"bad\n", [0, 0], 3, 6),
 ];
 
-/// Checks a line on such tapes, and answers what was written, how much was counted, and how often it wrote.
+/// Checks a line on such tapes, and returns the output, the counts, and the number of writes.
 fn writes_of_checking<T: Tape>(
     rt: &(impl Abort + AllocGlobal),
     run: T,

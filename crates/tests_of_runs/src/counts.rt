@@ -1,4 +1,4 @@
-//! What the lines of a list came to, as it is counted.
+//! The counts of a list's lines.
 
 use crate::support::rows::ALL;
 use bb_lines::watched::Watched;

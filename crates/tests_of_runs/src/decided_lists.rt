@@ -1,4 +1,4 @@
-//! Machines of lists, with verdicts that were worked out by hand.
+//! Machines of lists, with verdicts worked out by hand.
 
 use crate::support::deciding::assert_decided;
 use crate::support::rows::{
@@ -66,7 +66,7 @@ static HALTS: [Row; 12] = [
     (DEFAULTS, b"", b"", true),
 ];
 
-/// What no decider settles.
+/// Undecided by all deciders.
 static LEFT_BY_ALL: [Row; 7] = [
     (
         [5, 4, 2, 1_000_000],
@@ -112,7 +112,7 @@ static LEFT_BY_ALL: [Row; 7] = [
     ),
 ];
 
-/// What running alone doesn't settle.
+/// Undecided by a simulation alone.
 static LEFT_BY_RUNNING: [Row; 6] = [
     (
         DEFAULTS,
@@ -479,7 +479,7 @@ static WITHOUT_TRANSLATED: [Row; 2] = [
     ),
 ];
 
-/// The lists above, each with a plan that gives its verdicts.
+/// The lists above, each with a plan for its verdicts.
 pub(crate) fn decided_lists() -> [(Plan, &'static [Row]); 9] {
     [
         (ALL, HALTS.as_slice()),

@@ -1,4 +1,4 @@
-//! What is said and counted under each plan, at the limits that were asked for, on both tapes.
+//! The output and the counts under each plan, at given limits, on both tapes.
 
 use crate::support::checking::{checked_on_maps, checked_on_rings};
 use crate::support::deciding::{decided_on_maps, decided_on_rings};
@@ -8,7 +8,7 @@ use bb_machine::Limits;
 use bb_sim::Meter;
 use std::process::Abort;
 
-/// The limits, the plan, the input, the output, and the most steps that a line of it costs.
+/// The limits, the plan, the input, the output, and the most steps of a line.
 type Counted = (Four, Plan, &'static [u8], &'static [u8], u64);
 
 static STEPS: [Counted; 12] = [
@@ -98,7 +98,7 @@ static STEPS: [Counted; 12] = [
     ),
 ];
 
-/// Where a tree is the verdict, it has these nodes and levels.
+/// For a verdict by a tree, its nodes and levels.
 fn assert_tree_is_counted(rt: &impl Abort, output: &[u8], peak: &Meter) {
     if output.ends_with(b" backward 2 4\n") {
         assert_eq!(rt; peak.nodes, 4);
@@ -128,7 +128,7 @@ const MACHINES: &[u8] = b"1RB1LB_1LA1RZ
 1RB0RB_1LA1LA
 ";
 
-/// Which deciders are on, in their order, what is then said of the four machines, and which of that is open.
+/// The deciders in use, in their order, the replies to the four machines, and the open ones among them.
 static BY_PLAN: [((bool, bool, bool), &[u8], &[u8]); 8] = [
     (
         (true, true, true),

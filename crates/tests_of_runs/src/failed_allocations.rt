@@ -1,5 +1,5 @@
-//! Engines over tapes that are refused memory: what is written by then, and that the same tapes give all
-//! lines once there is memory.
+//! Engines over tapes without memory: the output so far, and all lines on the same tapes once there is
+//! memory.
 ghost use Rattle.std.specs.Prelude.{◌≡◌, ◌≤◌};
 ghost use Rattle.bb_cert.specs.tree.Path.{depth_of};
 ghost use Rattle.bb_decide.specs.Bench.{BenchHasCells};
@@ -83,8 +83,8 @@ fn decided_over_arrays<T: Tape>(
     (end, sink)
 }
 
-/// Decides a list with so many bytes left for the tapes, and, where it wanted more, again with all; whether
-/// it did.
+/// Decides a list with so many bytes left for the tapes, and, if that fails, again with all. Returns whether
+/// it failed.
 fn deciding_wants_more(
     rt: &(impl Abort + AllocGlobal),
     engine: Engine,
@@ -137,10 +137,10 @@ fn deciding_on_heaps_that_are_too_small(rt: HostRuntime) -> Result<(), Fail> {
     Ok(())
 }
 
-/// More calls that may take memory than a run below makes.
+/// More calls that may allocate than in any run below.
 const MOST: u64 = 10_000;
 
-/// A bench of maps that refuse a call, each the one after so many.
+/// A bench of maps that refuse a call, each after so many.
 pub(crate) fn refusing_bench(
     rt: &(impl Abort + AllocGlobal),
     limits: &Limits,
@@ -183,7 +183,7 @@ fn deciding_is_refused(
     refused
 }
 
-/// How many refusals end deciding, each in a run of its own, where all come from one of the tapes.
+/// The number of refusals that stop deciding, each in a run of its own, all from one of the tapes.
 fn refusals_of_deciding(
     rt: &(impl Abort + AllocGlobal),
     engine: Engine,
@@ -201,11 +201,11 @@ fn refusals_of_deciding(
         .expect(rt, "a run that isn't refused")
 }
 
-/// The first machine writes a 1 into 4 cells; the second writes a 1 in two steps of four, 64 times in a whole
-/// run of 127 steps and 4 times up to its records. Its whole run is compared with configurations 1, 2, 4 ..
-/// 64, its records with the first and the second; the third's run with configurations 1 and 2. The third's
-/// tree has 4 nodes, each with a cell that isn't known before. In one run the second goes up to its records,
-/// and the third, which writes no 1, up to its cycle and once more.
+/// The first machine writes a 1 into 4 cells. The second writes a 1 in two steps of four: 64 times in a whole
+/// run of 127 steps, and 4 times up to its records. Its whole run is compared with configurations 1, 2, 4 ..
+/// 64, its records with the first and the second. The third's run is compared with configurations 1 and 2;
+/// its tree has 4 nodes, each with a cell unknown before. In one run the second stops at its records; the
+/// third, without a 1, runs to its cycle and once more.
 #[test]
 fn deciding_ends_at_each_refusal(rt: HostRuntime) {
     for (engine, plan, output, changed, copied) in [

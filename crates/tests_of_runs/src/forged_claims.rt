@@ -1,4 +1,4 @@
-//! Claims that someone made up, at the default limits: which rule decides each.
+//! Invented claims, at the default limits, and the rule for each.
 
 use crate::support::checking::assert_checked;
 use crate::support::rows::{DEFAULTS, Four, Row};
@@ -7,7 +7,7 @@ const LEAST: Four = [1_000_000, 1, 1, 1_000_000];
 
 const NO_TREE: Four = [1_000_000, 65_536, 0, 0];
 
-/// A step past the limit is told before steps out of order are.
+/// A step past the limit comes before steps out of order.
 static OF_RUNS: [Row; 11] = [
     (
         DEFAULTS,

@@ -13,10 +13,10 @@ const LISTS: usize = 500;
 /// How many machines each list has.
 const MACHINES: usize = 50;
 
-/// What an entry may lead to, the halting state first.
+/// The next states of entries, the halting state first.
 static LETTERS: &[u8] = b"ZABCDEFGHIJKLMNOPQRSTUVWXY";
 
-/// What an entry may write.
+/// The symbols of entries.
 static DIGITS: &[u8] = b"0123456789";
 
 /// The next of a row of numbers, each below the limit.

@@ -1,4 +1,4 @@
-//! Verdicts at limits that grow: what the limits reach is found, and what was decided stays so.
+//! Verdicts at growing limits: they find everything within reach, and keep decided verdicts.
 
 use crate::support::deciding::assert_decided;
 use crate::support::rows::{ALL, DEFAULTS, PAIRS, Row};

@@ -28,7 +28,7 @@ mod larger_limits;
 #[cfg(test)]
 mod line_engine;
 #[cfg(test)]
-mod looks;
+mod validations;
 #[cfg(test)]
 mod many_symbols;
 #[cfg(test)]

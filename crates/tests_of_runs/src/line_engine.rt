@@ -1,4 +1,4 @@
-//! The engine over streams that come in pieces, fail or take little, with a reply that is easy to write down.
+//! The engine over streams that come in chunks, fail or accept little, with an easy reply.
 ghost use Rattle.std.specs.Prelude.{◌≡◌, ◌+◌, ◌^◌, ◌-◌, ◌∷◌, ◌++◌, [], take, min, true};
 ghost use Rattle.std.proofs.Common.{rules};
 ghost use Rattle.std.proofs.lemmas.Grind.{common_steps};
@@ -23,7 +23,7 @@ const OUTPUT: &[u8; 16] = b"-----!\n!\n-----!\n";
 struct Shout<'a> {
     // How many lines are answered before memory is refused.
     before_refusal: u64,
-    // What each answer costs, and the last one did.
+    // The cost of each answer, and of the last one.
     answer_cost: u64,
     last_cost: u64,
     seen: &'a mut u64,
@@ -156,7 +156,7 @@ fn writes_what_was_complete_before_a_failed_read(rt: HostRuntime) {
     }
 }
 
-/// Runs over a sink, and holds how it ends and what is written against what should be.
+/// Runs over a writer, and compares the result and the output with the expected ones.
 fn written_into(
     rt: &impl Abort,
     sink: Sink,
@@ -176,7 +176,7 @@ fn writes_a_beginning_before_a_failed_write(rt: HostRuntime) {
         assert_eq!(rt; ended.sink.flushes, 0);
         assert!(rt; !ended.read_failed && ended.write_failed);
     }
-    // a sink that takes no byte, one that takes a byte a call, and one whose flush fails
+    // a writer that accepts no byte, one that accepts a byte a call, and one with a failing flush
     let ended = written_into(&rt, Sink::of(0, 64), Err(Fault::Write), &[]);
     assert_eq!(rt; ended.sink.writes, 1);
     written_into(&rt, Sink::of(1, 64), Ok(()), OUTPUT.as_slice());

@@ -1,4 +1,4 @@
-//! Machines of three to ten symbols and up to 25 states, with answers of a second program that reads the
+//! Machines of three to ten symbols and up to 25 states, with answers of a second program that follows the
 //! definitions plainly, on both tapes.
 
 use crate::support::checking::assert_checked;
@@ -198,7 +198,7 @@ fn machines_of_many_symbols_are_decided(rt: HostRuntime) {
     assert_decided(&rt, ALL, BY_ALL.as_slice());
 }
 
-/// What the deciders say of these machines is `ok` to the checker on both tapes.
+/// The checker confirms the verdicts on these machines, on both tapes.
 #[test]
 fn what_is_said_of_many_symbols_is_ok(rt: HostRuntime) {
     assert_checked(&rt, CLAIMS.as_slice());

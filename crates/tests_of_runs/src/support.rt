@@ -1,4 +1,4 @@
-//! Rows, tapes, streams and calls that the tests share.
+//! Rows, tapes, streams and calls shared by the tests.
 
 pub(crate) mod checking;
 pub(crate) mod counting_tape;

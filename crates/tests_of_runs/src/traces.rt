@@ -1,4 +1,4 @@
-//! Traces, with lines that were worked out by hand.
+//! Traces, with lines worked out by hand.
 
 use crate::support::tracing::{traced_on_a_map, traced_on_a_ring};
 use bb_lines::watched::Watched;
@@ -69,8 +69,8 @@ fn traces_on_both_tapes(rt: HostRuntime) {
     }
 }
 
-/// A line, the limits of steps and cells, the first step that has a line and every how many, the output, and
-/// whether the summary is clean.
+/// A line, the limits of steps and cells, the first printed step and the distance of the others, the output,
+/// and whether the summary is clean.
 type SampledRow = (&'static [u8], u64, u64, u64, u64, &'static [u8], bool);
 
 static SAMPLED_TRACES: [SampledRow; 14] = [

@@ -1,4 +1,4 @@
-//! Claims that were worked out by hand, and what checking them counts, over both tapes.
+//! Claims worked out by hand, and the cost of checking them, over both tapes.
 ghost use Rattle.std.specs.Prelude.{◌≡◌, ◌≤◌};
 ghost use Rattle.bb_cert.specs.checker.Pair.{PairHasCells};
 ghost use Rattle.bb_cert.specs.tree.Path.{depth_of};
@@ -14,8 +14,7 @@ const CELLS: u64 = 65_536;
 
 const DEPTH: u64 = 300;
 
-/// A line, the limits of steps, cells, levels and nodes, what is answered, and the steps, nodes and levels
-/// counted.
+/// A line, the limits of steps, cells, levels and nodes, the answer, and the steps, nodes and levels counted.
 type Row = (&'static [u8], [u64; 4], Answer, [u64; 3]);
 
 static ROWS: [Row; 78] = [
@@ -130,7 +129,7 @@ static ROWS: [Row; 78] = [
         Answer::Over,
         [0, 0, 0],
     ),
-    // Pairs whose configurations are compared.
+    // Pairs with a comparison of configurations.
     (
         b"0RB---_0LA--- cycler 0 2",
         [1000, 64, 32, 1000],
@@ -396,7 +395,7 @@ static ROWS: [Row; 78] = [
         Answer::Ok,
         [7, 0, 0],
     ),
-    // Between these two records the run goes beyond what it had visited at the first.
+    // Between these two records the run visits cells beyond the first one's window.
     (
         b"1LB0LA_0RB1RA translated L 1 8",
         [1000, 64, 32, 1000],
@@ -502,7 +501,7 @@ fn answer_to<T: Tape>(
     check(machine, verdict, limits, pair, path, meter)
 }
 
-/// Holds an answer and what was counted against a row.
+/// Compares an answer and its counts with a row.
 fn is_answer(rt: &impl Abort, row: &Row, limits: &Limits, answer: Answer, meter: &Meter) {
     let (line, _, expected, counted) = row;
     assert_eq!(rt; answer, *expected, "{line:?}");
@@ -512,7 +511,7 @@ fn is_answer(rt: &impl Abort, row: &Row, limits: &Limits, answer: Answer, meter:
     assert!(rt; meter.most_cells <= limits.cells(), "{line:?}");
 }
 
-/// Checks what a line claims, and holds the answer and what was counted against what was worked out.
+/// Checks a line's claim, and compares the answer and its counts with the expected ones.
 fn is_answered<T: Tape>(
     rt: &impl Abort,
     row: &Row,
@@ -562,8 +561,8 @@ fn claims_are_answered_on_rings(rt: HostRuntime) -> Result<(), Fail> {
     Ok(())
 }
 
-/// A machine, the kind of claim, by its side where it is of records, and how many pairs of steps up to 16 it
-/// is true of.
+/// A machine, the kind of claim, with a side for records, and the number of pairs of steps up to 16 for which
+/// it is true.
 type Family = (&'static [u8], Option<Side>, u64);
 
 static FAMILIES: [Family; 5] = [
@@ -574,7 +573,7 @@ static FAMILIES: [Family; 5] = [
     (b"1RB0RA_1LA---", Some(Side::L), 0),
 ];
 
-/// Which pairs are claimed rightly, for each machine.
+/// The true pairs for each machine.
 fn is_right(index: usize, first: u64, second: u64) -> bool {
     if second <= first {
         return false;
@@ -620,7 +619,7 @@ fn answer_to_pair<T: Tape>(
     Ok(answer_to(machine, claim, &limits, pair, path, &mut meter)?)
 }
 
-/// Checks each pair of steps up to 16, holds the answers against which are right, and counts those.
+/// Checks each pair of steps up to 16, compares the answers with the true pairs, and counts those.
 fn right_pairs<T: Tape>(
     rt: &impl Abort,
     index: usize,
@@ -659,7 +658,7 @@ fn pairs_are_answered<T: Tape>(
     Ok(())
 }
 
-/// Checks a pair of records with its extent, and with those that are wrong by one.
+/// Checks a pair of records with its extent, and with extents wrong by one.
 fn extents_of_pair_are_answered<T: Tape>(
     rt: &impl Abort,
     machine: &Machine,
@@ -681,7 +680,7 @@ fn extents_of_pair_are_answered<T: Tape>(
 }
 
 /// Checks each pair of steps up to 16 of a machine that makes a record with each step, with its extent, and
-/// with those that are wrong by one.
+/// with extents wrong by one.
 fn extents_are_answered<T: Tape>(
     rt: &impl Abort,
     pair: &mut Pair<T>,

@@ -1,4 +1,4 @@
-//! Verdicts over both tapes, with answers that were worked out by hand.
+//! Verdicts over both tapes, with answers worked out by hand.
 ghost use Rattle.std.specs.Prelude.{◌≡◌, IfOk};
 ghost use Rattle.bb_cert.specs.tree.Path.{depth_of};
 ghost use Rattle.bb_decide.specs.Bench.{BenchHasCells};
@@ -17,10 +17,10 @@ use std::test::Fail;
 
 const CELLS: u64 = 64;
 
-/// The line of a machine and its verdict, the limit of steps, and the steps that it costs.
+/// The line of a machine and its verdict, the limit of steps, and its cost in steps.
 type Row = (&'static [u8], u64, u64);
 
-/// Rows where cyclers alone are on.
+/// Rows for cyclers alone.
 static ROWS: [Row; 12] = [
     (b"1RB1LB_1LA1RZ halt 6 4", 1000, 6),
     (b"------ halt 0 0", 0, 0),
@@ -36,8 +36,8 @@ static ROWS: [Row; 12] = [
     (b"0RA0RA undecided cells", 1000, 126),
 ];
 
-/// Rows where the search for records that agree is on too, each machine's mirror image among them. The two
-/// machines with 300 steps go, between their records, beyond what they had visited at the first of them.
+/// Rows for both searches, each machine's mirror image among them. Between their records the two machines
+/// with 300 steps visit cells beyond the first one's window.
 static TRANSLATED_ROWS: [Row; 20] = [
     (b"1RA1RA translated R 1 2 1 1", 1000, 128),
     (b"0LA0LA translated L 1 2 1 1", 1000, 128),
@@ -86,7 +86,7 @@ fn decided<T: Tape>(
     Ok(decide(machine, &limits, plan, bench, meter)?)
 }
 
-/// Decides each machine on three tapes, and holds verdict and steps against what was worked out.
+/// Decides each machine on three tapes, and compares verdict and steps with the expected ones.
 fn are_decided<T: Tape>(
     rt: &impl Abort,
     bench: &mut Bench<T>,
@@ -113,8 +113,8 @@ fn are_decided<T: Tape>(
     Ok(())
 }
 
-/// The line of a machine and what one of both searches of its first hundred steps finds, the steps that each
-/// counts, and the cells that the search for a cycle does. The other search finds nothing.
+/// The line of a machine with the result of one of both searches of its first hundred steps, the steps
+/// counted by each, and the cells counted by the search for a cycle. The other search finds nothing.
 type Searched = (&'static [u8], [u64; 2], u64);
 
 static SEARCHES: [Searched; 3] = [
@@ -138,7 +138,7 @@ fn cycle_of<T: Tape>(
     Ok(cyclers(machine, &limits, bench, meter)?)
 }
 
-/// Searches the first hundred steps of a machine for records that agree.
+/// Searches the first hundred steps of a machine for agreeing records.
 fn records_of<T: Tape>(
     bench: &mut Bench<T>,
     machine: &Machine,
@@ -153,7 +153,7 @@ fn records_of<T: Tape>(
     Ok(translated(machine, &limits, bench, meter)?)
 }
 
-/// Holds the cycle that was found, and what was counted, against what was worked out.
+/// Compares the found cycle and its counts with the expected ones.
 fn is_cycle(
     rt: &impl Abort,
     searched: &Searched,
@@ -168,7 +168,7 @@ fn is_cycle(
     assert_eq!(rt; meter.most_cells, *most_cells, "{line:?}");
 }
 
-/// Holds the records that were found, and the steps counted, against what was worked out.
+/// Compares the found records and the steps counted with the expected ones.
 fn are_records(
     rt: &impl Abort,
     searched: &Searched,
@@ -182,7 +182,7 @@ fn are_records(
     assert_eq!(rt; meter.steps, steps[1], "{line:?}");
 }
 
-/// Searches a machine for a cycle, and then for records that agree, by the searches' own calls.
+/// Searches a machine for a cycle, and then for agreeing records, by the searches' own calls.
 fn is_searched<T: Tape>(
     rt: &impl Abort,
     bench: &mut Bench<T>,

@@ -195,7 +195,7 @@ const LINES: [&[u8]; 46] = [
     LONG,
 ];
 
-/// What is printed of that which the bytes say as a verdict line.
+/// The printed form of the bytes, read as a verdict line.
 fn printed(rt: &impl Abort, bytes: &[u8]) -> Option<ArrayVec<u8, LINE_BUFFER>> {
     assert!(rt; bytes.len() <= LINE_BUFFER);
     let mut out = ArrayVec::new();
@@ -213,7 +213,7 @@ fn printed(rt: &impl Abort, bytes: &[u8]) -> Option<ArrayVec<u8, LINE_BUFFER>> {
     Some(out)
 }
 
-/// A field of a line, and no bytes where it has fewer.
+/// A field of a line, empty if it has fewer.
 fn field(line: &[u8], index: usize) -> &[u8] {
     match line.split(|byte| *byte == b' ').nth(index) {
         Some(field) => field,
@@ -251,8 +251,8 @@ fn is_verdict_line(bytes: &[u8]) -> bool {
     }
 }
 
-/// Whether the bytes are groups of one length with `_` between them, of entries that name only those states
-/// and symbols.
+/// Whether the bytes are groups of one length with `_` between them, of entries within those states and
+/// symbols.
 fn is_machine(bytes: &[u8]) -> bool {
     let states = bytes.split(|byte| *byte == b'_').count();
     let symbols = bytes
@@ -281,7 +281,7 @@ fn is_entry(bytes: &[u8], states: usize, symbols: usize) -> bool {
     }
 }
 
-/// The number that the digits are, if it fits and is printed by them.
+/// The number with these digits, if it fits and is printed by them.
 fn number(digits: &[u8]) -> Option<u64> {
     let mut value: u64 = 0;
     for digit in digits {
@@ -309,7 +309,7 @@ fn edited(line: &[u8], index: usize, cut: usize, put: &[u8]) -> Result<ArrayVec<
     Ok(bytes)
 }
 
-/// The bytes are read exactly where they are a verdict line, and printed back.
+/// The bytes are read exactly if they are a verdict line, and printed back.
 fn is_read_as_it_should(rt: &impl Abort, bytes: &[u8]) {
     match printed(rt, bytes) {
         Some(out) => {
@@ -362,7 +362,7 @@ fn other_bytes_are_no_line(rt: HostRuntime) {
     }
 }
 
-/// The longest line of a machine of seven states and two symbols that tells no extent.
+/// The longest line of a machine of seven states and two symbols without an extent.
 #[test]
 fn the_greatest_numbers_are_read_and_written(rt: HostRuntime) -> Result<(), Fail> {
     assert_eq!(rt; LONG.len(), 103);

@@ -1,4 +1,4 @@
-//! Trees that were worked out by hand or by a second program, and bounds at their ends.
+//! Trees worked out by hand or by a second program, and bounds at their ends.
 ghost use Rattle.std.specs.Prelude.{◌≡◌, ◌≤◌, ◌*◌, ◌+◌, ◌<◌, ◌^◌};
 ghost use Rattle.bb_cert.specs.tree.Path.{depth_of};
 
@@ -8,7 +8,7 @@ use bb_sim::Meter;
 use bb_tape::{MapTape, RingTape, Tape};
 use std::process::Abort;
 
-/// A machine, the bounds of levels and nodes, and what the walk answers.
+/// A machine, the bounds of levels and nodes, and the result of the walk.
 type Row = (&'static [u8], u64, u64, Option<(u64, u64)>);
 
 const CELLS: u64 = 799;
@@ -40,8 +40,7 @@ static ROWS: [Row; 24] = [
     (b"0RB---_0LA1RC_0RC0LB", 8, 9, Some((8, 9))),
 ];
 
-/// What a walk enters, where it is known: a machine, the bounds of levels and nodes, and the nodes and the
-/// levels entered.
+/// A machine, the bounds of levels and nodes, and the nodes and levels entered, if known.
 static COUNTS: [(&[u8], u64, u64, u64, u64); 8] = [
     (b"0RB---_0LA---", 2, 4, 4, 2),
     (b"0RB---_0LA---", 1, 4, 1, 1),
@@ -53,7 +52,7 @@ static COUNTS: [(&[u8], u64, u64, u64, u64); 8] = [
     (b"1RZ---", 400, 1_000_000, 1, 1),
 ];
 
-/// Walks, and tells the answer and what was counted. The tape has to be blank then.
+/// Walks, and returns the result and its counts. The tape must be blank then.
 fn walked<T: Tape>(
     rt: &impl Abort,
     text: &[u8],

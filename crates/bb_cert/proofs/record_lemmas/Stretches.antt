@@ -72,16 +72,16 @@ module _ (side : Side) (near far_out shift from other : ℤ) (len : ℕ) (a b : 
   turned : (k : ℕ) → other +ℤ pos k ≡ (from +ℤ pos k) +ℤ shift
   turned k = omega (arith, ints, shifted)
 
-  pub told_by_out : AgreesFrom a from b other len
+  pub claimed_by_out : AgreesFrom a from b other len
       → (x : ℤ) → near ≤ℤ out side x → out side x ≤ℤ far_out → cell a x ≡ cell b (x +ℤ shift)
-  told_by_out agree x low high =
+  claimed_by_out agree x low high =
       let at = offset_of side near far_out from x len is long low high in
       ap (cell a) at.is ∙ agree at.offset at.less ∙ ap (cell b) (turned at.offset)
       ∙ ap (λ y. cell b (y +ℤ shift)) (sym at.is)
 
-  pub told_by_offset : ((x : ℤ) → near ≤ℤ out side x → out side x ≤ℤ far_out → cell a x ≡ cell b (x +ℤ shift))
+  pub claimed_by_offset : ((x : ℤ) → near ≤ℤ out side x → out side x ≤ℤ far_out → cell a x ≡ cell b (x +ℤ shift))
       → AgreesFrom a from b other len
-  told_by_offset same k less =
+  claimed_by_offset same k less =
       let at = reaches side near far_out from len k is long less in
       same (from +ℤ pos k) at.0 at.1 ∙ ap (cell b) (sym (turned k))
 
@@ -169,8 +169,8 @@ compared {records} {runner} {saved} {run} {from} {other} {len} comparable seen a
       (turned_back run (position_of runner) comparable.top_seen))
       (turned_back run (position_of runner) comparable.top_seen);
   same = (
-    told_by_out side (nearest_out records) (number_of records) _ from other len _ _ lesser long other_is,
-    told_by_offset side (nearest_out records) (number_of records) _ from other len _ _ lesser long other_is,
+    claimed_by_out side (nearest_out records) (number_of records) _ from other len _ _ lesser long other_is,
+    claimed_by_offset side (nearest_out records) (number_of records) _ from other len _ _ lesser long other_is,
   );
 } where
   side : Side

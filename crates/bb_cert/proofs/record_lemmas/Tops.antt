@@ -184,11 +184,11 @@ module _ (after : Runner) (p : ℤ) {l g : ℤ} {cells : ℕ} (around : (l ≤�
   beyond : position_of after ≡ p → (side : Side) → TellsWidening after cells (Some side)
       → (out side (end_of side l g) <ℤ out side p)
       × (out (other side) p ≤ℤ out (other side) (end_of (other side) l g))
-  beyond is R told =
-      let above : g <ℤ p = omega (arith, ints, clamps, told, around, had, has) in
+  beyond is R claimed =
+      let above : g <ℤ p = omega (arith, ints, clamps, claimed, around, had, has) in
       omega (arith, ints, above, around)
-  beyond is L told =
-      let below : p <ℤ l = omega (arith, ints, clamps, told, around, had, has) in
+  beyond is L claimed =
+      let below : p <ℤ l = omega (arith, ints, clamps, claimed, around, had, has) in
       omega (arith, ints, below, around)
 
 -- step n makes a record of this side and of no other; of none
@@ -254,18 +254,18 @@ module _ {table : Table} {before after : Runner} {run_before run_after : TapeVie
     makes_none side within = none_within table side n running there (rw head within)
 
     pub makes_just : {cells : ℕ} → cells ≡ cells_between (low_of before) (high_of before)
-        → (told : Option Side) → TellsWidening after cells told → MakesJust table (n + 1) told
+        → (claimed : Option Side) → TellsWidening after cells claimed → MakesJust table (n + 1) claimed
     makes_just were None same = λ side. makes_none side (out_within side low high (position_of after)
         (inside after _ around (low_is _ at) (high_is _ at) (were ∙ cells_were) same))
-    makes_just were (Some side) told =
-        let is = beyond after _ around (low_is _ at) (high_is _ at) (were ∙ cells_were) refl side told in
+    makes_just were (Some side) claimed =
+        let is = beyond after _ around (low_is _ at) (high_is _ at) (were ∙ cells_were) refl side claimed in
         (makes side is.0, makes_none (other side) is.1)
 
   -- into Z nothing widens
   pub none_wider : state_of after ≡ Halt → (cells : ℕ) → cells ≡ cells_between (low_of before)
       (high_of before) → (side : Side) → TellsWidening after cells (Some side) → ⊥
-  none_wider halts cells were side told =
+  none_wider halts cells were side claimed =
       let at = ap (λ s. counted_position s (position_of after)) halts in
       let same = same_cells after _ around (low_is _ at) (high_is _ at) (were ∙ cells_were) around in
       elim side as (λ s. TellsWidening after cells (Some s) → ⊥) [ R ↦ λ is. is.0 same | L ↦ λ is. is.0 same ]
-      told
+      claimed

@@ -15,26 +15,26 @@ extent_is_one table side a b one other first second =
     ap (λ n. record one { shift = n }) shifts ∙ ap (λ n. record other { length = n }) lengths
 
 -- an extent that is told is right
-pub told_is_said : (table : Table) (side : Side) (a b : ℕ) (extent : Option Extent)
+pub claimed_is_said : (table : Table) (side : Side) (a b : ℕ) (extent : Option Extent)
     → TellsExtent table side a b extent
     → SaysExtent table side a b extent
-told_is_said table side a b None tells = absurd tells
-told_is_said table side a b (Some extent) tells = tells
+claimed_is_said table side a b None tells = absurd tells
+claimed_is_said table side a b (Some extent) tells = tells
 
 -- and there is one only
-pub told_is_one : (table : Table) (side : Side) (a b : ℕ) (one other : Option Extent)
+pub claimed_is_one : (table : Table) (side : Side) (a b : ℕ) (one other : Option Extent)
     → TellsExtent table side a b one
     → TellsExtent table side a b other → one ≡ other
-told_is_one table side a b None other first second = absurd first
-told_is_one table side a b (Some one) None first second = absurd second
-told_is_one table side a b (Some one) (Some other) first second =
+claimed_is_one table side a b None other first second = absurd first
+claimed_is_one table side a b (Some one) None first second = absurd second
+claimed_is_one table side a b (Some one) (Some other) first second =
     ap Some (extent_is_one table side a b one other first second)
 
 -- one that may be told is right where it is the one that was found
 pub said_as_found : {table : Table} {side : Side} {a b : ℕ} {found : Extent} → IsExtent table side a b found
-    → (told : Option Extent) → IfSome told (λ extent. extent ≡ found) ↔ SaysExtent table side a b told
+    → (claimed : Option Extent) → IfSome claimed (λ extent. extent ≡ found) ↔ SaysExtent table side a b claimed
 said_as_found is None = (λ none. tt, λ none. tt)
-said_as_found {table} {side} {a} {b} {found} is (Some told) = (
+said_as_found {table} {side} {a} {b} {found} is (Some claimed) = (
   λ same. subst (IsExtent table side a b) (sym same) is,
-  λ says. extent_is_one table side a b told found says is,
+  λ says. extent_is_one table side a b claimed found says is,
 )

@@ -71,14 +71,14 @@ records_split a b extent {prefix} {rest} fits none parts is =
 -- where a space stands after the second of them, an extent does
 pub second_split : (b : ℕ) (extent : Option Extent) {prefix rest bytes : List ℕ} → b < 2 ^ 64
     → HasNoSpace prefix → prefix ++ 32 ∷ rest ≡ bytes → second_text b extent ≡ bytes
-    → (told : Extent) × (extent ≡ Some told) × (decimal b ≡ prefix)
-    × (pair_text told.shift told.length ≡ rest)
+    → (claimed : Extent) × (extent ≡ Some claimed) × (decimal b ≡ prefix)
+    × (pair_text claimed.shift claimed.length ≡ rest)
 second_split b None {prefix} {rest} fits none parts is =
     absurd (no_space_within prefix rest (decimal b) (decimal_no_space b fits) (parts ∙ sym is))
-second_split b (Some told) {prefix} {rest} fits none parts is =
-    let split = same_split (decimal b) prefix (pair_text told.shift told.length) rest
+second_split b (Some claimed) {prefix} {rest} fits none parts is =
+    let split = same_split (decimal b) prefix (pair_text claimed.shift claimed.length) rest
     (decimal_no_space b fits) none (is ∙ sym parts) in
-    (told, refl, split.0, split.1)
+    (claimed, refl, split.0, split.1)
 
 pub pair_apart : (a b c d : ℕ) → a < 2 ^ 64 → b < 2 ^ 64 → c < 2 ^ 64 → d < 2 ^ 64
     → pair_text a b ≡ pair_text c d → (a ≡ c) × (b ≡ d)

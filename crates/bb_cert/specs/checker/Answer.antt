@@ -68,7 +68,7 @@ answer_by too_much_needed = answer.Over
 answer_by claim_holds = answer.Ok
 answer_by all_else = answer.Bad
 
--- where each applies, whatever others do
+-- the condition of each rule, apart from the others
 abbrev pub Applies : Table → Bounds → Verdict → Rule → Type 0
 Applies table bounds verdict undecided = IsUndecided verdict
 Applies table bounds verdict too_much_named = NamesTooMuch bounds verdict

@@ -8,7 +8,7 @@ use Rattle.bb_cert.specs.checker.Answer.{IsSettled}
 use Rattle.bb_cert.specs.declared.verdict.Verdict.{Verdict}
 use Rattle.bb_cert.specs.declared.verdict.Verdict.TheVariants.{Halt, Cycler, Translated, Backward, Undecided}
 
--- the last step that a verdict names, 0 where it names none
+-- the last step named in a verdict, 0 if it names none
 abbrev pub last_step : Verdict → ℕ
 last_step (Halt steps score) = steps
 last_step (Cycler first second) = second
@@ -16,7 +16,7 @@ last_step (Translated side first second extent) = second
 last_step (Backward levels nodes) = 0
 last_step (Undecided why) = 0
 
--- the levels that it names, 0 where it names none
+-- the levels named in it, 0 if it names none
 abbrev pub levels_of : Verdict → ℕ
 levels_of (Halt steps score) = 0
 levels_of (Cycler first second) = 0
@@ -24,7 +24,7 @@ levels_of (Translated side first second extent) = 0
 levels_of (Backward levels nodes) = levels
 levels_of (Undecided why) = 0
 
--- the nodes that it names, 0 where it names none
+-- the nodes named in it, 0 if it names none
 abbrev pub nodes_of : Verdict → ℕ
 nodes_of (Halt steps score) = 0
 nodes_of (Cycler first second) = 0
@@ -60,7 +60,7 @@ IsOfRun (Undecided why) = ⊥
 abbrev pub IsReplayed : Bounds → Verdict → Type 0
 IsReplayed bounds verdict = (IsSettled bounds verdict → ⊥) × IsOfRun verdict
 
--- the bounds of the replay, which goes no farther than the last step that the verdict names
+-- the bounds of the replay: it goes no farther than the last step named in the verdict
 abbrev pub replay_bounds : Bounds → Verdict → Bounds
 replay_bounds bounds verdict = record bounds { steps = last_step verdict }
 
@@ -71,7 +71,7 @@ pub record IsReplaySpan (table : Table) (bounds : Bounds) (verdict : Verdict) (w
   pub is_last : IsLastInside table (replay_bounds bounds verdict) last
   pub is_span : width ≡ span table last
 
--- the widest window that checking a claim counts: that of the replay, 0 where none is made
+-- the widest window counted by checking a claim: that of the replay, 0 without one
 abbrev pub CountsWindow : Table → Bounds → Verdict → ℕ → Type 0
 CountsWindow table bounds verdict width = IsReplaySpan table bounds verdict width
     ⊎ ((IsReplayed bounds verdict → ⊥) × (width ≡ 0))

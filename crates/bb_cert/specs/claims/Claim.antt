@@ -9,10 +9,10 @@ use Rattle.bb_cert.specs.verdict.Extent.{SaysExtent}
 use Rattle.bb_cert.specs.claims.Repeat.{Same}
 use Rattle.bb_cert.specs.tree.Tree.{Clear, Ends}
 
--- the machine halts after so many steps with so many cells that aren't 0; or its configuration at the first
--- step comes again at the second; or both steps are records of the side and agree, and their extent is right,
--- if it is told; or the tree of what could come before a halt ends in so many levels with so many nodes, none
--- of which the start matches. An undecided verdict claims nothing
+-- the machine halts after so many steps with so many nonzero cells; or its configuration at the first step is
+-- repeated at the second; or both steps are records of the side and agree, and their extent is right, if it
+-- is given; or the backward tree ends in so many levels with so many nodes, none of them matched by the
+-- start. An undecided verdict claims nothing
 abbrev pub Claim : Table → Verdict → Type 0
 Claim table (Halt steps score) = HaltsAt table steps × IsScore table steps score
 Claim table (Cycler first second) = (first < second) × Same table first second
@@ -21,7 +21,7 @@ Claim table (Translated side first second extent) =
 Claim table (Backward levels nodes) = Ends table levels nodes × Clear table levels
 Claim table (Undecided why) = Unit {0}
 
--- the verdict says that the machine never halts
+-- the verdict claims that the machine never halts
 abbrev pub SaysNever : Verdict → Type 0
 SaysNever (Halt steps score) = ⊥
 SaysNever (Cycler first second) = Unit {0}

@@ -1,5 +1,5 @@
--- What follows for halts, and for machines that never halt, where a run stays in few cells. These laws are
--- this project's own.
+-- Laws on halts, and on machines that never halt, for runs confined to few cells. These laws are this
+-- project's own.
 use Rattle.std.specs.Prelude.{ℕ, ◌≤◌}
 use Rattle.bb_machine.specs.Machine.{Table, IsMachine}
 use Rattle.bb_sim.specs.FewCells.{configurations_in, IsRunning}

@@ -1,4 +1,4 @@
--- Laws of verdict lines, of answers, of runs that repeat, and of what could come before a halt.
+-- Laws of verdict lines, of answers, of repeating runs, and of the backward tree.
 use Rattle.std.specs.Prelude.{◌≡◌, ℕ, ◌+◌, ◌*◌, ◌<◌, ◌≤◌, ◌↔◌, List, [], pos, ◌<ℤ◌}
 use Rattle.bb_machine.specs.Limits.{Bounds}
 use Rattle.bb_machine.specs.declared.machine.TheConstants.{MAX_STATES, MAX_SYMBOLS}
@@ -32,8 +32,8 @@ IsLineWithin states symbols (claim_line table verdict) bytes =
 IsLineWithin states symbols (Refusal column) bytes =
     (0 < column) × (column ≤ states * (3 * symbols + 1)) × (refusal_text column ≡ bytes)
 
--- a verdict line of fewer states and symbols than are allowed is a verdict line, and says the same; so those
--- of at most 7 states and 2 symbols, and of their columns up to 49, are
+-- a verdict line of fewer states and symbols than are allowed is a verdict line with the same meaning; so are
+-- those of at most 7 states and 2 symbols, with columns up to 49
 abbrev pub SmallerLinesAreLines : Type 0
 SmallerLinesAreLines = (states symbols : ℕ) (said : Line) (bytes : List ℕ) → states ≤ MAX_STATES
     → symbols ≤ MAX_SYMBOLS → IsLineWithin states symbols said bytes → IsLineOf said bytes
@@ -115,13 +115,12 @@ abbrev pub AgreeingRecordsNeverRepeat : Type 0
 AgreeingRecordsNeverRepeat = (table : Table) (side : Side) (a b c d : ℕ) → AgreeingRecords table side a b
     → c < d → Same table c d → ⊥
 
--- where a claim says that a machine never halts, it never does
+-- a claim of never halting is true
 abbrev pub ClaimsNeverHalt : Type 0
 ClaimsNeverHalt = (table : Table) (verdict : Verdict) → IsMachine table → SaysNever verdict
     → Claim table verdict → Never table
 
--- i steps after a configuration, whatever it is, there is one at a halting entry just where it matches a node
--- of level i
+-- i steps after any configuration there is one at a halting entry exactly if it matches a node of level i
 abbrev pub LevelsComeBeforeHalts : Type 0
 LevelsComeBeforeHalts = (table : Table) (c : Configuration) (i : ℕ)
     → HaltsNextAfter table c i ↔ MatchesOne (level table i) c
@@ -130,7 +129,7 @@ LevelsComeBeforeHalts = (table : Table) (c : Configuration) (i : ℕ)
 abbrev pub EmptyLevelsStay : Type 0
 EmptyLevelsStay = (table : Table) (i j : ℕ) → i ≤ j → level table i ≡ [] → level table j ≡ []
 
--- a machine whose tree ends, and whose start matches no node of it, never halts
+-- a machine whose tree ends, without a node matched by its start, never halts
 abbrev pub ClearTreesNeverHalt : Type 0
 ClearTreesNeverHalt = (table : Table) (h k : ℕ) → IsMachine table → Ends table h k → Clear table h
     → Never table

@@ -1,4 +1,4 @@
--- What the functions of the checker tell one another; no public contract cites it.
+-- Definitions for the functions of the checker. No public contract cites them.
 use Rattle.std.specs.Prelude.{◌≡◌, ◌≢◌, ℕ, ◌+◌, ◌<◌, ◌≤◌, ◌↔◌, Option, Some, None, IsTrue, pos}
 use Rattle.bb_machine.specs.Limits.{Bounds}
 use Rattle.bb_machine.specs.Machine.{Table}
@@ -12,7 +12,7 @@ use Rattle.bb_sim.specs.Runner.{Stands, position_of, steps_of}
 use Rattle.bb_sim.specs.Span.{Inside, span}
 use Rattle.bb_cert.specs.declared.checker.answer.Answer.{Answer}
 use Rattle.bb_cert.specs.declared.checker.answer.Answer.TheVariants as answer
-use Rattle.bb_cert.specs.declared.checker.replay.Course.{Course}
+use Rattle.bb_cert.specs.declared.checker.replay.ReplayState.{ReplayState}
 use Rattle.bb_cert.specs.declared.records.Records.{Records}
 use Rattle.bb_cert.specs.declared.verdict.Side.{Side}
 use Rattle.bb_cert.specs.declared.verdict.Verdict.{Verdict}
@@ -21,7 +21,7 @@ use Rattle.bb_cert.specs.claims.Claim.{Claim}
 use Rattle.bb_cert.specs.records.Follow.{IsFollowed, TellsWidening, passed}
 use Rattle.bb_cert.specs.records.Record.{IsRecord, head_at}
 
--- the answer where nothing has to be run; none where that is not settled so
+-- the answer, if it needs no run; none otherwise
 abbrev pub Settles : Bounds → Verdict → Option Answer → Type 0
 Settles bounds verdict None = IsSettled bounds verdict → ⊥
 Settles bounds verdict (Some answer.Open) = IsUndecided verdict
@@ -37,15 +37,15 @@ Checks table bounds verdict answer.Bad =
     (NeedsTooMuch table bounds verdict → ⊥) × (Claim table verdict → ⊥)
 Checks table bounds verdict answer.Open = ⊥
 
--- why a run can't come to its limit of steps: there is no such step, though its span fits; or the span does
--- not
+-- the reason why a run can't reach its limit of steps: there is no such step, though its span fits; or the
+-- span does not fit
 abbrev pub IsCut : Table → Bounds → Answer → Type 0
 IsCut table bounds answer.Bad = (Exists table bounds.steps → ⊥) × (span table bounds.steps ≤ bounds.cells)
 IsCut table bounds answer.Over = bounds.cells < span table bounds.steps
 IsCut table bounds answer.Ok = ⊥
 IsCut table bounds answer.Open = ⊥
 
--- a run has come inside the bounds to where its runner stands, and just that was counted
+-- a run inside the bounds has reached its runner's configuration, and exactly that was counted
 pub record IsUnderWay (table : Table) (bounds : Bounds) (runner : Runner) (view : TapeView) (meter : Meter)
     : Type 0 where
   pub stands : Stands table runner view
@@ -60,7 +60,7 @@ pub record IsOneOn (table : Table) (bounds : Bounds) (old new : Runner) (view : 
   pub one_more : steps_of new ≡ steps_of old + 1
   pub near : IsBeside view (position_of new)
 
--- it has come to this step
+-- it has reached this step
 pub record IsAtStep (table : Table) (bounds : Bounds) (step : ℕ) (runner : Runner) (view : TapeView)
     (meter : Meter) : Type 0 where
   pub under_way : IsUnderWay table bounds runner view meter
@@ -75,25 +75,25 @@ abbrev pub MakesRecordOutsideZ : Table → Side → ℕ → Type 0
 MakesRecordOutsideZ table side n = MakesRecord table side n × IsRunningAt table n (head_at table n)
 
 -- the records of a side are known up to step n, and whether it makes one outside Z
-pub record IsCourse (table : Table) (n : ℕ) (course : Course) (saved : TapeView) : Type 0 where
-  pub followed : IsFollowed table n course.records saved
-  pub told : IsTrue course.is_record ↔ MakesRecordOutsideZ table course.records.side n
+pub record IsReplay (table : Table) (n : ℕ) (replay : ReplayState) (saved : TapeView) : Type 0 where
+  pub followed : IsFollowed table n replay.records saved
+  pub claimed : IsTrue replay.is_record ↔ MakesRecordOutsideZ table replay.records.side n
 
--- a course has taken in the step that a runner has just made, before which its window had so many cells
-pub record Passes (runner : Runner) (cells : ℕ) (old new : Course) : Type 0 where
+-- a replay after the runner's last step, before which its window had so many cells
+pub record Passes (runner : Runner) (cells : ℕ) (old new : ReplayState) : Type 0 where
   pub records : new.records ≡ passed old.records (position_of runner)
-  pub told : Option Side
-  pub widens : TellsWidening runner cells told
-  pub is_told : IsTrue new.is_record ↔ (told ≡ Some old.records.side)
+  pub claimed : Option Side
+  pub widens : TellsWidening runner cells claimed
+  pub is_claimed : IsTrue new.is_record ↔ (claimed ≡ Some old.records.side)
 
 -- the same record is kept
 pub record KeepsSame (old new : Records) : Type 0 where
   pub side : new.side ≡ old.side
   pub kept : new.kept ≡ old.kept
 
--- what was known of a course is known of it now, up to a later step, with the same record kept
-pub record GoesOn (table : Table) (from to : ℕ) (old new : Course) : Type 0 where
-  pub course : (saved : TapeView) → IsCourse table from old saved → IsCourse table to new saved
+-- the same is known of a replay now, up to a later step, with the same record kept
+pub record GoesOn (table : Table) (from to : ℕ) (old new : ReplayState) : Type 0 where
+  pub replay : (saved : TapeView) → IsReplay table from old saved → IsReplay table to new saved
   pub same : KeepsSame old.records new.records
 
 -- the record of this step is kept, just where it makes one outside Z

@@ -1,4 +1,4 @@
--- What the steps of a walk tell one another. No public contract speaks of it.
+-- Definitions for the steps of a walk. No public contract cites them.
 use Rattle.std.specs.Prelude.{◌≡◌, ℕ, ◌+◌, ◌-◌, ◌<◌, ◌≤◌, max, Bool, true, false, List, [], ◌∷◌, length}
 use Rattle.std.specs.Prelude.{slice_index, pos, ◌+ℤ◌, ◌≤ℤ◌}
 use Rattle.std.specs.Int.{int_min, int_max}
@@ -33,8 +33,7 @@ pub record IsWithin (most entered : Count) : Type 0 where
 abbrev pub entered_on : ℕ → Count → Count
 entered_on level entered = record { nodes = entered.nodes + 1; levels = max entered.levels (level + 1) }
 
--- a branch was entered: the tape shows its node, which the start doesn't match, and the frame tells what was
--- there
+-- a branch was entered: the tape has its node, not matched by the start, and the frame has the old content
 pub record Enters (starts : Dir → List ℕ) (branch : Branch) (level : ℕ) (old new : TapeView) (frame : Frame)
     : Type 0 where
   pub content : new.content ≡ content_in old.content branch

@@ -45,7 +45,7 @@ nearer L p q = int_max p q
 abbrev pub passed : Records → ℤ → Records
 passed records position = record records { nearest = nearer records.side records.nearest position }
 
--- with that record kept which a runner has just made
+-- with the record kept that a runner has just made
 abbrev pub with_kept : Records → Runner → Records
 with_kept records runner = record records { kept = runner; nearest = position_of runner }
 
@@ -64,8 +64,8 @@ pub record IsTop (table : Table) (side : Side) (n : ℕ) (top : ℤ) : Type 0 wh
   pub reached : out side (head_at table step) ≡ top
   pub bounds : (m : ℕ) → m ≤ n → out side (head_at table m) ≤ℤ top
 
--- the record that is kept, its configuration, and the least of how far out the head is from there to step n;
--- what was saved of it lies in the window of the run, and its own head in what was saved
+-- the kept record, its configuration, and the least distance of the head from the start since then, up to
+-- step n; its saved window lies in the window of the run, and its own head in the saved window
 pub record IsKeptRecord (table : Table) (side : Side) (number n : ℕ) (kept : Runner) (far_out : ℤ)
     (saved : TapeView)
     : Type 0 where
@@ -101,7 +101,7 @@ pub record IsComparable (records : Records) (runner : Runner) (saved run : TapeV
   pub top_seen : IsInside run (position_of runner)
   pub number_saved : IsInside saved (position_of records.kept)
 
--- its cells are those that the record which a runner has just made has as far before its head
+-- its cells equal those just as far before the head of the record that a runner has just made
 abbrev pub HasSameCells : Records → Runner → Content → Content → Type 0
 HasSameCells records runner saved run = (x : ℤ) → nearest_out records ≤ℤ out records.side x
     → out records.side x ≤ℤ number_of records
@@ -113,7 +113,7 @@ IsKeptInStateOf records runner =
     (position_of records.kept ≢ pos 0) × (state_of records.kept ≡ state_of runner)
     × (state_of records.kept ≢ Halt)
 
--- the kept record agrees with that which the runner has just made
+-- the kept record agrees with the one that the runner has just made
 abbrev pub AgreesWithKept : Records → Runner → TapeView → TapeView → Type 0
 AgreesWithKept records runner saved run =
     IsKeptInStateOf records runner × HasSameCells records runner saved.content run.content

@@ -1,5 +1,5 @@
--- Records: the steps at which the head is farther out on a side than ever before. Translated cyclers are
--- bbchallenge's; that records have numbers is this project's own.
+-- Records: the steps with the head farther out on a side than ever before. Translated cyclers are
+-- bbchallenge's; the numbers of records are this project's own.
 use Rattle.std.specs.Prelude.{◌≡◌, ◌≢◌, ℕ, ◌+◌, ◌-◌, ◌<◌, Option, Some, None, ℤ, pos, neg_ℤ}
 use Rattle.bb_machine.specs.Machine.{Table}
 use Rattle.bb_sim.specs.Configuration.{Configuration}

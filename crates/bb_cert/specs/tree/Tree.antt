@@ -88,9 +88,8 @@ may_be (Some known) symbol = nat_eq known symbol
 abbrev pub seen_from : ℤ → (ℤ → Option ℕ) → ℤ → Option ℕ
 seen_from distance known x = known (x +ℤ distance)
 
--- what could come before a node by an entry that leads to its state: nothing where the cell that the head
--- left is known to have another symbol than was written; else the node as seen from that cell, which had the
--- rule's symbol
+-- the predecessor of a node by an entry into its state: none if the cell left by the head is known to have
+-- another symbol than the one written; else the node as seen from that cell, with the rule's symbol there
 abbrev pub before_by_entry : Node → ℕ → ℕ → Entry → List Node
 before_by_entry node state symbol Undefined = []
 before_by_entry node state symbol (Go write dir next) = cond (may_be (node.known (left_cell dir)) write)

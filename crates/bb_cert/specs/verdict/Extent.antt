@@ -11,12 +11,12 @@ pub record IsExtent (table : Table) (side : Side) (a b : ℕ) (extent : Extent) 
   pub shift : pos extent.shift ≡ out side (head_at table b) -ℤ out side (head_at table a)
   pub length : pos extent.length ≡ (out side (head_at table a) -ℤ far table side a b) +ℤ pos 1
 
--- an extent, where one is told, is right
+-- an extent, if given, is right
 abbrev pub SaysExtent : Table → Side → ℕ → ℕ → Option Extent → Type 0
 SaysExtent table side a b None = Unit {0}
 SaysExtent table side a b (Some extent) = IsExtent table side a b extent
 
--- one is told, and it is right
+-- it is given, and it is right
 abbrev pub TellsExtent : Table → Side → ℕ → ℕ → Option Extent → Type 0
 TellsExtent table side a b None = ⊥
 TellsExtent table side a b (Some extent) = IsExtent table side a b extent

@@ -60,7 +60,7 @@ IsLineOf (Claim table verdict) bytes =
     IsMachine table × HasNumbers verdict × (line_text table verdict ≡ bytes)
 IsLineOf (Refusal column) bytes = (0 < column) × (column ≤ LINE + 1) × (refusal_text column ≡ bytes)
 
--- what a line says, put together from its machine and what it says beside that
-abbrev pub line_said : List (List Entry) → LineContent → Line
-line_said table (said.Claim verdict) = Claim table verdict
-line_said table (said.Refusal column) = Refusal column
+-- the content of a line, put together from its machine and the rest
+abbrev pub stated_line : List (List Entry) → LineContent → Line
+stated_line table (said.Claim verdict) = Claim table verdict
+stated_line table (said.Refusal column) = Refusal column

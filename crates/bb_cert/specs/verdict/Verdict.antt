@@ -1,4 +1,4 @@
--- What a verdict says is given by the crates that find and check it; here is only what numbers it may hold.
+-- The numbers of a verdict. Its meaning is defined by the crates that find and check it.
 use Rattle.std.specs.Prelude.{◌<◌, ◌^◌, Option, Some, None}
 use Rattle.bb_cert.specs.declared.verdict.Extent.{Extent}
 use Rattle.bb_cert.specs.declared.verdict.Verdict.{Verdict}

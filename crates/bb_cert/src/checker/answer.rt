@@ -1,11 +1,11 @@
-//! What is answered to a verdict line.
+//! The checker's answer to a verdict line.
 ghost use Rattle.std.specs.Prelude.{◌≡◌};
 ghost use Rattle.bb_cert.specs.checker.Answer.{answer_text, is_fine};
 
-/// What is answered to a verdict, by the first rule that applies.
+/// The answer to a verdict, by the first rule that applies.
 #[derive(Clone, Copy, Debug, PartialEq, Eq)]
 pub enum Answer {
-    /// What is claimed holds.
+    /// The claim holds.
     Ok = 1,
     /// It doesn't.
     Bad = 2,
@@ -16,7 +16,7 @@ pub enum Answer {
 }
 
 impl Answer {
-    /// The word that is printed.
+    /// The printed word.
     pub fn word(self) -> &'static [u8]
         ensures { result.now ≡ answer_text self }
     {

@@ -1,4 +1,4 @@
-//! The checker: whether what a verdict claims of a machine holds, whoever found it.
+//! The checker: whether a verdict's claim holds, from any source.
 ghost use Rattle.std.specs.Prelude.{◌≡◌, ◌<◌, ◌≤◌, ◌↔◌, IfOk, IfSome, IsTrue, OnErr};
 ghost use Rattle.bb_sim.specs.Meter.{CountsRun, zero_meter};
 ghost use Rattle.bb_sim.specs.Run.{Never};
@@ -12,7 +12,7 @@ ghost use Rattle.bb_cert.specs.checker.Pair.{PairHasCells};
 ghost use Rattle.bb_cert.specs.tree.Path.{depth_of};
 
 use crate::checker::answer::Answer;
-use crate::checker::replay::{Course, begin, follow_to, run_to};
+use crate::checker::replay::{ReplayState, begin, follow_to, run_to};
 use crate::records::Records;
 use crate::tree::path::Path;
 use crate::tree::walk::walk;
@@ -21,19 +21,19 @@ use bb_machine::{Limits, Machine};
 use bb_sim::{Meter, Outcome, is_same, simulate};
 use bb_tape::{Memory, Tape};
 
-/// The tapes with which a claim is checked. Each call resets what it uses.
+/// The tapes for checking a claim. Each call resets those it uses.
 #[derive(Drop)]
 pub struct Pair<T> {
     /// The tape of the run, and of the walk.
     pub run: T,
-    /// What is kept of it from the first step of a pair.
+    /// The tape saved at the first step of a pair.
     pub saved: T,
 }
 
-/// Resets `meter`, answers whether the claim of a verdict on a machine holds, and records the cost in
-/// `meter`. Nothing past what the verdict names is run or walked.
+/// Resets `meter`, checks a verdict's claim on a machine, and records the cost in `meter`. It makes no step
+/// and enters no node beyond those the verdict names.
 ///
-/// After an error nothing is said of what the tapes hold; the next call resets them.
+/// After an error the contents of the tapes are unspecified; the next call resets them.
 pub fn check<T: Tape>(
     machine: &Machine,
     verdict: &Verdict,
@@ -64,7 +64,7 @@ pub fn check<T: Tape>(
     }
 }
 
-/// The answer where nothing has to be run.
+/// The answer, if it needs no run.
 fn settle(verdict: &Verdict, limits: &Limits) -> Option<Answer>
     ensures { Settles limits.now verdict.now result }
 {
@@ -90,7 +90,7 @@ fn settle(verdict: &Verdict, limits: &Limits) -> Option<Answer>
     }
 }
 
-/// The answer to a pair of steps where nothing has to be run.
+/// The answer to a pair of steps, if it needs no run.
 fn settle_pair(first: u64, second: u64, limits: &Limits) -> Option<Answer>
     ensures { Settles limits.now (Verdict.Cycler first second) result }
 {
@@ -106,7 +106,7 @@ fn settle_pair(first: u64, second: u64, limits: &Limits) -> Option<Answer>
     None
 }
 
-/// The answer to a claim for which something has to be run.
+/// The answer to a claim by a run or a walk.
 fn check_claim<T: Tape>(
     machine: &Machine,
     verdict: Verdict,
@@ -241,7 +241,8 @@ fn check_cycler<T: Tape>(
     Ok(Answer::Bad)
 }
 
-/// Whether two steps make records of a side that agree, and lie as was told: one run, and a copy of its tape.
+/// Whether two steps make agreeing records of a side, with the claimed extent: by one run, and a copy of its
+/// tape.
 fn check_translated<T: Tape>(
     machine: &Machine,
     side: Side,
@@ -268,7 +269,7 @@ fn check_translated<T: Tape>(
 {
     let limits = with_steps(limits, second);
     let mut runner = begin(machine, &mut pair.run, &limits, meter);
-    let mut course = Course {
+    let mut replay = ReplayState {
         records: Records::new(side, runner),
         is_record: false,
     };
@@ -278,7 +279,7 @@ fn check_translated<T: Tape>(
         &mut pair.run,
         &limits,
         first,
-        &mut course,
+        &mut replay,
         meter,
     )? {
         Some(answer) => return Ok(answer),
@@ -287,40 +288,40 @@ fn check_translated<T: Tape>(
     let Ok(()) = pair.saved.copy_from(&pair.run) else {
         return Err(Memory);
     };
-    course.keep_if_record(&runner);
+    replay.keep_if_record(&runner);
     match follow_to(
         machine,
         &mut runner,
         &mut pair.run,
         &limits,
         second,
-        &mut course,
+        &mut replay,
         meter,
     )? {
         Some(answer) => return Ok(answer),
         None => {}
     }
-    let Some(found) = course.agreement(&runner, &pair.run, &mut pair.saved) else {
+    let Some(found) = replay.agreement(&runner, &pair.run, &mut pair.saved) else {
         return Ok(Answer::Bad);
     };
-    if !is_as_told(extent, found) {
+    if !matches_claimed(extent, found) {
         return Ok(Answer::Bad);
     }
     Ok(Answer::Ok)
 }
 
-/// Whether an extent, if one was told, is this one.
-fn is_as_told(told: Option<Extent>, found: Extent) -> bool
-    ensures { IsTrue result ↔ IfSome told (λ extent. extent ≡ found) }
+/// Whether the claimed extent, if any, is this one.
+fn matches_claimed(claimed: Option<Extent>, found: Extent) -> bool
+    ensures { IsTrue result ↔ IfSome claimed (λ extent. extent ≡ found) }
 {
-    match told {
+    match claimed {
         Some(extent) => extent == found,
         None => true,
     }
 }
 
-/// Whether the tree of what could come before a halt ends in so many levels with so many nodes, and the start
-/// matches none of them: one walk with no more levels and nodes.
+/// Whether the backward tree ends in so many levels with so many nodes, none of them matched by the start: by
+/// one walk with no more levels and nodes.
 fn check_backward<T: Tape>(
     machine: &Machine,
     levels: u64,

@@ -1,4 +1,4 @@
-//! The run of a claim, up to the steps that the claim names.
+//! The run of a claim, up to the steps named in it.
 ghost use Rattle.std.specs.Prelude.{◌≡◌, ◌<◌, ◌≤◌, IfOk, IfSome, IsTrue, MatchBool, MatchOption, OnErr};
 ghost use Rattle.bb_sim.specs.Meter.{CountsRun, IsWithinRun, zero_meter};
 ghost use Rattle.bb_sim.specs.Runner.{steps_of};
@@ -15,13 +15,13 @@ use bb_tape::{Memory, Tape};
 
 /// The records of a side of a run, and whether the last step makes one.
 #[derive(Clone, Copy, Debug)]
-pub(crate) struct Course {
+pub(crate) struct ReplayState {
     pub(crate) records: Records,
     pub(crate) is_record: bool,
 }
 
-impl Course {
-    /// Takes in the step that the runner has just made, before which its window had so many cells.
+impl ReplayState {
+    /// Records the runner's last step; `cells` is the width of its window before that step.
     pub(crate) fn pass(&mut self, runner: &Runner, cells: u64)
         ensures { Passes runner.now cells self.old self.new }
     {
@@ -32,7 +32,7 @@ impl Course {
         };
     }
 
-    /// Keeps the record that the last step makes, if it makes one. The runner stands there.
+    /// Keeps the record made by the runner's last step, if it made one.
     pub(crate) fn keep_if_record(&mut self, runner: &Runner)
         ensures { MatchBool self.old.is_record
             (self.new ≡ record self.old { records = with_kept self.old.records runner.now })
@@ -43,8 +43,8 @@ impl Course {
         }
     }
 
-    /// How the kept record and that of the last step, where the runner stands, lie, if it makes one that
-    /// agrees.
+    /// The extent of the kept record and the one made by the runner's last step, if it made one and they
+    /// agree.
     pub(crate) fn agreement<T: Tape>(
         &self,
         runner: &Runner,
@@ -72,7 +72,7 @@ impl Course {
     }
 }
 
-/// Begins the run of a claim, under a meter that counted nothing.
+/// Starts the run of a claim, under a meter at zero.
 pub(crate) fn begin<T: Tape>(
     machine: &Machine,
     tape: &mut T,
@@ -88,8 +88,7 @@ pub(crate) fn begin<T: Tape>(
     Runner::start(machine, tape)
 }
 
-/// Makes one step of a run that is to come to its limit of steps. Where it can't come there, what is
-/// answered.
+/// Makes one step of a run towards its limit of steps. Returns the answer if the run can't reach the limit.
 #[inline(always)]
 fn step_on<T: Tape>(
     machine: &Machine,
@@ -118,8 +117,8 @@ fn step_on<T: Tape>(
     }
 }
 
-/// Runs on up to a step, on the way to the limit of steps. Where the run can't come to that limit, what is
-/// answered.
+/// Continues the run up to a step, on the way to its limit of steps. Returns the answer if the run can't
+/// reach the limit.
 #[inline(never)]
 pub(crate) fn run_to<T: Tape>(
     machine: &Machine,
@@ -158,7 +157,7 @@ pub(crate) fn follow_to<T: Tape>(
     tape: &mut T,
     limits: &Limits,
     step: u64,
-    course: &mut Course,
+    replay: &mut ReplayState,
     meter: &mut Meter,
 ) -> Result<Option<Answer>, Memory>
     requires under_way { IsUnderWay machine.now limits.now runner.old (T.view tape.old) meter.old }
@@ -168,7 +167,7 @@ pub(crate) fn follow_to<T: Tape>(
         (IsAtStep machine.now limits.now step runner.new (T.view tape.new) meter.new)
         (IsCut machine.now limits.now)) }
     ensures follows { IfOk result (λ cut. MatchOption cut
-        (GoesOn machine.now (steps_of runner.old) step course.old course.new)
+        (GoesOn machine.now (steps_of runner.old) step replay.old replay.new)
         (λ answer. Unit {0})) }
     ensures within { IsWithinRun limits.now zero_meter meter.new }
     ensures whole { IfOk result (λ cut. IfSome cut (λ answer.
@@ -182,7 +181,7 @@ pub(crate) fn follow_to<T: Tape>(
             Some(answer) => return Ok(Some(answer)),
             None => {}
         }
-        course.pass(runner, cells);
+        replay.pass(runner, cells);
     }
     Ok(None)
 }

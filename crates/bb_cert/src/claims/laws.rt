@@ -1,5 +1,5 @@
-//! Laws of verdict lines, of runs that repeat and of what could come before a halt, as contracts: a call of
-//! each does nothing.
+//! Laws of verdict lines, of repeating runs and of the backward tree, as contracts. A call of each does
+//! nothing.
 ghost use Rattle.bb_cert.specs.claims.FewCells.{HaltsInFewCellsAreEarly, LongRunsInFewCellsNeverHalt};
 ghost use Rattle.bb_cert.specs.claims.Laws.{
   AgreeingRecordsGoOn,
@@ -32,7 +32,7 @@ ghost use Rattle.bb_cert.specs.Numbers.{NumbersAreStated, answer_number};
 
 use crate::checker::answer::Answer;
 
-/// The longest verdict line and the buffer that holds one have the stated numbers of bytes.
+/// The longest verdict line, and its buffer, have the stated numbers of bytes.
 pub fn numbers_are_stated()
     ensures { NumbersAreStated }
 {}
@@ -44,30 +44,30 @@ pub fn answer_number(answer: Answer) -> u8
     answer as u8
 }
 
-/// A verdict line says one thing only: it is the line of one machine and one verdict, or of one column.
+/// A verdict line has one meaning: one machine and one verdict, or one column.
 pub fn lines_differ()
     ensures { LinesDiffer }
 {}
 
-/// A verdict line of fewer states and symbols than are allowed is a verdict line, and says the same.
+/// A verdict line of a smaller machine is a verdict line under larger sizes too, with the same meaning.
 pub fn smaller_lines_are_lines()
     ensures { SmallerLinesAreLines }
 {}
 
-/// A configuration that comes again goes on coming again, so the machine never halts.
+/// A repeated configuration repeats forever, so the machine never halts.
 pub fn repeats_go_on()
     ensures go_on { RepeatsGoOn }
     ensures never { RepeatsNeverHalt }
     ensures distance { RepeatsKeepDistance }
 {}
 
-/// A machine that halts in few cells halts early; one that goes on longer in them never halts.
+/// A machine that halts in few cells halts early; one that runs longer in them never halts.
 pub fn few_cells_settle()
     ensures early { HaltsInFewCellsAreEarly }
     ensures never { LongRunsInFewCellsNeverHalt }
 {}
 
-/// From two records that agree on, the run goes alike, so the machine never halts.
+/// After two agreeing records the run goes alike, so the machine never halts.
 pub fn agreeing_records_go_on()
     ensures alike { AgreeingRecordsGoOn }
     ensures never { AgreeingRecordsNeverHalt }
@@ -84,25 +84,25 @@ pub fn records_in_order()
     ensures takes_steps { RecordTakesSteps }
 {}
 
-/// Where two records agree, there are all later ones, and those at the same distance agree.
+/// After two agreeing records all later records exist, and those at the same distance agree.
 pub fn later_records_agree()
     ensures every { HasRecord }
     ensures pair { RecordPair }
 {}
 
-/// A run whose configurations come again makes no record from then on, so it has no two records that agree.
+/// A run of repeating configurations makes no further record, so no two records of it agree.
 pub fn repeats_make_no_record()
     ensures no_record { RepeatsMakeNoRecord }
     ensures never_both { AgreeingRecordsNeverRepeat }
 {}
 
-/// A claim that a machine never halts is right.
+/// A claim of never halting is right.
 pub fn claims_never_halt()
     ensures { ClaimsNeverHalt }
 {}
 
-/// What could come before a halt: level `i` of the tree tells of every configuration whether it is `i` steps
-/// before a halting entry, so a machine whose tree ends and has no match for the start never halts.
+/// The backward tree: level `i` has exactly the configurations `i` steps before a halting entry. So a machine
+/// whose tree ends, without a match for the start, never halts.
 pub fn levels_come_before_halts()
     ensures before { LevelsComeBeforeHalts }
     ensures stay { EmptyLevelsStay }

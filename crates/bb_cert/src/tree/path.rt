@@ -6,19 +6,19 @@ use bb_machine::limits::MAX_LEVELS;
 use bb_tape::Memory;
 use std::alloc::Global;
 
-/// A node that was entered and not left yet, and which rules are still to be tried for what comes before it.
+/// An open node, and the rules still to be tried for its predecessors.
 #[derive(Clone, Copy, Debug)]
 pub(crate) struct Frame {
-    /// Where its head stands.
+    /// The head's position.
     pub(crate) position: i64,
     pub(crate) state: u8,
-    /// What the tape had there before.
+    /// The cell's content before.
     pub(crate) before: u8,
     /// How many cells are known to be other than 0.
     pub(crate) nonzero_known: u16,
     /// The next rule to be tried.
     pub(crate) next: u16,
-    /// Where its rules end.
+    /// The end of its rules.
     pub(crate) end: u16,
 }
 

@@ -1,4 +1,4 @@
-//! A machine's entries, ordered by the state that they lead to.
+//! A machine's entries, ordered by their next state.
 ghost use Rattle.std.specs.Prelude.{◌≡◌, ◌+◌, ◌*◌, ◌<◌, ◌≤◌, ◌++◌, [], length, slice_index};
 ghost use Rattle.std.specs.Prelude.{slice_index_or, IsTrue, ◌↔◌};
 ghost use Rattle.std.specs.List.{filter};
@@ -18,7 +18,7 @@ const MAX_RULES: usize = 2 * MAX_STATES * MAX_SYMBOLS;
 /// A start for each state and one for the halting entries, and the end of all.
 const MAX_STARTS: usize = MAX_STATES + 2;
 
-/// An entry with the state and the symbol for which it stands.
+/// An entry with its state and its symbol.
 #[derive(Clone, Copy, Debug)]
 pub(crate) struct Rule {
     pub(crate) state: u8,
@@ -36,21 +36,21 @@ impl Default for Rule {
     }
 }
 
-/// The entries that lead to state A, then those that lead to B and so on, and last those that halt; and all
-/// of them once more. The first time, of those that lead to one state the ones that move to the left come
-/// first, the second time those that move to the right.
+/// The entries into state A, then those into B and so on, and last the halting ones; and all of them once
+/// more. Among those into one state the moves to the left come first in the first half, the moves to the
+/// right in the second half.
 #[derive(Drop)]
 pub(crate) struct Rules {
     pub(crate) list: ArrayVec<Rule, MAX_RULES>,
-    /// Where each of these begins the first time, and where all end.
+    /// The start of each group in the first half, and the end of all.
     pub(crate) left_first: ArrayVec<u16, MAX_STARTS>,
     /// The same of the second time.
     pub(crate) right_first: ArrayVec<u16, MAX_STARTS>,
 }
 
 impl Rules {
-    /// Takes in the entries of a machine, where there are none yet: in place, since a move of all that a
-    /// machine can have would cost more than a small tree.
+    /// Adds a machine's entries to an empty list, in place: to move the room for the largest machine would
+    /// cost more than a small tree.
     pub(crate) fn gather(&mut self, machine: &Machine)
         requires no_list { self.old.list.items ≡ [] }
         requires no_left { self.old.left_first.items ≡ [] }
@@ -62,7 +62,7 @@ impl Rules {
         add_all(machine, Dir::R, &mut self.list, &mut self.right_first);
     }
 
-    /// Where the rules that lead to a state begin and end, the ones that move in a direction first.
+    /// The range of the rules into a state, those with a move in the direction first.
     #[inline]
     pub(crate) fn range(&self, state: u8, first: Dir) -> (u16, u16)
         requires rules { HasTable self.now.list.items (starts_of self.now) }
@@ -78,8 +78,8 @@ impl Rules {
     }
 }
 
-/// Appends the rules of a machine, of those that lead to one state the ones that move in a direction first,
-/// and puts down where those of each state begin, and where all end.
+/// Appends the rules of a machine, for each next state those with a move in the direction first, and records
+/// the start of each group and the end of all.
 fn add_all(
     machine: &Machine,
     first: Dir,
@@ -100,7 +100,7 @@ fn add_all(
     starts.push(list.len() as u16);
 }
 
-/// Appends the rules that lead to a state, or those that halt, the ones that move in a direction first.
+/// Appends the rules into a state, or the halting ones, those with a move in the direction first.
 fn add_rules(machine: &Machine, next: Next, first: Dir, list: &mut ArrayVec<Rule, MAX_RULES>)
     requires { length list.old.items + length (rules_to machine.now next) ≤ MAX_RULES }
     ensures { AddsRules (rules_to machine.now next) list.old.items list.new.items }
@@ -112,9 +112,9 @@ fn add_rules(machine: &Machine, next: Next, first: Dir, list: &mut ArrayVec<Rule
     list.as_mut_slice()[from..].sort_unstable_by_key(|rule| place_of(*rule, first));
 }
 
-/// By what the rules that lead to one state are ordered: those that move in a direction come first, among
-/// them those that stand for this state, then those that stand for greater symbols. No clause speaks of the
-/// order: what a walk answers doesn't depend on it, only how soon it meets a level that it may not enter.
+/// The sort key of the rules into one state: first those with a move in the direction, among them those of
+/// this state, then those of greater symbols. No clause depends on the order. It decides only how soon a walk
+/// meets a level past its bound.
 fn place_of(rule: Rule, first: Dir) -> (bool, bool, Reverse<u8>, Reverse<u8>) {
     let (turns, changes) = match rule.entry {
         Entry::Undefined => (true, true),
@@ -123,7 +123,7 @@ fn place_of(rule: Rule, first: Dir) -> (bool, bool, Reverse<u8>, Reverse<u8>) {
     (turns, changes, Reverse(rule.symbol), Reverse(rule.state))
 }
 
-/// Appends the rules of a state that lead to a state, or halt.
+/// Appends the rules of one state into a state, or its halting ones.
 fn add_rules_of(machine: &Machine, state: u8, next: Next, list: &mut ArrayVec<Rule, MAX_RULES>)
     requires state { state < length machine.now }
     requires room { length list.old.items
@@ -151,7 +151,7 @@ fn leads_to(entry: Entry, next: Next) -> bool
     goes_to(entry) == next
 }
 
-/// The state to which an entry leads; an undefined one halts.
+/// The next state of an entry; an undefined one halts.
 fn goes_to(entry: Entry) -> Next
     ensures { result ≡ tree.goes_to entry }
 {

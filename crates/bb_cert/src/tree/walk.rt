@@ -1,6 +1,6 @@
-//! The walk through the tree of what could come before a halt, in depth, on one tape.
+//! The walk through the backward tree, depth first, on one tape.
 //!
-//! The tape shows what a node knows: a known symbol `r` as `r + 1`, and an unknown cell as 0.
+//! The tape has the known cells of a node: a known symbol `r` as `r + 1`, and an unknown cell as 0.
 ghost use Rattle.std.specs.Prelude.{◌≡◌, ◌<◌, ◌≤◌, ◌+◌, ◌-◌, ◌*◌, ◌^◌, [], length, min, pos, neg_ℤ};
 ghost use Rattle.std.specs.Prelude.{◌+ℤ◌, ◌≤ℤ◌, IfOk, IfSome, IsTrue, MatchOption, OnErr, OnOk};
 ghost use Rattle.std.specs.List.{AllByRecursion};
@@ -32,24 +32,24 @@ struct Count {
     levels: u64,
 }
 
-/// What could come before a node: the state, the symbol under the head, and where the head stands.
+/// A predecessor of a node: the state, the symbol under the head, and the head's position.
 #[derive(Clone, Copy, Debug)]
 struct Branch {
     position: i64,
     state: u8,
     symbol: u8,
-    /// How the head moves from there to the node that it comes before.
+    /// The head's move from it to the node.
     dir: Dir,
-    /// What the tape has there.
+    /// The tape's content there.
     held: u8,
-    /// How many cells the node that it comes before knows to be other than 0.
+    /// How many cells are known to be nonzero in the node.
     nonzero_known: u16,
 }
 
-/// How many levels and nodes the tree of what could come before a halt has: where it ends within so many of
-/// each, and the start matches no node of it. Such a machine never halts.
+/// The levels and nodes of the backward tree, if it ends within the given bounds and the start matches none
+/// of its nodes. Such a machine never halts.
 ///
-/// The tape is lent, and blank at the end. After an error nothing is said of what it holds.
+/// The tape is blank at the end. After an error its contents are unspecified.
 #[inline(never)]
 pub fn walk<T: Tape>(
     machine: &Machine,
@@ -88,7 +88,7 @@ pub fn walk<T: Tape>(
     }
 }
 
-/// Walks through the trees of all halting entries. False where no tree ends within what may be entered.
+/// Walks through the trees of all halting entries. False if some tree doesn't end within the bounds.
 fn explore_all<T: Tape>(
     machine: &Machine,
     most: Count,
@@ -132,7 +132,7 @@ fn explore_all<T: Tape>(
     Ok(true)
 }
 
-/// Walks through the tree of one halting entry. False where no tree ends within what may be entered.
+/// Walks through the tree of one halting entry. False if it doesn't end within the bounds.
 fn explore<T: Tape>(
     rules: &Rules,
     root: Branch,
@@ -180,7 +180,7 @@ fn explore<T: Tape>(
     }
 }
 
-/// Enters a node on a level. None past what may be entered, and where the start matches the node.
+/// Enters a node on a level. None if that passes a bound, or the start matches the node.
 #[inline]
 fn enter<T: Tape>(
     rules: &Rules,
@@ -250,7 +250,7 @@ fn count_known(branch: Branch) -> u16
     if branch.held > 1 { more - 1 } else { more }
 }
 
-/// Leaves a node: the tape has what it had before.
+/// Leaves a node and restores the tape.
 #[inline]
 fn leave<T: Tape>(frame: Frame, tape: &mut T) -> Result<(), Memory>
     requires inside { IsInside (T.view tape.old) frame.position }
@@ -265,7 +265,7 @@ fn leave<T: Tape>(frame: Frame, tape: &mut T) -> Result<(), Memory>
     }
 }
 
-/// The next node that could come before one, and the rule after the one by which it comes.
+/// The next predecessor of a node, and the index of the rule after its own.
 #[inline]
 fn next_branch<T: Tape>(rules: &Rules, frame: Frame, tape: &T) -> Option<(Branch, u16)>
     requires rules { AllByRecursion (IsRule (states_of (starts_of rules.now))) rules.now.list.items }
@@ -299,7 +299,7 @@ fn next_branch<T: Tape>(rules: &Rules, frame: Frame, tape: &T) -> Option<(Branch
     None
 }
 
-/// The cell that the head left by a move to this position.
+/// The cell left by a move to this position.
 #[inline]
 fn left_cell(position: i64, dir: Dir) -> i64
     requires low { neg_ℤ (pos MAX_LEVELS) ≤ℤ position }

@@ -17,7 +17,7 @@ use itoa::Buffer;
 /// of 20 digits with spaces between them.
 pub const LONGEST: usize = LINE + 97;
 
-/// The bytes of a buffer that a line is written into.
+/// The bytes of a line's buffer.
 pub const LINE_BUFFER: usize = 1023;
 
 /// Appends the line of a machine and a verdict, without a newline.
@@ -29,8 +29,7 @@ pub fn line_into(machine: &Machine, verdict: &Verdict, out: &mut ArrayVec<u8, LI
     verdict_into(verdict, out);
 }
 
-/// Appends what the line of a machine and a verdict has after the machine's text, the space between them
-/// included.
+/// Appends the line of a machine and a verdict without the machine's text, from the space after it on.
 #[inline(always)]
 pub fn verdict_into(verdict: &Verdict, out: &mut ArrayVec<u8, LINE_BUFFER>)
     requires { array_vec_len out.old + length (verdict_text verdict.now) ≤ LINE_BUFFER }
@@ -51,13 +50,13 @@ pub fn verdict_into(verdict: &Verdict, out: &mut ArrayVec<u8, LINE_BUFFER>)
     }
 }
 
-/// No verdict line is longer than `LONGEST`, where the machine's text isn't longer than `LINE`.
+/// No verdict line is longer than `LONGEST`, if the machine's text isn't longer than `LINE`.
 pub fn lines_are_short()
     ensures { (table : List (List Entry)) (verdict : Verdict) → length (text table) ≤ LINE
         → HasNumbers verdict → length (line_text table verdict) ≤ LONGEST }
 {}
 
-/// Puts the line that refuses a line at a column into a text, which is empty, without a newline.
+/// Writes the reply to a refused line, with its column, into an empty text, without a newline.
 pub fn refusal_into(column: u32, text: &mut ArrayVec<u8, LINE_BUFFER>)
     requires { text.old.items ≡ [] }
     ensures { text.new.items ≡ refusal_text column }

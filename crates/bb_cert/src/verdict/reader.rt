@@ -7,30 +7,30 @@ ghost use Rattle.bb_cert.specs.declared.verdict.reader.Line.{Line};
 ghost use Rattle.bb_cert.specs.verdict.Verdict.{HasExtentNumbers, HasNumbers};
 ghost use Rattle.bb_cert.specs.verdict.Line.{pair_text, records_text, refusal_text, second_text};
 ghost use Rattle.bb_cert.specs.verdict.Line.{verdict_text};
-ghost use Rattle.bb_cert.specs.verdict.Line.{line_said, IsLineOf};
+ghost use Rattle.bb_cert.specs.verdict.Line.{stated_line, IsLineOf};
 
 use crate::verdict::{Extent, Side, Verdict, Why};
 use bb_machine::{LINE, Machine};
 
-/// What a verdict line says.
+/// The content of a verdict line.
 #[derive(Drop)]
 pub enum Line {
     /// A verdict on a machine.
     Claim(Machine, Verdict),
-    /// The column at which a line is refused.
+    /// The column of a refusal.
     Refusal(u32),
 }
 
-/// What a verdict line says beside its machine.
+/// The content of a verdict line, apart from its machine.
 #[derive(Clone, Copy, Debug, PartialEq, Eq)]
 pub enum LineContent {
     /// A verdict on the machine.
     Claim(Verdict),
-    /// The column at which a line is refused.
+    /// The column of a refusal.
     Refusal(u32),
 }
 
-/// What a verdict line says; `None` where the bytes are no verdict line. A newline is no part of a line.
+/// Reads a verdict line, without its newline; `None` for other bytes.
 ///
 /// Fields are separated by one space. Numbers are decimal, with no sign and no leading zero.
 pub fn read_line(bytes: &[u8]) -> Option<Line>
@@ -46,10 +46,10 @@ pub fn read_line(bytes: &[u8]) -> Option<Line>
     }
 }
 
-/// The same, the machine being read in place of another one, so that no table is cleared or moved. Where a
-/// line has no machine, nothing is said of what stands there.
+/// Reads a verdict line and its machine in place of another one, so that no table is cleared or moved. For a
+/// line without a machine, `machine` is then unspecified.
 pub fn read_line_in_place(bytes: &[u8], machine: &mut Machine) -> Option<LineContent>
-    ensures found { IfSome result (λ said. IsLineOf (line_said machine.new said) bytes.now) }
+    ensures found { IfSome result (λ said. IsLineOf (stated_line machine.new said) bytes.now) }
     ensures none { IfNone result ((line : Line) → ¬ (IsLineOf line bytes.now)) }
 {
     if let Some(column) = read_refusal(bytes) {
@@ -78,7 +78,7 @@ fn read_refusal(bytes: &[u8]) -> Option<u32>
     Some(column as u32)
 }
 
-/// The verdict that stands after a machine and a space.
+/// The verdict after a machine and a space.
 fn read_verdict(words: &[u8]) -> Option<Verdict>
     ensures { MatchOption result
         ((verdict : Verdict) → HasNumbers verdict → verdict_text verdict ≢ 32 ∷ words.now)
@@ -118,7 +118,7 @@ fn read_verdict(words: &[u8]) -> Option<Verdict>
     None
 }
 
-/// The two numbers that stand after these words.
+/// The two numbers after these words.
 fn read_pair(words: &[u8], bytes: &[u8]) -> Option<(u64, u64)>
     ensures { MatchOption result
         ((a b : ℕ) → a < 2 ^ 64 → b < 2 ^ 64 → words.now ++ pair_text a b ≢ bytes.now)
@@ -129,7 +129,7 @@ fn read_pair(words: &[u8], bytes: &[u8]) -> Option<(u64, u64)>
     Some((read_number(first)?, read_number(second)?))
 }
 
-/// The steps of two records that stand after these words, and their extent where there is one.
+/// The steps of two records after these words, and their extent, if given.
 fn read_records(words: &[u8], bytes: &[u8]) -> Option<(u64, u64, Option<Extent>)>
     ensures { MatchOption result
         ((a b : ℕ) (extent : Option Extent) → a < 2 ^ 64 → b < 2 ^ 64 → HasExtentNumbers extent
@@ -144,7 +144,7 @@ fn read_records(words: &[u8], bytes: &[u8]) -> Option<(u64, u64, Option<Extent>)
     Some((first, second, extent))
 }
 
-/// The second step of a pair, and the extent where one stands after it.
+/// The second step of a pair, and the extent, if given.
 fn read_second(bytes: &[u8]) -> Option<(u64, Option<Extent>)>
     ensures { MatchOption result
         ((b : ℕ) (extent : Option Extent) → b < 2 ^ 64 → HasExtentNumbers extent
@@ -159,7 +159,7 @@ fn read_second(bytes: &[u8]) -> Option<(u64, Option<Extent>)>
     Some((second, Some(Extent { shift, length })))
 }
 
-/// The number whose decimal text the bytes are.
+/// The number with this decimal text.
 fn read_number(digits: &[u8]) -> Option<u64>
     ensures { MatchOption result
         ((n : ℕ) → n < 2 ^ 64 → decimal n ≢ digits.now)
@@ -172,7 +172,7 @@ fn read_number(digits: &[u8]) -> Option<u64>
     str::from_utf8(digits).ok()?.parse().ok()
 }
 
-/// What stands before the first space, and what stands after it.
+/// The bytes before the first space, and those after it.
 fn split_at_space(bytes: &[u8]) -> Option<(&[u8], &[u8])>
     ensures { MatchOption result
         ((prefix rest : List ℕ) → prefix ++ 32 ∷ rest ≢ bytes.now)

@@ -1,5 +1,4 @@
--- How the search for records that agree goes on, as its functions tell one another; no public contract cites
--- it.
+-- The progress of the search for agreeing records, for its functions. No public contract cites it.
 use Rattle.std.specs.Prelude.{◌≡◌, ℕ, ◌⊎◌, Bool, IfOk, IfSome, IsTrue, OnErr, Option, Some, None, Result}
 use Rattle.std.specs.Prelude.{pos, ◌*ℤ◌, ◌<ℤ◌, ◌≤ℤ◌}
 use Rattle.bb_machine.specs.Machine.{Table}
@@ -39,23 +38,22 @@ KeepsByTurn old runner run saved new new_saved =
     (((pos 2 *ℤ number_of old) ≤ℤ top_of old runner) × (new ≡ with_kept old runner) × (new_saved ≡ run))
     ⊎ ((top_of old runner <ℤ (pos 2 *ℤ number_of old)) × (new ≡ old) × IsWidened old run saved new_saved)
 
--- a verdict tells the kept record and that which the runner has just made, and how they lie
+-- a verdict with the kept record and the one that the runner has just made, and their extent
 pub record TellsPair (records : Records) (runner : Runner) (verdict : Verdict) : Type 0 where
   pub extent : Extent
   pub is : verdict ≡ Translated records.side (steps_of records.kept) (steps_of runner) (Some extent)
   pub lies : LiesAs records runner extent
 
--- the two, where they agree; none just where they do not
+-- the two, if they agree; none exactly if they do not
 abbrev pub Compares : Records → Runner → TapeView → TapeView → Records → TapeView → Option Verdict → Type 0
 Compares old runner run saved new new_saved None =
     (AgreesWithKept old runner saved run → ⊥) × KeepsByTurn old runner run saved new new_saved
 Compares old runner run saved new new_saved (Some verdict) =
     AgreesWithKept old runner saved run × TellsPair old runner verdict
 
--- what is promised where the record that the runner has just made is looked at: what it comes to, for the
--- same side, on a tape with the same room; no memory is left only on a tape that grows, and then alone the
--- meter takes the run over
-pub record LooksAtRecord (grows : Bool) (old : Records) (runner : Runner) (run saved : TapeView)
+-- the promise on comparing the record that the runner has just made: its result, for the same side, on a tape
+-- with the same room; an allocation can fail only on a tape that grows, and only then the meter adds the run
+pub record ComparesOnSide (grows : Bool) (old : Records) (runner : Runner) (run saved : TapeView)
     (new : Records) (new_saved : TapeView) (meter_old meter_new : Meter)
     (result : Result (Option Verdict) Memory) : Type 0 where
   pub compared : IfOk result (Compares old runner run saved new new_saved)
@@ -72,11 +70,11 @@ on_side R right left = right
 on_side L right left = left
 
 -- the records of one side were compared, with a verdict or not; those of the other stay
-abbrev pub Looks : Side → Runner → TapeView → Records → Records → TapeView → TapeView
+abbrev pub ComparesRecord : Side → Runner → TapeView → Records → Records → TapeView → TapeView
     → Records → Records → TapeView → TapeView → Option Verdict → Type 0
-Looks R runner run right left saved_right saved_left new_right new_left new_saved_right new_saved_left found =
+ComparesRecord R runner run right left saved_right saved_left new_right new_left new_saved_right new_saved_left found =
     Compares right runner run saved_right new_right new_saved_right found
     × (new_right.side ≡ right.side) × (new_left ≡ left) × (new_saved_left ≡ saved_left)
-Looks L runner run right left saved_right saved_left new_right new_left new_saved_right new_saved_left found =
+ComparesRecord L runner run right left saved_right saved_left new_right new_left new_saved_right new_saved_left found =
     Compares left runner run saved_left new_left new_saved_left found
     × (new_left.side ≡ left.side) × (new_right ≡ right) × (new_saved_right ≡ saved_right)

@@ -1,5 +1,4 @@
--- What the deciders that are on find, as the functions of this crate tell one another; no public contract
--- cites it.
+-- The results of the deciders in use, for the functions of this crate. No public contract cites them.
 use Rattle.std.specs.Prelude.{◌≡◌, ℕ, ◌+◌, ◌*◌, ◌≤◌, max, Bool, IfOk, IfSome, IsTrue, OnErr, Option, Some}
 use Rattle.std.specs.Prelude.{None, Result}
 use Rattle.bb_machine.specs.Limits.{Bounds}
@@ -19,15 +18,15 @@ use Rattle.bb_decide.specs.Translation.{IsFirstTranslation}
 use Rattle.bb_decide.specs.Verdict.{PassesAll, PassesCycles, PassesTranslations}
 use Rattle.bb_decide.specs.Cost.{CountsWalk, CycleSteps, StepsIfMade, TranslationSteps}
 
--- what each search promises of its result: what it has found is claimed rightly and has numbers that fit a
--- line, and it fails only for memory, on tapes that may grow
+-- the promise of each search on its result: its claim is true and has numbers that fit a line, and it fails
+-- only for memory, on tapes that may grow
 pub record IsPromised {A : Type 0} (found_in : A → Option Verdict) (table : Table) (grows : Bool)
     (result : Result A Memory) : Type 0 where
   pub claim : IfOk result (λ answer. IfSome (found_in answer) (Claim table))
   pub numbers : IfOk result (λ answer. IfSome (found_in answer) HasNumbers)
   pub memory : OnErr result (IsTrue grows)
 
--- what the two searches find, that for cycles first
+-- the result of the two searches, for cycles first
 abbrev pub SearchesFind : Table → Bounds → Plan → Option Verdict → Type 0
 SearchesFind table bounds plan None = PassesCycles table bounds plan × PassesTranslations table bounds plan
 SearchesFind table bounds plan (Some (Cycler first second)) =
@@ -62,7 +61,7 @@ pub record IsWithinRuns (count : ℕ) (bounds : Bounds) (old new : Meter) : Type
   pub nodes : new.nodes ≡ old.nodes
   pub most_levels : new.most_levels ≡ old.most_levels
 
--- what the deciders that are on find, in their order
+-- the result of the deciders in use, in their order
 abbrev pub DecidersFind : Table → Bounds → Plan → Option Verdict → Type 0
 DecidersFind table bounds plan None = PassesAll table bounds plan
 DecidersFind table bounds plan (Some (Backward levels nodes)) =

@@ -1,5 +1,4 @@
--- What the next step of a search's run comes to, as the functions of this crate tell one another; no public
--- contract cites it.
+-- The next step of a search's run, for the functions of this crate. No public contract cites it.
 use Rattle.std.specs.Prelude.{◌≡◌, ◌≢◌, ◌+◌, ◌<◌, ◌^◌, ◌⊎◌, ℕ, Bool, IfOk, IsTrue, OnErr}
 use Rattle.std.specs.Prelude.{Result}
 use Rattle.bb_machine.specs.declared.entry.Next.TheVariants.{Halt}
@@ -20,13 +19,12 @@ use Rattle.bb_sim.specs.Outcome.{IsOutcome}
 use Rattle.bb_sim.specs.Runner.{Stands, high_of, low_of, state_of, steps_of}
 use Rattle.bb_sim.specs.Span.{Inside, IsLastInside}
 
--- a meter takes over what a runner has run
+-- a meter adds a runner's run
 abbrev pub TakesOver : Runner → Meter → Meter → Type 0
 TakesOver runner old new = new ≡ counted old (steps_of runner) (cells_between (low_of runner)
     (high_of runner))
 
--- the outcome that is answered where a call of `advance` did this, after so many steps with so many cells not
--- 0
+-- the outcome after this result of `advance`, after so many steps with so many nonzero cells
 abbrev pub TellsEnd : Moved → ℕ → ℕ → Outcome → Type 0
 TellsEnd NoSteps steps ones outcome = outcome ≡ outcomes.NoSteps
 TellsEnd NoCells steps ones outcome = outcome ≡ outcomes.NoCells
@@ -52,8 +50,8 @@ pub record EndsRun (table : Table) (bounds : Bounds) (old new : Runner) (view : 
       → IsOutcome table bounds outcome
   pub counts : CountsTo table (steps_of new) meter_old meter_new
 
--- the run goes on by a step inside, which its runner alone counts, and what it counts fits the meter; else it
--- has ended
+-- the run continues by a step inside, counted by its runner alone, and its counts fit the meter; else it has
+-- ended
 abbrev pub GoesOn : Table → Bounds → Runner → Runner → TapeView → Meter → Meter → Moved → Type 0
 GoesOn table bounds old new view meter_old meter_new Stepped =
     HasMoved table old new view × Inside table bounds (steps_of new) × (meter_new ≡ meter_old)
@@ -61,7 +59,7 @@ GoesOn table bounds old new view meter_old meter_new Stepped =
 GoesOn table bounds old new view meter_old meter_new moved =
     EndsRun table bounds old new view meter_old meter_new moved
 
--- what is promised of it: no memory is left only on a tape that grows, and what was run is counted then
+-- the promise on it: an allocation can fail only on a tape that grows, and the run is counted then
 pub record StepsOn (grows : Bool) (table : Table) (bounds : Bounds) (old new : Runner)
     (view_old view_new : TapeView) (meter_old meter_new : Meter) (result : Result Moved Memory)
     : Type 0 where

@@ -1,4 +1,4 @@
--- How far a run has come, as the engine's own functions tell one another; no public contract cites it.
+-- The progress of a run, for the engine's own functions. No public contract cites it.
 use Rattle.std.specs.Prelude.{◌≡◌, ◌≢◌, ◌↔◌, ℕ, ◌<◌, ◌≤◌, Bool, true, List, [], ◌++◌, length, map, take}
 use Rattle.std.specs.Prelude.{Option, Result, Err, OnOk, IsTrue}
 use Rattle.std.specs.List.{FoldsTo}

@@ -6,9 +6,9 @@ ghost use Rattle.std.specs.Prelude.{MatchOption, Some};
 use crate::entry::Entry;
 use crate::machine::{LINE, MAX_STATES, MAX_SYMBOLS, Machine, Refused, SLOTS, STRIDE, Slot};
 
-/// How much was read of a text so far: `states` counts the groups, with the one at work, and `filled`
-/// the entries of that one; `symbols` is the most that can be, until a `_` has closed the first group.
-/// A machine that has all the entries has the named symbols at least.
+/// The progress in a text: `states` counts the groups with the current one, `filled` the entries of the
+/// current one; `symbols` is the upper bound, until a `_` closes the first group. A machine with all these
+/// entries has at least the named symbols.
 #[derive(Drop)]
 struct Draft {
     states: usize,
@@ -63,8 +63,8 @@ impl Draft {
         self.filled = 0;
     }
 
-    /// Reads an entry or a `_`, the first of the bytes, and tells how many bytes it took; or how many
-    /// of the bytes some machine's text goes on with.
+    /// Reads an entry or a `_` at the start of the bytes. Returns its length, or the number of bytes by which
+    /// some machine's text continues.
     fn step(&mut self, bytes: &[u8]) -> Result<usize, usize>
         requires some { 0 < length bytes.now }
         requires begun { (b : Begun) × IsDraft self.old b }
@@ -97,8 +97,8 @@ impl Machine {
     ghost use Rattle.bb_machine.specs.Machine.{Table, IsMachine, text};
     ghost use Rattle.bb_machine.specs.Column.{IsColumn};
 
-    /// Reads the machine whose text the line is in place of this one, as `read` does; where there is none,
-    /// this one stays. What it costs goes with the line: no table is cleared or moved.
+    /// Reads the machine with this text in place of this one, as `read` does; after an error this one stays
+    /// unchanged. The cost is that of the line: no table is cleared or moved.
     #[inline]
     pub fn read_in_place(&mut self, line: &[u8]) -> Result<(), Refused>
         ensures found { OnOk result (IsMachine self.new × (text self.new ≡ line.now)) }
@@ -118,7 +118,7 @@ impl Machine {
         Ok(())
     }
 
-    /// Whether `read` takes the line. Nothing is read, so it costs two thirds of that.
+    /// Whether `read` accepts the line. It costs two thirds of `read`.
     #[inline]
     pub fn can_read(line: &[u8]) -> bool
         ensures { IsTrue result ↔ ((machine : Table) × IsMachine machine × (text machine ≡ line.now)) }
@@ -132,7 +132,7 @@ ghost use Rattle.bb_machine.specs.Machine.{IsMachine, IsGroup, group_text, symbo
 ghost use Rattle.bb_machine.specs.Rows.{IsTable, entries_in, table_in};
 ghost use Rattle.bb_machine.specs.Column.{BeginsWith, IsViable, IsLongestPrefix};
 
-/// How many states and symbols the machine has whose text the line is, where it is one.
+/// The number of states and symbols of the machine with this text, if there is one.
 ///
 /// Neither it nor `fill` is inlined, so that the function that reads a line stays small enough to be inlined.
 #[inline(never)]
@@ -149,8 +149,8 @@ fn counts(line: &[u8]) -> Option<(usize, usize)>
     }
 }
 
-/// How many symbols the machine has whose text the line is: as many as there are entries before the first
-/// `_`, or before the end.
+/// The number of symbols of the machine with this text: the number of entries before the first `_`, or before
+/// the end.
 fn symbols_at_first(line: &[u8]) -> Option<usize>
     ensures some { IfSome result (λ symbols. (2 ≤ symbols) × (symbols ≤ MAX_SYMBOLS)) }
     ensures machine { (gs : List (List Entry)) → IsMachine gs → text gs ≡ line.now
@@ -164,7 +164,7 @@ fn symbols_at_first(line: &[u8]) -> Option<usize>
     None
 }
 
-/// How many states the machine with so many symbols has whose text the line is, by its length.
+/// The number of states of the machine with this text and so many symbols, by the length of the text.
 fn states_by_length(line: &[u8], symbols: usize) -> Option<usize>
     requires { symbols ≤ MAX_SYMBOLS }
     ensures { MatchOption result
@@ -181,8 +181,7 @@ fn states_by_length(line: &[u8], symbols: usize) -> Option<usize>
     None
 }
 
-/// Whether the line, which is as long as such a text, is the text of a machine with so many states and
-/// symbols.
+/// Whether the line, of the right length, is the text of a machine with so many states and symbols.
 fn is_table(line: &[u8], states: usize, symbols: usize) -> bool
     requires some { 0 < states }
     requires states { states ≤ MAX_STATES }
@@ -238,8 +237,8 @@ fn longest_prefix(line: &[u8]) -> usize
     at
 }
 
-/// Puts the entries of the machine with so many states and symbols whose text the line is into the slots.
-/// Slots that the machine doesn't have stay as they are, and cost nothing.
+/// Writes the entries of the machine with this text, of so many states and symbols, into the slots. Other
+/// slots keep their values, and cost nothing.
 #[inline(never)]
 fn fill(slots: &mut [Slot; SLOTS], line: &[u8], states: usize, symbols: usize)
     requires { (gs : List (List Entry)) × IsTable states symbols gs × (text gs ≡ line.now) }
@@ -251,7 +250,7 @@ fn fill(slots: &mut [Slot; SLOTS], line: &[u8], states: usize, symbols: usize)
     }
 }
 
-/// Puts the entries of a group, whose text stands first in the bytes, into a row.
+/// Writes the entries of the group at the start of the bytes into a row.
 fn fill_row(slots: &mut [Slot; SLOTS], row: usize, symbols: usize, bytes: &[u8])
     requires row { row < MAX_STATES }
     requires symbols { symbols ≤ MAX_SYMBOLS }

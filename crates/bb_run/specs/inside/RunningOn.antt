@@ -1,5 +1,4 @@
--- How far a call goes on with a run, and what a sampled trace has sent where it stops early. This project's
--- own.
+-- The extent of a continued run, and the output of a sampled trace that stops early. This project's own.
 use Rattle.std.specs.Prelude.{◌≡◌, ℕ, ◌+◌, ◌<◌, ◌≤◌, ◌↔◌, Bool, IfOk, IsTrue, List, [], OnErr, OnOk, Option}
 use Rattle.std.specs.Prelude.{Result}
 use Rattle.std.specs.Io.KnownBytes.{Appends}
@@ -15,8 +14,8 @@ use Rattle.bb_lines.specs.Ends.{AppendsPrefix, MatchEnd}
 use Rattle.bb_lines.specs.Output.{Sends}
 use Rattle.bb_run.specs.declared.summary.Summary.{Summary}
 use Rattle.bb_run.specs.declared.tracing.Form.{Form}
-use Rattle.bb_run.specs.declared.tracing.RanOn.{RanOn}
-use Rattle.bb_run.specs.declared.tracing.RanOn.TheVariants.{Whole, Ended, Cut}
+use Rattle.bb_run.specs.declared.tracing.RunStatus.{RunStatus}
+use Rattle.bb_run.specs.declared.tracing.RunStatus.TheVariants.{Whole, Ended, Cut}
 use Rattle.bb_run.specs.Sample.{IsSampledRun, IsSampledTraceIn, IsSampleSize, sampled_lines}
 use Rattle.bb_run.specs.Trace.{IsTraceSummary, IsUncut, lines_text}
 
@@ -28,7 +27,7 @@ pub record EndsWithin (table : Table) (bounds : Bounds) (old count new : ℕ) : 
 
 -- from step `old` on it went so many steps; else to the last one inside, which the limit of cells made the
 -- last or not
-abbrev pub RunsOnTo : Table → Bounds → ℕ → ℕ → ℕ → RanOn → Type 0
+abbrev pub RunsOnTo : Table → Bounds → ℕ → ℕ → ℕ → RunStatus → Type 0
 RunsOnTo table bounds old count new Whole = Inside table bounds new × (new ≡ old + count)
 RunsOnTo table bounds old count new Ended =
     EndsWithin table bounds old count new × (span table bounds.steps ≤ bounds.cells)
@@ -42,9 +41,9 @@ pub record IsWantedBefore (table : Table) (bounds : Bounds) (old count : ℕ) : 
   pub few : at < old + count
   pub next : Inside table bounds (at + 1)
 
--- what `run_on` promises of a call, said once for it and for the half that is inlined there
+-- the promise of `continue_run` on a call, shared by it and by its inlined body
 pub record RunsOn (grows : Bool) (table : Table) (bounds : Bounds) (old new : Runner)
-    (view_old view_new : TapeView) (count : ℕ) (result : Result RanOn Memory) : Type 0 where
+    (view_old view_new : TapeView) (count : ℕ) (result : Result RunStatus Memory) : Type 0 where
   -- the runner stands on the tape, but after an error
   pub stands : OnOk result (Stands table new view_new)
   -- how far it went on
@@ -98,7 +97,7 @@ AddedEnds form bounds from every line old new waiting end = (lines : List (List 
     × IsSampledTraceIn form bounds from every line lines
     × WaitsWith form bounds from every line old new waiting lines end
 
--- how that of a machine ends, whose run has its last step here
+-- the result for a machine with its run's last step here
 abbrev pub RunEnds : Form → Bounds → ℕ → ℕ → Table → ℕ → ℕ → Option (List ℕ) → Option (List ℕ) → List ℕ
     → Result Bool Fault → Type 0
 RunEnds form bounds from every table last count old new waiting end = MatchEnd end

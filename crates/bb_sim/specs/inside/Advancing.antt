@@ -1,5 +1,5 @@
--- What `advance` promises of a call, said once for it and for the half that it calls where no state follows;
--- no public contract cites it.
+-- The promise of `advance` on a call, shared by it and by its half for entries without a next state. No
+-- public contract cites it.
 use Rattle.std.specs.Prelude.{◌≡◌, ◌+◌, Bool, Result, IfOk, IsTrue, OnErr, OnOk}
 use Rattle.bb_machine.specs.Limits.{Bounds}
 use Rattle.bb_machine.specs.Machine.{Table}

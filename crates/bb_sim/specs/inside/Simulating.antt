@@ -1,5 +1,4 @@
--- What `simulate` promises of a run, said once for it and for the loop that it calls; no public contract
--- cites it.
+-- The promise of `simulate` on a run, shared by it and by its loop. No public contract cites it.
 use Rattle.std.specs.Prelude.{◌≡◌, Bool, Result, IfOk, IsTrue, OnErr, OnOk}
 use Rattle.bb_machine.specs.Limits.{Bounds}
 use Rattle.bb_machine.specs.Machine.{Table}

@@ -1,5 +1,4 @@
--- What the runner's own functions tell one another of a step and of a window that grows; no public contract
--- cites it.
+-- A step and a growing window, for the runner's own functions. No public contract cites it.
 use Rattle.std.specs.Prelude.{◌≡◌, ◌+◌, ◌<◌, ◌≤◌, Bool, true, false, ℤ}
 use Rattle.std.specs.Int.{int_min, int_max}
 use Rattle.bb_machine.specs.declared.entry.Next.{Next}

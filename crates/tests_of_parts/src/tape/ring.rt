@@ -1,4 +1,4 @@
-//! Stretches that the ring's end cuts, and the two tapes side by side.
+//! Stretches cut by the ring's end, and the two tapes side by side.
 
 ghost use Rattle.std.specs.Prelude.{◌<◌, IsTrue, pos, ◌-ℤ◌, ◌≤ℤ◌};
 ghost use Rattle.bb_tape.specs.TapeView.{IsStretch};
@@ -52,7 +52,7 @@ fn agrees<T: Tape>(tape: &T, from: i32, other: &T, other_from: i32, len: u8) -> 
     None
 }
 
-/// What a call answers, as a number; none where its condition isn't met.
+/// The answer of a call as a number; none if its condition isn't met.
 fn answer<T: Tape>(tape: &mut T, other: &mut T, call: Call) -> Option<u64> {
     match call {
         Call::Reset => tape.reset(),
@@ -82,7 +82,7 @@ fn widen<T: Tape>(tape: &mut T, below: u8, above: u8) {
     }
 }
 
-/// What lies at both tapes side by side, after the same calls drawn from a seed.
+/// Both tapes side by side, after the same calls drawn from a seed.
 #[test]
 fn both_tapes_answer_alike(rt: HostRuntime) -> Result<(), Fail> {
     let alloc = rt.alloc();
@@ -231,7 +231,7 @@ fn score_counts_each_cell(rt: HostRuntime) -> Result<(), Fail> {
         widen(&mut tape, 35, 34);
         for k in 0..70u8 {
             assert_eq!(rt; tape.score(), u64::from(k), "symbol {symbol}");
-            // 9 and 70 share no factor, so that each cell has its turn
+            // 9 and 70 share no factor, so each cell has its turn
             write(&mut tape, i32::from(k) * 9 % 70 - 35, symbol);
         }
         assert_eq!(rt; tape.score(), 70, "symbol {symbol}");

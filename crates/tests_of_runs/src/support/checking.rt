@@ -1,4 +1,4 @@
-//! Lists of verdict lines that are checked from bytes to bytes.
+//! Lists of verdict lines, checked from bytes to bytes.
 ghost use Rattle.std.specs.Prelude.{◌≡◌, ◌≤◌};
 ghost use Rattle.bb_cert.specs.checker.Pair.{PairHasCells};
 ghost use Rattle.bb_cert.specs.tree.Path.{depth_of};
@@ -12,7 +12,7 @@ use bb_run::{Summary, ring_pair, run_check};
 use bb_tape::{MapTape, Tape};
 use std::process::Abort;
 
-/// Checks a list, and answers what was written, too.
+/// Checks a list, and returns the output too.
 pub(crate) fn checked<T: Tape>(
     rt: &(impl Abort + AllocGlobal),
     pair: &mut Pair<T>,

@@ -1,22 +1,22 @@
-//! A tape that counts its writes, and refuses a call if it is told to.
+//! A tape that counts its writes, and refuses a call on request.
 ghost use Rattle.std.specs.Prelude.{◌≡◌};
 
 use bb_tape::{Tape, TapeFault};
 
-/// A tape that passes each call to another. Copying a whole tape and resetting it are not counted as writes.
-/// A write of any symbol may be refused, a 0 too.
+/// A tape that forwards each call to another. Copies of a whole tape and resets don't count as writes. A
+/// write of any symbol may be refused, a 0 too.
 #[derive(Drop)]
 pub(crate) struct CountingTape<T> {
     inner: T,
     pub writes: u64,
-    /// How many calls that may take memory come before one that is refused.
+    /// How many calls that may allocate come before the refused one.
     before_refusal: u64,
 }
 
 /// So many calls are never made.
 pub(crate) const NEVER: u64 = u64::MAX;
 
-/// A tape that refuses one call that may take memory, the one after so many.
+/// A tape that refuses one call that may allocate, the one after so many.
 pub(crate) fn counting_tape<T>(inner: T, before_refusal: u64) -> CountingTape<T>
     ensures { result.inner ≡ inner }
 {
@@ -33,7 +33,7 @@ impl<T> CountingTape<T> {
         self.before_refusal != NEVER
     }
 
-    /// Whether the next call that may take memory is refused.
+    /// Whether to refuse the next call that may allocate.
     fn refuses(&mut self) -> bool
         ensures { self.new.inner ≡ self.old.inner }
     {

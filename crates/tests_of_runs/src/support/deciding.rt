@@ -1,4 +1,4 @@
-//! Lists that are decided from bytes to bytes.
+//! Lists decided from bytes to bytes.
 ghost use Rattle.std.specs.Prelude.{◌≡◌};
 ghost use Rattle.bb_cert.specs.tree.Path.{depth_of};
 ghost use Rattle.bb_decide.specs.Bench.{BenchHasCells};
@@ -13,7 +13,7 @@ use bb_run::{Summary, ring_bench};
 use bb_tape::{MapTape, Tape};
 use std::process::Abort;
 
-/// Decides a list, and answers what was written, too.
+/// Decides a list, and returns the output too.
 pub(crate) fn decided<T: Tape>(
     rt: &(impl Abort + AllocGlobal),
     engine: Engine,

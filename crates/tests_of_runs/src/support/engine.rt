@@ -1,4 +1,4 @@
-//! The two engines that decide a list.
+//! The two engines for deciding a list.
 ghost use Rattle.std.specs.Prelude.{◌≡◌, false};
 ghost use Rattle.bb_cert.specs.tree.Path.{depth_of};
 ghost use Rattle.bb_decide.specs.Bench.{BenchHasCells};

@@ -1,4 +1,4 @@
-//! What the rows of the tests have, and the plans that they are decided by.
+//! The rows of the tests, and their plans.
 
 use bb_decide::Plan;
 

@@ -1,4 +1,4 @@
-//! Streams that come in pieces, fail or take little.
+//! Streams that come in chunks, fail or accept little.
 
 use arrayvec::ArrayVec;
 use bb_lines::fault::Fault;
@@ -6,7 +6,7 @@ use bb_run::Summary;
 use std::io::{Error, ErrorKind, Read, Result, Write};
 use std::process::Abort;
 
-/// A stream has failed where a run over it ended by its fault, and nowhere else.
+/// A stream has failed exactly if a run over it ended by its fault.
 pub(crate) fn assert_failed(
     rt: &impl Abort,
     failed: bool,
@@ -38,7 +38,7 @@ impl Pieces {
         }
     }
 
-    /// Pieces of at most `most` bytes, and so many calls before one that fails with this error.
+    /// Chunks of at most `most` bytes, and so many calls before a failing one with this error.
     pub(crate) fn failing(
         bytes: &'static [u8],
         most: usize,
@@ -93,7 +93,7 @@ impl Sink {
         }
     }
 
-    /// All bytes, and a flush that fails.
+    /// All bytes, and a failing flush.
     pub(crate) fn without_flush() -> Sink {
         Sink {
             can_flush: false,

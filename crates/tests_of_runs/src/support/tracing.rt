@@ -1,4 +1,4 @@
-//! Machines that are traced.
+//! Traces of machines.
 ghost use Rattle.std.specs.Prelude.{◌≡◌};
 
 use bb_lines::fault::Fault;
@@ -8,7 +8,7 @@ use bb_run::{Summary, run_trace};
 use bb_tape::{MapTape, RingTape, Tape};
 use std::process::Abort;
 
-/// Traces a line, and answers what was written, too.
+/// Traces a line, and returns the output too.
 pub(crate) fn traced<T: Tape>(
     rt: &(impl Abort + AllocGlobal),
     tape: &mut T,

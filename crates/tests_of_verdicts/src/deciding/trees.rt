@@ -1,4 +1,4 @@
-//! Backward reasoning over both tapes, with trees that were drawn by hand.
+//! Backward reasoning over both tapes, with trees drawn by hand.
 ghost use Rattle.std.specs.Prelude.{◌≡◌};
 ghost use Rattle.bb_cert.specs.tree.Path.{depth_of};
 ghost use Rattle.bb_decide.specs.Bench.{BenchHasCells};
@@ -12,8 +12,8 @@ use bb_tape::{Memory, Tape};
 use std::process::Abort;
 use std::test::Fail;
 
-/// The line of a machine and its verdict by all deciders; the limits of steps, cells, levels and nodes; the
-/// steps that it costs, and how many nodes are entered at most.
+/// The line of a machine and its verdict by all deciders; the limits of steps, cells, levels and nodes; its
+/// cost in steps, and the most nodes entered.
 type Row = (&'static [u8], [u64; 4], u64, u64);
 
 const ALL: Plan = Plan {
@@ -34,7 +34,7 @@ static ROWS: [Row; 9] = [
     (b"1RZ--- undecided steps", [0, 64, 10, 100], 0, 1),
 ];
 
-/// Reasons backward, with a meter that others have counted in.
+/// Reasons backward, with a meter already in use.
 fn found<T: Tape>(
     bench: &mut Bench<T>,
     limits: &Limits,
@@ -55,7 +55,7 @@ fn found<T: Tape>(
     backward(machine, limits, bench, meter)
 }
 
-/// Holds what backward reasoning finds against a row. What others counted stays, and the nodes begin anew.
+/// Compares the result of backward reasoning with a row. Counts of others stay, and the nodes start at 0.
 fn is_found(rt: &impl Abort, row: &Row, verdict: Verdict, found: Option<Verdict>, meter: &Meter) {
     let (line, _, _, most_nodes) = row;
     let is_tree = matches!(verdict, Verdict::Backward { .. });
@@ -77,7 +77,7 @@ fn is_decided(rt: &impl Abort, row: &Row, verdict: Verdict, decided: Verdict, me
     }
 }
 
-/// Holds backward reasoning and the verdict of all deciders against what was worked out.
+/// Compares backward reasoning and the verdict of all deciders with the expected ones.
 fn is_reasoned<T: Tape>(
     rt: &impl Abort,
     bench: &mut Bench<T>,

@@ -1,12 +1,12 @@
-//! Deciding in one run with keys that are all the same, so that different tapes often have one fingerprint:
-//! the verdicts stay what they are.
+//! Deciding in one run with equal keys, so that different tapes often have one fingerprint: the verdicts stay
+//! the same.
 ghost use Rattle.std.specs.Prelude.{◌≡◌, ◌<◌};
 ghost use Rattle.bb_cert.specs.tree.Path.{depth_of};
 ghost use Rattle.bb_decide.specs.Bench.{BenchHasCells};
 
 use super::bench_on_rings;
 use bb_cert::Verdict;
-use bb_decide::{Bench, Keys, Plan, SpreadKeys, decide, decide_in_one_run};
+use bb_decide::{Bench, FingerprintKeys, Plan, SpreadKeys, decide, decide_in_one_run};
 use bb_machine::{Limits, Machine};
 use bb_sim::Meter;
 use bb_tape::Tape;
@@ -32,7 +32,7 @@ type Size = (u64, u64);
 /// How many machines of two states and two symbols there are.
 const ALL_SMALL: u64 = 28_561;
 
-/// Of which sizes machines are drawn, and how many of each. Each size has fewer machines than 2^64.
+/// The sizes of drawn machines, and the number of each. Each size has fewer machines than 2^64.
 static DRAWN: [Size; 8] = [
     (3, 2),
     (4, 2),
@@ -46,15 +46,15 @@ static DRAWN: [Size; 8] = [
 
 const DRAWN_OF_EACH: u64 = 2_500;
 
-/// What an entry may lead to, the halting state first; and what it may write.
+/// The next states of entries, the halting state first; and their symbols.
 static LETTERS: &[u8] = b"ZABCDEF";
 
 static DIGITS: &[u8] = b"01234";
 
-/// One key for all positions. Where it is 1 the fingerprint is the sum of the symbols, where it is 0 it is 0.
+/// One key for all positions. With key 1 the fingerprint is the sum of the symbols, with key 0 it is 0.
 struct SameKey(u64);
 
-impl Keys for SameKey {
+impl FingerprintKeys for SameKey {
     ghost key_of = { λ keys position. keys.0 };
 
     fn key(&self, _position: i64) -> u64 {
@@ -72,7 +72,7 @@ fn last_digit(number: &mut u64, base: u64) -> u64
     digit
 }
 
-/// Takes the last digit off a number, and puts the byte that it tells of these behind the text.
+/// Takes the last digit off a number, and appends the byte with that index among these to the text.
 fn add_one_of(bytes: &[u8], number: &mut u64, text: &mut Vec<u8>) -> Result<(), Fail> {
     let k = last_digit(number, (bytes.len() as u64).max(1));
     if let Some(byte) = bytes.get(k as usize) {
@@ -81,7 +81,7 @@ fn add_one_of(bytes: &[u8], number: &mut u64, text: &mut Vec<u8>) -> Result<(), 
     Ok(())
 }
 
-/// Puts the entry with a number behind the text; that with the number 0 is undefined.
+/// Appends the entry with a number to the text; number 0 is undefined.
 fn add_entry(letters: &[u8], digits: &[u8], number: u64, text: &mut Vec<u8>) -> Result<(), Fail> {
     if number == 0 {
         text.extend_from_slice(b"---")?;
@@ -98,7 +98,7 @@ fn first_of(bytes: &[u8], count: u64) -> &[u8] {
     bytes.get(..count as usize).unwrap_or(bytes)
 }
 
-/// The machine of a size that has this number: its digits are the numbers of its entries.
+/// The machine of a size with this number: its digits are the numbers of its entries.
 fn machine_of(rt: &(impl Abort + AllocGlobal), size: Size, number: u64) -> Result<Machine, Fail> {
     let (states, symbols) = size;
     let letters = first_of(LETTERS, states.saturating_add(1));
@@ -118,14 +118,14 @@ fn machine_of(rt: &(impl Abort + AllocGlobal), size: Size, number: u64) -> Resul
     Ok(Machine::read(text.as_slice())?)
 }
 
-/// A number that looks random.
+/// A pseudorandom number.
 fn mixed(number: u64) -> u64 {
     let product = number.wrapping_mul(0x9E37_79B9_7F4A_7C15);
     let folded = (product ^ (product >> 32)).wrapping_mul(0xD6E8_FEB8_6659_FD93);
     folded ^ (folded >> 32)
 }
 
-/// How many steps deciding may make where no fingerprint agrees by chance.
+/// The most steps of deciding without a fingerprint collision.
 fn most_steps(verdict: &Verdict, limits: &Limits) -> u64 {
     match verdict {
         Verdict::Halt { steps, .. } => *steps,
@@ -135,8 +135,8 @@ fn most_steps(verdict: &Verdict, limits: &Limits) -> u64 {
     }
 }
 
-/// Holds the verdict in one run with weak keys against that of `decide`, and that with keys that are well
-/// spread none agrees by chance. Whether they do with the weak ones: then it costs more.
+/// Compares the verdict in one run with weak keys with that of `decide`; with well-spread keys no
+/// fingerprints collide. Returns whether they do with the weak ones: then it costs more.
 fn agree_by_chance<T: Tape>(
     rt: &impl Abort,
     bench: &mut Bench<T>,
@@ -198,7 +198,7 @@ fn weak_keys_keep_all_small_machines(rt: HostRuntime) -> Result<(), Fail> {
     Ok(())
 }
 
-/// Decides the drawn machines of each size, with some of which fingerprints agree by chance.
+/// Decides the drawn machines of each size, some of them with colliding fingerprints.
 fn drawn_are_kept<T: Tape>(
     rt: &(impl Abort + AllocGlobal),
     bench: &mut Bench<T>,

@@ -13,14 +13,14 @@ pub returns-in-Ok-answer-clause-reply : goal.returns-in-Ok-answer-clause-reply
 returns-in-Ok-answer-clause-reply c = λ is.
     let of = rw c.in-Some-Claim.field-0-is at c.in-Some-Claim.ensures.found in
     let answer = rw c.in-Ok.ensures.given at c.in-Ok-answer.ensures in
-    filled_by _ _ _ _ _ _ (c.give-in-Ok-answer.ensures.filled is) c.word-in-Ok-answer.ensures
+    filled_by _ _ _ _ _ _ (c.fill_buffer-in-Ok-answer.ensures.filled is) c.word-in-Ok-answer.ensures
     (answered _ _ _ _ _ of answer)
 
 pub returns-in-Ok-answer-clause-short : goal.returns-in-Ok-answer-clause-short
 returns-in-Ok-answer-clause-short c = λ is.
     let of = rw c.in-Some-Claim.field-0-is at c.in-Some-Claim.ensures.found in
     let answer = rw c.in-Ok.ensures.given at c.in-Ok-answer.ensures in
-    too_short_by _ _ _ _ _ _ (c.give-in-Ok-answer.ensures.short is) c.word-in-Ok-answer.ensures
+    too_short_by _ _ _ _ _ _ (c.fill_buffer-in-Ok-answer.ensures.short is) c.word-in-Ok-answer.ensures
     (answered _ _ _ _ _ of answer)
 
 pub returns-in-Ok-answer-clause-not_fine : goal.returns-in-Ok-answer-clause-not_fine
@@ -29,19 +29,19 @@ returns-in-Ok-answer-clause-not_fine c = λ is fine.
     let answer = rw c.in-Ok.ensures.given at c.in-Ok-answer.ensures in
     let word = fine_reply _ _ _ (answered _ _ _ _ _ of answer) fine in
     let fine_too = c.is_fine.ensures ∙ fine_by_word c.in-Ok-answer.answer word in
-    c.give-in-Ok-answer.ensures.not_clean is fine_too
+    c.fill_buffer-in-Ok-answer.ensures.not_clean is fine_too
 
 pub returns-in-Some-Refusal-clause-reply : goal.returns-in-Some-Refusal-clause-reply
 returns-in-Some-Refusal-clause-reply c = λ is.
     let of = rw c.in-Some-Refusal.field-0-is at c.in-Some-Refusal.ensures.found in
-    filled_by _ _ _ _ _ _ (c.give-in-Some-Refusal.ensures.filled is) (search rules)
+    filled_by _ _ _ _ _ _ (c.fill_buffer-in-Some-Refusal.ensures.filled is) (search rules)
     (opened _ _ _ of)
 
 pub returns-in-Some-Refusal-clause-short : goal.returns-in-Some-Refusal-clause-short
 returns-in-Some-Refusal-clause-short c = λ is.
     let of = rw c.in-Some-Refusal.field-0-is at c.in-Some-Refusal.ensures.found in
-    too_short_by _ _ _ _ _ _ (c.give-in-Some-Refusal.ensures.short is) (search rules)
+    too_short_by _ _ _ _ _ _ (c.fill_buffer-in-Some-Refusal.ensures.short is) (search rules)
     (opened _ _ _ of)
 
 pub returns-in-Some-Refusal-clause-not_fine : goal.returns-in-Some-Refusal-clause-not_fine
-returns-in-Some-Refusal-clause-not_fine c = λ is fine. c.give-in-Some-Refusal.ensures.not_clean is refl
+returns-in-Some-Refusal-clause-not_fine c = λ is fine. c.fill_buffer-in-Some-Refusal.ensures.not_clean is refl

@@ -9,7 +9,7 @@ pub returns-in-Err-clause-enough : goal.returns-in-Err-clause-enough
 returns-in-Err-clause-enough c = λ enough.
     let short = refusal_short c.args.line.now c.in-Err.refused.column c.in-Err.ensures.column in
     let same : c.as_slice.result.now ≡ refusal_text c.in-Err.refused.column = search rules in
-    c.give.ensures.enough (omega (arith, enough, short, ap length same))
+    c.fill_buffer.ensures.enough (omega (arith, enough, short, ap length same))
 
 pub returns-in-Ok-verdict_line-clause-enough : goal.returns-in-Ok-verdict_line-clause-enough
 returns-in-Ok-verdict_line-clause-enough c = λ enough.
@@ -17,21 +17,21 @@ returns-in-Ok-verdict_line-clause-enough c = λ enough.
     let of = ap length c.in-Ok-read.ensures.found.1 in
     let same : length c.as_slice-in-Ok-verdict_line.result.now ≡ length c.verdict_line.new.reply.items =
     search rules in
-    c.give-in-Ok-verdict_line.ensures.enough (omega (arith, enough, short, of, same))
+    c.fill_buffer-in-Ok-verdict_line.ensures.enough (omega (arith, enough, short, of, same))
 
 pub returns-in-Ok-verdict_line-clause-reply : goal.returns-in-Ok-verdict_line-clause-reply
 returns-in-Ok-verdict_line-clause-reply c = λ is.
     let reply = rw (c.in-Ok.ensures.given, c.in-Ok-read.ensures.found.1) at
     c.in-Ok-verdict_line.ensures.reply in
-    filled_by _ _ _ _ _ _ (c.give-in-Ok-verdict_line.ensures.filled is)
+    filled_by _ _ _ _ _ _ (c.fill_buffer-in-Ok-verdict_line.ensures.filled is)
     c.as_slice-in-Ok-verdict_line.ensures.value reply
 
 pub returns-in-Ok-verdict_line-clause-short : goal.returns-in-Ok-verdict_line-clause-short
 returns-in-Ok-verdict_line-clause-short c = λ is.
     let reply = rw (c.in-Ok.ensures.given, c.in-Ok-read.ensures.found.1) at
     c.in-Ok-verdict_line.ensures.reply in
-    too_short_by _ _ _ _ _ _ (c.give-in-Ok-verdict_line.ensures.short is)
+    too_short_by _ _ _ _ _ _ (c.fill_buffer-in-Ok-verdict_line.ensures.short is)
     c.as_slice-in-Ok-verdict_line.ensures.value reply
 
 pub returns-in-Err-clause-clean : goal.returns-in-Err-clause-clean
-returns-in-Err-clause-clean c = λ is. absurd (false≢true (c.give.ensures.clean is))
+returns-in-Err-clause-clean c = λ is. absurd (false≢true (c.fill_buffer.ensures.clean is))

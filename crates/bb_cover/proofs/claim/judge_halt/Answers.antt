@@ -12,8 +12,8 @@ returns-clause-judged g c =
             c.in-Some.halted ends c.if-halted-score.false;
         fine = refl;
       },
-      to_fill c.args.machine.now c.args.steps c.args.score c.in-Some.halted.gap c.gap_to_fill.result ends.on
-          c.gap_to_fill.ensures,
+      to_fill c.args.machine.now c.args.steps c.args.score c.in-Some.halted.undefined c.undefined_to_fill.result ends.on
+          c.undefined_to_fill.ensures,
     )
 
 pub refuse_halt-requires-clause-not_so : goal.refuse_halt-requires-clause-not_so

@@ -46,8 +46,8 @@ returns-in-Halted-clause-ends g c =
     let now = subst (HaltsAt c.args.machine.now) (sym (ap steps_of stays.runner)) here in
     ends_so c.args.machine.now c.args.limits.now c.with_steps-limits.result c.args.steps
     c.with_steps-limits.ensures c.requires.steps c.advance.new.self (g.T.Tape.view c.advance.new.tape)
-    call.stands now last.inside (record { score = c.score.result; gap = c.gap_here.result }) c.score.ensures
-    c.gap_here.ensures (sym c.steps.ensures ∙ c.if-steps.false)
+    call.stands now last.inside (record { score = c.score.result; undefined = c.undefined_here.result }) c.score.ensures
+    c.undefined_here.ensures (sym c.steps.ensures ∙ c.if-steps.false)
 
 pub returns-in-NoSteps-clause-ends : goal.returns-in-NoSteps-clause-ends
 returns-in-NoSteps-clause-ends g c halts inside =

@@ -6,17 +6,17 @@ use Rattle.bb_cover.specs.declared.walk.Frame.{Frame}
 use Rattle.bb_cover.specs.Asked.{entries}
 use Rattle.bb_cover.specs.Left.{IsStack, left}
 use Rattle.bb_cover.proofs.Lefts.{fills, frames-push, left-push, new_frame}
-use Rattle.bb_cover.proofs.Tables.{some_gaps}
+use Rattle.bb_cover.proofs.Tables.{some_undefined_entries}
 use Rattle.bb_cover.proofs.walk.go_on.Goals as goal
 use Rattle.bb_cover.proofs.walk.go_on.Goals.{After-push-pushed}
 
 frame : After-push-pushed → Frame
-frame c = record { machine = c.args.machine.now; gap = c.args.gap; asked = c.of-asked.result; next = 0 }
+frame c = record { machine = c.args.machine.now; undefined = c.args.undefined; asked = c.of-asked.result; next = 0 }
 
 pushed : (c : After-push-pushed) → c.push-pushed.new.self.items ≡ c.args.frames.now.items ++ frame c ∷ []
 unfolding frame
 pushed c =
-    let some = some_gaps c.args.machine.now c.show_machine.ensures.machine c.args.gap c.requires.gap in
+    let some = some_undefined_entries c.args.machine.now c.show_machine.ensures.machine c.args.undefined c.requires.undefined in
     let room = c.requires.room in
     let capacity = c.requires.capacity in
     let free : vec_len c.args.frames.now < vec_capacity c.args.frames.now = grind (arith, common_steps) in
@@ -27,9 +27,9 @@ pushed c =
 pub returns-clause-left : goal.returns-clause-left
 unfolding frame
 returns-clause-left c = (
-  map (with_entry c.args.machine.now c.args.gap.state c.args.gap.symbol) (entries c.of-asked.result),
+  map (with_entry c.args.machine.now c.args.undefined.state c.args.undefined.symbol) (entries c.of-asked.result),
   ap left (pushed c) ∙ left-push c.args.frames.now.items (frame c),
-  fills c.args.machine.now c.is_empty.result c.of-asked.result c.args.gap c.of-asked.ensures
+  fills c.args.machine.now c.is_empty.result c.of-asked.result c.args.undefined c.of-asked.ensures
       c.is_empty.ensures,
 )
 
@@ -39,5 +39,5 @@ returns-clause-stack c =
     subst IsStack (sym (pushed c))
     (frames-push 0 c.args.frames.now.items (frame c) c.requires.stack
     (new_frame c.args.machine.now c.show_machine.ensures.machine c.is_empty.result c.of-asked.result
-    c.args.gap (0 + length c.args.frames.now.items) c.of-asked.ensures c.requires.gap
+    c.args.undefined (0 + length c.args.frames.now.items) c.of-asked.ensures c.requires.undefined
     (let room = c.requires.room in omega (arith, room))))

@@ -5,7 +5,7 @@ use Rattle.bb_decide.proofs.Benches.{lent_at_first, lent_on, lent_uncounted}
 use Rattle.bb_decide.proofs.Counted.{cut_after_step, taken_over}
 use Rattle.bb_decide.proofs.Cycles.{apart, comes_again, first_cycle, goes_on, keeps_this, kept_earlier}
 use Rattle.bb_decide.proofs.Cycles.{no_cycle_at_end, searching_at_first}
-use Rattle.bb_decide.proofs.Endings.{has_ended, seeks_and_finds, seeks_to_end, seeks_until_cut}
+use Rattle.bb_decide.proofs.SearchResults.{has_ended, seeks_and_finds, seeks_to_end, seeks_until_cut}
 use Rattle.bb_decide.proofs.cycle.run_to_cycle.Goals as goal
 
 pub loop-moved-init : goal.loop-moved-init

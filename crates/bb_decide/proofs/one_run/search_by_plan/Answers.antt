@@ -15,24 +15,24 @@ simulate-requires-clause-room g c =
 
 pub returns-then-not-plan-2-clause-costs : goal.returns-then-not-plan-2-clause-costs
 returns-then-not-plan-2-clause-costs g c none =
-    run_costs _ _ (g.K.Keys.key_of c.args.keys.now) _ _ c.requires.steps c.in_ok-outcome.ensures.counted
+    run_costs _ _ (g.K.FingerprintKeys.key_of c.args.keys.now) _ _ c.requires.steps c.in_ok-outcome.ensures.counted
     c.in_ok-outcome.outcome c.in_ok-outcome.ensures.outcome
 
 pub returns-then-not-plan-clause-costs : goal.returns-then-not-plan-clause-costs
 returns-then-not-plan-clause-costs g c =
-    if_ok_both c.seek_cycle.result _ _ _ (λ ending ran counts none.
-    cycle_costs _ _ (g.K.Keys.key_of c.args.keys.now) _ _ c.requires.steps ending ran counts)
+    if_ok_both c.seek_cycle.result _ _ _ (λ search_result ran counts none.
+    cycle_costs _ _ (g.K.FingerprintKeys.key_of c.args.keys.now) _ _ c.requires.steps search_result ran counts)
     c.seek_cycle.ensures.ran c.seek_cycle.ensures.counted
 
 pub returns-then-not-plan-3-clause-costs : goal.returns-then-not-plan-3-clause-costs
 returns-then-not-plan-3-clause-costs g c =
-    if_ok_both c.seek_translation.result _ _ _ (λ ending ran counts none.
-    cycle_costs _ _ (g.K.Keys.key_of c.args.keys.now) _ _ c.requires.steps ending ran counts)
+    if_ok_both c.seek_translation.result _ _ _ (λ search_result ran counts none.
+    cycle_costs _ _ (g.K.FingerprintKeys.key_of c.args.keys.now) _ _ c.requires.steps search_result ran counts)
     c.seek_translation.ensures.ran c.seek_translation.ensures.counted
 
 pub returns-clause-costs : goal.returns-clause-costs
 returns-clause-costs g c =
-    if_ok_both c.search_both.result _ _ _ (λ ending costs again none. costs (λ chance.
+    if_ok_both c.search_both.result _ _ _ (λ search_result costs again none. costs (λ chance.
     none (not-false _ c.if-not-plan-3.false, not-false _ c.if-not-plan.false, chance)))
     c.search_both.ensures.costs c.search_both.ensures.costs
 

@@ -2,7 +2,7 @@ use Rattle.std.proofs.Common.{refl, rules}
 use Rattle.std.proofs.lemmas.Result.{err_from_is_err_and}
 use Rattle.bb_decide.proofs.Benches.{lent_at_first, lent_on, lent_uncounted}
 use Rattle.bb_decide.proofs.Counted.{cut_after_step}
-use Rattle.bb_decide.proofs.Endings.{has_ended, seeks_and_finds, seeks_to_end, seeks_until_cut}
+use Rattle.bb_decide.proofs.SearchResults.{has_ended, seeks_and_finds, seeks_to_end, seeks_until_cut}
 use Rattle.bb_decide.proofs.Translations.{IsTakenIn, goes_on, is_found, is_ready, looks_at_none, looks_at_one}
 use Rattle.bb_decide.proofs.Translations.{none_at_end, searching_at_first, takes_in, tells_pair}
 use Rattle.bb_sim.specs.Runner.{steps_of}
@@ -58,13 +58,13 @@ loop-moved-preserved-in_default-widened_side g c =
     }
 
 -- else the record that it makes is looked at
-pub look_on-requires-clause-ready : goal.look_on-requires-clause-ready
-look_on-requires-clause-ready g c =
-    is_ready (taken_in g (goal.at.look_on-requires-clause-ready g c).After-widened_side) _ c.in-Some.is
+pub compare_record-requires-clause-ready : goal.compare_record-requires-clause-ready
+compare_record-requires-clause-ready g c =
+    is_ready (taken_in g (goal.at.compare_record-requires-clause-ready g c).After-widened_side) _ c.in-Some.is
     (g.met.T.Tape.sound c.step_on.new.tape)
 
-pub look_on-requires-clause-room : goal.look_on-requires-clause-room
-look_on-requires-clause-room g c = (rw c.in-Stepped.is at c.in-Ok.ensures.goes_on).3
+pub compare_record-requires-clause-room : goal.compare_record-requires-clause-room
+compare_record-requires-clause-room g c = (rw c.in-Stepped.is at c.in-Ok.ensures.goes_on).3
 
 -- no memory to keep it
 pub returns-in_err-verdict : goal.returns-in_err-verdict
@@ -72,8 +72,8 @@ returns-in_err-verdict g c =
     let step = rw c.in-Stepped.is at c.in-Ok.ensures.goes_on in
     let call = c.in_err-verdict.ensures in
     let fault = err_from_is_err_and c.from_residual.result c.from_residual.ensures.1 in
-    rw fault.1 (seeks_until_cut (lent_on c.step_on.ensures.limit c.look_on.ensures.right_limit
-    c.look_on.ensures.left_limit (lent_uncounted step.2 c.loop-moved.invariant.lent))
+    rw fault.1 (seeks_until_cut (lent_on c.step_on.ensures.limit c.compare_record.ensures.right_limit
+    c.compare_record.ensures.left_limit (lent_uncounted step.2 c.loop-moved.invariant.lent))
     (cut_after_step step.0.stands step.1 call.cut) call.memory)
 
 pub returns-in-Some-2 : goal.returns-in-Some-2

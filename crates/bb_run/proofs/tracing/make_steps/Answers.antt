@@ -6,14 +6,14 @@ use Rattle.bb_tape.specs.TapeView.{TapeView}
 use Rattle.bb_sim.specs.declared.runner.Runner.{Runner}
 use Rattle.bb_sim.specs.Runner.{Stands, steps_of}
 use Rattle.bb_sim.proofs.Facts.{fits_at_halt, inside_here, wide_at_end}
-use Rattle.bb_run.specs.declared.tracing.RanOn.{RanOn}
+use Rattle.bb_run.specs.declared.tracing.RunStatus.{RunStatus}
 use Rattle.bb_run.specs.inside.RunningOn.{RunsOn, RunsOnTo}
 use Rattle.bb_run.proofs.SampledRuns.{ends_within, next_wanted}
 use Rattle.bb_run.proofs.tracing.make_steps.Goals as goal
 
 -- what a call that doesn't fail promises
 went : {grows : Bool} {table : Table} {bounds : Bounds} {old new : Runner} {view_old view_new : TapeView}
-    {count : ℕ} (ran : RanOn) → Stands table new view_new → view_new.limit ≡ view_old.limit
+    {count : ℕ} (ran : RunStatus) → Stands table new view_new → view_new.limit ≡ view_old.limit
     → RunsOnTo table bounds (steps_of old) count (steps_of new) ran
     → RunsOn grows table bounds old new view_old view_new count (Ok ran)
 went ran stands limit to = record { stands = stands; ran = to; limit = limit; memory = tt; wanted = tt }

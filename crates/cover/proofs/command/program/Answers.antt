@@ -4,7 +4,7 @@ use Rattle.cover.proofs.command.program.Goals as goal
 
 pub returns : goal.returns
 returns c =
-    let one = with_arg c.in_ok-arg.ensures c.bare.ensures c.limit.ensures.rule c.limit.ensures.local in
+    let one = with_arg c.in_ok-arg.ensures c.base_command.ensures c.limit.ensures.rule c.limit.ensures.local in
     let two = with_arg c.in_ok-arg-2.ensures one c.limit-2.ensures.rule c.limit-2.ensures.local in
     let three = with_arg c.in_ok-arg-3.ensures two c.limit-3.ensures.rule c.limit-3.ensures.local in
     let four = with_arg c.in_ok-arg-4.ensures three c.limit-4.ensures.rule c.limit-4.ensures.local in

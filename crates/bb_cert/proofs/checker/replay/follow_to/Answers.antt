@@ -1,5 +1,5 @@
 use Rattle.std.proofs.Common.{◌∙◌, arith}
-use Rattle.bb_cert.proofs.record_lemmas.Courses.{goes-next}
+use Rattle.bb_cert.proofs.record_lemmas.ReplayStates.{goes-next}
 use Rattle.bb_cert.proofs.record_lemmas.UnderWay.{comes_to, under_way_within}
 use Rattle.bb_cert.proofs.checker.replay.follow_to.Goals as goal
 

@@ -9,7 +9,7 @@ invariant-loop-runner g l = record {
   under_way : IsUnderWay l.machine l.limits l.runner (g.T.Tape.view l.tape) l.meter;
   ahead : steps_of l.runner ≤ l.step;
   limit : (g.T.Tape.view l.tape).limit ≡ (g.T.Tape.view l.fn.tape).limit;
-  goes_on : GoesOn l.machine (steps_of l.fn.runner) (steps_of l.runner) l.fn.course l.course;
+  goes_on : GoesOn l.machine (steps_of l.fn.runner) (steps_of l.runner) l.fn.replay l.replay;
 }
 
 abbrev pub decreases-loop-runner : goal.decreases-loop-runner

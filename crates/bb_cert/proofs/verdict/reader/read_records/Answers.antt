@@ -39,9 +39,9 @@ returns c =
     let first = c.in_ok-first.first.now in
     let prefix = strip_prefix_is Decides-eqb c.args.bytes.now c.args.words.now (Some c.in_ok-numbers.numbers)
     c.in_ok-numbers.ensures.cases in
-    let told = second_text c.in_ok-second.second c.in_ok-second.extent in
+    let claimed = second_text c.in_ok-second.second c.in_ok-second.extent in
     let numbers : records_text c.in_ok-first-2.first c.in_ok-second.second c.in_ok-second.extent
-    ≡ c.in_ok-numbers.numbers.now = ap (λ digits. digits ++ 32 ∷ told) c.in_ok-first-2.ensures.1
+    ≡ c.in_ok-numbers.numbers.now = ap (λ digits. digits ++ 32 ∷ claimed) c.in_ok-first-2.ensures.1
     ∙ ap (λ text. first ++ 32 ∷ text) c.in_ok-second.ensures.2
     ∙ c.in_ok-first.ensures.1 in (
       c.in_ok-first-2.ensures.0,

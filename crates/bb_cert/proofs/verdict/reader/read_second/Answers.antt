@@ -11,6 +11,6 @@ returns-in_err-second c = rw c.from_residual-in_err-second.ensures (λ b extent 
 pub returns-in_err-shift : goal.returns-in_err-shift
 returns-in_err-shift c = rw c.from_residual-in_err-shift.ensures (λ b extent fits numbers is.
     let split = second_split b extent fits c.in-Some.ensures.0 c.in-Some.ensures.1 is in
-    let told = split.0 in
+    let claimed = split.0 in
     let few = subst HasExtentNumbers split.1 numbers in
-    c.in_err-shift.ensures told.shift told.length few.0 few.1 split.3)
+    c.in_err-shift.ensures claimed.shift claimed.length few.0 few.1 split.3)

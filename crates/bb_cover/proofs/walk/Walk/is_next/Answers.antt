@@ -29,11 +29,11 @@ entry-requires-clause-index c = (top_frame c).some
 
 pub is_with_entry-requires-clause-state : goal.is_with_entry-requires-clause-state
 is_with_entry-requires-clause-state c =
-    (top_frame (goal.at.is_with_entry-requires-clause-state c).After-index-top).gap.below
+    (top_frame (goal.at.is_with_entry-requires-clause-state c).After-index-top).undefined.below
 
 pub is_with_entry-requires-clause-symbol : goal.is_with_entry-requires-clause-symbol
 is_with_entry-requires-clause-symbol c =
-    (top_frame (goal.at.is_with_entry-requires-clause-symbol c).After-index-top).gap.inside
+    (top_frame (goal.at.is_with_entry-requires-clause-symbol c).After-index-top).undefined.inside
 
 head : (c : After-index-top) → IsFirst (next_of c.index-top.result.now) (left c.self.inside.frames.items)
 head c = head_of c.self.inside.frames.items (c.len.result - 1) (last c) c.self.invariant.0 (some c)
@@ -42,7 +42,7 @@ head c = head_of c.self.inside.frames.items (c.len.result - 1) (last c) c.self.i
 pub returns-clause-next : goal.returns-clause-next
 returns-clause-next c is =
     let top = c.index-top.result.now in
-    let entry = ap (with_entry top.machine top.gap.state top.gap.symbol) c.entry.ensures in
+    let entry = ap (with_entry top.machine top.undefined.state top.undefined.symbol) c.entry.ensures in
     subst (IsFirst c.args.machine.now) c.self.view_is
     (subst (λ t. IsFirst t (left c.self.inside.frames.items))
     (sym (c.is_with_entry.ensures.same is ∙ entry)) (head (goal.at.returns-clause-next c).After-index-top))
@@ -50,7 +50,7 @@ returns-clause-next c is =
 pub returns-clause-only : goal.returns-clause-only
 returns-clause-only c next =
     let top = c.index-top.result.now in
-    let entry = ap (with_entry top.machine top.gap.state top.gap.symbol) c.entry.ensures in
+    let entry = ap (with_entry top.machine top.undefined.state top.undefined.symbol) c.entry.ensures in
     let next_too = subst (IsFirst c.args.machine.now) (sym c.self.view_is) next in
     c.is_with_entry.ensures.only
     (first_is_one c.args.machine.now (next_of top) (left c.self.inside.frames.items) next_too

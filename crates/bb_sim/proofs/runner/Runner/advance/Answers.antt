@@ -15,7 +15,7 @@ use Rattle.bb_sim.proofs.Outcomes.{halts_last, steps_last, cells_last}
 use Rattle.bb_sim.proofs.Standing.{near_head, head_inside}
 use Rattle.bb_sim.proofs.Stepping.{halts_undefined, running, moves_on, next-span, wanted, made, into_state}
 use Rattle.bb_sim.proofs.Stepping.{Goes, Leads, cells_stay, goes, inside_visited, leads, widened_span}
-use Rattle.bb_sim.proofs.runner.Runner.advance.Goals.{After-moved_by-position, In-Some}
+use Rattle.bb_sim.proofs.runner.Runner.advance.Goals.{After-offset_by-position, In-Some}
 use Rattle.bb_sim.proofs.runner.Runner.advance.Goals as goal
 use Rattle.bb_sim.proofs.runner.Runner.advance.Given as given
 
@@ -46,14 +46,14 @@ goes_here g c =
     goes c.args.self.now (g.T.Tape.view c.args.tape.now) c.in-State.is
     (simp to_z-of_z at c.read_inside-symbol.ensures) c.in-Some.ensures.value c.in-Some.ensures.named
 
-led_here : (g : given.Over) (c : After-moved_by-position g)
+led_here : (g : given.Over) (c : After-offset_by-position g)
     → Leads c.args.machine.now c.args.self.now (g.T.Tape.view c.args.tape.now) c.in-Some.step
-    c.moved_by-position.result
+    c.offset_by-position.result
 led_here g c =
     let fits : FitsSigned w64 c.args.self.now.position = search rules in
     let offset_fits : FitsSigned w8 c.in-Some.step.offset = search rules in
     leads _ _ c.in-State.is (simp to_z-of_z at c.read_inside-symbol.ensures) c.in-Some.ensures.value
-    c.in-Some.ensures.named (simp to_z-of_z at c.moved_by-position.ensures)
+    c.in-Some.ensures.named (simp to_z-of_z at c.offset_by-position.ensures)
 
 pub returns-then-self-steps-clause-answers : goal.returns-then-self-steps-clause-answers
 returns-then-self-steps-clause-answers g c =
@@ -64,9 +64,9 @@ pub returns-then-self-steps-clause-reaches : goal.returns-then-self-steps-clause
 returns-then-self-steps-clause-reaches g c =
     steps_last _ _ _ c.show_inside.ensures cc
 
-pub moved_by-position-requires : goal.moved_by-position-requires
-moved_by-position-requires g c =
-    let by = goes_here g (goal.at.moved_by-position-requires g c).In-Some in
+pub offset_by-position-requires : goal.offset_by-position-requires
+offset_by-position-requires g c =
+    let by = goes_here g (goal.at.offset_by-position-requires g c).In-Some in
     let fits : FitsSigned w64 c.args.self.now.position = search rules in
     let near = near_head _ _ _ by.dir c.requires.stands (running c.requires.stands by.here)
     (g.met.T.Tape.sound c.args.tape.now) in
@@ -74,16 +74,16 @@ moved_by-position-requires g c =
 
 pub enter-requires-clause-near : goal.enter-requires-clause-near
 enter-requires-clause-near g c =
-    let led = led_here g (goal.at.enter-requires-clause-near g c).After-moved_by-position in
-    let result_fits : FitsSigned w64 c.moved_by-position.result = search rules in
+    let led = led_here g (goal.at.enter-requires-clause-near g c).After-offset_by-position in
+    let result_fits : FitsSigned w64 c.offset_by-position.result = search rules in
     let near = near_head _ c.args.self.now _ led.goes.dir c.requires.stands
     (running c.requires.stands led.goes.here) (g.met.T.Tape.sound c.args.tape.now) in
     simp to_z-of_z (rw led.there near.near)
 
 pub returns-then-not-enter-clause-answers : goal.returns-then-not-enter-clause-answers
 returns-then-not-enter-clause-answers g c =
-    let led = led_here g (goal.at.returns-then-not-enter-clause-answers g c).After-moved_by-position in
-    let result_fits : FitsSigned w64 c.moved_by-position.result = search rules in
+    let led = led_here g (goal.at.returns-then-not-enter-clause-answers g c).After-offset_by-position in
+    let result_fits : FitsSigned w64 c.offset_by-position.result = search rules in
     let full = rw led.there at (simp to_z-of_z at c.if-not-enter.ensures.0) in
     let spans = next-span c.requires.stands led.goes.here in (
       moves_on c.requires.stands led.goes.here,
@@ -109,34 +109,34 @@ step_to-requires-clause-symbol g c =
 
 pub step_to-requires-clause-inside : goal.step_to-requires-clause-inside
 step_to-requires-clause-inside g c =
-    let led = led_here g (goal.at.step_to-requires-clause-inside g c).After-moved_by-position in
-    let result_fits : FitsSigned w64 c.moved_by-position.result = search rules in
+    let led = led_here g (goal.at.step_to-requires-clause-inside g c).After-offset_by-position in
+    let result_fits : FitsSigned w64 c.offset_by-position.result = search rules in
     let near = near_head _ c.args.self.now _ led.goes.dir c.requires.stands
     (running c.requires.stands led.goes.here) (g.met.T.Tape.sound c.args.tape.now) in
-    let wider : IsWidened c.args.self.now c.enter.new.self c.moved_by-position.result =
+    let wider : IsWidened c.args.self.now c.enter.new.self c.offset_by-position.result =
     simp to_z-of_z at c.if-not-enter.ensures.2 in
     rw wider.head (inside_visited (g.T.Tape.view c.args.tape.now) _ _ c.args.self.now.position
     (simp to_z-of_z at c.if-not-enter.ensures.1) near.here)
 
 pub returns-in_default-step_to-clause-wanted : goal.returns-in_default-step_to-clause-wanted
 returns-in_default-step_to-clause-wanted g c =
-    let led = led_here g (goal.at.returns-in_default-step_to-clause-wanted g c).After-moved_by-position in
-    let result_fits : FitsSigned w64 c.moved_by-position.result = search rules in
+    let led = led_here g (goal.at.returns-in_default-step_to-clause-wanted g c).After-offset_by-position in
+    let result_fits : FitsSigned w64 c.offset_by-position.result = search rules in
     wanted c.requires.stands led.goes.here c.args.limits.now (λ e. c.if-self-steps.false cc)
     c.requires.limit (rw led.there at (simp to_z-of_z at c.if-not-enter.ensures.0))
 
 pub returns-in_default-step_to-clause-unmade : goal.returns-in_default-step_to-clause-unmade
 returns-in_default-step_to-clause-unmade g c =
-    let result_fits : FitsSigned w64 c.moved_by-position.result = search rules in
-    let wider : IsWidened c.args.self.now c.enter.new.self c.moved_by-position.result =
+    let result_fits : FitsSigned w64 c.offset_by-position.result = search rules in
+    let wider : IsWidened c.args.self.now c.enter.new.self c.offset_by-position.result =
     simp to_z-of_z at c.if-not-enter.ensures.2 in
     ap steps_of c.in_default-step_to.ensures.unmoved ∙ wider.steps
 
 pub returns-in_default-step_to-clause-window : goal.returns-in_default-step_to-clause-window
 returns-in_default-step_to-clause-window g c =
-    let led = led_here g (goal.at.returns-in_default-step_to-clause-window g c).After-moved_by-position in
-    let result_fits : FitsSigned w64 c.moved_by-position.result = search rules in
-    let wider : IsWidened c.args.self.now c.enter.new.self c.moved_by-position.result =
+    let led = led_here g (goal.at.returns-in_default-step_to-clause-window g c).After-offset_by-position in
+    let result_fits : FitsSigned w64 c.offset_by-position.result = search rules in
+    let wider : IsWidened c.args.self.now c.enter.new.self c.offset_by-position.result =
     simp to_z-of_z at c.if-not-enter.ensures.2 in
     ap (λ r. cells_between (low_of r) (high_of r)) c.in_default-step_to.ensures.unmoved
     ∙ widened_span c.requires.stands led.goes.here _ _
@@ -149,18 +149,18 @@ made_here : (g : given.Over) (c : goal.In-Ok g)
     (g.T.Tape.view c.args.tape.now) (g.T.Tape.view c.step_to.new.tape) c.args.meter.now c.step_to.new.meter
     (Ok Stepped)
 made_here g c =
-    let led = led_here g (goal.at.returns-clause-answers g c).After-moved_by-position in
-    let result_fits : FitsSigned w64 c.moved_by-position.result = search rules in
+    let led = led_here g (goal.at.returns-clause-answers g c).After-offset_by-position in
+    let result_fits : FitsSigned w64 c.offset_by-position.result = search rules in
     let visited_is = simp to_z-of_z at c.if-not-enter.ensures.1 in
-    let wider : IsWidened c.args.self.now c.enter.new.self c.moved_by-position.result =
+    let wider : IsWidened c.args.self.now c.enter.new.self c.offset_by-position.result =
     simp to_z-of_z at c.if-not-enter.ensures.2 in
     let room = rw led.there at (simp to_z-of_z at c.if-not-enter.ensures.0) in
     let steps : StepsTo c.enter.new.self c.step_to.new.self (State
-    c.in-Some.step.state) c.moved_by-position.result = simp to_z-of_z at c.in-Ok.ensures.steps in
+    c.in-Some.step.state) c.offset_by-position.result = simp to_z-of_z at c.in-Ok.ensures.steps in
     let stepped_is =
     into_state _ _ _ c.in-Some.step.write led.goes.dir c.in-Some.step.state c.requires.stands led.goes.here
     c.enter.new.self c.step_to.new.self (g.T.Tape.view c.enter.new.tape) (g.T.Tape.view c.step_to.new.tape)
-    c.moved_by-position.result led.there wider visited_is steps c.in-Ok.ensures.written in
+    c.offset_by-position.result led.there wider visited_is steps c.in-Ok.ensures.written in
     made c.requires.stands led.goes.here c.args.limits.now c.step_to.new.self
     (g.T.Tape.view c.step_to.new.tape) c.args.meter.now c.step_to.new.meter
     (g.met.T.Tape.sound c.args.tape.now) led.goes.named c.requires.limit c.requires.steps

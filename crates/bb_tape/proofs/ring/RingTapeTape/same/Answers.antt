@@ -11,7 +11,7 @@ pub returns-then-is_blank_outside : goal.returns-then-is_blank_outside
 returns-then-is_blank_outside c =
     let a = c.args.self.now in
     let b = c.args.other.now in
-    let s = c.shared-shared.result in
+    let s = c.intersection-intersection.result in
     let x = ring_content a.cells.items a.window in
     let y = ring_content b.cells.items b.window in
     let rest = c.is_blank_outside-then-is_blank_outside in (
@@ -26,14 +26,14 @@ returns-then-is_blank_outside c =
           ],
       λ e.
           rest.ensures.1 (zero_unshared a.cells.items b.cells.items a.window b.window s.low s.high
-          c.shared-shared.ensures.low c.shared-shared.ensures.high e),
+          c.intersection-intersection.ensures.low c.intersection-intersection.ensures.high e),
     )
 
 pub returns-else-is_blank_outside : goal.returns-else-is_blank_outside
 returns-else-is_blank_outside c =
     let a = c.args.self.now in
     let b = c.args.other.now in
-    let s = c.shared-shared.result in (
+    let s = c.intersection-intersection.result in (
       λ t. cc,
       λ e.
           elim c.if-agrees.branch [
@@ -41,7 +41,7 @@ returns-else-is_blank_outside c =
                 w.value-is ∙ w.is_blank_outside.ensures.1 (λ p outside.
                 ap (λ z. cell z p) e
                 ∙ zero_unshared a.cells.items b.cells.items a.window b.window s.low s.high
-                c.shared-shared.ensures.low c.shared-shared.ensures.high e p outside)
+                c.intersection-intersection.ensures.low c.intersection-intersection.ensures.high e p outside)
             | else-agrees w ↦
                 (let alike : c.agrees.result ≡ true = c.agrees.ensures.1 (λ k _. rw e) in cc)
           ],

@@ -1,0 +1,177 @@
+-- A course whose record is kept, and compared with a later one.
+use Rattle.std.proofs.Common.{◌≡◌, ℕ, ◌<◌, pos, IsTrue, Bool, true, false, refl, sym, subst, ap, ◌∙◌}
+use Rattle.std.specs.Prelude.{MatchBool}
+use Rattle.bb_machine.specs.Limits.{Bounds}
+use Rattle.bb_machine.specs.Machine.{Table}
+use Rattle.bb_tape.specs.TapeView.{TapeView}
+use Rattle.bb_sim.specs.declared.meter.Meter.{Meter}
+use Rattle.bb_sim.specs.declared.runner.Runner.{Runner}
+use Rattle.bb_sim.specs.Configuration.{Configuration}
+use Rattle.bb_sim.specs.Laws.{IsRunningAt}
+use Rattle.bb_sim.specs.Runner.{Stands, position_of, steps_of}
+use Rattle.bb_cert.specs.declared.checker.replay.ReplayState.{ReplayState}
+use Rattle.bb_cert.specs.declared.records.Records.{Records}
+use Rattle.bb_cert.specs.records.Agree.{AgreeingRecords}
+use Rattle.bb_cert.specs.declared.verdict.Extent.{Extent}
+use Rattle.bb_cert.specs.declared.verdict.Side.{Side}
+use Rattle.bb_cert.specs.inside.Checks.{GoesOn, IsAtStep, IsReplay, KeepsStep, MakesRecord}
+use Rattle.bb_cert.specs.verdict.Extent.{IsExtent}
+use Rattle.bb_cert.specs.records.Follow.{AgreesWithKept, IsComparable, IsKeptInStateOf, LiesAs, with_kept}
+use Rattle.bb_cert.specs.records.Record.{IsRecord, head_at}
+use Rattle.bb_cert.proofs.record_lemmas.Comparing.{agree_of_cells, cells_of_agree, comparable}
+use Rattle.bb_cert.proofs.record_lemmas.Comparing.{extent_of_records, keeps}
+use Rattle.bb_cert.proofs.record_lemmas.Comparing.{keeps_step}
+use Rattle.bb_cert.proofs.record_lemmas.Comparing.{numbered, numbered_at}
+use Rattle.bb_cert.proofs.record_lemmas.ReplayStates.{replay_at_first, keeps_on}
+use Rattle.bb_cert.proofs.record_lemmas.Heads.{runs_before}
+use Rattle.bb_cert.proofs.record_lemmas.Positions.{head_at-is, starts}
+
+-- the course after its record, if the last step makes one, was kept
+abbrev pub Keeps : Runner → ReplayState → ReplayState → Type 0
+Keeps runner old new = MatchBool old.is_record
+    (new ≡ record old { records = with_kept old.records runner }) (new ≡ old)
+
+-- records that agree are made outside Z
+runs_at_pair : (table : Table) (side : Side) (a b : ℕ) → AgreeingRecords table side a b
+    → IsRunningAt table a (head_at table a) × IsRunningAt table b (head_at table b)
+runs_at_pair table side a b pair = (
+  before,
+  record {
+    here = pair.agree.second;
+    exists = pair.agree.at_second;
+    runs = λ halts.
+        let same : before.here ≡ pair.agree.first = cc (before.exists, pair.agree.at_first) in
+        before.runs (ap (λ (c : Configuration). c.state) same ∙ pair.agree.same_state ∙ halts);
+    at = sym (head_at-is table b pair.agree.second pair.agree.at_second);
+  },
+) where
+  before : IsRunningAt table a (head_at table a)
+  before = runs_before table a b pair.in_order (record { here = _; exists = pair.agree.at_second })
+
+-- a course is known up to this step, whose record is kept, if it makes one
+pub record IsKeptAt (table : Table) (side : Side) (step : ℕ) (replay : ReplayState) (saved : TapeView)
+    : Type 0 where
+  pub known : IsReplay table step replay saved
+  pub keeps : KeepsStep table step replay.records
+  pub side_is : replay.records.side ≡ side
+
+-- the record that the last step makes, if it makes one, is kept, and none was before
+kept_now : (table : Table) (runner : Runner) (run : TapeView) (old new : ReplayState) → Stands table runner run
+    → IsReplay table (steps_of runner) old run → position_of old.records.kept ≡ pos 0
+    → Keeps runner old new → IsKeptAt table old.records.side (steps_of runner) new run
+kept_now table runner run old new stands replay zeroth kept = by_claimed old.is_record refl kept where
+  by_claimed : (claimed : Bool) → old.is_record ≡ claimed
+      → MatchBool claimed (new ≡ record old { records = with_kept old.records runner }) (new ≡ old)
+      → IsKeptAt table old.records.side (steps_of runner) new run
+  by_claimed true makes is = rw is (
+      let made = (replay.claimed.0 makes).0 in
+      record {
+        known = record {
+          followed = keeps table runner run run old.records stands replay.followed made;
+          claimed = replay.claimed;
+        };
+        keeps = keeps_step table runner run run old.records stands replay.followed made _ refl;
+        side_is = refl;
+      })
+  by_claimed false none is = rw is (record {
+    known = replay;
+    keeps = record {
+      made = λ made. let makes = replay.claimed.1 made in absurd cc;
+      at = λ some. absurd (some zeroth);
+    };
+    side_is = refl;
+  })
+
+-- begun at the start, followed up to the step where the runner stands, and kept there
+pub kept_at : {table : Table} {side : Side} {bounds : Bounds} {step : ℕ} {start runner : Runner}
+    {none : Records} {old new : ReplayState} {begun run : TapeView} {before meter : Meter}
+    → IsAtStep table bounds 0 start begun before
+    → none ≡ record { side = side; kept = start; nearest = pos 0 }
+    → IsAtStep table bounds step runner run meter
+    → GoesOn table (steps_of start) step (record { records = none; is_record = false }) old
+    → Keeps runner old new → IsKeptAt table side step new run
+kept_at {table} {start} {runner} {none} {old} {new} {run = run} at is there from kept =
+    let goes = rw (at.at, sym there.at) at from in
+    let zeroth = ap (λ (r : Records). position_of r.kept) is
+    ∙ starts table start _ at.under_way.stands at.at in
+    let replay = goes.replay run (replay_at_first table _ run zeroth refl) in
+    let same = kept_now table runner run old new there.under_way.stands replay
+    (ap position_of goes.same.kept ∙ zeroth) kept in
+    rw (there.at, goes.same.side ∙ ap (λ (r : Records). r.side) is) at same
+
+-- both steps of a pair are run to, and the record that the first makes is kept
+pub record IsPairRun (table : Table) (bounds : Bounds) (side : Side) (first second : ℕ) (replay : ReplayState)
+    (runner : Runner) (run saved : TapeView) : Type 0 where
+  pub old : ReplayState
+  pub meter : Meter
+  pub kept : IsKeptAt table side first old saved
+  pub goes : GoesOn table first second old replay
+  pub there : IsAtStep table bounds second runner run meter
+  pub order : first < second
+
+module _ {table : Table} {bounds : Bounds} {side : Side} {first second : ℕ} {replay : ReplayState}
+    {runner : Runner} {run saved : TapeView}
+    (is : IsPairRun table bounds side first second replay runner run saved) where
+  stands : Stands table runner run
+  stands = is.there.under_way.stands
+
+  known_on : IsReplay table (steps_of runner) replay saved
+  known_on = subst (λ n. IsReplay table n replay saved) (sym is.there.at) (is.goes.replay saved is.kept.known)
+
+  keeps_first : KeepsStep table first replay.records
+  keeps_first = keeps_on table first is.old.records replay.records is.goes.same is.kept.keeps
+
+  same_side : replay.records.side ≡ side
+  same_side = is.goes.same.side ∙ is.kept.side_is
+
+  less : first < steps_of runner
+  less = rw is.there.at is.order
+
+  pub comparable_at : IsTrue replay.is_record → IsKeptInStateOf replay.records runner
+      → IsComparable replay.records runner saved run
+  comparable_at makes =
+      comparable table runner run saved replay.records stands known_on.followed (known_on.claimed.0 makes).0
+
+  -- the second makes a record, which agrees with the kept one
+  module _ (makes : IsTrue replay.is_record) (both : AgreesWithKept replay.records runner saved run) where
+    made : MakesRecord table replay.records.side (steps_of runner)
+    made = (known_on.claimed.0 makes).0
+
+    some : 0 < known_on.followed.number
+    some = numbered table runner run saved replay.records stands known_on.followed made both.0
+
+    at : steps_of replay.records.kept ≡ first
+    at = keeps_first.at both.0.0
+
+    -- how the two lie is their extent
+    pub extent_at : {found : Extent} → LiesAs replay.records runner found
+        → IsExtent table side first second found
+    extent_at lies = rw (sym same_side, sym at, sym is.there.at) (extent_of_records table runner run saved
+        replay.records stands known_on.followed made some _ lies)
+
+    pub pair_at : AgreeingRecords table side first second
+    pair_at = rw (sym same_side, sym is.there.at) (record {
+      in_order = less;
+      first_number = known_on.followed.number;
+      second_number = made.0;
+      first_record = subst (IsRecord table replay.records.side known_on.followed.number) at
+          (known_on.followed.kept some).made;
+      second_record = made.1;
+      agree = rw (sym at)
+          (agree_of_cells table runner run saved replay.records stands known_on.followed made some both);
+    })
+
+  -- where they agree, that was seen
+  pub no_pair_at : (IsTrue replay.is_record → AgreesWithKept replay.records runner saved run → ⊥)
+      → AgreeingRecords table side first second → ⊥
+  no_pair_at none agreeing =
+      let pair : AgreeingRecords table replay.records.side first (steps_of runner) =
+      rw (same_side, is.there.at) agreeing in
+      let runs = runs_at_pair table replay.records.side first (steps_of runner) pair in
+      let apart = keeps_first.made ((pair.first_number, pair.first_record), runs.0) in
+      let at = keeps_first.at apart in
+      none (known_on.claimed.1 ((pair.second_number, pair.second_record), runs.1))
+      (cells_of_agree table runner run saved replay.records stands known_on.followed
+      (pair.second_number, pair.second_record)
+      (numbered_at table replay.records saved (steps_of runner) known_on.followed apart)
+      (rw at less) (rw at pair.agree))

@@ -1,9 +1,0 @@
-use Rattle.std.proofs.Common.{◌≡◌, ◌≤◌, [], get_or, take}
-use Rattle.bb_cover.specs.Gaps.{gaps_in}
-use Rattle.bb_cover.proofs.table.count_gaps_in.Given as goal
-
-abbrev pub invariant-loop-symbol : goal.invariant-loop-symbol
-invariant-loop-symbol l = record {
-  count : l.count ≡ gaps_in (take l.symbol (get_or l.machine l.state []));
-  few : l.count ≤ l.symbol;
-}
