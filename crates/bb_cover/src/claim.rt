@@ -5,8 +5,8 @@ ghost use Rattle.bb_cert.specs.checker.Answer.{IsAnswer};
 ghost use Rattle.bb_cert.specs.tree.Path.{depth_of};
 ghost use Rattle.bb_cover.specs.Claims.{IsHalt, IsJudged, IsOneOf};
 
-use crate::undefined::{UndefinedEntry, has_other_undefined};
 use crate::halt::{Halted, halt_at};
+use crate::undefined::{UndefinedEntry, has_other_undefined};
 use bb_cert::{Answer, Pair, Path, Verdict, check};
 use bb_machine::{Limits, Machine};
 use bb_sim::Meter;

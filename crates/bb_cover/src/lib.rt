@@ -6,12 +6,12 @@ mod asked;
 mod claim;
 mod counts;
 mod found;
-mod undefined;
 mod halt;
 pub mod laws;
 mod list;
 mod table;
 mod text;
+mod undefined;
 mod used;
 mod walk;
 

@@ -50,7 +50,14 @@ fn add_next_row(frame: &Frame, state: u8, text: &mut Text)
     for symbol in 0..frame.machine.symbols() {
         let undefined = frame.undefined;
         add_entry(
-            entry_with(&frame.machine, undefined.state, undefined.symbol, entry, state, symbol),
+            entry_with(
+                &frame.machine,
+                undefined.state,
+                undefined.symbol,
+                entry,
+                state,
+                symbol,
+            ),
             text,
         );
     }

@@ -7,8 +7,8 @@ ghost use Rattle.bb_cover.specs.UndefinedEntries.{IsUndefinedOf, undefined_entri
 ghost use Rattle.bb_cover.specs.Left.{FillsAt, IsFirst, IsFrame, IsStack, VisitsNext, left};
 
 use crate::asked::Asked;
-use crate::undefined::UndefinedEntry;
 use crate::table::{is_empty, is_with_entry};
+use crate::undefined::UndefinedEntry;
 use bb_machine::{MAX_STATES, MAX_SYMBOLS, Machine};
 use std::alloc::{AllocError, Global};
 use std::marker::Model;

@@ -9,7 +9,13 @@ use bb_tape::{MAX_CELLS, MAX_SYMBOL};
 
 /// The fingerprint of a tape after the symbol at a position changed.
 #[inline(always)]
-pub fn update_fingerprint<K: FingerprintKeys>(current: u64, keys: &K, position: i64, old: u8, new: u8) -> u64
+pub fn update_fingerprint<K: FingerprintKeys>(
+    current: u64,
+    keys: &K,
+    position: i64,
+    old: u8,
+    new: u8,
+) -> u64
     requires low { neg_ℤ (pos MAX_CELLS) ≤ℤ position }
     requires high { position ≤ℤ pos MAX_CELLS }
     requires old { old ≤ MAX_SYMBOL }

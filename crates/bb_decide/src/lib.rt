@@ -4,15 +4,15 @@
 pub mod bench;
 pub mod cycle;
 pub mod decision;
-mod search_result;
 mod fingerprint;
 pub mod keys;
 pub mod laws;
 pub mod one_run;
 pub mod reasoning;
 mod record_search;
-pub mod translation;
+mod search_result;
 mod single_pass;
+pub mod translation;
 
 pub use bb_machine::Plan;
 pub use bench::Bench;

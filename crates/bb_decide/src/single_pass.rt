@@ -4,10 +4,10 @@ ghost use Rattle.bb_decide.specs.Bench.{BenchHasCells};
 ghost use Rattle.bb_decide.specs.inside.SearchResult.{RunsSinglePass};
 
 use crate::bench::Bench;
-use crate::search_result::{SearchResult, count_run, outcome_of};
 use crate::fingerprint::update_fingerprint;
 use crate::keys::FingerprintKeys;
 use crate::record_search::compare_record;
+use crate::search_result::{SearchResult, count_run, outcome_of};
 use bb_cert::Side;
 use bb_cert::records::{Records, widened_side};
 use bb_machine::{Limits, Machine};

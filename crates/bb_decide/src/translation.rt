@@ -11,8 +11,8 @@ ghost use Rattle.bb_decide.specs.Sure.{FindsAgreeingRecords};
 ghost use Rattle.bb_decide.specs.Translation.{FindsTranslation};
 
 use crate::bench::Bench;
-use crate::search_result::{SearchResult, count_run, outcome_of, step_on};
 use crate::record_search::compare_record;
+use crate::search_result::{SearchResult, count_run, outcome_of, step_on};
 use bb_cert::records::{Records, widened_side};
 use bb_cert::{Side, Verdict};
 use bb_machine::{Limits, Machine};

@@ -17,7 +17,7 @@ mod words;
 pub use checking::{run_check, run_check_with_counts};
 pub use counts::{AnswerCounts, VerdictCounts};
 pub use deciding::{run_decide, run_decide_in_one_run};
-pub use reply_validation::{KindCounts, ReplyCheck, ReplyKind, Mismatch, validate_replies};
+pub use reply_validation::{KindCounts, Mismatch, ReplyCheck, ReplyKind, validate_replies};
 pub use rings::{ring_bench, ring_pair};
 pub use summary::Summary;
 pub use tracing::{run_sampled_trace, run_trace};

@@ -253,8 +253,12 @@ impl Tape for RingTape {
 
     fn same(&self, other: &Self) -> bool {
         let intersection = self.window.intersection(&other.window);
-        self.agrees(intersection.low, other, intersection.low, intersection.width())
-            && self.is_blank_outside(intersection)
+        self.agrees(
+            intersection.low,
+            other,
+            intersection.low,
+            intersection.width(),
+        ) && self.is_blank_outside(intersection)
             && other.is_blank_outside(intersection)
     }
 

@@ -28,10 +28,10 @@ mod larger_limits;
 #[cfg(test)]
 mod line_engine;
 #[cfg(test)]
-mod validations;
-#[cfg(test)]
 mod many_symbols;
 #[cfg(test)]
 mod support;
 #[cfg(test)]
 mod traces;
+#[cfg(test)]
+mod validations;

@@ -1,6 +1,6 @@
 //! Validations of replies to lists, worked out by hand.
 
-use bb_run::{KindCounts, ReplyCheck, Mismatch, validate_replies};
+use bb_run::{KindCounts, Mismatch, ReplyCheck, validate_replies};
 
 /// A line of each kind, as often as its kind's place among the counts.
 static ALL_KINDS: &[u8] = b"1RZ---\n\
