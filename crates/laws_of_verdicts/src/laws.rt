@@ -12,14 +12,14 @@ ghost use Rattle.laws_of_verdicts.specs.Walk.{WalksAreInNormalForm};
 
 use bb_cert::claims::laws::agreeing_records_go_on;
 
-/// From the first step of a cycler's pair on, each configuration comes again after every so many steps as lie
-/// between the two.
+/// A cycler is periodic. From the pair's first step on, each configuration is repeated after a period, the
+/// distance of the two steps.
 pub fn cyclers_come_again()
     ensures { CyclersComeAgain }
 {}
 
-/// From the first step of a translated cycler's pair on, each state comes again after every so many steps as
-/// lie between the two, with the head farther out by the shift each time.
+/// A translated cycler is periodic up to a shift. From the pair's first step on, each state is repeated after
+/// a period, with the head farther out by the shift.
 pub fn translated_cyclers_move_on()
     ensures { TranslatedCyclersMoveOn }
 {
@@ -32,8 +32,8 @@ pub fn every_start_halts_soon_or_never()
     ensures { EveryStartHaltsSoonOrNever }
 {}
 
-/// A machine with its undefined transitions filled, in any way, keeps its verdict to the digit, if that is a
-/// halt by a step into Z or a pair.
+/// Filling undefined transitions, in any way, keeps a verdict to the digit. The verdict is a halt by a step
+/// into Z, or a pair.
 pub fn completions_keep_verdicts()
     ensures { CompletionsKeepVerdicts }
 {}
@@ -46,8 +46,8 @@ pub fn completions_keep_claims()
     ensures never { CompletionsNeverHalt }
 {}
 
-/// A machine with left and right swapped, its states renamed but for A, or its symbols renamed but for 0, has
-/// the same verdict to the digit; a translated cycler has the other side after the swap.
+/// Three changes keep a verdict to the digit: left and right swapped, states renamed but for A, symbols
+/// renamed but for 0. Only the side of a translated cycler changes after a swap.
 pub fn changes_keep_verdicts()
     ensures { ChangesKeepVerdicts }
 {}
@@ -58,15 +58,16 @@ pub fn changes_keep_claims()
     ensures answer { ChangesKeepAnswers }
 {}
 
-/// A machine that halts on an undefined transition halts there with any other one filled, and one step later
-/// with this one filled by an entry into Z.
+/// Take a machine that halts on an undefined transition. It halts there with any other one filled, and one
+/// step later with this one filled by an entry into Z.
 pub fn undefined_halts_complete()
     ensures same { UndefinedEntriesKeepHalts }
     ensures next { FilledEntriesHaltNext }
 {}
 
-/// A list of true lines settles every machine of its size, if it continues below each machine that halts on
-/// one of several undefined transitions. The completions of undecided machines are excepted.
+/// A closed list of true lines settles every machine of its size. Closed means: it continues below each
+/// machine that halts on one of several undefined transitions. The completions of undecided machines are
+/// excepted.
 pub fn covers_settle()
     ensures settle { CoversSettle }
     ensures decide { CoversDecide }
@@ -79,8 +80,8 @@ pub fn normal_form_covers()
     ensures walks { WalksAreInNormalForm }
 {}
 
-/// A cycler confirmed by the checker, from any source, is found by deciding with cyclers on, within three
-/// times the steps it names.
+/// Deciding with cyclers on finds each cycler confirmed by the checker, from any source. It needs three times
+/// the steps of the claim at most.
 pub fn cyclers_are_found()
     ensures { CyclersAreFound }
 {}
