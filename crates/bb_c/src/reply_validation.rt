@@ -4,7 +4,7 @@ ghost use Rattle.bb_lines.specs.Lines.{AreReplies, lines};
 ghost use Rattle.bb_run.specs.Validation.{CountsReplies, HasForm, IsFirstWithout};
 
 use crate::buffer::{CLEAN, NOT_CLEAN};
-use bb_run::{KindCounts, look};
+use bb_run::{KindCounts, validate_replies};
 
 /// Validates the replies to the lines of a list: each line has one reply of its form, in order, with a
 /// newline after it, and there are no more. Then it counts the replies of each kind, and the lines. Otherwise
@@ -26,14 +26,14 @@ pub extern "C" fn bb_look(
     ensures untouched { result ≡ NOT_CLEAN → counts.new ≡ counts.old }
     ensures status { result ≤ NOT_CLEAN }
 {
-    match look(list, replies) {
-        Ok(looked) => {
-            *counts = looked.counts;
-            *line_count = looked.lines;
+    match validate_replies(list, replies) {
+        Ok(check) => {
+            *counts = check.counts;
+            *line_count = check.lines;
             CLEAN
         }
-        Err(unanswered) => {
-            *line_count = unanswered.line;
+        Err(mismatch) => {
+            *line_count = mismatch.line;
             NOT_CLEAN
         }
     }
