@@ -8,7 +8,7 @@ use Rattle.bb_cert.specs.checker.Answer.{Applies, IsOutOfOrder, IsUndecided, Nam
 use Rattle.bb_cert.specs.checker.Answer.{Rule, rank}
 use Rattle.bb_cert.specs.checker.Answer.{undecided, too_much_named, out_of_order, too_much_needed}
 use Rattle.bb_cert.specs.checker.Answer.{claim_holds}
-use Rattle.bb_cert.proofs.Facts.{told_is_said}
+use Rattle.bb_cert.proofs.Facts.{claimed_is_said}
 use Rattle.bb_machine.specs.declared.plan.Plan.{Plan}
 use Rattle.bb_decide.specs.Laws.{VerdictsAreConfirmed, VerdictsHold}
 use Rattle.bb_decide.specs.Verdict.{IsVerdict}
@@ -22,7 +22,7 @@ verdicts_hold table bounds plan (Cycler first second) is =
     let cycle = (is_first_cycle plan is).cycle in (cycle.partner.below, cycle.same)
 verdicts_hold table bounds plan (Translated side first second extent) is = (
   pair_agrees table side first second (is_first_agreement plan extent is).translation.pair,
-  told_is_said table side first second extent (extent_is_told plan extent is),
+  claimed_is_said table side first second extent (extent_is_told plan extent is),
 )
 verdicts_hold table bounds plan (Backward levels nodes) is =
     let tree = is_tree plan is in (tree.ends, tree.clear)

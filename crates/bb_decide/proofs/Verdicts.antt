@@ -14,7 +14,7 @@ use Rattle.bb_cert.specs.declared.verdict.Extent.{Extent}
 use Rattle.bb_cert.specs.declared.verdict.Side.{Side}
 use Rattle.bb_cert.specs.declared.verdict.Side.TheVariants.{L, R}
 use Rattle.bb_cert.specs.verdict.Extent.{TellsExtent}
-use Rattle.bb_cert.proofs.Facts.{one_number, record_has_one_step, stands_on, told_is_one, tree_has_one_end}
+use Rattle.bb_cert.proofs.Facts.{one_number, record_has_one_step, stands_on, claimed_is_one, tree_has_one_end}
 use Rattle.bb_decide.specs.Cycle.{IsFirstCycle}
 use Rattle.bb_decide.specs.Translation.{IsFirstTranslation}
 use Rattle.bb_decide.specs.Verdict.{IsVerdict}
@@ -85,7 +85,7 @@ module _ (table : Table) (bounds : Bounds) where
       let here : IsFirstTranslation table bounds s c b = rw side there in
       let partner = partner_of_translation_is_one s a b c one here in
       let tells : TellsExtent table s a b other_told = rw (step, side, partner) tells_other in
-      let told = told_is_one table s a b one_told other_told tells_one tells in
+      let told = claimed_is_one table s a b one_told other_told tells_one tells in
       cc
 
 -- what one verdict has found isn't passed over by one that comes later
