@@ -1,4 +1,4 @@
-//! `bb`: verdicts on small Turing machines. `docs/model.md` says what a verdict is.
+//! `bb`: verdicts on small Turing machines. `docs/definitions.md` says what a verdict is.
 #![tactic(auto)]
 
 ghost use Rattle.std.specs.Prelude.{◌≡◌, IfErr, IfOk, map};
@@ -158,7 +158,7 @@ fn tell_stop(rt: &HostRuntime, stop: &Stop, numbers: Option<Numbers>) -> u8 {
 
 /// Prints help to standard output, and any other cause to standard error; on a terminal, also which of the
 /// limits were refused and what would do. It isn't inlined: where the watched run's function begins hangs on
-/// the functions before it (`docs/speed.md`).
+/// the functions before it (`docs/performance.md`).
 #[inline(never)]
 fn tell(rt: &HostRuntime, stop: &Stop, numbers: Option<Numbers>) -> io::Result<()> {
     match stop {

@@ -90,7 +90,7 @@ impl Records {
     }
 
     /// How the kept record and the one that the runner has just made, which agree, lie. It isn't inlined:
-    /// where the searches begin beside the watched run hangs on it (docs/speed_tried.md).
+    /// where the searches begin beside the watched run hangs on it (docs/performance-tried.md).
     #[inline(never)]
     pub fn extent(&self, runner: &Runner) -> Extent
         requires nearest { IsNarrow self.now.nearest }
