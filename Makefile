@@ -50,7 +50,7 @@ built := crates/bb_c/out
 library: $(built)/libbb.so ## prove and link the library for other languages: libbb.so, libbb.a, include/bb.h
 
 # On some processors the branches of the single-pass run, and of the search for records, are slow unless they
-# begin at a multiple of 32 (docs/speed_tried.md).
+# begin at a multiple of 32 (docs/performance-tried.md).
 $(built)/libbb.so: $(built)/proved Makefile
 	@echo "linking libbb.so" >&2
 	@set -e; parts=$$(mktemp -d); trap 'rm -rf "$$parts"' EXIT; \

@@ -42,7 +42,7 @@ VERSIONED = """crates/bb_command/src/command.rt crates/cover/src/command.rt crat
 DOCUMENTS = [*TOP.glob("*.md"), *TOP.glob("docs/*.md"), TOP / "examples" / "README.md"]
 # Lines, and what is missing of each.
 BROKEN = [
-    ("A [link](proved.md#missing) to no heading.", "the link to proved.md#missing"),
+    ("A [link](verification.md#missing) to no heading.", "the link to verification.md#missing"),
     ("`Runner::missing_call` isn't defined.", "the name `Runner::missing_call`"),
     ("`bb_run::cyclers` is another crate's.", "the name `bb_run::cyclers`"),
     ("- `bb_run`: `ask` of a crate that it doesn't stand on.", "the name `ask`"),
@@ -223,7 +223,7 @@ def test_document_names_what_exists(path: str) -> None:
 
 @pytest.mark.parametrize("line, missing", BROKEN)
 def test_what_is_missing_is_named(line: str, missing: str) -> None:
-    assert list(findings("docs/layers.md", line)) == ["docs/layers.md:1: " + missing]
+    assert list(findings("docs/architecture.md", line)) == ["docs/architecture.md:1: " + missing]
 
 
 def test_manual_page_names_options_of_the_program() -> None:
@@ -237,8 +237,8 @@ def test_version_is_one() -> None:
 
 
 def test_layers_agree_with_crates() -> None:
-    """The table of docs/layers.md has what each crate stands on; those of tests have all their modules."""
-    layers = read("docs/layers.md")
+    """The table of docs/architecture.md has what each crate stands on; those of tests have all their modules."""
+    layers = read("docs/architecture.md")
     rows = dict(re.findall(r"^\| `(\w+)` \|([^|]*)\|", layers, flags=re.M))
     for crate, below in crates().items():
         if not crate.startswith("tests_of_"):

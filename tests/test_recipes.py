@@ -24,21 +24,21 @@ from support.program import GREATEST, Ended, as_lines, ended, options, options_o
 
 # How many blocks of commands stand under each heading.
 COUNTS = {
-    "Preparing a list": 3,
-    "Counting a step more": 1,
-    "Deciding again what was left": 2,
-    "Counting verdicts": 1,
-    "Finding wrong claims": 3,
-    "Judging what others publish": 2,
-    "Publishing what was decided": 2,
-    "More than one core": 2,
-    "Is the list whole": 1,
-    "Lists of any length": 2,
-    "Many cores without Python": 1,
-    "A picture": 2,
-    "Running it elsewhere": 1,
-    "After an interruption": 1,
-    "Machines that another program makes": 1,
+    "Prepare a list": 3,
+    "Count undefined entries as a step": 1,
+    "Raise the limits for undecided machines": 2,
+    "Count verdicts": 1,
+    "Find wrong claims": 3,
+    "Judge published claims": 2,
+    "Publish a decided list": 2,
+    "Use several cores": 2,
+    "Check that no line is missing": 1,
+    "Decide a long list": 2,
+    "Use all cores without Python": 1,
+    "Draw a picture": 2,
+    "Copy the program": 1,
+    "Resume after an interruption": 1,
+    "Call the engine from a program": 1,
 }
 # A line of a list, and the machine that is taken out of it, or why there is none; None for a line that is
 # passed over in silence.
@@ -188,7 +188,7 @@ def test_refused_lines_are_shown(folder: Folder, content: bytes) -> None:
     folder.write("machines.txt", content)
     lines = folder.decide(content).splitlines()
     shown = [b"%d: %s\n" % pair for pair in enumerate(lines, 1) if pair[1].startswith(b"refused")]
-    assert folder.run(RECIPES["Preparing a list"][2]) == (0, b"".join(shown), b"")
+    assert folder.run(RECIPES["Prepare a list"][2]) == (0, b"".join(shown), b"")
 
 
 def require_reasons(error: List[str]) -> None:
@@ -207,7 +207,7 @@ def require_reasons(error: List[str]) -> None:
 @pytest.mark.parametrize("pack", [bytes, gzip.compress], ids=["plain", "gzip"])
 def test_machines_are_taken_out_of_lines(folder: Folder, lead: bytes, ending: bytes, pack: type) -> None:
     folder.write("list.txt", pack(lead + b"\n".join(line for line, _ in TAKEN) + ending))
-    status, output, error = folder.run(RECIPES["Preparing a list"][0])
+    status, output, error = folder.run(RECIPES["Prepare a list"][0])
     expected = b"".join(machine + b"\n" for _, machine in TAKEN if isinstance(machine, bytes))
     assert (status, output, folder.read("machines.txt")) == (0, b"", expected)
     require_reasons(error.decode().splitlines())
@@ -215,7 +215,7 @@ def test_machines_are_taken_out_of_lines(folder: Folder, lead: bytes, ending: by
 
 @pytest.mark.usefixtures("package")
 def test_empty_list_and_another_halting_letter(folder: Folder) -> None:
-    take, spell, _ = RECIPES["Preparing a list"]
+    take, spell, _ = RECIPES["Prepare a list"]
     folder.write("list.txt", b"")
     assert folder.run(take)[:2] == (0, b"") and folder.read("machines.txt") == b""
     folder.write("list.txt", b"1RB1LB_1LA1RX\n")
@@ -225,7 +225,7 @@ def test_empty_list_and_another_halting_letter(folder: Folder) -> None:
 def test_counting_a_step_more(folder: Folder) -> None:
     machines = [machine.encode() for machine in mixed(2_000, 5)]
     folder.write("machines.txt", b"\n".join(machines) + b"\n1RB1LB_1LA---\n")
-    assert folder.run(RECIPES["Counting a step more"][0]).status == 0
+    assert folder.run(RECIPES["Count undefined entries as a step"][0]).status == 0
     limits = ["--cells=1000", "--depth=20", "--nodes=1000"]
     before = folder.decide(folder.read("machines.txt"), "--steps=1000", *limits).splitlines()
     after = folder.decide(folder.read("counted.txt"), "--steps=1001", *limits).splitlines()
@@ -241,7 +241,7 @@ def test_counting_a_step_more(folder: Folder) -> None:
 @each_list
 def test_deciding_again_what_was_left(folder: Folder, content: bytes) -> None:
     folder.write("machines.txt", content)
-    for block in RECIPES["Deciding again what was left"]:
+    for block in RECIPES["Raise the limits for undecided machines"]:
         assert folder.run(block).status == 0
     once, lines = folder.decide(content).splitlines(), folder.read("verdicts.txt").splitlines()
     assert len(once) == len(lines)
@@ -256,7 +256,7 @@ def test_counting_verdicts(folder: Folder, content: bytes) -> None:
     folder.write("verdicts.txt", folder.decide(content))
     fields = [line.split() for line in folder.read("verdicts.txt").splitlines()]
     kinds = collections.Counter(f[0] if f[0] == b"refused" else f[1] for f in fields)
-    status, output, _ = folder.run(RECIPES["Counting verdicts"][0])
+    status, output, _ = folder.run(RECIPES["Count verdicts"][0])
     assert status == 0
     assert sorted(output.splitlines()) == sorted(b"%d %s" % (count, kind) for kind, count in kinds.items())
 
@@ -267,14 +267,14 @@ def test_wrong_claims_are_shown(folder: Folder) -> None:
     lines, answers = (claims / "lines.txt").read_bytes(), (claims / "expected.txt").read_bytes().splitlines()
     folder.write("verdicts.txt", lines)
     command = "bb " + (claims / "command").read_text().strip()
-    status, output, _ = folder.run(RECIPES["Finding wrong claims"][0].replace("bb check", command))
+    status, output, _ = folder.run(RECIPES["Find wrong claims"][0].replace("bb check", command))
     pairs = zip(range(1, len(answers) + 1), answers, lines.splitlines())
     expected = b"".join(b"%d: %s %s\n" % row for row in pairs if row[1] not in (b"ok", b"open"))
     assert status == 0 and output == expected != b""
 
 
 def test_claims_that_count_a_step_more(folder: Folder) -> None:
-    confirmed, _, counted = RECIPES["Finding wrong claims"]
+    confirmed, _, counted = RECIPES["Find wrong claims"]
     folder.write("verdicts.txt", CLAIMS_ELSEWHERE)
     assert [line[:6] for line in folder.run(confirmed).output.splitlines()] == [b"1: bad", b"4: bad"]
     assert folder.run(counted)[:2] == (0, b"6: bad 1RB1LB_1LA1RZ halt 5 4\n")
@@ -283,21 +283,21 @@ def test_claims_that_count_a_step_more(folder: Folder) -> None:
 @each_list
 def test_no_wrong_claim_in_verdicts(folder: Folder, content: bytes) -> None:
     folder.write("verdicts.txt", folder.decide(content))
-    assert folder.run(RECIPES["Finding wrong claims"][0]) == (0, b"", b"")
+    assert folder.run(RECIPES["Find wrong claims"][0]) == (0, b"", b"")
 
 
 @pytest.mark.usefixtures("package")
 def test_package_answers_claims(folder: Folder) -> None:
     lines = (TOP / "examples" / "claims" / "lines.txt").read_bytes()
     folder.write("verdicts.txt", lines)
-    assert folder.run(RECIPES["Finding wrong claims"][1]).status == 0
+    assert folder.run(RECIPES["Find wrong claims"][1]).status == 0
     expected = ended([folder.bb, "check", *options(GREATEST)], lines).output
     assert folder.read("answers.txt") == expected
 
 
 @pytest.mark.usefixtures("package")
 def test_judging_what_others_publish(folder: Folder) -> None:
-    judge, look = RECIPES["Judging what others publish"]
+    judge, look = RECIPES["Judge published claims"]
     folder.write("machines.txt", b"1RB1LB_1LA1RZ\n1RA1RA\n0RB---_0LA---\n")
     folder.write("theirs.txt", b"1LB1RB_1RA1LZ halt 6 4\n1RA1RA halt 6 4\nx\n1RZ1RZ halt 1 1\n")
     assert folder.run(judge).status == 0
@@ -310,7 +310,7 @@ def test_judging_what_others_publish(folder: Folder) -> None:
 
 @pytest.mark.usefixtures("package")
 def test_publishing_what_was_decided(folder: Folder) -> None:
-    publish, look = RECIPES["Publishing what was decided"]
+    publish, look = RECIPES["Publish a decided list"]
     folder.write("machines.txt", b"1RB1LB_1LA1RZ\n1RA1RA\n0RB---_0LA---\n")
     folder.run("budlarem run machines.txt --out decided")
     status, output, _ = folder.run(publish)
@@ -327,7 +327,7 @@ def long_list(bb: str, list_machines: Callable[..., List[str]]) -> bytes:
     return b"".join(line + b"\n" for line in halts * 60 + [b"x"] + halts)
 
 
-(IS_WHOLE,) = RECIPES["Is the list whole"]
+(IS_WHOLE,) = RECIPES["Check that no line is missing"]
 
 
 @each_list
@@ -363,7 +363,7 @@ def limits_of(commands: str) -> List[str]:
 @pytest.mark.parametrize("way", ["parallel", "split"])
 def test_list_in_pieces_is_decided_as_in_one_process(folder: Folder, long_list: bytes, way: str) -> None:
     require(way)
-    commands = next(block for block in RECIPES["More than one core"] if way + " -" in block)
+    commands = next(block for block in RECIPES["Use several cores"] if way + " -" in block)
     words = limits_of(commands)
     for content in [*LISTS.values(), long_list]:
         folder.write("machines.txt", content)
@@ -379,7 +379,7 @@ def test_list_in_pieces_is_decided_as_in_one_process(folder: Folder, long_list: 
 
 
 def test_fewer_pieces_than_before(folder: Folder) -> None:
-    commands = RECIPES["More than one core"][1]
+    commands = RECIPES["Use several cores"][1]
     folder.write("machines.txt", ANYTHING)
     for text in (commands, commands.replace("l/4", "l/2")):
         folder.run(text)
@@ -390,7 +390,7 @@ def test_fewer_pieces_than_before(folder: Folder) -> None:
 @pytest.mark.usefixtures("package")
 @each_list
 def test_runner_decides_lists_of_any_length(folder: Folder, content: bytes) -> None:
-    run, keep = RECIPES["Lists of any length"]
+    run, keep = RECIPES["Decide a long list"]
     first, second = re.findall(r"--pass (\S+)", run)
     content = DECIDED * 3 + content
     folder.write("machines.txt", content)
@@ -412,7 +412,7 @@ def test_runner_decides_lists_of_any_length(folder: Folder, content: bytes) -> N
 @pytest.mark.usefixtures("package")
 def test_runner_refuses_a_list_in_other_forms(folder: Folder) -> None:
     folder.write("machines.txt", ANYTHING)
-    status, _, error = folder.run(RECIPES["Lists of any length"][0])
+    status, _, error = folder.run(RECIPES["Decide a long list"][0])
     assert status != 0 and b"budlarem read" in error and not (folder.path / "decided").exists()
 
 
@@ -421,7 +421,7 @@ def test_runner_refuses_a_list_in_other_forms(folder: Folder) -> None:
 @each_list
 def test_many_cores_without_python(folder: Folder, content: bytes) -> None:
     folder.write("machines.txt", content)
-    assert folder.run(RECIPES["Many cores without Python"][0]).status == 0
+    assert folder.run(RECIPES["Use all cores without Python"][0]).status == 0
     assert folder.read("verdicts.txt") == folder.decide(content, "--steps", "100000")
 
 
@@ -431,7 +431,7 @@ def test_many_cores_without_python(folder: Folder, content: bytes) -> None:
 def test_pictures_are_those_of_the_documents(folder: Folder, at: int, name: str) -> None:
     from PIL import Image
 
-    assert folder.run(RECIPES["A picture"][at]).status == 0
+    assert folder.run(RECIPES["Draw a picture"][at]).status == 0
     found, expected = (Image.open(path) for path in (folder.path / "picture.png", TOP / "docs" / name))
     assert found.size == expected.size
     assert found.convert("RGB").tobytes() == expected.convert("RGB").tobytes()
@@ -439,7 +439,7 @@ def test_pictures_are_those_of_the_documents(folder: Folder, at: int, name: str)
 
 def test_program_is_copied_from_where_it_is(bb: str) -> None:
     """What needs another computer isn't run."""
-    (command,) = RECIPES["Running it elsewhere"]
+    (command,) = RECIPES["Copy the program"]
     assert command == "scp %s host:bin/" % pathlib.Path(bb).relative_to(TOP)
 
 
@@ -464,7 +464,7 @@ def interrupt(folder: Folder, content: bytes) -> int:
     return process.returncode
 
 
-(RESUME,) = RECIPES["After an interruption"]
+(RESUME,) = RECIPES["Resume after an interruption"]
 
 
 def test_interrupted_run_is_resumed(folder: Folder) -> None:
@@ -489,6 +489,6 @@ def test_cut_verdicts_are_completed_twice(folder: Folder, content: bytes) -> Non
 @pytest.mark.usefixtures("library")
 def test_machines_that_another_program_makes(folder: Folder) -> None:
     environment = {**os.environ, "PYTHONPATH": str(TOP / "python" / "src")}
-    (program,) = RECIPES["Machines that another program makes"]
+    (program,) = RECIPES["Call the engine from a program"]
     output = ended([sys.executable, "-c", program], cwd=str(folder.path), env=environment).output
     assert output == folder.decide(b"1RB1LB_1LA1RZ\n1RA1RA\n")

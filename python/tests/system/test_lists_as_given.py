@@ -22,7 +22,7 @@ from support.program import Ended, as_lines, ended, options
 from support.terminals import on_terminal
 
 FORMS = json.loads((TOP / "tests" / "support" / "forms.json").read_text(encoding="utf-8"))
-DOCUMENT = TOP / "docs" / "python.md"
+DOCUMENT = TOP / "docs" / "budlarem.md"
 LIMITS = (2_000, 512, 30, 1_000)
 GREATEST = [highest for _, highest in Limits.RANGES.values()]
 # How a machine may stand on a line.
