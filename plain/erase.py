@@ -55,9 +55,10 @@ RULES: List[Tuple[str, str, str]] = [
     ),
     ("a copy that may fail", r"\.clone\(\)(?=\?)", ".clone_with()"),
     ("an expectation", r"\.expect\((?=\s*&?rt\b)", ".expect_with("),
+    ("a version", r'((?:\.version\(|\()"|"bb )(\d+\.\d+\.\d+)', r"\1\2 (plain)"),
     ("a program's start", r"fn main\((?=rt: HostRuntime\))", "std::main!(start);\n\nfn start("),
 ]
-TEST = re.compile(r"(#\[test\]\s+(?:#\[[^\]]*\]\s+)*fn (\w+)\()(rt: HostRuntime)?\)")
+TEST = re.compile(r"(#\[test\]\s+(?:#\[[^\]]*\]\s+)*fn (\w+)\()(rt: HostRuntime)?\)(\s*->)?")
 EXPORT = re.compile(r'#\[unsafe\(no_mangle\)\]\s*pub extern "C" fn (\w+)\((.*?)\)([^{]*)\{', re.S)
 PARAMETER = re.compile(r"(\w+): ([^,]+),")
 ERROR = re.compile(r'#\[error\(("[^"]*")\)\]\s*')
@@ -72,6 +73,10 @@ VERSIONS = {"arrayvec": "0.7", "itoa": "1", "memchr": "2"}
 # Dependencies of the kit whose place a crate in `shim` takes.
 SHIMMED = {"clap": "rattle_clap", "linked_list_allocator": "rattle_heap"}
 ERASED = ("thiserror",)
+# Lints that the sources don't follow, since the prover prefers another form, or a contract fixes it.
+LINTS = """assign_op_pattern collapsible_if large_enum_variant legacy_numeric_constants manual_div_ceil
+    manual_find manual_is_multiple_of manual_range_contains needless_lifetimes new_without_default single_match
+    too_many_arguments type_complexity""".split()
 PROFILES = """
 [profile.release]
 lto = "fat"
@@ -166,10 +171,10 @@ def require_known(source: Source, found: List[Token]) -> None:
 
 def comment_of(proof: str, indent: str) -> str:
     """Return a clause or ghost item as a comment that ends with a newline."""
+    text = " ".join(proof.rstrip(";, \n").split())
+    text = re.sub(r"^(\w+(?: \*?\w+)?) ?\{ (.*) \}$", r"\1: \2", text)
     width = max(100 - len(indent), 40)
-    lines = textwrap.wrap(
-        " ".join(proof.rstrip(";, \n").split()), width, break_long_words=False, break_on_hyphens=False
-    )
+    lines = textwrap.wrap(text, width, break_long_words=False, break_on_hyphens=False)
     return "".join("%s// %s%s\n" % (indent, "    " if k else "", line) for k, line in enumerate(lines))
 
 
@@ -225,8 +230,7 @@ def _exported_call(found: Match[str]) -> str:
         elif kind in ("&[u8]", "&mut [u8]"):
             pointer, mutable = ("mut", "_mut") if "mut" in kind else ("const", "")
             taken += ["%s: *%s u8" % (parameter, pointer), "%s_len: usize" % parameter]
-            slice_of = "unsafe { std::slice::from_raw_parts%s(%s, %s_len) }"
-            passed.append(slice_of % (mutable, parameter, parameter))
+            passed.append("unsafe { std::ffi::bytes%s(%s, %s_len) }" % (mutable, parameter, parameter))
         else:
             taken.append("%s: %s" % (parameter, kind))
             passed.append(parameter)
@@ -236,9 +240,10 @@ def _exported_call(found: Match[str]) -> str:
 
 def end_test(found: Match[str]) -> str:
     """Let a test end by its result, and give it the runtime if it takes one."""
-    head, name, runtime = found.groups()
-    call = "%s_run(%s)" % (name, "HostRuntime" if runtime else "")
-    return "%s) {\n    std::test::end(%s);\n}\n\nfn %s_run(%s)" % (head, call, name, runtime or "")
+    head, name, runtime, result = found.groups()
+    call = "run_%s(%s)" % (name, "HostRuntime" if runtime else "")
+    call = "std::test::end(%s)" % call if result else call
+    return "%s) {\n    %s;\n}\n\nfn run_%s(%s)%s" % (head, call, name, runtime or "", result or "")
 
 
 def with_messages(text: str) -> str:
@@ -324,7 +329,7 @@ def write_crate(crate: Crate, known: List[str], out: pathlib.Path) -> None:
         root += 'crate-type = ["staticlib", "cdylib"]\n'
     needs = "".join(dependency(name, known) for name in crate.needs if name not in ERASED)
     (out / crate.name / "Cargo.toml").write_text(
-        '[package]\nname = "%s"\nversion = "%s"\nedition = "2024"\n\n%s\n[dependencies]\n'
+        '[package]\nname = "%s"\nversion = "%s"\nedition = "2024"\nrust-version = "1.87"\n\n%s\n[lints]\nworkspace = true\n\n[dependencies]\n'
         'rattle_std = { path = "../rattle_std" }\n%s' % (crate.name, version(), root, needs)
     )
 
@@ -340,7 +345,10 @@ def write_workspace(out: pathlib.Path) -> None:
     for crate in crates:
         write_crate(crate, known, out)
     members = json.dumps([*shims, *known])
-    (out / "Cargo.toml").write_text("[workspace]\nresolver = \"2\"\nmembers = %s\n%s" % (members, PROFILES))
+    lints = "".join('%s = "allow"\n' % lint for lint in LINTS)
+    (out / "Cargo.toml").write_text(
+        '[workspace]\nresolver = "2"\nmembers = %s\n\n[workspace.lints.clippy]\n%s%s' % (members, lints, PROFILES)
+    )
     if (DEBIAN / "clap-4.0.32").exists() or list(DEBIAN.glob("clap-4*")):
         (out / ".cargo").mkdir(exist_ok=True)
         (out / ".cargo" / "config.toml").write_text(

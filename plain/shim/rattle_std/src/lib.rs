@@ -70,6 +70,29 @@ pub mod test {
     }
 }
 
+/// Slices from C.
+pub mod ffi {
+    /// # Safety
+    ///
+    /// Unless `count` is 0, `count` bytes from `first` on are readable and stay unchanged meanwhile.
+    pub unsafe fn bytes<'a>(first: *const u8, count: usize) -> &'a [u8] {
+        match count {
+            0 => &[],
+            _ => unsafe { ::std::slice::from_raw_parts(first, count) },
+        }
+    }
+
+    /// # Safety
+    ///
+    /// Unless `count` is 0, `count` bytes from `first` on are writable, and nobody else uses them meanwhile.
+    pub unsafe fn bytes_mut<'a>(first: *mut u8, count: usize) -> &'a mut [u8] {
+        match count {
+            0 => &mut [],
+            _ => unsafe { ::std::slice::from_raw_parts_mut(first, count) },
+        }
+    }
+}
+
 pub mod process {
     /// The leave to stop.
     pub trait Abort {}
