@@ -217,7 +217,11 @@ def export_calls(text: str) -> str:
     if not found:
         return text
     calls = "\n".join(map(_exported_call, found))
-    return text + "\n/// The calls for C; `include/bb.h` states the caller's obligations.\npub mod exports {\nuse super::*;\n\n%s}\n" % calls
+    return (
+        text
+        + "\n/// The calls for C; `include/bb.h` states the caller's obligations.\npub mod exports {\nuse super::*;\n\n%s}\n"
+        % calls
+    )
 
 
 def _exported_call(found: Match[str]) -> str:
@@ -234,7 +238,12 @@ def _exported_call(found: Match[str]) -> str:
         else:
             taken.append("%s: %s" % (parameter, kind))
             passed.append(parameter)
-    head = '#[unsafe(export_name = "%s")]\npub unsafe extern "C" fn %s(%s)%s' % (name, name, ", ".join(taken), result)
+    head = '#[unsafe(export_name = "%s")]\npub unsafe extern "C" fn %s(%s)%s' % (
+        name,
+        name,
+        ", ".join(taken),
+        result,
+    )
     return "%s{\n    super::%s(%s)\n}\n" % (head, name, ", ".join(passed))
 
 
@@ -248,7 +257,9 @@ def end_test(found: Match[str]) -> str:
 
 def with_messages(text: str) -> str:
     """Write out what `thiserror` derives: `Display` by the texts, and `Error`."""
-    text = re.sub(r"(#\[derive\([^)\n]*?)(?:, *\b(?:thiserror::)?Error\b|\b(?:thiserror::)?Error\b, *)", r"\1", text)
+    text = re.sub(
+        r"(#\[derive\([^)\n]*?)(?:, *\b(?:thiserror::)?Error\b|\b(?:thiserror::)?Error\b, *)", r"\1", text
+    )
     text = re.sub(r"use thiserror::Error;\n", "", text)
     found = re.compile(r"((?:#\[error[^\n]*\n)?)pub (struct|enum) (\w+) ?(?:;|\{.*?\n\})", re.S)
     impls = "".join(_message(item) for item in found.finditer(text) if "#[error(" in item[0])
@@ -313,7 +324,11 @@ def version() -> str:
 def dependency(name: str, known: List[str]) -> str:
     if name in SHIMMED:
         return '%s = { path = "../%s", package = "%s" }\n' % (name, SHIMMED[name], SHIMMED[name])
-    return '%s = { path = "../%s" }\n' % (name, name) if name in known else '%s = "%s"\n' % (name, VERSIONS[name])
+    return (
+        '%s = { path = "../%s" }\n' % (name, name)
+        if name in known
+        else '%s = "%s"\n' % (name, VERSIONS[name])
+    )
 
 
 def write_crate(crate: Crate, known: List[str], out: pathlib.Path) -> None:
@@ -347,7 +362,8 @@ def write_workspace(out: pathlib.Path) -> None:
     members = json.dumps([*shims, *known])
     lints = "".join('%s = "allow"\n' % lint for lint in LINTS)
     (out / "Cargo.toml").write_text(
-        '[workspace]\nresolver = "2"\nmembers = %s\n\n[workspace.lints.clippy]\n%s%s' % (members, lints, PROFILES)
+        '[workspace]\nresolver = "2"\nmembers = %s\n\n[workspace.lints.clippy]\n%s%s'
+        % (members, lints, PROFILES)
     )
     if (DEBIAN / "clap-4.0.32").exists() or list(DEBIAN.glob("clap-4*")):
         (out / ".cargo").mkdir(exist_ok=True)
