@@ -25,8 +25,6 @@ WORDS = """decide check trace help decid --steps --cells --depth --nodes --upto 
     1RB1LB_1LA1RZ 1RB ---1RZ ------ /nonexistent list.txt \u00e9 --\u00e9 --depth=10001 --nodes=1000000000001
     --depth=9 --cells=16 --upto=3 --upto=-3 --no- --s = --= --steps=+5 --steps=5_0""".split()
 COMMANDS, GIVEN = ("decide", "check", "trace"), b"1RB1LB_1LA1RZ\nx\n1RB1LB_1LA1RZ halt 6 4\n"
-# What clap writes itself: help, or a sentence and the usage.
-OF_CLAP = re.compile(rb"^error: (?!'bb help').*|.*Usage: .*", re.S)
 # Commands of a shell; PROGRAM stands for the program, `four.txt` and `list.txt` are lists.
 EDGES = """exec PROGRAM decide <&-
     exec PROGRAM decide <list.txt >&-
@@ -63,12 +61,16 @@ def programs(bb: str, plain: pathlib.Path) -> Programs:
     return bb, str(plain / "bb")
 
 
-def without_texts_of_clap(end: Ended) -> Ended:
-    return end._replace(output=OF_CLAP.sub(b"", end.output), error=OF_CLAP.sub(b"", end.error))
+def without_text_of_clap(text: bytes) -> bytes:
+    """Drop a text of clap's: help, or a sentence with the usage or a hint to help."""
+    text = text.replace(b" (plain)\n", b"\n")
+    is_of_clap = b"Usage: " in text or text.startswith(b"error: ") and b"'bb help'" not in text
+    return b"" if is_of_clap else text
 
 
 def require_same(programs: Programs, run: Callable[[str], Ended]) -> Ended:
-    first, second = (without_texts_of_clap(run(program)) for program in programs)
+    ends = (run(program) for program in programs)
+    first, second = (Ended(end.status, *map(without_text_of_clap, end[1:])) for end in ends)
     assert first == second
     return first
 
@@ -100,7 +102,7 @@ def test_random_machines(programs: Programs, rng: random.Random, limits: Tuple[i
     require_same(programs, lambda bb: ended([bb, "check", *options(limits)], forged))
 
 
-@pytest.mark.parametrize("example", read_examples(), ids=lambda example: example.name)
+@pytest.mark.parametrize("example", read_examples(), ids=[one.name for one in read_examples()])
 def test_examples(plain: pathlib.Path, example: Example) -> None:
     found = ended([str(plain / "bb"), *example.words], example.given, cwd=str(TOP))
     assert (found.output, found.status) == (example.expected, example.status)
