@@ -88,6 +88,20 @@ web/out/built: web/out/bb.wasm $(page)
 	$(python) web/package.py
 	@touch $@
 
+## Without the kit
+
+plain := out/plain
+plain_sources := $(shell find crates/*/src plain -type f ! -name '*.pyc' 2>/dev/null)
+
+.PHONY: plain
+plain: $(plain)/target/release/bb ## write the crates as a Cargo workspace without contracts, out/plain, and build it
+$(plain)/target/release/bb: $(plain_sources) crates.txt
+	@plain/erase.py $(plain)
+	@cargo fmt --version >/dev/null 2>&1 && cd $(plain) && cargo fmt --all || true
+	@cd $(plain) && MAKEFLAGS= cargo build --release --quiet
+	@echo "$(plain) is built by cargo and not proved; docs/plain.md says how to confirm its lists" >&2
+	@touch $@
+
 ## The second checker
 
 .PHONY: coq coq-check

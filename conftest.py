@@ -52,6 +52,13 @@ def cover() -> str:
 
 
 @pytest.fixture(scope="session")
+def plain() -> pathlib.Path:
+    """The folder of the programs without contracts, built by cargo."""
+    require("cargo")
+    return build("plain", "out/plain/target/release/bb").parent
+
+
+@pytest.fixture(scope="session")
 def library() -> pathlib.Path:
     """The path of libbb.so; libbb.a is beside it."""
     return build("library", "crates/bb_c/out/libbb.so")

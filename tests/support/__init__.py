@@ -15,7 +15,7 @@ import pytest
 
 TOP = pathlib.Path(__file__).resolve().parents[2]
 # Targets of the Makefile that take no proof kit.
-WITHOUT_KIT = ("coq", "lister")
+WITHOUT_KIT = ("coq", "lister", "plain")
 
 
 def debian_package(program: str) -> str:

@@ -1,0 +1,145 @@
+"""The programs without contracts, as cargo builds them, against the proved ones, byte for byte.
+
+clap's own texts may differ by its version: of these only the status and the stream are compared.
+"""
+
+from __future__ import annotations
+
+import pathlib
+import random
+import re
+import subprocess
+from typing import Callable, List, Tuple
+
+import pytest
+from support import TOP
+from support.examples import Example, read_examples
+from support.machines import random_machines
+from support.program import ROWS, Ended, as_lines, ended, options
+from support.terminals import on_terminal
+
+FOUR = ["--steps", "1000", "--cells", "1024", "--depth", "40", "--nodes", "10000"]
+WORDS = """decide check trace help decid --steps --cells --depth --nodes --upto --no-cyclers --no-translated
+    --no-backward --help -h --version -V -- - --- --step --cels -x -hx --steps=3 --cells=0 --cells=70000000
+    --steps=1000000000001 --steps=18446744073709551616 --steps= --steps=x --help=1 --no-cyclers=1 0 1 5 200 -1 x
+    1RB1LB_1LA1RZ 1RB ---1RZ ------ /nonexistent list.txt \u00e9 --\u00e9 --depth=10001 --nodes=1000000000001
+    --depth=9 --cells=16 --upto=3 --upto=-3 --no- --s = --= --steps=+5 --steps=5_0""".split()
+COMMANDS, GIVEN = ("decide", "check", "trace"), b"1RB1LB_1LA1RZ\nx\n1RB1LB_1LA1RZ halt 6 4\n"
+# Commands of a shell; PROGRAM stands for the program, `four.txt` and `list.txt` are lists.
+EDGES = """exec PROGRAM decide <&-
+    exec PROGRAM decide <list.txt >&-
+    exec PROGRAM decide list.txt <&-
+    exec PROGRAM decide <list.txt 2>&-
+    exec PROGRAM decide list.txt 0>&- 1>&- 2>&-
+    exec PROGRAM --help >&-
+    exec PROGRAM --help >/dev/full
+    exec PROGRAM decide <list.txt >/dev/full
+    exec PROGRAM decide /tmp
+    exec PROGRAM decide </tmp
+    exec PROGRAM foo 2>/dev/full
+    exec PROGRAM decide </dev/null
+    exec PROGRAM trace --upto 3 1RB
+    PROGRAM decide four.txt | head -c 100
+    ulimit -f 1; exec PROGRAM decide four.txt >short
+    ulimit -v 102400; exec PROGRAM decide --cells 67108864 <list.txt
+    ulimit -v 102400; exec PROGRAM decide --cells 1048576 <list.txt
+    ulimit -v 102400; exec PROGRAM check --cells 67108864 <list.txt""".split(
+    "\n"
+)
+TERMINAL = [
+    "decide /nonexistent",
+    "decide /tmp",
+    "decide --depth 9 --cells 3",
+    "decide --steps 2000000000000",
+]
+Programs = Tuple[str, str]
+
+
+@pytest.fixture(scope="module")
+def programs(bb: str, plain: pathlib.Path) -> Programs:
+    """The paths of the proved program and of the one that cargo builds."""
+    return bb, str(plain / "bb")
+
+
+def without_text_of_clap(text: bytes) -> bytes:
+    """Drop a text of clap's: help, or a sentence with the usage or a hint to help."""
+    text = text.replace(b" (plain)\n", b"\n")
+    is_of_clap = b"Usage: " in text or text.startswith(b"error: ") and b"'bb help'" not in text
+    return b"" if is_of_clap else text
+
+
+def require_same(programs: Programs, run: Callable[[str], Ended]) -> Ended:
+    ends = (run(program) for program in programs)
+    first, second = (Ended(end.status, *map(without_text_of_clap, end[1:])) for end in ends)
+    assert first == second
+    return first
+
+
+@pytest.fixture
+def folder(tmp_path: pathlib.Path, four_states: List[str]) -> pathlib.Path:
+    """A folder with lists."""
+    (tmp_path / "list.txt").write_bytes(b"1RB1LB_1LA1RZ\n1rB1LB\n0RB---_0LA---\n")
+    (tmp_path / "four.txt").write_bytes(as_lines(four_states[:20_000]))
+    return tmp_path
+
+
+def test_all_machines_of_four_states(
+    programs: Programs, cover: str, plain: pathlib.Path, four_states: List[str]
+) -> None:
+    lines = as_lines(four_states)
+    decided = require_same(programs, lambda bb: ended([bb, "decide", *FOUR], lines))
+    require_same(programs, lambda bb: ended([bb, "check", *FOUR], decided.output))
+    checked = require_same((cover, str(plain / "cover")), lambda one: ended([one, *FOUR], decided.output))
+    assert checked.status == 0
+    print("%d machines decided, checked and covered by both" % len(four_states))
+
+
+@pytest.mark.parametrize("limits", ROWS)
+def test_random_machines(programs: Programs, rng: random.Random, limits: Tuple[int, ...]) -> None:
+    lines = as_lines(random_machines(3_000, rng))
+    decided = require_same(programs, lambda bb: ended([bb, "decide", *options(limits)], lines))
+    forged = re.sub(rb"\d(?=\n)", lambda digit: b"%d" % (rng.randrange(10)), decided.output)
+    require_same(programs, lambda bb: ended([bb, "check", *options(limits)], forged))
+
+
+@pytest.mark.parametrize("example", read_examples(), ids=[one.name for one in read_examples()])
+def test_examples(plain: pathlib.Path, example: Example) -> None:
+    found = ended([str(plain / "bb"), *example.words], example.given, cwd=str(TOP))
+    assert (found.output, found.status) == (example.expected, example.status)
+
+
+def test_random_command_lines(programs: Programs, rng: random.Random, folder: pathlib.Path) -> None:
+    for _ in range(2_000):
+        words = rng.choices(WORDS, k=rng.randint(1, 6))
+        if rng.random() < 0.7:
+            words[0] = rng.choice(COMMANDS)
+        require_same(programs, lambda bb: ended([bb, *words], GIVEN, str(folder)))
+
+
+@pytest.mark.parametrize("command", EDGES, ids=str.strip)
+def test_streams_and_memory(programs: Programs, folder: pathlib.Path, command: str) -> None:
+    run = lambda bb: ended(["sh", "-c", command.replace("PROGRAM", bb)], cwd=str(folder))  # noqa: E731
+    require_same(programs, run)
+
+
+@pytest.mark.parametrize("words", [[b"\xff"], ["decide", b"\xff"], ["decide", "a" * 5000], ["decide", ""]])
+def test_words_that_name_no_file(programs: Programs, words: List[str]) -> None:
+    assert require_same(programs, lambda bb: ended([bb, *words])).status in (2, 3)
+
+
+@pytest.mark.parametrize("words", TERMINAL)
+def test_hints_on_a_terminal(programs: Programs, words: str) -> None:
+    first, second = (on_terminal([bb, *words.split()], b"", subprocess.DEVNULL) for bb in programs)
+    assert first == second and first[1].count("\n") > 1
+
+
+@pytest.mark.needs("cargo")
+def test_tests_of_the_crates(plain: pathlib.Path) -> None:
+    """`cargo test` runs the tests of all crates, with overflow checks."""
+    command = ["cargo", "test", "--quiet"]
+    done = subprocess.run(command, cwd=plain.parents[1], capture_output=True, text=True)
+    assert done.returncode == 0, done.stdout + done.stderr
+    counts = [int(count) for count in re.findall(r"(\d+) passed", done.stdout)]
+    written = [path.read_text().count("#[test]") for path in TOP.glob("crates/*/src/**/*.rt")]
+    assert sum(counts) == sum(written) > 100
+    print("%d tests of the crates passed" % sum(counts))
