@@ -8,23 +8,26 @@ from __future__ import annotations
 import ast
 import re
 import subprocess
-from typing import Dict, Iterator, List, Tuple
+from typing import Dict, List
 
 import pytest
 from support import TOP
+from support.program import ended
 
 MOST_MEAN, MOST_WORDS, MOST_CLAUSES = 16.0, 40, 2.5
 # Shorter pages have too few sentences to measure.
 LEAST_WORDS = 150
 CLAUSES = re.compile(r"\b(?:what|where|which|who|whoever|whose|that)\b", re.IGNORECASE)
-# Examples, tables and headings; then the marks of list items, and code.
-APART = re.compile(r"```.*?```|^(?: {4}|\t|\||>? *\|).*?$|^#.*?$|<[^>\n]*>", re.DOTALL | re.MULTILINE)
+# Blocks of code, examples, tables, headings and links; then the marks of list items.
+APART = re.compile(r"```.*?```|^(?: {4}|\t|>? *\||#).*?$|<[^>\n]*>", re.DOTALL | re.MULTILINE)
+ITEM = re.compile(r"^\s*(?:[-*]|\d+\.) ", re.MULTILINE)
 EXCEPTED: Dict[str, str] = {}
+COMMANDS = ("", "decide", "check", "trace")
 
 
 def sentences(text: str) -> List[str]:
-    text = re.sub(r"^\s*(?:[-*]|\d+\.) ", " . ", APART.sub(" . ", text), flags=re.MULTILINE)
-    text = re.sub(r"`[^`\n]*`", "x", re.sub(r"\n\s*\n", " . ", text))
+    text = ITEM.sub(" . ", re.sub(r"\n\s*\n", " . ", APART.sub(" . ", text)))
+    text = re.sub(r"`[^`\n]*`", "x", text)
     return [one for one in re.split(r"(?<=[.!?:])\s+", text) if len(one.split()) > 2]
 
 
@@ -34,52 +37,55 @@ def tracked(*patterns: str) -> List[str]:
     return [name for name in names if (TOP / name).is_file()]
 
 
-def comments(name: str) -> str:
-    """Return the doc comments of a source, each ended by a full stop."""
+def doc_comments(name: str) -> str:
+    """Return the doc comments of a source, an empty line between them."""
     text = (TOP / name).read_text(encoding="utf-8")
     if name.endswith(".py"):
-        nodes = (node for node in ast.walk(ast.parse(text)) if isinstance(node, _DOCUMENTED))
-        return " .\n\n".join(filter(None, map(ast.get_docstring, nodes)))
-    if name.endswith(".mjs"):
-        found = re.findall(r"/\*\*(.*?)\*/", text, re.DOTALL)
-        lines = (re.sub(r"^\s*\*? ?|@\w+ (?:\{[^}]*\}+ ?)?\S*", "", line) for one in found for line in one.split("\n"))
-        return " .\n\n".join(lines) if not found else " .\n".join(
-            re.sub(r"(?m)^\s*\* ?|@\w+ *(?:\{.*?\})? *[\w.]*", "", one) for one in found
-        )
-    lines = [line.strip() for line in text.split("\n")]
-    return "\n".join(line[3:] if line[:3] in ("///", "//!") else ".\n" for line in lines)
+        kinds = (ast.Module, ast.ClassDef, ast.FunctionDef)
+        nodes = (node for node in ast.walk(ast.parse(text)) if isinstance(node, kinds))
+        found = [ast.get_docstring(node) or "" for node in nodes]
+    elif name.endswith(".mjs"):
+        blocks = re.findall(r"/\*\*(.*?)\*/", text, re.DOTALL)
+        texts = (re.sub(r"^\s*\* ?", "", block, flags=re.M) for block in blocks)
+        found = [re.sub(r"@\w+ *(?:\{.*?\}+)? *[\w.]*", "\n\n", text) for text in texts]
+    else:
+        found = [line[3:] if re.match(r"//[/!]", line) else "\n" for line in map(str.strip, text.split("\n"))]
+        return "\n".join(found)
+    return "\n\n".join(found)
 
 
-_DOCUMENTED = (ast.Module, ast.ClassDef, ast.FunctionDef, ast.AsyncFunctionDef)
-
-
-def pages() -> Iterator[Tuple[str, str]]:
-    """Yield each document, and the doc comments of each crate and folder, by name."""
-    for name in tracked("*.md"):
-        yield name, (TOP / name).read_text(encoding="utf-8")
-    folders: Dict[str, List[str]] = {}
+def read_pages() -> Dict[str, str]:
+    """Return each document, and the doc comments of each crate and folder, by name."""
+    found = {name: (TOP / name).read_text(encoding="utf-8") for name in tracked("*.md")}
     for name in tracked("crates/*/src/*.rt", "python/src/*.py", "web/*.mjs"):
-        depth = 2 if name.startswith("crates/") else -1
-        folders.setdefault("/".join(name.split("/")[:depth]), []).append(comments(name))
-    for folder, texts in folders.items():
-        yield folder, " .\n\n".join(texts)
+        folder = "/".join(name.split("/")[: 2 if name.startswith("crates/") else -1])
+        found[folder] = found.get(folder, "") + "\n\n" + doc_comments(name)
+    return found
 
 
-PAGES = dict(pages())
+PAGES = read_pages()
 
 
-@pytest.mark.parametrize("name", PAGES)
-def test_a_page_reads_easily(name: str) -> None:
-    found = sentences(PAGES[name])
+def require_easy(text: str) -> None:
+    found = sentences(text)
     lengths = [len(one.split()) for one in found]
     words = len(re.findall(r"[A-Za-z][\w'-]*", " ".join(found)))
-    if words < LEAST_WORDS or name in EXCEPTED:
+    if words < LEAST_WORDS:
         return
-    share = 100 * sum(len(CLAUSES.findall(one)) for one in found) / words
     assert sum(lengths) / len(lengths) <= MOST_MEAN
-    assert share <= MOST_CLAUSES
     assert max(lengths) <= MOST_WORDS, found[lengths.index(max(lengths))]
+    assert 100 * sum(len(CLAUSES.findall(one)) for one in found) / words <= MOST_CLAUSES
+
+
+@pytest.mark.parametrize("name", [name for name in PAGES if name not in EXCEPTED])
+def test_page_reads_easily(name: str) -> None:
+    require_easy(PAGES[name])
 
 
 def test_exceptions_are_pages() -> None:
     assert set(EXCEPTED) <= set(PAGES)
+
+
+def test_help_reads_easily(bb: str, cover: str) -> None:
+    commands = [[bb, *command.split(), "--help"] for command in COMMANDS] + [[cover, "--help"]]
+    require_easy("\n\n".join(re.sub(r"(?m)^ +", "", ended(command).output.decode()) for command in commands))
