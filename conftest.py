@@ -53,8 +53,10 @@ def cover() -> str:
 
 @pytest.fixture(scope="session")
 def plain() -> pathlib.Path:
-    """The folder of the programs without contracts, built by cargo."""
+    """The folder of the programs without contracts, built by cargo over Debian's registry."""
     require("cargo")
+    if not list(pathlib.Path("/usr/share/cargo/registry").glob("clap-4*")):
+        pytest.skip("Debian's librust-clap-dev isn't installed")
     return build("plain", "out/plain/target/release/bb").parent
 
 

@@ -11,6 +11,7 @@ from __future__ import annotations
 
 import argparse
 import gzip
+import io
 import pathlib
 import re
 import shutil
@@ -66,9 +67,10 @@ def pack(folder: pathlib.Path, path: pathlib.Path) -> None:
         member.mode = 0o755 if member.isdir() or member.mode & 0o100 else 0o644
         return member
 
-    with open(path, "wb") as raw, gzip.GzipFile("", "wb", 9, raw, seconds) as packed:
-        with tarfile.open(fileobj=packed, mode="w", format=tarfile.PAX_FORMAT) as archive:
-            archive.add(folder, folder.name, filter=neutral)
+    packed = io.BytesIO()
+    with tarfile.open(fileobj=packed, mode="w", format=tarfile.PAX_FORMAT) as archive:
+        archive.add(folder, folder.name, filter=neutral)
+    path.write_bytes(gzip.compress(packed.getvalue(), mtime=seconds))
 
 
 def main() -> int:

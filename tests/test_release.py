@@ -52,6 +52,7 @@ def test_contents_has_each_file_with_its_sha256(release: pathlib.Path) -> None:
     assert "\nkit " in text and text.startswith("commit ")
     assert ALWAYS <= {*files, "CONTENTS"}
     assert len(list(release.glob("budlarem-*.whl"))) == len(list(release.glob("budlarem-*.tgz"))) == 1
+    assert len(list(release.glob("budlarem-*-src.tar.gz"))) == 1
 
 
 def test_readme_has_each_file_and_the_command_that_checks_them(release: pathlib.Path) -> None:
