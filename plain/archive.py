@@ -23,7 +23,7 @@ import tempfile
 TOP = pathlib.Path(__file__).resolve().parents[1]
 sys.path.insert(0, str(TOP))
 
-from plain.erase import version, write_workspace  # noqa: E402
+from plain.erase import FLAGS, version, write_workspace  # noqa: E402
 
 README = """# Budlarem without its proofs
 
@@ -34,7 +34,7 @@ This build isn't proved. Each contract stands as a comment above its function. `
 the proved programs, and how a list decided here is confirmed.
 """
 FILES = ("include/bb.h", "docs/bb.1", "docs/plain.md")
-CONFIG = '[source.crates-io]\nreplace-with = "vendored"\n\n[source.vendored]\ndirectory = "vendor"\n'
+VENDORED = '\n[source.crates-io]\nreplace-with = "vendored"\n\n[source.vendored]\ndirectory = "vendor"\n'
 
 
 def run(*command: object, cwd: pathlib.Path = TOP) -> str:
@@ -52,7 +52,7 @@ def fill(folder: pathlib.Path) -> None:
     run("cargo", "vendor", "--quiet", "--respect-source-config", "--versioned-dirs", "vendor", cwd=folder)
     shutil.rmtree(folder / ".cargo", ignore_errors=True)
     (folder / ".cargo").mkdir()
-    (folder / ".cargo" / "config.toml").write_text(CONFIG)
+    (folder / ".cargo" / "config.toml").write_text(FLAGS + VENDORED)
     (folder / "README.md").write_text(README)
     for name in FILES:
         shutil.copyfile(TOP / name, folder / pathlib.Path(name).name)

@@ -1,7 +1,7 @@
 #!/usr/bin/python3
 """Erase the contracts: write the crates as an ordinary Cargo workspace in plain Rust.
 
-    plain/erase.py [--vendor] OUT
+    plain/erase.py OUT
 
 Rattle is Rust with contracts. Each source is split into tokens, its clauses become comments, and a short list
 of rules rewrites the calls that differ in Rattle's standard library. Anything else that is not plain Rust
@@ -88,6 +88,17 @@ opt-level = 2
 overflow-checks = true
 debug-assertions = true
 """
+
+
+# A step is made by calls that belong into their loop. rustc leaves them out of it by its own measure, and
+# then a simulation takes twice as long. The processor is the one of the proved build.
+FLAGS = """[target.'cfg(target_arch = "x86_64")']
+rustflags = ["-C", "llvm-args=-inline-threshold=2000", "-C", "target-cpu=x86-64-v2"]
+
+[target.'cfg(not(target_arch = "x86_64"))']
+rustflags = ["-C", "llvm-args=-inline-threshold=2000"]
+"""
+FROM_DEBIAN = '\n[source.crates-io]\nreplace-with = "debian"\n\n[source.debian]\ndirectory = "%s"\n' % DEBIAN
 
 
 class Token(NamedTuple):
@@ -365,11 +376,9 @@ def write_workspace(out: pathlib.Path) -> None:
         '[workspace]\nresolver = "2"\nmembers = %s\n\n[workspace.lints.clippy]\n%s%s'
         % (members, lints, PROFILES)
     )
-    if (DEBIAN / "clap-4.0.32").exists() or list(DEBIAN.glob("clap-4*")):
-        (out / ".cargo").mkdir(exist_ok=True)
-        (out / ".cargo" / "config.toml").write_text(
-            '[source.crates-io]\nreplace-with = "debian"\n\n[source.debian]\ndirectory = "%s"\n' % DEBIAN
-        )
+    config = out / ".cargo" / "config.toml"
+    config.parent.mkdir(exist_ok=True)
+    config.write_text(FLAGS + (FROM_DEBIAN if list(DEBIAN.glob("clap-4*")) else ""))
 
 
 def main() -> int:
