@@ -115,8 +115,8 @@ class Row(NamedTuple):
         """What the page tells of a position at this step."""
         symbol = self.symbol(position)
         cell = "not visited yet" if symbol == UNVISITED else "symbol %d" % symbol
-        head = "here" if position == self.head else "at " + signed(self.head)
-        words = (signed(self.step), self.state_words, signed(position), cell, head)
+        head = "here" if position == self.head else "at " + format_number(self.head)
+        words = (format_number(self.step), self.state_words, format_number(position), cell, head)
         return "Step %s, %s; position %s: %s; the head is %s." % words
 
     def symbol(self, position: int) -> int:
@@ -125,7 +125,7 @@ class Row(NamedTuple):
         return int(self.cells[at]) if 0 <= at < len(self.cells) else UNVISITED
 
 
-def signed(number: int) -> str:
+def format_number(number: int) -> str:
     """A number as the page writes it."""
     return "{:,}".format(number).replace("-", "\u2212")
 
@@ -211,12 +211,12 @@ class Page:
             self.js("addEventListener('pagehide', () => sessionStorage.clear())")
         self.driver.get("about:blank")
         self.driver.get("file://" + self.path + link)
-        self.ended()
+        self.wait_until_done()
 
     def reload(self) -> None:
         """Loads the page again, and waits for what it decides then."""
         self.driver.refresh()
-        self.ended()
+        self.wait_until_done()
 
     def js(self, script: str, *words: Any) -> Any:
         """What a script in the page gives."""
@@ -256,12 +256,12 @@ class Page:
     def type(self, name: str, text: str) -> None:
         """Puts a text into a field, as if it was typed."""
         self.put(name, "value", text)
-        self.tell(name, "input")
+        self.dispatch(name, "input")
 
     def choose_option(self, name: str, value: str) -> None:
         """Chooses an option of a menu by its value."""
         self.put(name, "value", value)
-        self.tell(name, "change")
+        self.dispatch(name, "change")
 
     def choose_example(self, name: str) -> None:
         """Chooses an example by its name, and waits until it is answered."""
@@ -270,7 +270,7 @@ class Page:
         )
         self.await_answer(lambda: self.choose_option("examples", self.js(script + ".value", name)))
 
-    def tell(self, name: str, event: str) -> None:
+    def dispatch(self, name: str, event: str) -> None:
         """Has an element hear of an event."""
         script = (
             "document.getElementById(arguments[0]).dispatchEvent(new Event(arguments[1], { bubbles: true }))"
@@ -279,9 +279,9 @@ class Page:
 
     def await_answer(self, act: Callable[[], object]) -> None:
         """Does something that has a list answered, and waits until it is."""
-        self.js("document.getElementById('results').dataset.state = 'asked'")
+        self.js("document.getElementById('results').dataset.state = 'requested'")
         act()
-        self.ended()
+        self.wait_until_done()
 
     def open_list(self, text: str) -> None:
         """Types a list, in place of a file where one is chosen, and waits until it is answered."""
@@ -322,11 +322,11 @@ class Page:
         state: Optional[str] = self.js("return document.getElementById('results').dataset.state")
         return state
 
-    def ended(self) -> None:
+    def wait_until_done(self) -> None:
         """Waits until the work is over."""
         self.until(lambda: self.state() in ("done", "stopped", "ended"))
 
-    def drawn(self) -> Dict[str, float]:
+    def wait_until_drawn(self) -> Dict[str, float]:
         """Waits until the diagram is drawn, and gives where it stands: the numbers of its view."""
         script = "return {...document.getElementById('diagram').dataset}"
         drawn: Dict[str, str] = self.until(
@@ -334,13 +334,13 @@ class Page:
         )
         return {name: float(value) for name, value in drawn.items() if name != "state"}
 
-    def drawing(self, script: str, *words: Any) -> float:
+    def time_drawing(self, script: str, *words: Any) -> float:
         """The seconds from what a script does until the diagram is drawn anew, by the page's clock."""
         return float(self.wait_for_js(DRAWING % script, *words)) / 1_000
 
-    def zooming(self, notches: float, right: float, down: float) -> float:
+    def time_zoom(self, notches: float, right: float, down: float) -> float:
         """The same of the wheel, turned at a place in the picture."""
-        return self.drawing(WHEEL, notches, right, down)
+        return self.time_drawing(WHEEL, notches, right, down)
 
     def size(self) -> Tuple[int, int]:
         """The width and height of the diagram's canvas."""
@@ -385,7 +385,7 @@ class Page:
         """Asks for the list, without waiting for it."""
         self.click("run")
 
-    def file(self, given: bytes, drop: bool = False) -> None:
+    def submit_file(self, given: bytes, drop: bool = False) -> None:
         """Chooses a file with these bytes, or drops it; the page begins at once."""
         path = pathlib.Path(self.folder) / "list"
         path.write_bytes(given)
@@ -393,7 +393,7 @@ class Page:
 
     def choose(self, path: str, drop: bool = False) -> None:
         """Chooses a file, or drops it; the page begins at once."""
-        self.js("document.getElementById('results').dataset.state = 'asked'")
+        self.js("document.getElementById('results').dataset.state = 'requested'")
         self.put("file", "value", "")
         if drop:
             self.js(HIDE_FILE)
@@ -403,15 +403,15 @@ class Page:
 
     def answer_file(self, given: bytes, drop: bool = False) -> None:
         """Chooses a file with these bytes, or drops it, and waits until it is answered."""
-        self.file(given, drop)
-        self.ended()
+        self.submit_file(given, drop)
+        self.wait_until_done()
 
-    def saved(self) -> bytes:
+    def save(self) -> bytes:
         """The bytes that the page saves."""
         self.click("save")
-        return self.taken()
+        return self.read_download()
 
-    def taken(self) -> bytes:
+    def read_download(self) -> bytes:
         """The bytes of a list that the page is about to save."""
         names = [os.path.join(self.folder, name) for name in ("verdicts.txt", "answers.txt")]
         path = pathlib.Path(self.until(lambda: next(filter(is_whole, names), None)))
@@ -419,15 +419,15 @@ class Page:
         path.unlink()
         return given
 
-    def written(self, name: str, plan: Dict[str, Any], given: bytes) -> bytes:
+    def program_output(self, name: str, plan: Dict[str, Any], given: bytes) -> bytes:
         """What the program writes of a list."""
         return ended([self.program, name, *words_of_plan(plan)], given).output
 
-    def same(self, name: str, plan: Dict[str, Any], given: bytes, drop: bool = False) -> bytes:
+    def require_same(self, name: str, plan: Dict[str, Any], given: bytes, drop: bool = False) -> bytes:
         """Answers a file, and requires that the page saves what the program writes."""
         self.plan(plan, name)
         self.answer_file(given, drop)
-        found, wanted = self.saved(), self.written(name, plan, given)
+        found, wanted = self.save(), self.program_output(name, plan, given)
         first = next((k for k, pair in enumerate(zip(found, wanted)) if pair[0] != pair[1]), "at its end")
         assert found == wanted, "%s %s differs at byte %s" % (name, plan, first)
         return found

@@ -25,19 +25,19 @@ class Keys:
     ARROW_LEFT, ARROW_UP, ARROW_RIGHT, ARROW_DOWN = "\ue012", "\ue013", "\ue014", "\ue015"
 
 
-def mouse(page: Page, kind: str, place: Point, **words: Any) -> None:
+def send_mouse(page: Page, kind: str, place: Point, **words: Any) -> None:
     """Something that the mouse does at a place of the window."""
     x, y = place
     page.command("Input.dispatchMouseEvent", type=kind, x=x, y=y, **words)
 
 
-def touch(page: Page, kind: str, places: Sequence[Point]) -> None:
+def send_touch(page: Page, kind: str, places: Sequence[Point]) -> None:
     """Something that fingers do which are at these places of the window."""
     points = [{"x": x, "y": y, "id": number} for number, (x, y) in enumerate(places)]
     page.command("Input.dispatchTouchEvent", type=kind, touchPoints=points)
 
 
-def key(page: Page, name: str, shift: bool = False) -> None:
+def press_key(page: Page, name: str, shift: bool = False) -> None:
     """Presses a key, wherever the focus is."""
     words: Dict[str, Any] = {"key": name, "code": name, "windowsVirtualKeyCode": KEY_NUMBERS[name]}
     words["modifiers"] = SHIFT if shift else 0
@@ -48,19 +48,19 @@ def key(page: Page, name: str, shift: bool = False) -> None:
     page.command("Input.dispatchKeyEvent", type="keyUp", **words)
 
 
-def write(page: Page, text: str) -> None:
+def type_text(page: Page, text: str) -> None:
     """Types a text, wherever the focus is."""
     page.command("Input.insertText", text=text)
 
 
-def way(begin: Point, end: Point) -> List[Point]:
+def points_between(begin: Point, end: Point) -> List[Point]:
     """The places between two, the last one with them."""
     (x, y), (to_x, to_y) = begin, end
     shares = [k / MOVES for k in range(1, MOVES + 1)]
     return [(x + share * (to_x - x), y + share * (to_y - y)) for share in shares]
 
 
-def in_window(page: Page, right: float, down: float) -> Point:
+def window_point(page: Page, right: float, down: float) -> Point:
     """Where a place of the canvas is in the window."""
     x, y = page.js(BOX)
     return (x + right, y + down)
@@ -69,24 +69,24 @@ def in_window(page: Page, right: float, down: float) -> Point:
 def drag(page: Page, begin: Point, end: Point) -> None:
     """Drags by the mouse from one place of the window to another."""
     button: Dict[str, Any] = {"button": "left", "buttons": 1, "clickCount": 1}
-    mouse(page, "mouseMoved", begin)
-    mouse(page, "mousePressed", begin, **button)
-    for place in way(begin, end):
-        mouse(page, "mouseMoved", place, **button)
-    mouse(page, "mouseReleased", end, **{**button, "buttons": 0})
+    send_mouse(page, "mouseMoved", begin)
+    send_mouse(page, "mousePressed", begin, **button)
+    for place in points_between(begin, end):
+        send_mouse(page, "mouseMoved", place, **button)
+    send_mouse(page, "mouseReleased", end, **{**button, "buttons": 0})
 
 
 def swipe(page: Page, begin: Point, end: Point) -> None:
     """Moves one finger."""
-    touch(page, "touchStart", [begin])
-    for place in way(begin, end):
-        touch(page, "touchMove", [place])
-    touch(page, "touchEnd", [])
+    send_touch(page, "touchStart", [begin])
+    for place in points_between(begin, end):
+        send_touch(page, "touchMove", [place])
+    send_touch(page, "touchEnd", [])
 
 
 def tap(page: Page, place: Point) -> None:
-    touch(page, "touchStart", [place])
-    touch(page, "touchEnd", [])
+    send_touch(page, "touchStart", [place])
+    send_touch(page, "touchEnd", [])
 
 
 def pinch(page: Page, middle: Point, apart: float, then: float) -> None:
@@ -96,7 +96,7 @@ def pinch(page: Page, middle: Point, apart: float, then: float) -> None:
     def places(far: float) -> List[Point]:
         return [(x, y - far / 2), (x, y + far / 2)]
 
-    touch(page, "touchStart", places(apart))
-    for far, _ in way((apart, 0), (then, 0)):
-        touch(page, "touchMove", places(far))
-    touch(page, "touchEnd", [])
+    send_touch(page, "touchStart", places(apart))
+    for far, _ in points_between((apart, 0), (then, 0)):
+        send_touch(page, "touchMove", places(far))
+    send_touch(page, "touchEnd", [])

@@ -11,7 +11,7 @@ from . import TOP
 MODULE = TOP / "web" / "out" / "bb.wasm"
 
 
-def documented(heading: str) -> str:
+def documented_script(heading: str) -> str:
     """The script below a heading of docs/web.md, or the only block of code there."""
     text = (TOP / "docs" / "web.md").read_text(encoding="utf-8")
     part = text.split("\n## %s\n" % heading)[1].split("\n## ")[0]
@@ -21,7 +21,7 @@ def documented(heading: str) -> str:
     return "".join(line[4:] + "\n" for line in block).strip("\n") + "\n"
 
 
-class CallEnd(NamedTuple):
+class CallResult(NamedTuple):
     """What a call gives: the status of the program and the bytes, or the error that it threw."""
 
     status: int
@@ -45,7 +45,7 @@ class Engine:
         answer: Dict[str, Any] = json.loads(self.process.stdout.readline() or "{}")
         return answer
 
-    def call(self, name: str, plan: Dict[str, Any], given: bytes, **more: int) -> CallEnd:
+    def call(self, name: str, plan: Dict[str, Any], given: bytes, **more: int) -> CallResult:
         """One call, with limits and switches by name."""
         self.given.write_bytes(given)
         job: Dict[str, Any] = {
@@ -60,8 +60,8 @@ class Engine:
         self.process.stdin.flush()
         answer = self.line()
         if "clean" not in answer:
-            return CallEnd(2, b"", answer)
-        return CallEnd(0 if answer["clean"] else 1, self.out.read_bytes(), answer)
+            return CallResult(2, b"", answer)
+        return CallResult(0 if answer["clean"] else 1, self.out.read_bytes(), answer)
 
     def end(self) -> None:
         """Ends the process."""

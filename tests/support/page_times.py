@@ -21,59 +21,59 @@ PAUSE = 0.3
 RIGHT, LOWEST = 220, 10
 GO = """
 document.getElementById("tape-step").value = arguments[0];
-canvas.dataset.state = "asked";
+canvas.dataset.state = "requested";
 document.getElementById("tape-form").requestSubmit();
 """
 
 
 def height(page: Page) -> float:
     """The height of the picture in pixels."""
-    return float(page.get("diagram", "clientHeight") - page.drawn()["y"])
+    return float(page.get("diagram", "clientHeight") - page.wait_until_drawn()["y"])
 
 
 def steps_seen(page: Page) -> float:
     """How many steps the view has."""
-    view = page.drawn()
+    view = page.wait_until_drawn()
     return height(page) / float(view["high"]) * float(view["every"])
 
 
-def zoomed_late(page: Page, notches: float) -> float:
+def zoom_late(page: Page, notches: float) -> float:
     """Turns the wheel at the late step; the seconds until the view is drawn."""
-    view = page.drawn()
+    view = page.wait_until_drawn()
     down = (LATE - view["top"]) / view["every"] * view["high"]
-    return float(page.zooming(notches, RIGHT, min(max(down, 0), height(page) - LOWEST)))
+    return float(page.time_zoom(notches, RIGHT, min(max(down, 0), height(page) - LOWEST)))
 
 
 def views(page: Page, pause: float) -> List[float]:
     """Zooms from a glance at all steps to a hundred late ones, and back; the seconds of each view."""
     page.open("#machine=%s&steps=%d" % (CHAMPION, STEPS))
-    page.drawn()
+    page.wait_until_drawn()
     time.sleep(1)
     taken: List[float] = []
     while steps_seen(page) > SEEN and len(taken) < MOST_GESTURES:
         time.sleep(pause)
-        taken.append(zoomed_late(page, NOTCHES))
+        taken.append(zoom_late(page, NOTCHES))
     for _ in range(len(taken)):
         time.sleep(pause)
-        taken.append(zoomed_late(page, -NOTCHES))
+        taken.append(zoom_late(page, -NOTCHES))
     return taken
 
 
 def traced_views(page: Page, pause: float) -> List[float]:
     """Zooms at a late step by so little that no rows are known before; the seconds of each view."""
     page.open("#machine=%s&steps=%d" % (CHAMPION, STEPS))
-    page.drawn()
+    page.wait_until_drawn()
     time.sleep(1)
     taken: List[float] = []
     for _ in range(SMALL_TURNS):
         time.sleep(pause)
-        taken.append(zoomed_late(page, SMALL_TURN))
+        taken.append(zoom_late(page, SMALL_TURN))
     return taken
 
 
 def end(page: Page) -> float:
     """Goes to a step near the halt of 50,000,000 steps; the seconds until tape and diagram show it."""
     page.open("#machine=%s&steps=50000000" % CHAMPION)
-    page.drawn()
+    page.wait_until_drawn()
     time.sleep(1)
-    return float(page.drawing(GO, "{:,}".format(NEAR_END)))
+    return float(page.time_drawing(GO, "{:,}".format(NEAR_END)))

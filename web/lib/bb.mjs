@@ -12,18 +12,18 @@
  */
 
 /**
- * @typedef {import("./limits.mjs").Whole} Whole
+ * @typedef {import("./limits.mjs").Integer} Integer
  * @typedef {import("./limits.mjs").Limit} Limit
- * @typedef {{steps?: Whole, cells?: Whole, depth?: Whole, nodes?: Whole}} Limits
+ * @typedef {{steps?: Integer, cells?: Integer, depth?: Integer, nodes?: Integer}} Limits
  * @typedef {Limits & {cyclers?: boolean, translated?: boolean, backward?: boolean}} Plan
- * @typedef {{steps: Whole, cells?: Whole, from?: Whole, every?: Whole}} Sample
+ * @typedef {{steps: Integer, cells?: Integer, from?: Integer, every?: Integer}} TraceOptions
  * @typedef {{bytes: Uint8Array, clean: boolean}} Reply What is written; whether the program's status is 0.
  * @typedef {(...words: (bigint | boolean | number)[]) => number} Call its addresses are numbers, all else
  *   that counts has 64 bits
  */
 
-import { LimitsError, RANGES, limitsOf, raiseLimits, switchesOf } from "./limits.mjs";
-import { MemoryError, Room, UnsupportedError, countLines, isSupported } from "./memory.mjs";
+import { LimitsError, RANGES, parseLimits, throwLimitsError, parseSwitches } from "./limits.mjs";
+import { MemoryError, Allocator, UnsupportedError, countLines, isSupported } from "./memory.mjs";
 
 export { LimitsError, MemoryError, RANGES, UnsupportedError, isSupported };
 
@@ -44,7 +44,7 @@ const SAMPLE = ["steps", "cells", "from", "every"];
 /** The engine: each of its calls is one of `include/bb.h`. */
 export class Engine {
   /**
-   * @param {Room} room
+   * @param {Allocator} room
    * @param {Record<string, Call | undefined>} calls
    */
   constructor(room, calls) {
@@ -53,12 +53,12 @@ export class Engine {
   }
 
   /** Bytes of memory that the engine holds; it keeps the most that a call needed. */
-  get held() {
+  get memoryBytes() {
     return /** @type {WebAssembly.Memory} */ (this.room.memory).buffer.byteLength;
   }
 
   /** Whether this module has the call `trace`. */
-  get traces() {
+  get hasTrace() {
     return this.calls.bb_trace !== undefined;
   }
 
@@ -68,7 +68,7 @@ export class Engine {
    * @param {readonly string[]} machines @param {Plan} [plan]
    */
   decide(machines, plan = {}) {
-    return linesOf(this.decideBytes(bytesOf(machines), plan).bytes);
+    return decodeLines(this.decideBytes(encodeLines(machines), plan).bytes);
   }
 
   /**
@@ -76,7 +76,7 @@ export class Engine {
    * @param {readonly string[]} lines @param {Limits} [limits]
    */
   check(lines, limits = {}) {
-    return linesOf(this.checkBytes(bytesOf(lines), limits).bytes);
+    return decodeLines(this.checkBytes(encodeLines(lines), limits).bytes);
   }
 
   /**
@@ -84,9 +84,9 @@ export class Engine {
    * lowest position visited, and the cells from there on; and whether the trace is clean: not where the cells
    * cut it, or where the text is no machine. Throws as `decide` does.
    */
-  trace(/** @type {string} */ machine, /** @type {Sample} */ sample) {
-    const { bytes, clean } = this.traceBytes(bytesOf([machine]).slice(0, -1), sample);
-    return { lines: linesOf(bytes), clean };
+  trace(/** @type {string} */ machine, /** @type {TraceOptions} */ sample) {
+    const { bytes, clean } = this.traceBytes(encodeLines([machine]).slice(0, -1), sample);
+    return { lines: decodeLines(bytes), clean };
   }
 
   /**
@@ -96,9 +96,9 @@ export class Engine {
    */
   decideBytes(list, plan = {}, lines = countLines(list)) {
     const { cyclers = true, translated = true, backward = true, ...limits } = plan;
-    const words = [...limitsOf(limits, LIMITS), ...switchesOf({ cyclers, translated, backward })];
+    const words = [...parseLimits(limits, LIMITS), ...parseSwitches({ cyclers, translated, backward })];
     const space = list.length + VERDICT_ROOM * lines;
-    return copied(this.called("bb_decide", LIMITS, words, list, space));
+    return copyReply(this.invoke("bb_decide", LIMITS, words, list, space));
   }
 
   /**
@@ -106,29 +106,29 @@ export class Engine {
    * @param {Uint8Array} list @param {Limits} [limits] @param {number} [lines] as of `decideBytes`
    */
   checkBytes(list, limits = {}, lines = countLines(list)) {
-    const words = limitsOf(limits, LIMITS);
-    return copied(this.called("bb_check", LIMITS, words, list, ANSWER_ROOM * lines));
+    const words = parseLimits(limits, LIMITS);
+    return copyReply(this.invoke("bb_check", LIMITS, words, list, ANSWER_ROOM * lines));
   }
 
   /**
    * As `trace`, from bytes to bytes. Whoever knows how many bytes the trace has may say so, or more: else it
    * is made twice where it is long.
-   * @param {Uint8Array} line @param {Sample} sample @param {number} [space]
+   * @param {Uint8Array} line @param {TraceOptions} sample @param {number} [space]
    */
   traceBytes(line, sample, space = 0) {
-    return copied(this.traceInPlace(line, sample, space));
+    return copyReply(this.traceInPlace(line, sample, space));
   }
 
   /**
    * As `traceBytes`, without a copy: the bytes are the engine's own, which its next call overwrites.
-   * @param {Uint8Array} line @param {Sample} sample @param {number} [space]
+   * @param {Uint8Array} line @param {TraceOptions} sample @param {number} [space]
    */
   traceInPlace(line, sample, space = 0) {
     if (sample.steps === undefined) {
       throw new TypeError("a trace needs a limit of steps");
     }
-    const words = limitsOf(sample, SAMPLE);
-    return this.called("bb_trace", SAMPLE, words, line, space || traceRoom(words));
+    const words = parseLimits(sample, SAMPLE);
+    return this.invoke("bb_trace", SAMPLE, words, line, space || traceSpace(words));
   }
 
   /**
@@ -138,16 +138,16 @@ export class Engine {
    * @param {(bigint | boolean)[]} words @param {Uint8Array} given @param {number} space
    * @returns {Reply}
    */
-  called(name, names, words, given, space) {
+  invoke(name, names, words, given, space) {
     const call = this.calls[name];
     if (call === undefined) {
       throw new TypeError(`this module has no ${name}`);
     }
     const room = this.room;
-    room.clear();
-    const list = room.take(given.length + 1, 1);
-    const out = list && room.take(space + 1, 1);
-    const count = out && room.take(COUNT_BYTES, COUNT_BYTES);
+    room.reset();
+    const list = room.allocate(given.length + 1, 1);
+    const out = list && room.allocate(space + 1, 1);
+    const count = out && room.allocate(COUNT_BYTES, COUNT_BYTES);
     if (count === 0) {
       throw new MemoryError();
     }
@@ -155,15 +155,15 @@ export class Engine {
     const status = call(...words, list, BigInt(given.length), out, BigInt(space), count);
     const length = Number(new DataView(room.bytes(count, COUNT_BYTES).slice().buffer).getBigUint64(0, true));
     if (status === SHORT) {
-      return this.called(name, names, words, given, length);
+      return this.invoke(name, names, words, given, length);
     }
-    raise(status, names, words);
+    throwForStatus(status, names, words);
     return { bytes: room.bytes(out, length), clean: status === 0 };
   }
 }
 
 /** @returns {Reply} a reply with bytes of its own */
-const copied = (/** @type {Reply} */ { bytes, clean }) => ({ bytes: bytes.slice(), clean });
+const copyReply = (/** @type {Reply} */ { bytes, clean }) => ({ bytes: bytes.slice(), clean });
 
 /**
  * An engine from the bytes of `bb.wasm`, or from the module that WebAssembly compiled of them, which several
@@ -175,7 +175,7 @@ export async function load(bytes, most = {}) {
   if (!isSupported()) {
     throw new UnsupportedError();
   }
-  const room = new Room(most.memory ?? Infinity);
+  const room = new Allocator(most.memory ?? Infinity);
   const module = bytes instanceof WebAssembly.Module ? bytes : await WebAssembly.compile(bytes);
   const instance = await WebAssembly.instantiate(module, { env: room.imports() });
   const { memory: held, __heap_base: base, ...calls } = instance.exports;
@@ -189,9 +189,9 @@ export async function load(bytes, most = {}) {
  * @param {number} status @param {Limit[]} names of the limits among the words
  * @param {(bigint | boolean)[]} words
  */
-function raise(status, names, words) {
+function throwForStatus(status, names, words) {
   if (status === LIMITS_REFUSED) {
-    raiseLimits(names, /** @type {bigint[]} */ (words.slice(0, names.length)));
+    throwLimitsError(names, /** @type {bigint[]} */ (words.slice(0, names.length)));
   }
   if (status === NO_MEMORY) {
     throw new MemoryError();
@@ -199,14 +199,14 @@ function raise(status, names, words) {
 }
 
 /** Room for a trace; where it has more, the call says how much. */
-function traceRoom(/** @type {bigint[]} */ words) {
+function traceSpace(/** @type {bigint[]} */ words) {
   const [steps, cells, from, every] = words;
   const lines = steps < from || every === 0n ? 1n : (steps - from) / every + 1n;
   const bytes = lines * (BigInt(STEP_ROOM) + (cells < steps ? cells : steps));
   return bytes < FIRST_TRACE_ROOM ? Number(bytes) : FIRST_TRACE_ROOM;
 }
 
-function bytesOf(/** @type {readonly string[]} */ lines) {
+function encodeLines(/** @type {readonly string[]} */ lines) {
   if (!Array.isArray(lines) || lines.some((line) => typeof line !== "string")) {
     throw new TypeError("a list of texts is wanted");
   }
@@ -217,4 +217,4 @@ function bytesOf(/** @type {readonly string[]} */ lines) {
 }
 
 /** The lines of a reply, without their newlines. */
-const linesOf = (/** @type {Uint8Array} */ bytes) => new TextDecoder().decode(bytes).split("\n").slice(0, -1);
+const decodeLines = (/** @type {Uint8Array} */ bytes) => new TextDecoder().decode(bytes).split("\n").slice(0, -1);

@@ -1,18 +1,18 @@
 /**
  * The limits and switches of the engine: their ranges, and what is said of one that is refused.
  *
- * @typedef {number | bigint} Whole A whole number.
+ * @typedef {number | bigint} Integer A whole number.
  * @typedef {keyof typeof RANGES} Limit
  */
 
 /** The limits: the least, the greatest, and the one where none is said. `from` and `every` are of a trace. */
 export const RANGES = Object.freeze({
-  steps: { least: 0n, most: 1_000_000_000_000n, usual: 1_000_000n },
-  cells: { least: 1n, most: 67_108_864n, usual: 65_536n },
-  depth: { least: 0n, most: 10_000n, usual: 300n },
-  nodes: { least: 0n, most: 1_000_000_000_000n, usual: 1_000_000n },
-  from: { least: 0n, most: 2n ** 64n - 1n, usual: 0n },
-  every: { least: 1n, most: 2n ** 64n - 1n, usual: 1n },
+  steps: { min: 0n, max: 1_000_000_000_000n, default: 1_000_000n },
+  cells: { min: 1n, max: 67_108_864n, default: 65_536n },
+  depth: { min: 0n, max: 10_000n, default: 300n },
+  nodes: { min: 0n, max: 1_000_000_000_000n, default: 1_000_000n },
+  from: { min: 0n, max: 2n ** 64n - 1n, default: 0n },
+  every: { min: 1n, max: 2n ** 64n - 1n, default: 1n },
 });
 
 /** The limits are out of their ranges, or the depth doesn't fit in the cells. */
@@ -30,16 +30,16 @@ export class LimitsError extends RangeError {
 
 const END_OF_WORDS = 2n ** 64n;
 
-export function limitsOf(/** @type {Partial<Record<Limit, Whole>>} */ given, /** @type {Limit[]} */ names) {
+export function parseLimits(/** @type {Partial<Record<Limit, Integer>>} */ given, /** @type {Limit[]} */ names) {
   for (const name of Object.keys(given)) {
     if (!names.includes(/** @type {Limit} */ (name))) {
       throw new TypeError(`no limit or switch has the name ${name}`);
     }
   }
-  return names.map((name) => wholeOf(name, given[name] ?? RANGES[name].usual));
+  return names.map((name) => parseInteger(name, given[name] ?? RANGES[name].default));
 }
 
-function wholeOf(/** @type {Limit} */ name, /** @type {Whole} */ given) {
+function parseInteger(/** @type {Limit} */ name, /** @type {Integer} */ given) {
   if (typeof given !== "number" && typeof given !== "bigint") {
     throw new TypeError(`${name} is no number`);
   }
@@ -54,7 +54,7 @@ function wholeOf(/** @type {Limit} */ name, /** @type {Whole} */ given) {
 }
 
 /** The switches, in order, each on or off. */
-export function switchesOf(/** @type {Record<string, boolean>} */ given) {
+export function parseSwitches(/** @type {Record<string, boolean>} */ given) {
   for (const [name, value] of Object.entries(given)) {
     if (typeof value !== "boolean") {
       throw new TypeError(`${name} is neither true nor false`);
@@ -64,8 +64,8 @@ export function switchesOf(/** @type {Record<string, boolean>} */ given) {
 }
 
 /** Throws the error of limits that the engine refused; of several wrong ones the program's first. */
-export function raiseLimits(/** @type {Limit[]} */ names, /** @type {bigint[]} */ values) {
-  const wrong = names.find((name, k) => values[k] < RANGES[name].least || values[k] > RANGES[name].most);
+export function throwLimitsError(/** @type {Limit[]} */ names, /** @type {bigint[]} */ values) {
+  const wrong = names.find((name, k) => values[k] < RANGES[name].min || values[k] > RANGES[name].max);
   if (wrong !== undefined) {
     throw outOfRange(wrong);
   }

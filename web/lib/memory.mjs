@@ -28,7 +28,7 @@ export function wordsOf(/** @type {Uint8Array} */ { buffer, byteOffset, length }
 }
 
 /** A byte's upper bit for each newline among the four of a word; 0 where there is none. */
-export function newlinesIn(/** @type {number} */ word) {
+export function newlineBits(/** @type {number} */ word) {
   const differs = word ^ NEWLINES;
   return ~(((differs & LOWER_BITS) + LOWER_BITS) | differs | LOWER_BITS);
 }
@@ -42,23 +42,23 @@ export function countLines(/** @type {Uint8Array} */ bytes) {
   const rest = [bytes.subarray(0, first), bytes.subarray(first + 4 * words.length)];
   let count = bytes.length > 0 && bytes[bytes.length - 1] !== NEWLINE ? 1 : 0;
   for (let at = 0; at < words.length; at += 1) {
-    count += Math.imul(newlinesIn(words[at]) >>> 7, 0x01010101) >>> 24;
+    count += Math.imul(newlineBits(words[at]) >>> 7, 0x01010101) >>> 24;
   }
   return rest.reduce((sum, part) => sum + part.filter((byte) => byte === NEWLINE).length, count);
 }
 
 const PAGE = 65_536;
 // A module of one function, which gives `i8x16.popcnt (i8x16.splat (i32.const 0))`.
-const OF_VECTORS = [
+const SIMD_PROBE = [
   ...[0, 97, 115, 109, 1, 0, 0, 0, 1, 5, 1, 96, 0, 1, 123, 3, 2, 1, 0],
   ...[10, 10, 1, 8, 0, 65, 0, 253, 15, 253, 98, 11],
 ];
 
 export const isSupported = () =>
-  typeof WebAssembly === "object" && WebAssembly.validate(new Uint8Array(OF_VECTORS));
+  typeof WebAssembly === "object" && WebAssembly.validate(new Uint8Array(SIMD_PROBE));
 
 /** Memory by address, handed out upwards and given up as a whole: between two calls nothing is held. */
-export class Room {
+export class Allocator {
   /** @param {number} most bytes of memory */
   constructor(most) {
     /** @type {WebAssembly.Memory | undefined} */
@@ -70,7 +70,7 @@ export class Room {
   }
 
   /** Gives up all that was handed out. */
-  clear() {
+  reset() {
     this.free = this.base;
     this.last = 0;
   }
@@ -80,9 +80,9 @@ export class Room {
    * @param {number} size
    * @param {number} align a power of two
    */
-  take(size, align) {
+  allocate(size, align) {
     const at = Math.ceil(this.free / align) * align;
-    if (!this.reaches(at + size)) {
+    if (!this.reserve(at + size)) {
       return 0;
     }
     this.last = at;
@@ -94,12 +94,12 @@ export class Room {
    * The same for bytes that grow and move; the last ones handed out grow where they stand.
    * @param {number} old @param {number} was @param {number} size @param {number} align
    */
-  retake(old, was, size, align) {
-    if (old === this.last && this.reaches(old + size)) {
+  reallocate(old, was, size, align) {
+    if (old === this.last && this.reserve(old + size)) {
       this.free = old + size;
       return old;
     }
-    const at = this.take(size, align);
+    const at = this.allocate(size, align);
     if (at !== 0) {
       this.bytes(0, this.free).copyWithin(at, old, old + Math.min(was, size));
     }
@@ -107,13 +107,13 @@ export class Room {
   }
 
   /** Whether memory ends there or later, grown if need be. */
-  reaches(/** @type {number} */ end) {
+  reserve(/** @type {number} */ end) {
     const memory = /** @type {WebAssembly.Memory} */ (this.memory);
     const missing = Math.ceil((end - memory.buffer.byteLength) / PAGE);
     if (missing <= 0) {
       return true;
     }
-    return end <= this.most && grows(memory, missing);
+    return end <= this.most && growMemory(memory, missing);
   }
 
   /** A view of these bytes, until memory grows. */
@@ -122,7 +122,7 @@ export class Room {
   }
 
   /** Writes what the module waits for: whether there is memory, and its address. */
-  answer(/** @type {number} */ to, /** @type {number} */ at) {
+  writeResult(/** @type {number} */ to, /** @type {number} */ at) {
     const view = new DataView(/** @type {WebAssembly.Memory} */ (this.memory).buffer, to >>> 0, 16);
     view.setBigUint64(0, at === 0 ? 0n : 1n, true);
     view.setBigUint64(8, BigInt(at === 0 ? 1 : at), true);
@@ -132,19 +132,19 @@ export class Room {
   imports() {
     return {
       /** @param {number} to @param {bigint} size @param {bigint} align */
-      rattle_alloc: (to, size, align) => this.answer(to, this.take(Number(size), Number(align))),
+      rattle_alloc: (to, size, align) => this.writeResult(to, this.allocate(Number(size), Number(align))),
       /**
        * @param {number} to @param {number} old @param {bigint} was @param {bigint} size
        * @param {bigint} align
        */
       rattle_realloc: (to, old, was, size, align) =>
-        this.answer(to, this.retake(old >>> 0, Number(was), Number(size), Number(align))),
+        this.writeResult(to, this.reallocate(old >>> 0, Number(was), Number(size), Number(align))),
       rattle_dealloc: () => undefined,
     };
   }
 }
 
-function grows(/** @type {WebAssembly.Memory} */ memory, /** @type {number} */ pages) {
+function growMemory(/** @type {WebAssembly.Memory} */ memory, /** @type {number} */ pages) {
   try {
     memory.grow(pages);
     return true;

@@ -6,13 +6,13 @@
  * @param {string} id
  * @returns {T}
  */
-export const part = (id) => /** @type {T} */ (document.getElementById(id));
+export const byId = (id) => /** @type {T} */ (document.getElementById(id));
 
 /**
  * A new element with properties, attributes and children.
  * @param {string} name @param {Record<string, any>} [given] @param {(Node | string)[]} children
  */
-export function made(name, given = {}, ...children) {
+export function create(name, given = {}, ...children) {
   const element = document.createElement(name);
   for (const [key, value] of Object.entries(given)) {
     if (key === "class") {
@@ -31,21 +31,21 @@ export function made(name, given = {}, ...children) {
  * Hides or disables something, or takes that back; where it has the focus, something else gets that.
  * @param {string} id @param {"hidden" | "disabled"} how @param {boolean} is @param {string} other
  */
-export function setAside(id, how, is, other) {
-  const hasFocus = is && document.activeElement === part(id);
-  Object.assign(part(id), { [how]: is });
+export function setInactive(id, how, is, other) {
+  const hasFocus = is && document.activeElement === byId(id);
+  Object.assign(byId(id), { [how]: is });
   if (hasFocus) {
-    part(other).focus({ preventScroll: true });
+    byId(other).focus({ preventScroll: true });
   }
 }
 
 /** Has elements, by their ids, do something where they are clicked. */
 export function onClick(/** @type {Record<string, () => void>} */ acts) {
-  Object.entries(acts).forEach(([id, act]) => part(id).addEventListener("click", act));
+  Object.entries(acts).forEach(([id, act]) => byId(id).addEventListener("click", act));
 }
 
 /** Does what a key asks, where it asks something and no other key is held with it. */
-export function pressKey(/** @type {KeyboardEvent} */ event, /** @type {Record<string, () => void>} */ keys) {
+export function dispatchKey(/** @type {KeyboardEvent} */ event, /** @type {Record<string, () => void>} */ keys) {
   if (event.key in keys && !event.ctrlKey && !event.metaKey && !event.altKey) {
     event.preventDefault();
     keys[event.key]();
@@ -53,23 +53,23 @@ export function pressKey(/** @type {KeyboardEvent} */ event, /** @type {Record<s
 }
 
 /** Shows words in an element; without any it is hidden. */
-export function showWords(/** @type {string} */ id, /** @type {string} */ words) {
-  Object.assign(part(id), { textContent: words, hidden: words === "" });
+export function showText(/** @type {string} */ id, /** @type {string} */ words) {
+  Object.assign(byId(id), { textContent: words, hidden: words === "" });
 }
 
-export function save(/** @type {Blob} */ blob, /** @type {string} */ name) {
+export function saveFile(/** @type {Blob} */ blob, /** @type {string} */ name) {
   const url = URL.createObjectURL(blob);
-  made("a", { href: url, download: name }).click();
+  create("a", { href: url, download: name }).click();
   setTimeout(() => URL.revokeObjectURL(url), 60_000);
 }
 
 /** Puts a text where it can be pasted from, and says so by a button's words for a while. */
-export async function copy(/** @type {string} */ text, /** @type {HTMLElement} */ button) {
-  await saying(button, () => navigator.clipboard.writeText(text));
+export async function copyText(/** @type {string} */ text, /** @type {HTMLElement} */ button) {
+  await reportOutcome(button, () => navigator.clipboard.writeText(text));
 }
 
 /** Does something, and says by a button's words for a while how it went. */
-async function saying(/** @type {HTMLElement} */ button, /** @type {() => Promise<void>} */ does) {
+async function reportOutcome(/** @type {HTMLElement} */ button, /** @type {() => Promise<void>} */ does) {
   const words = (button.dataset.words ??= button.textContent ?? "");
   try {
     await does();
@@ -77,7 +77,7 @@ async function saying(/** @type {HTMLElement} */ button, /** @type {() => Promis
   } catch {
     button.textContent = "The browser refused";
   }
-  tellLive(button.textContent);
+  announce(button.textContent);
   setTimeout(() => {
     button.textContent = words;
   }, 1500);
@@ -88,7 +88,7 @@ async function saying(/** @type {HTMLElement} */ button, /** @type {() => Promis
  * @param {Promise<Blob | null>} png @param {HTMLElement} button
  */
 export async function copyPicture(png, button) {
-  await saying(button, async () => {
+  await reportOutcome(button, async () => {
     const item = new ClipboardItem({ "image/png": png.then((blob) => /** @type {Blob} */ (blob)) });
     await navigator.clipboard.write([item]);
   });
@@ -96,16 +96,16 @@ export async function copyPicture(png, button) {
 
 // A little more than a second, since a timer may come a little early beside what it is held against.
 const LIVE_MILLISECONDS = 1_050;
-let lastSaid = -Infinity;
+let lastAnnounced = -Infinity;
 let liveTimer = 0;
 
 /** Tells whoever hears the page, at most once a second; of what comes faster the last. */
-export function tellLive(/** @type {string} */ words) {
+export function announce(/** @type {string} */ words) {
   clearTimeout(liveTimer);
-  const left = lastSaid + LIVE_MILLISECONDS - performance.now();
+  const left = lastAnnounced + LIVE_MILLISECONDS - performance.now();
   liveTimer = setTimeout(() => {
-    lastSaid = performance.now();
-    part("live").textContent = words;
+    lastAnnounced = performance.now();
+    byId("live").textContent = words;
   }, Math.max(0, left));
 }
 
@@ -118,11 +118,11 @@ const SYMBOLS = 10;
 const colours = new Map();
 
 /** Has colours be asked for again, since the style has others. */
-export function forgetColours() {
+export function clearColours() {
   colours.clear();
 }
 
-export function ink(/** @type {string} */ name) {
+export function colourOf(/** @type {string} */ name) {
   const known = colours.get(name);
   if (known !== undefined) {
     return known;
@@ -132,13 +132,13 @@ export function ink(/** @type {string} */ name) {
   return text;
 }
 
-function colour(/** @type {string} */ name) {
-  const text = ink(name);
+function channelsOf(/** @type {string} */ name) {
+  const text = colourOf(name);
   return [1, 3, 5].map((at) => parseInt(text.slice(at, at + 2), 16));
 }
 
 /** The colours of the symbols, of what isn't visited yet, and of the head. */
-export function palette() {
-  const symbols = Array.from({ length: SYMBOLS }, (_, symbol) => colour(`--s${symbol}`));
-  return [...symbols, colour("--unvisited"), colour("--head")];
+export function readPalette() {
+  const symbols = Array.from({ length: SYMBOLS }, (_, symbol) => channelsOf(`--s${symbol}`));
+  return [...symbols, channelsOf("--unvisited"), channelsOf("--head")];
 }

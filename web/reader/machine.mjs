@@ -14,23 +14,23 @@ export const KINDS = ["halt", "cycler", "translated", "backward", "undecided", "
 export const ANSWERS = ["ok", "open", "bad", "over", "unread"];
 
 /** @type {{machine: string, verdict: Verdict}} what a line says that is no verdict line: nothing */
-export const UNREAD = { machine: "", verdict: { kind: "refused", numbers: [], side: "", text: "" } };
+export const UNREAD_LINE = { machine: "", verdict: { kind: "refused", numbers: [], side: "", text: "" } };
 
 /** @returns {Machine} the machine of a text that the engine took for one */
-export function machineOf(/** @type {string} */ text) {
+export function parseMachine(/** @type {string} */ text) {
   const groups = text.split("_");
   const rules = groups.flatMap((group, state) =>
     Array.from({ length: group.length / 3 }, (_, symbol) => ({
       state,
       symbol,
-      entry: entryOf(group.slice(3 * symbol, 3 * symbol + 3)),
+      entry: parseEntry(group.slice(3 * symbol, 3 * symbol + 3)),
     })),
   );
   return { text, states: groups.length, symbols: groups[0].length / 3, rules };
 }
 
 /** @returns {Entry | null} */
-function entryOf(/** @type {string} */ text) {
+function parseEntry(/** @type {string} */ text) {
   if (text === "---") {
     return null;
   }
@@ -48,7 +48,7 @@ export const entryText = (/** @type {Entry | null} */ entry) =>
  * The machine's text of a verdict line, and what is said of it.
  * @returns {{machine: string, verdict: Verdict}}
  */
-export function readLine(/** @type {string} */ line) {
+export function parseVerdictLine(/** @type {string} */ line) {
   const [machine, word, ...rest] = line.split(" ");
   if (machine === "refused") {
     return { machine: "", verdict: { kind: "refused", numbers: [Number(word)], side: "", text: line } };
@@ -65,42 +65,42 @@ const NO_CELLS =
   "Undecided: its head would pass the limit of cells before it halts and before the steps end, and no " +
   "decider that is on found anything.";
 /** @type {Record<string, string>} */
-const WORDS = { L: "left", R: "right" };
-const number = new Intl.NumberFormat("en");
+const SIDES = { L: "left", R: "right" };
+const numberFormat = new Intl.NumberFormat("en");
 
 /** A number as people read it, with a word behind it. */
-export const counted = (/** @type {number} */ count, /** @type {string} */ word) =>
-  `${number.format(count)} ${word}${count === 1 ? "" : "s"}`;
+export const formatCount = (/** @type {number} */ count, /** @type {string} */ word) =>
+  `${numberFormat.format(count)} ${word}${count === 1 ? "" : "s"}`;
 
 /** A number as people read it, below 0 with a minus. */
-export const shown = (/** @type {number | bigint} */ value) => number.format(value).replace("-", "−");
+export const formatNumber = (/** @type {number | bigint} */ value) => numberFormat.format(value).replace("-", "−");
 
 /** What a verdict says, in plain English. */
-export function sentence(/** @type {Verdict} */ { kind, numbers, side }) {
+export function verdictText(/** @type {Verdict} */ { kind, numbers, side }) {
   const [first, second, shift, length] = numbers;
   const never = "It never halts: ";
   switch (kind) {
     case "halt":
-      return `It halts after ${counted(first, "step")}, with ${counted(second, "cell")} other than 0.`;
+      return `It halts after ${formatCount(first, "step")}, with ${formatCount(second, "cell")} other than 0.`;
     case "cycler":
-      return `${never}the configuration at step ${shown(first)} comes again at step ${shown(second)}.`;
+      return `${never}the configuration at step ${formatNumber(first)} comes again at step ${formatNumber(second)}.`;
     case "translated": {
-      const steps = `at steps ${shown(first)} and ${shown(second)}`;
-      const extent = length === undefined ? "" : ` of ${counted(length, "cell")}`;
-      const farther = shift === undefined ? "" : `, ${counted(shift, "cell")} farther out`;
+      const steps = `at steps ${formatNumber(first)} and ${formatNumber(second)}`;
+      const extent = length === undefined ? "" : ` of ${formatCount(length, "cell")}`;
+      const farther = shift === undefined ? "" : `, ${formatCount(shift, "cell")} farther out`;
       return (
-        `${never}${steps} the head is farther ${WORDS[side]} than before, ` +
+        `${never}${steps} the head is farther ${SIDES[side]} than before, ` +
         `with the same pattern${extent} behind it${farther}.`
       );
     }
     case "backward":
       return (
-        `${never}what could come before a halt is a tree that ends, with ${counted(second, "node")} in ` +
-        `${counted(first, "level")}, and the start fits none of them.`
+        `${never}what could come before a halt is a tree that ends, with ${formatCount(second, "node")} in ` +
+        `${formatCount(first, "level")}, and the start fits none of them.`
       );
     case "undecided":
       return side === "cells" ? NO_CELLS : NO_STEPS;
     default:
-      return `Refused: the line is no machine; it goes wrong at column ${shown(first)}.`;
+      return `Refused: the line is no machine; it goes wrong at column ${formatNumber(first)}.`;
   }
 }

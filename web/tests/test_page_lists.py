@@ -34,7 +34,7 @@ def read_by_page(asked: List[Any]) -> List[Any]:
     return [json.loads(line) for line in done.output.decode().split("\n") if line]
 
 
-def wanted_of(form: Dict[str, Any]) -> Dict[str, Any]:
+def expected_reading(form: Dict[str, Any]) -> Dict[str, Any]:
     """The reading that a form must have."""
     if "nothing" in form:
         return {"kind": "nothing"}
@@ -50,7 +50,7 @@ def test_forms_have_their_readings(forms: Forms) -> None:
     lines = [[form["line"], form.get("form", "text")] for form in forms["forms"]]
     sentences, *found = read_by_page([*lines, *forms["lists"], *forms["encodings"]])
     assert sentences == {name: forms[name] for name in ("advice", "rewritings")}
-    wanted = [wanted_of(form) for form in forms["forms"]]
+    wanted = [expected_reading(form) for form in forms["forms"]]
     wanted += [entry["form"] for entry in forms["lists"]] + [
         entry["encoding"] for entry in forms["encodings"]
     ]
@@ -139,7 +139,7 @@ def test_file_of_all_forms(tab: Page, forms: Forms) -> None:
     tab.plan({"steps": 1000}, "decide", True)
     tab.choose_option("list-form", "text")
     tab.answer_file(as_lines(lines))
-    assert tab.saved() == tab.written("decide", {"steps": 1000}, as_lines(given))
+    assert tab.save() == tab.program_output("decide", {"steps": 1000}, as_lines(given))
     numbers = [number for number, form in enumerate(texts, 1) if "nothing" not in form]
     rows = tab.rows()
     assert [int(row[0]) for row in rows] == numbers[: len(rows)]
@@ -178,7 +178,7 @@ def test_packed_lists(tab: Page, forms: Forms) -> None:
     otherwise the page says what it is, and decides nothing."""
     lines = b"1RB1LB_1LA1RZ\n1RA1RA\n" * 40_000
     tab.answer_file(gzip.compress(lines))
-    assert tab.saved() == tab.written("decide", {}, lines)
+    assert tab.save() == tab.program_output("decide", {}, lines)
     tab.answer_file(gzip.compress(b"1RB1LB_1LA1RZ halt 6 4\n"))
     assert "checked: 1 ok" in tab.text("status")
     encodings = [entry for entry in forms["encodings"] if entry["encoding"] is not None]
@@ -220,7 +220,7 @@ def test_lines_that_are_no_verdict_lines(tab: Page) -> None:
         assert tab.text("machine-text") == "Line %d is no verdict line" % (row + 1)
         assert tab.text("machine-says").startswith("Unread:") and tab.text("machine-caret") == line
     tab.open_row(5)
-    tab.drawn()
+    tab.wait_until_drawn()
     behind = tab.text("behind")
     assert "which cells agree" in behind and "0 cells" not in behind and "show it" not in behind
 
@@ -243,7 +243,7 @@ def test_verdict_lines_are_told(tab: Page) -> None:
     tab.type("list", claims)
     assert tab.text("run") == "Check"
     tab.open_list(claims)
-    assert tab.saved() == b"ok\nbad\nunread\n"
+    assert tab.save() == b"ok\nbad\nunread\n"
     assert [row[0] for row in tab.rows()] == ["2", "4", "5"]
     tab.open_row(1)
     assert "refutes" in tab.text("machine-says")

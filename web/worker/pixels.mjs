@@ -1,15 +1,15 @@
 /**
  * The pixels of a diagram: one for each column and row, in the mean colour of the cells that it stands for.
  *
- * @typedef {import("./sample.mjs").Sample} Sample
- * @typedef {import("../page/diagram/scale.mjs").View} View
+ * @typedef {import("./packed-rows.mjs").PackedRows} PackedRows
+ * @typedef {import("../page/diagram/viewport.mjs").View} View
  * @typedef {(k: number, from: number, to: number) => number} Mean the colour of a row's cells from one to
  *   another, counted from the lowest one
  * @typedef {(row: Uint32Array, k: number, first: number, end: number, cell: number) => void} Whole paints the
  *   pixels of a row between two columns, all of whose cells were visited, from a cell on
- * @typedef {{mean: Mean, whole: Whole}} How a row is painted whose pixels have several cells
+ * @typedef {{mean: Mean, whole: Whole}} MeanPainter a row is painted whose pixels have several cells
  */
-import { FRAMED, symbolOf } from "./sample.mjs";
+import { FRAMED, symbolAtCell } from "./packed-rows.mjs";
 
 const UNVISITED = 10;
 const HEAD = 11;
@@ -24,9 +24,9 @@ const pixelOf = (/** @type {number[]} */ [red, green, blue]) =>
 
 /**
  * The pixels of all rows; what isn't visited yet stays clear.
- * @param {Sample} sample @param {View} view @param {number} columns @param {number[][]} palette
+ * @param {PackedRows} sample @param {View} view @param {number} columns @param {number[][]} palette
  */
-export function painted(sample, view, columns, palette) {
+export function paintRows(sample, view, columns, palette) {
   const rows = sample.steps.length;
   const image = new Uint32Array(columns * rows);
   const paint = painterFor(sample, view, palette);
@@ -38,7 +38,7 @@ export function painted(sample, view, columns, palette) {
 
 /**
  * What paints a row.
- * @param {Sample} sample @param {View} view @param {number[][]} palette
+ * @param {PackedRows} sample @param {View} view @param {number[][]} palette
  * @returns {(row: Uint32Array, k: number) => void}
  */
 function painterFor(sample, view, palette) {
@@ -46,13 +46,13 @@ function painterFor(sample, view, palette) {
     const pixels = Uint32Array.from(palette, pixelOf);
     return (row, k) => paintCells(row, sample, k, view, pixels);
   }
-  const how = (sample.bits === 1 ? howOfTwo : howOfMore)(sample, view, palette);
+  const how = (sample.bits === 1 ? twoSymbolPainter : manySymbolPainter)(sample, view, palette);
   return (row, k) => paintMeans(row, sample, k, view, how);
 }
 
 /**
  * A row with a pixel for each cell.
- * @param {Uint32Array} row @param {Sample} sample @param {number} k @param {View} view
+ * @param {Uint32Array} row @param {PackedRows} sample @param {number} k @param {View} view
  * @param {Uint32Array} pixels of the palette
  */
 function paintCells(row, sample, k, view, pixels) {
@@ -71,8 +71,8 @@ function paintCells(row, sample, k, view, pixels) {
 
 /**
  * A row of which a pixel stands for several cells; only the outermost ones may have some that aren't visited.
- * @param {Uint32Array} row @param {Sample} sample @param {number} k @param {View} view
- * @param {How} how
+ * @param {Uint32Array} row @param {PackedRows} sample @param {number} k @param {View} view
+ * @param {MeanPainter} how
  */
 function paintMeans(row, sample, k, { left, across }, { mean, whole }) {
   const low = sample.lows[k];
@@ -90,10 +90,10 @@ function paintMeans(row, sample, k, { left, across }, { mean, whole }) {
 /**
  * How rows of two symbols are painted: the mean goes by how many of a pixel's cells are 1, how many are 0,
  * and how many aren't visited.
- * @param {Sample} sample @param {View} view @param {number[][]} palette
- * @returns {How}
+ * @param {PackedRows} sample @param {View} view @param {number[][]} palette
+ * @returns {MeanPainter}
  */
-function howOfTwo({ cells, places }, { across }, palette) {
+function twoSymbolPainter({ cells, places }, { across }, palette) {
   const mixed = (/** @type {number} */ ones, /** @type {number} */ seen) =>
     pixelOf(
       palette[UNVISITED].map((unvisited, part) => {
@@ -103,11 +103,11 @@ function howOfTwo({ cells, places }, { across }, palette) {
     );
   const colours = Uint32Array.from({ length: across + 1 }, (_, ones) => mixed(ones, across));
   return {
-    mean: (k, from, to) => mixed(onesBetween(cells, places[k], from, to), to - from + 1),
+    mean: (k, from, to) => mixed(countOnes(cells, places[k], from, to), to - from + 1),
     whole: (row, k, first, end, cell) => {
       let from = cell;
       for (let x = first; x < end; x += 1) {
-        row[x] = colours[onesBetween(cells, places[k], from, from + across - 1)];
+        row[x] = colours[countOnes(cells, places[k], from, from + across - 1)];
         from += across;
       }
     },
@@ -118,7 +118,7 @@ function howOfTwo({ cells, places }, { across }, palette) {
  * How many of a row's cells from one to another are 1, where a cell has a bit.
  * @param {Uint8Array} cells @param {number} begin of the row @param {number} from @param {number} to
  */
-function onesBetween(cells, begin, from, to) {
+function countOnes(cells, begin, from, to) {
   const first = begin + (from >> 3);
   const last = begin + (to >> 3);
   const upper = cells[first] >> (from & 7);
@@ -135,17 +135,17 @@ function onesBetween(cells, begin, from, to) {
 
 /**
  * How rows of more symbols are painted.
- * @param {Sample} sample @param {View} view @param {number[][]} palette
- * @returns {How}
+ * @param {PackedRows} sample @param {View} view @param {number[][]} palette
+ * @returns {MeanPainter}
  */
-function howOfMore(sample, { across }, palette) {
+function manySymbolPainter(sample, { across }, palette) {
   const [reds, greens, blues] = [0, 1, 2].map((part) => Int32Array.from(palette, (colour) => colour[part]));
   /** @type {Mean} */
   const mean = (k, from, to) => {
     const outside = across - (to - from + 1);
     let [red, green, blue] = palette[UNVISITED].map((one) => one * outside);
     for (let cell = from; cell <= to; cell += 1) {
-      const symbol = symbolOf(sample, k, cell);
+      const symbol = symbolAtCell(sample, k, cell);
       red += reds[symbol];
       green += greens[symbol];
       blue += blues[symbol];

@@ -4,7 +4,7 @@
  * @typedef {{starts: Uint32Array, kinds: Uint8Array}} Lines where each line begins and the last one ends, and
  *   the number of its kind
  */
-import { newlinesIn, wordsOf } from "../lib/memory.mjs";
+import { newlineBits, wordsOf } from "../lib/memory.mjs";
 import { ANSWERS, KINDS } from "../reader/machine.mjs";
 
 const NEWLINE = 10;
@@ -56,7 +56,7 @@ export function startsOf(/** @type {Uint8Array} */ bytes) {
   let lines = addStarts(0, bytes, 0, first);
   for (let at = 0; at < words.length; at += 1) {
     // A newline's bit is taken away once its place is known.
-    for (let found = newlinesIn(words[at]); found !== 0; found &= found - 1) {
+    for (let found = newlineBits(words[at]); found !== 0; found &= found - 1) {
       lines += 1;
       scratch[lines] = first + 4 * at + ((31 - Math.clz32(found & -found)) >> 3) + 1;
     }
@@ -80,7 +80,7 @@ function wordEnd(/** @type {Uint8Array} */ bytes, /** @type {number} */ from) {
 }
 
 /** The place behind so many further spaces of a line, or its end where it has fewer. */
-function behind(/** @type {Uint8Array} */ bytes, /** @type {number} */ from, /** @type {number} */ spaces) {
+function skipSpaces(/** @type {Uint8Array} */ bytes, /** @type {number} */ from, /** @type {number} */ spaces) {
   let at = from;
   for (let left = spaces; left > 0 && bytes[at] !== NEWLINE; left -= 1) {
     at = wordEnd(bytes, at);
@@ -117,11 +117,11 @@ export function readLines(bytes, machines) {
 }
 
 /** The steps that verdict lines name, -1 for none. */
-export function stepsIn(/** @type {Uint8Array} */ bytes, /** @type {Lines} */ { starts, kinds }) {
+export function readSteps(/** @type {Uint8Array} */ bytes, /** @type {Lines} */ { starts, kinds }) {
   const steps = new Float64Array(kinds.length).fill(-1);
   for (let k = 0; k < kinds.length; k += 1) {
     if (SPACES[kinds[k]] > 0) {
-      steps[k] = numberAt(bytes, behind(bytes, starts[k], 1 + SPACES[kinds[k]]));
+      steps[k] = numberAt(bytes, skipSpaces(bytes, starts[k], 1 + SPACES[kinds[k]]));
     }
   }
   return steps;
@@ -139,7 +139,7 @@ export function readAnswers(/** @type {Uint8Array} */ bytes, /** @type {number} 
 }
 
 /** How often each number below `most` stands there. */
-export function tallied(/** @type {Uint8Array} */ numbers, /** @type {number} */ most) {
+export function countValues(/** @type {Uint8Array} */ numbers, /** @type {number} */ most) {
   const counts = new Array(most).fill(0);
   for (let k = 0; k < numbers.length; k += 1) {
     counts[numbers[k]] += 1;

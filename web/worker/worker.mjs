@@ -1,8 +1,8 @@
 /**
  * What a worker of the page does: it decides or checks pieces of a list, traces a machine, and sorts.
  *
- * @typedef {{mode: "decide" | "check", clean: boolean, form: import("../reader/prepare.mjs").Form,
- *   plan: Record<string, any>}} Asked
+ * @typedef {{mode: "decide" | "check", clean: boolean, form: import("../reader/list-reader.mjs").Form,
+ *   plan: Record<string, any>}} ListRequest
  * @typedef {{job: number, bytes: Uint8Array, lines: Uint8Array | null, starts: Uint32Array,
  *   kinds: Uint8Array, steps?: Float64Array, answers: Uint8Array, kindCounts: number[],
  *   answerCounts: number[], first: number, numbers: Uint32Array | null, source: Uint8Array | null,
@@ -14,16 +14,16 @@
  *   left out; `next` and `nextLine` say which byte and line of the piece come next; `taken` are the
  *   milliseconds that it took, `held` is the memory of the engine, in bytes; `plans` are the limits of each
  *   line, by their numbers, where they aren't all those of the list
- * @typedef {{job: number, at: string, lines: number, bytes: number}} Note what is begun: the first line of a
+ * @typedef {{job: number, at: string, lines: number, bytes: number}} BatchNote what is begun: the first line of a
  *   batch, and how many lines and bytes it has
- * @typedef {import("../lib/bb.mjs").Engine} Host
+ * @typedef {import("../lib/bb.mjs").Engine} Engine
  */
 import { load } from "../lib/bb.mjs";
 import { ANSWERS, KINDS } from "../reader/machine.mjs";
-import { asGiven, lineAt, prepared } from "../reader/prepare.mjs";
-import { LONGEST_SHOWN } from "../reader/words.mjs";
-import { readAnswers, readLines, startsOf, tallied } from "./replies.mjs";
-import { growthOf, keep, pictured, takenAhead, traced } from "./traced.mjs";
+import { unchangedList, lineAt, prepareList } from "../reader/list-reader.mjs";
+import { LONGEST_SHOWN } from "../reader/tokens.mjs";
+import { readAnswers, readLines, startsOf, countValues } from "./replies.mjs";
+import { measureGrowth, storeRows, makePicture, traceAhead, traceRows } from "./trace.mjs";
 
 const NEWLINE = 10;
 // A piece is answered in batches that take about so long, so that what was done stays where it is stopped.
@@ -45,10 +45,10 @@ const WARM_PLAN = { steps: 200, cells: 256, depth: 20, nodes: 1_000 };
 const WARM_MACHINE = "1RB1LC_1RC1RB_1RD0LE_1LA1LD_1RZ0LA";
 const WARM_SAMPLE = { steps: 10_000, cells: 256, from: 0, every: 100 };
 
-/** @type {Host | undefined} */
+/** @type {Engine | undefined} */
 let engine;
 /** @type {Promise<void>} ends when the engine's module is loaded, which comes before anything is asked */
-let loaded = Promise.resolve();
+let engineLoaded = Promise.resolve();
 let size = FIRST_BYTES;
 // Milliseconds that a line of the batch before took; infinite before the first one.
 let pace = Infinity;
@@ -62,11 +62,11 @@ function refuseUnread(/** @type {Uint8Array} */ kinds, /** @type {Uint8Array} */
 
 /**
  * A batch answered: its lines, which begin there, what is said of each, and the answer of the checker.
- * @param {Uint8Array} given @param {Pick<Asked, "mode" | "plan">} asked
+ * @param {Uint8Array} given @param {Pick<ListRequest, "mode" | "plan">} asked
  */
-function answered(given, { mode, plan }, starts = startsOf(given).slice()) {
+function answerBatch(given, { mode, plan }, starts = startsOf(given).slice()) {
   const { steps, cells, depth, nodes } = plan;
-  const host = /** @type {Host} */ (engine);
+  const host = /** @type {Engine} */ (engine);
   const count = starts.length - 1;
   const verdicts = mode === "decide" ? host.decideBytes(given, plan, count).bytes : given;
   const reply = host.checkBytes(verdicts, { steps, cells, depth, nodes }, count).bytes;
@@ -75,11 +75,11 @@ function answered(given, { mode, plan }, starts = startsOf(given).slice()) {
   if (mode === "check") {
     refuseUnread(lines.kinds, answers);
   }
-  const kindCounts = tallied(lines.kinds, KINDS.length);
-  const answerCounts = tallied(answers, ANSWERS.length);
+  const kindCounts = countValues(lines.kinds, KINDS.length);
+  const answerCounts = countValues(answers, ANSWERS.length);
   const written =
     mode === "decide" ? { bytes: verdicts, lines: null } : { bytes: reply, lines: verdicts.slice() };
-  return { ...written, ...lines, answers, kindCounts, answerCounts, held: host.held };
+  return { ...written, ...lines, answers, kindCounts, answerCounts, held: host.memoryBytes };
 }
 
 /**
@@ -87,9 +87,9 @@ function answered(given, { mode, plan }, starts = startsOf(given).slice()) {
  * where each line is a machine; from the first batch on in which it refuses a line, and in a list of another
  * form, they are read line by line.
  */
-function work(/** @type {any} */ { job, bytes: given, line: first, asked }) {
-  const standing = asGiven(given);
-  let list = asked.mode === "check" || asked.form !== "machines" ? prepared(given, asked) : standing;
+function answerList(/** @type {any} */ { job, bytes: given, line: first, asked }) {
+  const standing = unchangedList(given);
+  let list = asked.mode === "check" || asked.form !== "machines" ? prepareList(given, asked) : standing;
   let [from, line, done] = [0, 0, false];
   while (!done) {
     const newline = list.bytes.indexOf(NEWLINE, Math.max(from, Math.min(from + size, list.bytes.length) - 1));
@@ -99,9 +99,9 @@ function work(/** @type {any} */ { job, bytes: given, line: first, asked }) {
     const count = starts.length - 1;
     postMessage({ job, at: lineAt(batch, 0, LONGEST_SHOWN), lines: count, bytes: batch.length });
     const begun = performance.now();
-    const part = answered(batch, asked, starts);
+    const part = answerBatch(batch, asked, starts);
     if (list === standing && asked.clean && part.kindCounts[REFUSED] > 0) {
-      list = prepared(given, asked);
+      list = prepareList(given, asked);
       continue;
     }
     const taken = performance.now() - begun;
@@ -111,14 +111,14 @@ function work(/** @type {any} */ { job, bytes: given, line: first, asked }) {
     const next = done ? given.length : list.places?.[line + count] ?? end;
     const nextLine = list.numbers?.[line + count] ?? line + count;
     const place = { first: list.numbers === null ? first + line : first, next, nextLine };
-    send({ job, ...part, ...origin, ...place, left: done ? list.left : 0, done, taken });
+    sendPart({ job, ...part, ...origin, ...place, left: done ? list.left : 0, done, taken });
     [from, line] = [end, line + count];
   }
 }
 
 /**
  * Which lines those of a batch are, and as what they were given; nothing where that is plain.
- * @param {import("../reader/prepare.mjs").Prepared} list @param {Uint8Array} given
+ * @param {import("../reader/list-reader.mjs").PreparedList} list @param {Uint8Array} given
  * @param {{from: number, line: number, count: number}} batch @param {number[]} kindCounts
  */
 function originOf({ bytes, numbers, places }, given, { from, line, count }, kindCounts) {
@@ -135,8 +135,8 @@ function originOf({ bytes, numbers, places }, given, { from, line, count }, kind
 }
 
 /** The verdict on one machine and the checker's answer to it. */
-function decidedOne(/** @type {{machine: string, plan: Record<string, any>}} */ { machine, plan }) {
-  const part = answered(new TextEncoder().encode(machine), { mode: "decide", plan });
+function decideOne(/** @type {{machine: string, plan: Record<string, any>}} */ { machine, plan }) {
+  const part = answerBatch(new TextEncoder().encode(machine), { mode: "decide", plan });
   return { line: new TextDecoder().decode(part.bytes).trimEnd(), answer: ANSWERS[part.answers[0]], part };
 }
 
@@ -144,11 +144,11 @@ function decidedOne(/** @type {{machine: string, plan: Record<string, any>}} */ 
  * Answers a list and traces a machine again and again for a while, so that the browser compiles well what is
  * called often.
  */
-function warm(/** @type {Uint8Array} */ list) {
+function warmUp(/** @type {Uint8Array} */ list) {
   const begun = performance.now();
   const line = new TextEncoder().encode(WARM_MACHINE);
   while (performance.now() - begun < WARM_MILLISECONDS) {
-    answered(list, { mode: "decide", plan: WARM_PLAN });
+    answerBatch(list, { mode: "decide", plan: WARM_PLAN });
     engine?.traceBytes(line, WARM_SAMPLE);
   }
 }
@@ -168,7 +168,7 @@ function nextSize(taken, lines) {
   return Math.max(1, Math.min(MOST_BYTES, Math.floor(size * factor)));
 }
 
-function send(/** @type {Part} */ part) {
+function sendPart(/** @type {Part} */ part) {
   const { bytes, starts, kinds, answers, lines, source } = part;
   const moved = [bytes, starts, kinds, answers, lines, source].filter((array) => array !== null);
   postMessage(part, /** @type {any} */ (moved.map((array) => /** @type {Uint8Array} */ (array).buffer)));
@@ -178,7 +178,7 @@ function send(/** @type {Part} */ part) {
  * The rows in the order of their steps; rows that name none come last, and equal ones stay in order.
  * @param {Uint32Array} rows @param {Float64Array} steps @param {boolean} down
  */
-function sorted(rows, steps, down) {
+function sortRows(rows, steps, down) {
   const sign = down ? -1 : 1;
   const key = (/** @type {number} */ k) => (steps[k] < 0 ? Infinity : sign * steps[k]);
   const order = Uint32Array.from(rows, (_, k) => k);
@@ -188,55 +188,55 @@ function sorted(rows, steps, down) {
 
 /**
  * What is answered to each question but a list, and which bytes are handed over with it.
- * @type {Record<string, (host: Host, asked: any) => {says: any, moved?: ArrayBufferLike[]}>}
+ * @type {Record<string, (host: Engine, asked: any) => {says: any, moved?: ArrayBufferLike[]}>}
  */
-const QUESTIONS = {
-  sort: (_, { rows, steps, down }) => ({ says: { order: sorted(rows, steps, down) } }),
+const HANDLERS = {
+  sort: (_, { rows, steps, down }) => ({ says: { order: sortRows(rows, steps, down) } }),
   picture: (host, asked) => {
-    const picture = pictured(host, asked);
+    const picture = makePicture(host, asked);
     // The rows are kept here too.
     return { says: { picture }, moved: [picture.image.buffer] };
   },
-  ahead: (host, { rows }) => {
-    const kept = takenAhead(host, rows);
-    return { says: { kept }, moved: [kept.sample.cells.buffer] };
+  "trace-ahead": (host, { request }) => {
+    const cached = traceAhead(host, request);
+    return { says: { cached }, moved: [cached.sample.cells.buffer] };
   },
-  growth: (host, asked) => ({ says: { growth: growthOf(host, asked) } }),
-  one: (_, asked) => ({ says: decidedOne(asked) }),
-  trace: (host, asked) => ({ says: traced(host, asked) }),
+  growth: (host, asked) => ({ says: { growth: measureGrowth(host, asked) } }),
+  "decide-one": (_, asked) => ({ says: decideOne(asked) }),
+  trace: (host, asked) => ({ says: traceRows(host, asked) }),
 };
 
 /** Takes in the engine's module; where it can't be loaded, each question is answered with the reason. */
-function take(/** @type {WebAssembly.Module} */ module) {
-  loaded = load(module).then((made) => {
+function loadModule(/** @type {WebAssembly.Module} */ module) {
+  engineLoaded = load(module).then((made) => {
     engine = made;
   });
-  loaded.catch(() => undefined);
+  engineLoaded.catch(() => undefined);
 }
 
-async function answer(/** @type {any} */ asked) {
-  if (asked.what === "load") {
-    take(asked.module);
+async function onMessage(/** @type {any} */ asked) {
+  if (asked.type === "load") {
+    loadModule(asked.module);
     return;
   }
-  await loaded;
-  if (asked.what === "list") {
+  await engineLoaded;
+  if (asked.type === "list") {
     if (asked.size !== undefined) {
       [size, pace] = [asked.size, Infinity];
     }
-    work(asked);
-  } else if (asked.what === "warm") {
-    warm(asked.list);
-  } else if (asked.what === "keep") {
-    keep(asked.kept);
+    answerList(asked);
+  } else if (asked.type === "warm") {
+    warmUp(asked.list);
+  } else if (asked.type === "store-rows") {
+    storeRows(asked.cached);
   } else {
-    const { says, moved = [] } = QUESTIONS[asked.what](/** @type {Host} */ (engine), asked);
+    const { says, moved = [] } = HANDLERS[asked.type](/** @type {Engine} */ (engine), asked);
     postMessage(says, /** @type {any} */ (moved));
   }
 }
 
 addEventListener("message", (event) => {
-  answer(event.data).catch((/** @type {Error} */ error) =>
+  onMessage(event.data).catch((/** @type {Error} */ error) =>
     postMessage({ error: error.name, message: error.message, limit: /** @type {any} */ (error).limit }),
   );
 });

@@ -1,20 +1,20 @@
 /**
  * The space-time diagram: a row is a step, a column a position.
  *
- * @typedef {import("./scale.mjs").View} View
- * @typedef {import("./places.mjs").Place} Place
- * @typedef {import("./places.mjs").Point} Point
- * @typedef {import("./places.mjs").Scene} Scene
- * @typedef {{machine: string, cells: number, upto: number} & Omit<import("./scale.mjs").Fit, "opens">} Shown
- * @typedef {{view: View, home: View, sample: import("../../worker/sample.mjs").Sample, cut: boolean,
+ * @typedef {import("./viewport.mjs").View} View
+ * @typedef {import("./geometry.mjs").Place} Place
+ * @typedef {import("./geometry.mjs").Point} Point
+ * @typedef {import("./geometry.mjs").Scene} Scene
+ * @typedef {{machine: string, cells: number, upto: number} & Omit<import("./viewport.mjs").Fit, "opens">} DiagramRun
+ * @typedef {{view: View, home: View, sample: import("../../worker/packed-rows.mjs").PackedRows, cut: boolean,
  *   every: number, columns: number, image: Uint8ClampedArray, low: number, high: number,
- *   ahead: import("../../worker/samples.mjs").Ahead[]}} Picture `ahead` are rows of views that may come next
+ *   ahead: import("../../worker/row-cache.mjs").AheadRequest[]}} Picture `ahead` are rows of views that may come next
  */
-import { forgetColours, palette, part } from "../dom.mjs";
-import { Asker } from "../workers.mjs";
-import { Painter, sheetOf } from "./paint.mjs";
-import * as places from "./places.mjs";
-import { closeTo, isSame, zoomed } from "./scale.mjs";
+import { clearColours, readPalette, byId } from "../dom.mjs";
+import { WorkerClient } from "../worker-client.mjs";
+import { Painter, createSheet } from "./paint.mjs";
+import * as places from "./geometry.mjs";
+import { closeView, isSameView, zoomView } from "./viewport.mjs";
 
 // A picture is waited for so long before the next one is begun: what was traced for it is of use.
 const PATIENCE_MILLISECONDS = 1_500;
@@ -22,163 +22,163 @@ const PATIENCE_MILLISECONDS = 1_500;
 export class Diagram {
   /** @param {(place: Place) => void} choose what happens where a step is chosen in the picture */
   constructor(choose) {
-    this.choose = choose;
-    this.canvas = /** @type {HTMLCanvasElement} */ (part("diagram"));
-    this.asker = new Asker(PATIENCE_MILLISECONDS);
+    this.onChoose = choose;
+    this.canvas = /** @type {HTMLCanvasElement} */ (byId("diagram"));
+    this.client = new WorkerClient(PATIENCE_MILLISECONDS);
     // What takes rows of views that may come next.
-    this.ahead = new Asker();
-    /** @type {Shown | null} */
-    this.shown = null;
+    this.aheadClient = new WorkerClient();
+    /** @type {DiagramRun | null} */
+    this.run = null;
     /** @type {Picture | null} */
-    this.data = null;
+    this.picture = null;
     /** @type {HTMLCanvasElement | null} */
     this.sheet = null;
     /** @type {import("./paint.mjs").Mark[]} */
     this.marks = [];
     /** @type {View | null} the view that is shown; null until the first picture says how it opens */
     this.view = null;
-    this.opens = true;
+    this.isOpening = true;
     // Whether the view is as large as fits, and nobody chose another.
     this.isFitted = true;
     // The step that the tape shows, and its head.
-    this.chosen = { step: 0, position: 0 };
+    this.tapePlace = { step: 0, position: 0 };
     /** @type {Place | null} what the keys point at */
-    this.place = null;
+    this.pointed = null;
     this.frame = 0;
     // How often a picture was asked for.
-    this.asked = 0;
-    this.listen();
+    this.requests = 0;
+    this.addListeners();
   }
 
-  listen() {
-    new ResizeObserver(() => this.resized()).observe(this.canvas);
+  addListeners() {
+    new ResizeObserver(() => this.onResize()).observe(this.canvas);
     matchMedia("(prefers-color-scheme: dark)").addEventListener("change", () => {
-      forgetColours();
-      this.fetch();
+      clearColours();
+      this.requestPicture();
     });
   }
 
   get area() {
-    return places.areaOf(this.canvas, this.shown?.last ?? 0);
+    return places.pictureArea(this.canvas, this.run?.last ?? 0);
   }
 
   /** @returns {Scene | null} what the canvas shows; null until something does. */
   get scene() {
-    const { view, area, data } = this;
-    return view === null ? null : { view, area, data };
+    const { view, area, picture } = this;
+    return view === null ? null : { view, area, picture };
   }
 
   /** Shows a machine from its start on, or what is marked. */
-  open(/** @type {Shown} */ asked, /** @type {import("./paint.mjs").Mark[]} */ marks) {
+  open(/** @type {DiagramRun} */ asked, /** @type {import("./paint.mjs").Mark[]} */ marks) {
     this.close();
-    Object.assign(this, { shown: asked, marks, opens: true, isFitted: true });
-    this.chosen = { step: 0, position: 0 };
-    this.fetch();
+    Object.assign(this, { run: asked, marks, isOpening: true, isFitted: true });
+    this.tapePlace = { step: 0, position: 0 };
+    this.requestPicture();
   }
 
   /** Leaves a machine: a picture of it that comes is too late. */
   close() {
-    Object.assign(this, { shown: null, data: null, sheet: null, view: null, marks: [], place: null });
-    this.asked += 1;
-    this.canvas.dataset.state = "asked";
-    part("diagram-text").textContent = "Drawing …";
-    this.ahead.isBusy && this.ahead.end();
+    Object.assign(this, { run: null, picture: null, sheet: null, view: null, marks: [], pointed: null });
+    this.requests += 1;
+    this.canvas.dataset.state = "requested";
+    byId("diagram-text").textContent = "Drawing …";
+    this.aheadClient.isBusy && this.aheadClient.cancel();
   }
 
   /** Shows nothing, where no picture of the next machine has come. */
-  blank() {
-    if (this.data === null) {
+  clear() {
+    if (this.picture === null) {
       // A new width has it empty.
       this.canvas.width = this.canvas.clientWidth;
     }
   }
 
   /** Shows as much as fits now, where nobody chose another view. */
-  resized() {
-    if (this.shown !== null && this.canvas.clientWidth > 0) {
+  onResize() {
+    if (this.run !== null && this.canvas.clientWidth > 0) {
       this.view = this.isFitted ? null : this.view;
-      this.fetch();
+      this.requestPicture();
     }
   }
 
   /** Shows the whole, or what is marked, as the picture opened. */
   fit(opens = false) {
-    Object.assign(this, { view: null, opens, isFitted: true });
-    this.fetch();
+    Object.assign(this, { view: null, isOpening: opens, isFitted: true });
+    this.requestPicture();
   }
 
-  show(/** @type {View} */ view) {
+  setView(/** @type {View} */ view) {
     Object.assign(this, { view, isFitted: false });
-    this.fetch();
+    this.requestPicture();
   }
 
   /** Asks for the picture of the view, and shows the one before until it is there. */
-  fetch() {
-    if (this.shown === null) {
+  requestPicture() {
+    if (this.run === null) {
       return;
     }
-    const { machine, cells, upto, last, pair, end } = this.shown;
+    const { machine, cells, upto, last, pair, end } = this.run;
     const { width, height } = this.area;
-    if (this.data === null) {
-      part("diagram-text").textContent = "Drawing …";
+    if (this.picture === null) {
+      byId("diagram-text").textContent = "Drawing …";
     }
-    this.canvas.dataset.state = "asked";
-    const fit = { last, pair, opens: this.opens, end };
-    const question = { what: "picture", machine, cells, upto, view: this.view, width, height, fit };
-    this.asked += 1;
-    const { asked } = this;
-    this.asker.ask({ ...question, palette: palette() }, (answer) => this.take(answer, asked === this.asked));
-    this.drawSoon();
+    this.canvas.dataset.state = "requested";
+    const fit = { last, pair, opens: this.isOpening, end };
+    const question = { type: "picture", machine, cells, upto, view: this.view, width, height, fit };
+    this.requests += 1;
+    const { requests } = this;
+    this.client.request({ ...question, palette: readPalette() }, (answer) => this.receivePicture(answer, requests === this.requests));
+    this.scheduleDraw();
   }
 
   /**
    * Takes a picture; that of an older view is shown, scaled, until the last one comes. It is drawn at once,
    * so that it stands ready for the browser's next frame.
    */
-  take(/** @type {any} */ answer, /** @type {boolean} */ isLast) {
+  receivePicture(/** @type {any} */ answer, /** @type {boolean} */ isLast) {
     if (!isLast && (answer.error || this.view === null)) {
       return;
     }
     if (answer.error) {
-      Object.assign(this, { data: null, sheet: null });
-      this.blank();
-      part("diagram-text").textContent = `No diagram: ${answer.message}.`;
+      Object.assign(this, { picture: null, sheet: null });
+      this.clear();
+      byId("diagram-text").textContent = `No diagram: ${answer.message}.`;
       return;
     }
     /** @type {Picture} */
     const data = answer.picture;
-    this.data = data;
-    this.sheet = sheetOf(data);
+    this.picture = data;
+    this.sheet = createSheet(data);
     this.view ??= data.view;
-    this.canvas.dataset.state = isLast ? "taken" : "asked";
+    this.canvas.dataset.state = isLast ? "received" : "requested";
     this.draw();
     if (isLast) {
-      this.takeAhead(data.ahead, this.asked);
-      this.canvas.dispatchEvent(new Event("taken"));
+      this.traceAhead(data.ahead, this.requests);
+      this.canvas.dispatchEvent(new Event("received"));
     }
   }
 
   /**
    * Has rows of views that may come next taken by another worker, one after another, and kept by the one that
    * makes pictures, until another picture is asked for.
-   * @param {import("../../worker/samples.mjs").Ahead[]} ahead @param {number} asked
+   * @param {import("../../worker/row-cache.mjs").AheadRequest[]} ahead @param {number} asked
    */
-  takeAhead([rows, ...others], asked) {
-    if (rows === undefined || asked !== this.asked) {
+  traceAhead([rows, ...others], asked) {
+    if (rows === undefined || asked !== this.requests) {
       return;
     }
-    this.ahead.ask({ what: "ahead", rows }, ({ error, kept }) => {
-      kept && this.asker.tell({ what: "keep", kept }, [kept.sample.cells.buffer]);
-      error || this.takeAhead(others, asked);
+    this.aheadClient.request({ type: "trace-ahead", request: rows }, ({ error, cached }) => {
+      cached && this.client.post({ type: "store-rows", cached }, [cached.sample.cells.buffer]);
+      error || this.traceAhead(others, asked);
     });
   }
 
   /** Shows a view, or one nearby with something visited, where it isn't the one that is shown. */
-  showNear(/** @type {View} */ wanted) {
-    const { scene, shown } = this;
-    if (scene !== null && shown !== null) {
-      const view = places.kept({ ...scene, view: wanted }, shown.upto);
-      isSame(view, scene.view) || this.show(view);
+  setNearView(/** @type {View} */ wanted) {
+    const { scene, run } = this;
+    if (scene !== null && run !== null) {
+      const view = places.clampView({ ...scene, view: wanted }, run.upto);
+      isSameView(view, scene.view) || this.setView(view);
     }
   }
 
@@ -186,12 +186,12 @@ export class Diagram {
    * Shows a view zoomed so many times, with what was at one point of the canvas at another.
    * @param {View} from @param {number} factor @param {Point} point @param {Point} goal
    */
-  stretch(from, factor, point, goal) {
-    if (this.data !== null) {
+  moveAndZoom(from, factor, point, goal) {
+    if (this.picture !== null) {
       const { x, y } = this.area;
       const at = { x: point.x - x, y: point.y - y };
-      const view = factor === 1 ? from : zoomed(from, this.data.home, factor, at);
-      this.showNear(places.moved(view, point.x - goal.x, point.y - goal.y));
+      const view = factor === 1 ? from : zoomView(from, this.picture.home, factor, at);
+      this.setNearView(places.moveView(view, point.x - goal.x, point.y - goal.y));
     }
   }
 
@@ -201,31 +201,31 @@ export class Diagram {
    * @param {number} factor @param {Point} [place]
    */
   zoom(factor, place) {
-    const { scene, data } = this;
-    if (scene !== null && data !== null) {
-      const { x, y } = place ?? this.middle(scene);
-      this.show(zoomed(scene.view, data.home, factor, { x: x - scene.area.x, y: y - scene.area.y }));
+    const { scene, picture } = this;
+    if (scene !== null && picture !== null) {
+      const { x, y } = place ?? this.zoomCentre(scene);
+      this.setView(zoomView(scene.view, picture.home, factor, { x: x - scene.area.x, y: y - scene.area.y }));
     }
   }
 
   /** The place in the canvas at which keys zoom. */
-  middle(/** @type {Scene} */ scene) {
-    return places.middleOf(scene, [this.place, this.chosen]);
+  zoomCentre(/** @type {Scene} */ scene) {
+    return places.zoomCentre(scene, [this.pointed, this.tapePlace]);
   }
 
   /** Chooses a step whose head is there; where the view is too far away to see its cells, it comes near. */
-  goTo(/** @type {Place} */ place, /** @type {boolean} */ closes) {
-    this.chosen = place;
+  showStep(/** @type {Place} */ place, /** @type {boolean} */ closes) {
+    this.tapePlace = place;
     const { scene } = this;
     if (scene === null) {
       return;
     }
-    this.place = closes ? null : this.place;
-    if (closes || (!places.isSeen(scene, place) && scene.view.high >= places.LEGIBLE)) {
+    this.pointed = closes ? null : this.pointed;
+    if (closes || (!places.isVisible(scene, place) && scene.view.high >= places.LEGIBLE)) {
       const { width, height } = scene.area;
-      this.show(closeTo(width, height, place.step, place.position, scene.view));
+      this.setView(closeView(width, height, place.step, place.position, scene.view));
     }
-    this.drawSoon();
+    this.scheduleDraw();
   }
 
   /** The place under a point of the canvas; null where there is none. */
@@ -235,24 +235,24 @@ export class Diagram {
   }
 
   /** Moves what the keys point at by cells that are seen, or by so much of the view. */
-  point(/** @type {number} */ right, /** @type {number} */ down, /** @type {boolean} */ far) {
-    const { scene, shown } = this;
-    if (scene === null || shown === null) {
+  movePointer(/** @type {number} */ right, /** @type {number} */ down, /** @type {boolean} */ far) {
+    const { scene, run } = this;
+    if (scene === null || run === null) {
       return;
     }
-    const isSeen = places.isSeen(scene, this.chosen);
-    const middle = isSeen ? null : places.placeAt(scene, this.middle(scene));
-    const from = this.place ?? middle ?? this.chosen;
-    this.place = places.nextPlace(scene, from, { right, down, far }, shown.upto);
+    const isSeen = places.isVisible(scene, this.tapePlace);
+    const middle = isSeen ? null : places.placeAt(scene, this.zoomCentre(scene));
+    const from = this.pointed ?? middle ?? this.tapePlace;
+    this.pointed = places.nextPlace(scene, from, { right, down, far }, run.upto);
     // The view follows, so that the place is seen.
-    const way = places.wayTo(scene, this.place);
+    const way = places.offsetTo(scene, this.pointed);
     if (way.right !== 0 || way.down !== 0) {
-      this.showNear(places.moved(scene.view, way.right, way.down));
+      this.setNearView(places.moveView(scene.view, way.right, way.down));
     }
-    this.drawSoon();
+    this.scheduleDraw();
   }
 
-  drawSoon() {
+  scheduleDraw() {
     if (this.frame === 0) {
       this.frame = requestAnimationFrame(() => this.draw());
     }
@@ -261,24 +261,24 @@ export class Diagram {
   draw() {
     cancelAnimationFrame(this.frame);
     this.frame = 0;
-    const { scene, data, canvas } = this;
-    if (data === null || scene === null) {
+    const { scene, picture, canvas } = this;
+    if (picture === null || scene === null) {
       return;
     }
     const painter = new Painter(canvas, scene);
-    painter.picture(data, this.sheet);
-    painter.heads(data.sample);
-    this.marks.forEach((mark) => painter.mark(mark));
-    painter.axes(this.chosen.step);
-    this.place !== null && painter.place(this.place);
-    const isNew = canvas.dataset.state === "taken" || canvas.dataset.state === "drawn";
+    painter.paintPicture(picture, this.sheet);
+    painter.paintHeads(picture.sample);
+    this.marks.forEach((mark) => painter.paintMark(mark));
+    painter.paintAxes(this.tapePlace.step);
+    this.pointed !== null && painter.paintPlace(this.pointed);
+    const isNew = canvas.dataset.state === "received" || canvas.dataset.state === "drawn";
     Object.assign(canvas.dataset, { ...scene.view, x: scene.area.x, y: scene.area.y, ratio: painter.ratio });
-    part("diagram-text").textContent = places.pictureWords(data, scene.area.width);
-    canvas.dataset.state = isNew ? "drawn" : "asked";
+    byId("diagram-text").textContent = places.pictureText(picture, scene.area.width);
+    canvas.dataset.state = isNew ? "drawn" : "requested";
   }
 
   /** @returns {Promise<Blob | null>} the picture as a file */
-  async png() {
+  async toPng() {
     return new Promise((done) => this.canvas.toBlob(done, "image/png"));
   }
 }

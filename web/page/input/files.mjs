@@ -1,5 +1,5 @@
 /** Files: choosing and dropping them, what they are by their first bytes, and unpacking those of gzip. */
-import { part } from "../dom.mjs";
+import { byId } from "../dom.mjs";
 
 // The first bytes of encodings and formats, and their names. UTF-32 comes before UTF-16, whose mark begins
 // that of UTF-32.
@@ -17,7 +17,7 @@ const MARKS = /** @type {[number[], string][]} */ ([
 ]);
 const GZIP = [0x1f, 0x8b];
 // So many bytes tell whether every other one is a zero.
-const LOOKED_AT = 256;
+const EXAMINED_BYTES = 256;
 const LEAST = 4;
 
 /**
@@ -25,38 +25,38 @@ const LEAST = 4;
  * @param {(file: File | null) => void} take @param {(text: string) => void} fill
  */
 export function listenToFiles(take, fill) {
-  const field = /** @type {HTMLInputElement} */ (part("file"));
+  const field = /** @type {HTMLInputElement} */ (byId("file"));
   field.addEventListener("change", () => take(field.files?.[0] ?? null));
-  part("file-choose").addEventListener("click", () => {
+  byId("file-choose").addEventListener("click", () => {
     // So a file that is chosen again is heard of.
     field.value = "";
     field.click();
   });
-  part("file-remove").addEventListener("click", () => {
+  byId("file-remove").addEventListener("click", () => {
     field.value = "";
     take(null);
-    part("list").focus();
+    byId("list").focus();
   });
   // A text that is dragged from the page, or into a field, isn't the page's to take.
   let isOwn = false;
   addEventListener("dragstart", () => (isOwn = true));
   addEventListener("dragend", () => (isOwn = false));
-  const takes = (/** @type {DragEvent} */ { target, dataTransfer }) => {
+  const accepts = (/** @type {DragEvent} */ { target, dataTransfer }) => {
     const isField = target instanceof Element && target.matches("textarea, input");
     return dataTransfer?.types.includes("Files") || !(isOwn || isField);
   };
   addEventListener("dragover", (event) => {
-    if (takes(event)) {
+    if (accepts(event)) {
       event.preventDefault();
     }
-    part("drop").hidden = !takes(event);
+    byId("drop").hidden = !accepts(event);
   });
   addEventListener("dragleave", (event) => {
-    part("drop").hidden = event.relatedTarget === null;
+    byId("drop").hidden = event.relatedTarget === null;
   });
   addEventListener("drop", (event) => {
-    part("drop").hidden = true;
-    if (!takes(event)) {
+    byId("drop").hidden = true;
+    if (!accepts(event)) {
       return;
     }
     event.preventDefault();
@@ -66,7 +66,7 @@ export function listenToFiles(take, fill) {
   });
 }
 
-const beginsWith = (/** @type {Uint8Array} */ bytes, /** @type {number[]} */ mark) =>
+const startsWith = (/** @type {Uint8Array} */ bytes, /** @type {number[]} */ mark) =>
   bytes.length >= mark.length && mark.every((byte, at) => bytes[at] === byte);
 
 /**
@@ -74,11 +74,11 @@ const beginsWith = (/** @type {Uint8Array} */ bytes, /** @type {number[]} */ mar
  * @returns {string | null}
  */
 export function encodingOf(/** @type {Uint8Array} */ begin) {
-  const mark = MARKS.find(([bytes]) => beginsWith(begin, bytes));
+  const mark = MARKS.find(([bytes]) => startsWith(begin, bytes));
   if (mark !== undefined) {
     return mark[1];
   }
-  const first = begin.subarray(0, LOOKED_AT);
+  const first = begin.subarray(0, EXAMINED_BYTES);
   const zeros = first.filter((byte) => byte === 0).length;
   if (first.length < LEAST || 3 * zeros < first.length || zeros === first.length) {
     return null;
@@ -95,9 +95,9 @@ export class ListError extends Error {
 }
 
 /** The bytes of a list, unpacked where they are compressed by gzip. */
-export async function unpacked(/** @type {Blob} */ blob) {
-  const begin = await beginOf(blob);
-  if (!beginsWith(begin, GZIP)) {
+export async function decompress(/** @type {Blob} */ blob) {
+  const begin = await readFirstBytes(blob);
+  if (!startsWith(begin, GZIP)) {
     return blob;
   }
   const { DecompressionStream: Unpacker } = /** @type {any} */ (globalThis);
@@ -117,12 +117,12 @@ export async function unpacked(/** @type {Blob} */ blob) {
 
 /** Throws ListError where the bytes of a list are no text in UTF-8. */
 export async function requireUtf8(/** @type {Blob} */ blob) {
-  const encoding = encodingOf(await beginOf(blob));
+  const encoding = encodingOf(await readFirstBytes(blob));
   if (encoding !== null) {
     throw new ListError(`The list is ${encoding}, which the page doesn’t read. Give it as text in UTF-8.`);
   }
 }
 
-async function beginOf(/** @type {Blob} */ blob) {
-  return new Uint8Array(await blob.slice(0, LOOKED_AT).arrayBuffer());
+async function readFirstBytes(/** @type {Blob} */ blob) {
+  return new Uint8Array(await blob.slice(0, EXAMINED_BYTES).arrayBuffer());
 }

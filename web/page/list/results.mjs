@@ -2,12 +2,12 @@
  * What was said of a list, in the order of its lines, though pieces of it may end in another order.
  *
  * @typedef {import("../../worker/worker.mjs").Part} Part
- * @typedef {{part: Part, line: number}} Place
+ * @typedef {{part: Part, line: number}} LinePlace
  */
-import { ANSWERS, KINDS, UNREAD, readLine } from "../../reader/machine.mjs";
-import { joined, lineAt } from "../../reader/prepare.mjs";
-import { BYTES_KEPT, LONGEST_SHOWN } from "../../reader/words.mjs";
-import { startsOf, stepsIn } from "../../worker/replies.mjs";
+import { ANSWERS, KINDS, UNREAD_LINE, parseVerdictLine } from "../../reader/machine.mjs";
+import { concatBytes, lineAt } from "../../reader/list-reader.mjs";
+import { BYTES_KEPT, LONGEST_SHOWN } from "../../reader/tokens.mjs";
+import { startsOf, readSteps } from "../../worker/replies.mjs";
 
 // How long work takes before the page rests.
 const BUSY_MILLISECONDS = 20;
@@ -26,29 +26,29 @@ export class Results {
     // Limits by their numbers.
     this.plans = [plan, plan];
     // How many lines only the first pass has answered, and how many of these it left undecided.
-    this.open = 0;
+    this.provisional = 0;
     this.waiting = 0;
     // How many lines were decided again with larger limits.
-    this.again = 0;
+    this.redecided = 0;
     /** @type {Part[][]} */
     this.jobs = [];
     this.counts = KINDS.map(() => 0);
     this.answers = ANSWERS.map(() => 0);
-    this.left = 0;
+    this.skipped = 0;
     this.read = 0;
     this.lines = 0;
     /** @type {Part[] | null} */
     this.flat = null;
-    this.begins = new Float64Array(1);
+    this.firstRows = new Float64Array(1);
     // The numbers from 0 on.
-    this.numbers = new Uint32Array(0);
+    this.rowNumbers = new Uint32Array(0);
   }
 
   add(/** @type {Part} */ part, /** @type {number} */ read) {
     (this.jobs[part.job] ??= []).push(part);
     this.flat = null;
     this.lines += part.kinds.length;
-    this.left += part.left;
+    this.skipped += part.left;
     this.read += read;
     part.kindCounts.forEach((count, kind) => (this.counts[kind] += count));
     part.answerCounts.forEach((count, answer) => (this.answers[answer] += count));
@@ -58,10 +58,10 @@ export class Results {
    * Takes in a part of the first pass: of what it left undecided, and of backward reasoning, which comes
    * last, the limits of the list may find another verdict.
    */
-  addFirst(/** @type {Part} */ part, /** @type {number} */ read) {
+  addFirstPass(/** @type {Part} */ part, /** @type {number} */ read) {
     const { kinds } = part;
     part.plans = kinds.map((kind) => (kind === UNDECIDED || kind === BACKWARD ? FIRST_PASS : 0));
-    this.open += part.kindCounts[UNDECIDED] + part.kindCounts[BACKWARD];
+    this.provisional += part.kindCounts[UNDECIDED] + part.kindCounts[BACKWARD];
     this.waiting += part.kindCounts[UNDECIDED];
     this.add(part, read);
   }
@@ -80,77 +80,77 @@ export class Results {
    */
   replace(rows, by, plan) {
     for (let first = 0; first < rows.length; ) {
-      const { part, line } = this.place(rows[first]);
+      const { part, line } = this.placeOf(rows[first]);
       const begin = rows[first] - line;
       const beyond = rows.findIndex((row) => row >= begin + part.kinds.length);
       const end = beyond < 0 ? rows.length : beyond;
       const lines = rows.subarray(first, end).map((row) => row - begin);
-      lines.forEach((one) => this.count(part, one, -1));
+      lines.forEach((one) => this.adjustCounts(part, one, -1));
       replaceLines(part, lines, by, first, plan);
-      lines.forEach((one) => this.count(part, one, 1));
+      lines.forEach((one) => this.adjustCounts(part, one, 1));
       first = end;
     }
   }
 
   /** Counts a line, or takes it out of the counts. */
-  count(/** @type {Part} */ { kinds, answers, plans }, /** @type {number} */ line, /** @type {1 | -1} */ by) {
+  adjustCounts(/** @type {Part} */ { kinds, answers, plans }, /** @type {number} */ line, /** @type {1 | -1} */ by) {
     const plan = plans?.[line] ?? 0;
     this.counts[kinds[line]] += by;
     this.answers[answers[line]] += by;
-    this.open += plan === FIRST_PASS ? by : 0;
+    this.provisional += plan === FIRST_PASS ? by : 0;
     this.waiting += plan === FIRST_PASS && kinds[line] === UNDECIDED ? by : 0;
-    this.again += plan >= LARGER ? by : 0;
+    this.redecided += plan >= LARGER ? by : 0;
   }
 
   machineAt(/** @type {number} */ row) {
-    const { part, line } = this.place(row);
+    const { part, line } = this.placeOf(row);
     const from = part.starts[line];
     return decoder.decode(part.bytes.subarray(from, part.bytes.indexOf(SPACE, from)));
   }
 
   /** The parts in order, with the number of the first line of each in `begins`. */
-  parts() {
+  partsInOrder() {
     if (this.flat === null) {
       this.flat = this.jobs.filter(Boolean).flat();
-      this.begins = new Float64Array(this.flat.length + 1);
+      this.firstRows = new Float64Array(this.flat.length + 1);
       this.flat.forEach((part, k) => {
-        this.begins[k + 1] = this.begins[k] + part.kinds.length;
+        this.firstRows[k + 1] = this.firstRows[k] + part.kinds.length;
       });
     }
     return this.flat;
   }
 
-  /** @returns {Place} where a line stands */
-  place(/** @type {number} */ row) {
-    const parts = this.parts();
+  /** @returns {LinePlace} where a line stands */
+  placeOf(/** @type {number} */ row) {
+    const parts = this.partsInOrder();
     let [low, high] = [0, parts.length];
     while (high - low > 1) {
       const middle = (low + high) >> 1;
-      [low, high] = this.begins[middle] <= row ? [middle, high] : [low, middle];
+      [low, high] = this.firstRows[middle] <= row ? [middle, high] : [low, middle];
     }
-    return { part: parts[low], line: row - this.begins[low] };
+    return { part: parts[low], line: row - this.firstRows[low] };
   }
 
   /** The row of a line; -1 where it has none. */
-  rowOf(/** @type {Place} */ { part, line }) {
-    const at = this.parts().indexOf(part);
-    return at < 0 ? -1 : this.begins[at] + line;
+  rowOf(/** @type {LinePlace} */ { part, line }) {
+    const at = this.partsInOrder().indexOf(part);
+    return at < 0 ? -1 : this.firstRows[at] + line;
   }
 
   /** Whether a row is undecided. */
   isUndecided(/** @type {number} */ row) {
-    const { part, line } = this.place(row);
+    const { part, line } = this.placeOf(row);
     return part.kinds[line] === UNDECIDED;
   }
 
   /** Whether a row is undecided by the first pass, and waits for the second one. */
   isWaiting(/** @type {number} */ row) {
-    const { part, line } = this.place(row);
+    const { part, line } = this.placeOf(row);
     return part.plans?.[line] === FIRST_PASS && this.isUndecided(row);
   }
 
   /** Whether the first line of the list has come: no piece before it has one that comes later. */
-  get hasFirst() {
+  get hasFirstLine() {
     for (const parts of this.jobs) {
       if (parts?.some(({ kinds }) => kinds.length > 0)) {
         return true;
@@ -163,13 +163,13 @@ export class Results {
   }
 
   /** A row as it is shown: its number in the list, its verdict line, and as what it was given. */
-  row(/** @type {number} */ row) {
-    const { part, line } = this.place(row);
+  rowAt(/** @type {number} */ row) {
+    const { part, line } = this.placeOf(row);
     const text = part.lines ?? part.bytes;
     const end = Math.min(part.starts[line + 1], part.starts[line] + LONGEST_SHOWN);
     const answer = ANSWERS[part.answers[line]];
     const written = decoder.decode(text.subarray(part.starts[line], end)).replace(/[\r\n]+$/, "");
-    const read = answer === "unread" ? UNREAD : readLine(written);
+    const read = answer === "unread" ? UNREAD_LINE : parseVerdictLine(written);
     const number = part.first + (part.numbers === null ? line : part.numbers[line]);
     const { source, places } = part;
     const given = source === null || places === null ? null : lineAt(source, places[line], BYTES_KEPT);
@@ -183,33 +183,33 @@ export class Results {
    */
   async blobOf(kinds = new Set(KINDS.keys())) {
     const parts = [];
-    for (const part of this.parts()) {
+    for (const part of this.partsInOrder()) {
       const isWhole = part.plans === undefined && kinds.size === KINDS.length;
       parts.push(...(isWhole ? [part.bytes] : linesOf(part, kinds)));
-      isWhole || (await rest());
+      isWhole || (await pause());
     }
     return new Blob(parts, { type: "text/plain" });
   }
 
   /** All rows, in order, in a list that is kept. */
   allRows() {
-    if (this.numbers.length < this.lines) {
-      this.numbers = new Uint32Array(Math.max(this.lines, 2 * this.numbers.length)).map((_, k) => k);
+    if (this.rowNumbers.length < this.lines) {
+      this.rowNumbers = new Uint32Array(Math.max(this.lines, 2 * this.rowNumbers.length)).map((_, k) => k);
     }
-    return this.numbers.subarray(0, this.lines);
+    return this.rowNumbers.subarray(0, this.lines);
   }
 
   /** The rows of these kinds, in order. */
-  rows(/** @type {Set<number>} */ kinds) {
+  rowsOfKinds(/** @type {Set<number>} */ kinds) {
     const isAll = this.counts.every((count, kind) => count === 0 || kinds.has(kind));
-    return isAll ? this.allRows() : this.rowsBy(({ kinds: own }, line) => kinds.has(own[line]));
+    return isAll ? this.allRows() : this.filterRows(({ kinds: own }, line) => kinds.has(own[line]));
   }
 
   /** The rows that are so, in order. */
-  rowsBy(/** @type {(part: Part, line: number) => boolean} */ isIn) {
+  filterRows(/** @type {(part: Part, line: number) => boolean} */ isIn) {
     const rows = new Uint32Array(this.lines);
     let [count, row] = [0, 0];
-    this.parts().forEach((part) =>
+    this.partsInOrder().forEach((part) =>
       part.kinds.forEach((_, line) => {
         rows[count] = row;
         row += 1;
@@ -226,14 +226,14 @@ export class Results {
   async stepsOf(/** @type {Uint32Array} */ rows, /** @type {() => boolean} */ isWanted) {
     const all = new Float64Array(this.lines);
     let begun = performance.now();
-    for (const [k, part] of this.parts().entries()) {
+    for (const [k, part] of this.partsInOrder().entries()) {
       if (!isWanted()) {
         break;
       }
-      part.steps ??= stepsIn(part.lines ?? part.bytes, part);
-      all.set(part.steps, this.begins[k]);
+      part.steps ??= readSteps(part.lines ?? part.bytes, part);
+      all.set(part.steps, this.firstRows[k]);
       if (performance.now() - begun > BUSY_MILLISECONDS) {
-        await rest();
+        await pause();
         begun = performance.now();
       }
     }
@@ -243,7 +243,7 @@ export class Results {
   }
 }
 
-const rest = () => new Promise((done) => setTimeout(done));
+const pause = () => new Promise((done) => setTimeout(done));
 
 /** The lines of a part whose kinds are among these, as bytes; those that stand together are one. */
 function linesOf(/** @type {Part} */ part, /** @type {Set<number>} */ kinds) {
@@ -282,7 +282,7 @@ export function replaceLines(part, lines, by, first, plan) {
     part.answers[line] = by.answers[other];
     plans[line] = plan;
   }
-  part.bytes = joined([...pieces, bytes.subarray(from)]);
+  part.bytes = concatBytes([...pieces, bytes.subarray(from)]);
   part.starts = startsOf(part.bytes).slice();
   part.steps = undefined;
 }

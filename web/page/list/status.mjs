@@ -1,14 +1,14 @@
 /**
  * How far a list is, in words.
  *
- * @typedef {import("../../reader/prepare.mjs").Form} Form
+ * @typedef {import("../../reader/list-reader.mjs").Form} Form
  * @typedef {{mode: "decide" | "check", plan: Record<string, any>, form: Form | null, isText: boolean,
- *   size: number, begun: number, taken: number}} Run a list that is worked on: the form by
+ *   size: number, begun: number, taken: number}} RunInfo a list that is worked on: the form by
  *   which its lines are read, null where they aren't; whether it begins as text in UTF-8; its bytes, the
  *   milliseconds at which the work began, and those that it took; 0 while it is under way
  */
-import { ANSWERS, KINDS, counted, shown } from "../../reader/machine.mjs";
-import { LONGEST_QUOTED } from "../../reader/words.mjs";
+import { ANSWERS, KINDS, formatCount, formatNumber } from "../../reader/machine.mjs";
+import { LONGEST_QUOTED } from "../../reader/tokens.mjs";
 
 const [UNDECIDED, REFUSED] = [KINDS.indexOf("undecided"), KINDS.indexOf("refused")];
 const [BAD, OVER] = [ANSWERS.indexOf("bad"), ANSWERS.indexOf("over")];
@@ -27,11 +27,11 @@ const NAMED_MILLISECONDS = 500;
  * How far a list is, and what the checker says of it. Each line of the list is counted once.
  * @param {string} how it stands: running, done, stopped or ended
  * @param {number} share of the list that is done, 0 to 1
- * @param {Run} run @param {import("./results.mjs").Results} results
+ * @param {RunInfo} run @param {import("./results.mjs").Results} results
  */
-export function statusOf(how, share, run, results) {
+export function statusText(how, share, run, results) {
   const seconds = (run.taken || performance.now() - run.begun) / 1000;
-  const { counts, lines, left, waiting, open, again } = results;
+  const { counts, lines, skipped, waiting, provisional, redecided } = results;
   const parts = [`${how}, ${seconds.toFixed(1)} s`];
   if (how !== "Done") {
     parts[0] += `, ${Math.floor(100 * share)} % done`;
@@ -39,21 +39,21 @@ export function statusOf(how, share, run, results) {
   const doubted = results.answers[BAD] + results.answers[OVER];
   const decided = lines - counts[UNDECIDED] - counts[REFUSED] - doubted;
   const numbers = [
-    `${shown(decided)} decided`,
-    `${shown(counts[UNDECIDED] - waiting)} undecided`,
-    `${shown(counts[REFUSED])} refused`,
-    ...(left > 0 ? [`${shown(left)} left out (${LEFT_OUT})`] : []),
-    ...(doubted > 0 ? [`${shown(doubted)} not confirmed`] : []),
-    ...(waiting > 0 ? [`${shown(waiting)} left for the second pass`] : []),
-    ...(again > 0 ? [`${shown(again)} decided again with larger limits`] : []),
+    `${formatNumber(decided)} decided`,
+    `${formatNumber(counts[UNDECIDED] - waiting)} undecided`,
+    `${formatNumber(counts[REFUSED])} refused`,
+    ...(skipped > 0 ? [`${formatNumber(skipped)} left out (${LEFT_OUT})`] : []),
+    ...(doubted > 0 ? [`${formatNumber(doubted)} not confirmed`] : []),
+    ...(waiting > 0 ? [`${formatNumber(waiting)} left for the second pass`] : []),
+    ...(redecided > 0 ? [`${formatNumber(redecided)} decided again with larger limits`] : []),
   ];
   parts.push(numbers.join(", "));
-  if (open > 0 && (how === "Stopped" || how === "Ended")) {
-    parts.push(`Save and Copy leave out ${counted(open, "line")} of the first pass`);
+  if (provisional > 0 && (how === "Stopped" || how === "Ended")) {
+    parts.push(`Save and Copy leave out ${formatCount(provisional, "line")} of the first pass`);
   }
-  const answers = ANSWERS.map((answer, k) => `${shown(results.answers[k])} ${answer}`);
+  const answers = ANSWERS.map((answer, k) => `${formatNumber(results.answers[k])} ${answer}`);
   const answered = answers.filter((_, k) => results.answers[k] > 0 && ANSWERS[k] !== "open").join(", ");
-  const what = run.mode === "check" ? `These are ${counted(lines, "verdict line")}, checked` : "The checker";
+  const what = run.mode === "check" ? `These are ${formatCount(lines, "verdict line")}, checked` : "The checker";
   parts.push(`${what}: ${answered || "nothing to confirm"}`);
   if (run.form !== null && run.mode === "decide") {
     parts.push(`Read as ${FORMS[run.form]}`);
@@ -65,7 +65,7 @@ export function statusOf(how, share, run, results) {
 }
 
 /** The machine that is worked on, where it takes long; nothing else. */
-export function underWayWords(/** @type {{text: string, taken: number} | null} */ under) {
+export function slowLineText(/** @type {{text: string, taken: number} | null} */ under) {
   if (under === null || under.taken < NAMED_MILLISECONDS) {
     return "";
   }

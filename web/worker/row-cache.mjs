@@ -3,21 +3,21 @@
  * those of closer, neighbouring and farther views are taken ahead: most views need no trace then.
  *
  * @typedef {import("../lib/bb.mjs").Engine} Engine
- * @typedef {import("./sample.mjs").Sample} Sample
- * @typedef {{machine: string, cells: number, from: number, every: number, upto: number}} Asked the rows of
+ * @typedef {import("./packed-rows.mjs").PackedRows} PackedRows
+ * @typedef {{machine: string, cells: number, from: number, every: number, upto: number}} RowRequest the rows of
  *   the steps `from`, `from + every` and so on up to `upto`
- * @typedef {Asked & {space: number}} Ahead with how many bytes they have at most
- * @typedef {{asked: Asked, sample: Sample, cut: boolean}} Kept rows, and whether the cells cut the trace;
+ * @typedef {RowRequest & {space: number}} AheadRequest with how many bytes they have at most
+ * @typedef {{asked: RowRequest, sample: PackedRows, cut: boolean}} CachedRows rows, and whether the cells cut the trace;
  *   `upto` has no end where the run ended
- * @typedef {{state: string, low: number, wide: number}} Row
- * @typedef {{upto: number, step: number, halts: boolean, low: number, wide: number}} Last the last row up to
+ * @typedef {{state: string, low: number, wide: number}} RowExtent
+ * @typedef {{upto: number, step: number, halts: boolean, low: number, wide: number}} LastRow the last row up to
  *   a step, and whether the run halts there
- * @typedef {{closer: number, farther: number, beyond: number, most: number}} Next views that may come: how
+ * @typedef {{closer: number, farther: number, beyond: number, most: number}} NextViews views that may come: how
  *   many steps apart the rows of a closer and of a farther one are, how many steps above and below this view
  *   the farther one may have, and the last step of any
  */
-import { machineOf } from "../reader/machine.mjs";
-import { readTrace, rowsOf } from "./sample.mjs";
+import { parseMachine } from "../reader/machine.mjs";
+import { parseTrace, selectRows } from "./packed-rows.mjs";
 
 // Bytes of a trace's line beside its cells, at most.
 const LINE_ROOM = 64;
@@ -34,37 +34,37 @@ const STRETCHES = 64;
 // What is decided by steps alone.
 const SIMULATION = { depth: 0, nodes: 0, cyclers: false, translated: false, backward: false };
 
-export class Run {
+export class RowCache {
   constructor(/** @type {string} */ machine, /** @type {number} */ cells) {
     this.machine = machine;
     this.cells = cells;
-    this.symbols = machineOf(machine).symbols;
-    /** @type {Kept[]} rows that are kept, those that were used last first */
-    this.kept = [];
-    /** @type {Last[]} */
-    this.lasts = [];
+    this.symbols = parseMachine(machine).symbols;
+    /** @type {CachedRows[]} rows that are kept, those that were used last first */
+    this.cached = [];
+    /** @type {LastRow[]} */
+    this.lastRows = [];
   }
 
   /** The last row up to a step: that of the step, or the one at which the run or its cells end. */
-  last(/** @type {Engine} */ engine, /** @type {number} */ upto) {
-    const known = this.lasts.find((one) => one.upto === upto);
+  lastRow(/** @type {Engine} */ engine, /** @type {number} */ upto) {
+    const known = this.lastRows.find((one) => one.upto === upto);
     if (known !== undefined) {
       return known;
     }
-    const row = this.rowAt(engine, upto);
-    const end = row === null ? this.end(engine, upto) : { step: upto, halts: row.state === "Z" };
-    const found = row ?? /** @type {Row} */ (this.rowAt(engine, end.step));
+    const row = this.rowExtent(engine, upto);
+    const end = row === null ? this.findEnd(engine, upto) : { step: upto, halts: row.state === "Z" };
+    const found = row ?? /** @type {RowExtent} */ (this.rowExtent(engine, end.step));
     const last = { upto, ...end, low: found.low, wide: found.wide };
-    this.know(last);
+    this.addLastRow(last);
     return last;
   }
 
-  know(/** @type {Last} */ last) {
-    this.lasts.some(({ upto }) => upto === last.upto) || this.lasts.push(last);
+  addLastRow(/** @type {LastRow} */ last) {
+    this.lastRows.some(({ upto }) => upto === last.upto) || this.lastRows.push(last);
   }
 
-  /** @returns {Row | null} the row of a step; null where the run ends before */
-  rowAt(/** @type {Engine} */ engine, /** @type {number} */ step) {
+  /** @returns {RowExtent | null} the row of a step; null where the run ends before */
+  rowExtent(/** @type {Engine} */ engine, /** @type {number} */ step) {
     const { machine, cells } = this;
     const { sample } = this.trace(engine, { machine, cells, from: step, every: 1, upto: step });
     const { states, lows, wide } = sample;
@@ -72,7 +72,7 @@ export class Run {
   }
 
   /** The last step of a run that ends before another one: that of its halt, or the last within its cells. */
-  end(/** @type {Engine} */ engine, /** @type {number} */ upto) {
+  findEnd(/** @type {Engine} */ engine, /** @type {number} */ upto) {
     const { machine, cells } = this;
     const verdictBy = (/** @type {number} */ steps) =>
       engine.decide([machine], { ...SIMULATION, steps, cells })[0].split(" ").slice(1);
@@ -90,91 +90,91 @@ export class Run {
   }
 
   /** How many cells a row up to a step has at most, by the rows that are known. */
-  widest(/** @type {number} */ step) {
-    const ofKept = this.kept.flatMap(({ asked: { from, every }, sample: { wide } }) => {
+  maxWidth(/** @type {number} */ step) {
+    const ofKept = this.cached.flatMap(({ asked: { from, every }, sample: { wide } }) => {
       return wide[Math.max(0, Math.ceil((step - from) / every))] ?? [];
     });
-    const lasts = this.lasts.filter((one) => one.step >= step || one.step < one.upto);
+    const lasts = this.lastRows.filter((one) => one.step >= step || one.step < one.upto);
     return Math.min(step + 1, this.cells, ...ofKept, ...lasts.map(({ wide }) => wide));
   }
 
   /** How many bytes a trace of these rows has at most. */
-  bytesOf(/** @type {Asked} */ { from, every, upto }) {
+  traceSize(/** @type {RowRequest} */ { from, every, upto }) {
     const count = Math.floor((upto - from) / every) + 1;
     const together = Math.max(1, Math.ceil(count / STRETCHES));
     let total = LINE_ROOM;
     for (let first = 0; first < count; first += together) {
       const end = Math.min(count, first + together);
-      total += (end - first) * (LINE_ROOM + this.widest(from + (end - 1) * every));
+      total += (end - first) * (LINE_ROOM + this.maxWidth(from + (end - 1) * every));
     }
     return total;
   }
 
   /** The question with so few rows that they aren't too many bytes. */
-  fitting(/** @type {Asked} */ asked) {
+  fitRequest(/** @type {RowRequest} */ asked) {
     let every = Math.max(1, asked.every);
-    while (this.bytesOf({ ...asked, every }) > MOST_BYTES && asked.from + every <= asked.upto) {
+    while (this.traceSize({ ...asked, every }) > MOST_BYTES && asked.from + every <= asked.upto) {
       every *= 2;
     }
     return { ...asked, every };
   }
 
   /** The rows that are asked for; those of a view are kept. */
-  rows(/** @type {Engine} */ engine, /** @type {Asked} */ given, /** @type {boolean} */ isView) {
-    this.bytesOf(given) > MOST_BYTES && this.last(engine, given.upto);
-    const asked = this.fitting(given);
-    const kept = this.kept.find((one) => has(one.asked, asked)) ?? this.trace(engine, asked);
+  getRows(/** @type {Engine} */ engine, /** @type {RowRequest} */ given, /** @type {boolean} */ isView) {
+    this.traceSize(given) > MOST_BYTES && this.lastRow(engine, given.upto);
+    const asked = this.fitRequest(given);
+    const kept = this.cached.find((one) => covers(one.asked, asked)) ?? this.trace(engine, asked);
     if (isView) {
-      this.keep(kept);
+      this.store(kept);
     }
-    return { ...picked(kept, asked), every: asked.every };
+    return { ...pickRows(kept, asked), every: asked.every };
   }
 
   /**
    * Keeps rows as the first ones, without others of which they have all; where all are too many bytes those
    * that were used first are given up.
    */
-  keep(/** @type {Kept} */ made) {
-    const others = this.kept.filter((one) => !has(made.asked, one.asked));
+  store(/** @type {CachedRows} */ made) {
+    const others = this.cached.filter((one) => !covers(made.asked, one.asked));
     let total = 0;
-    this.kept = [made, ...others].filter(({ sample }) => (total += sample.cells.length) <= MOST_KEPT);
+    this.cached = [made, ...others].filter(({ sample }) => (total += sample.cells.length) <= MOST_KEPT);
   }
 
   /**
    * A trace of these rows, which have so many bytes at most.
-   * @param {Engine} engine @param {Asked} asked @returns {Kept}
+   * @param {Engine} engine @param {RowRequest} asked @returns {CachedRows}
    */
-  trace(engine, asked, space = this.bytesOf(asked)) {
+  trace(engine, asked, space = this.traceSize(asked)) {
     const { machine, cells, from, every, upto } = asked;
     const line = new TextEncoder().encode(machine);
     const { bytes, clean } = engine.traceInPlace(line, { steps: upto, cells, from, every }, space);
-    const sample = readTrace(bytes, this.symbols);
+    const sample = parseTrace(bytes, this.symbols);
     const isEnded = (sample.steps.at(-1) ?? from - every) + every <= upto;
     return { asked: { machine, cells, from, every, upto: isEnded ? Infinity : upto }, sample, cut: !clean };
   }
 
   /**
    * What views closer than this one need, those above and below it, and farther ones, but for what is kept.
-   * @param {Asked} given @param {Next} next @returns {Ahead[]}
+   * @param {RowRequest} given @param {NextViews} next @returns {AheadRequest[]}
    */
-  ahead(given, { closer, farther, beyond, most }) {
-    const asked = this.fitting(given);
+  aheadRequests(given, { closer, farther, beyond, most }) {
+    const asked = this.fitRequest(given);
     const { from, upto, every } = asked;
     const half = Math.ceil((upto - from) / every / 2) * every;
     const above = Math.floor(Math.min(half, from) / every) * every;
     const beside = { ...asked, from: from - above, upto: Math.max(upto, Math.min(most, upto + half)) };
-    const near = [1, closer].map((one) => multiples(asked, one, 0, most));
-    const closest = every < ALL_STEPS && this.bytesOf(near[0]) <= MOST_AHEAD ? near[0] : near[1];
-    const wanted = [closest, beside, multiples(asked, farther, beyond, most)];
-    const others = wanted.filter((one) => !this.kept.some((kept) => has(kept.asked, one)));
+    const near = [1, closer].map((one) => alignRows(asked, one, 0, most));
+    const closest = every < ALL_STEPS && this.traceSize(near[0]) <= MOST_AHEAD ? near[0] : near[1];
+    const wanted = [closest, beside, alignRows(asked, farther, beyond, most)];
+    const others = wanted.filter((one) => !this.cached.some((kept) => covers(kept.asked, one)));
     return others
-      .map((one) => ({ ...one, space: this.bytesOf(one) }))
+      .map((one) => ({ ...one, space: this.traceSize(one) }))
       .filter(({ space }) => space <= MOST_AHEAD);
   }
 }
 
 /** Whether rows that are kept are those that are asked for, and others. */
-function has(/** @type {Asked} */ kept, /** @type {Asked} */ asked) {
+function covers(/** @type {RowRequest} */ kept, /** @type {RowRequest} */ asked) {
   const falls = (asked.from - kept.from) % kept.every === 0 && asked.every % kept.every === 0;
   return asked.from >= kept.from && asked.upto <= kept.upto && falls;
 }
@@ -182,19 +182,19 @@ function has(/** @type {Asked} */ kept, /** @type {Asked} */ asked) {
 /**
  * The rows whose steps are multiples of a number, as views have them after a zoom: from so many steps above
  * other rows to as many below.
- * @param {Asked} about @param {number} every @param {number} beyond @param {number} most the last step
+ * @param {RowRequest} about @param {number} every @param {number} beyond @param {number} most the last step
  */
-function multiples(about, every, beyond, most) {
+function alignRows(about, every, beyond, most) {
   const from = Math.max(0, Math.floor((about.from - beyond) / every) * every);
   return { ...about, from, upto: Math.max(about.upto, Math.min(most, about.upto + beyond + every)), every };
 }
 
 /** The rows that are asked for, of those that are kept. */
-function picked(/** @type {Kept} */ { asked: own, sample, cut }, /** @type {Asked} */ { from, upto, every }) {
+function pickRows(/** @type {CachedRows} */ { asked: own, sample, cut }, /** @type {RowRequest} */ { from, upto, every }) {
   const first = (from - own.from) / own.every;
   const apart = every / own.every;
   const end = Math.min(sample.steps.length, Math.floor((upto - own.from) / own.every) + 1);
   const count = Math.max(0, Math.ceil((end - first) / apart));
   const isAll = count === sample.steps.length;
-  return { sample: isAll ? sample : rowsOf(sample, first, apart, count), cut };
+  return { sample: isAll ? sample : selectRows(sample, first, apart, count), cut };
 }

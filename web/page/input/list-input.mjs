@@ -1,28 +1,28 @@
 /** The list that is given, as a text or a file, and the settings with which it is answered. */
-import { counted, shown } from "../../reader/machine.mjs";
-import { BEGIN_BYTES, firstLines, formOf, hasVerdicts, isUtf8 } from "../../reader/prepare.mjs";
-import { part, setAside, showWords } from "../dom.mjs";
-import { FIRST_BYTES } from "../list/pieces.mjs";
-import { planWords, setPlan } from "./fields.mjs";
-import { requireUtf8, unpacked } from "./files.mjs";
+import { formatCount, formatNumber } from "../../reader/machine.mjs";
+import { DETECTION_BYTES, firstLines, detectForm, hasVerdicts, isUtf8 } from "../../reader/list-reader.mjs";
+import { byId, setInactive, showText } from "../dom.mjs";
+import { FIRST_READ_BYTES } from "../list/chunks.mjs";
+import { fieldTexts, setPlan } from "./fields.mjs";
+import { requireUtf8, decompress } from "./files.mjs";
 
 /**
  * @typedef {"decide" | "check"} Mode
- * @typedef {import("../../reader/prepare.mjs").Form} Form
+ * @typedef {import("../../reader/list-reader.mjs").Form} Form
  * @typedef {{text: string, gone: string, plan: Record<string, any>, mode: string, clean: boolean,
- *   form?: string, isExample: boolean, hash: string}} Kept `gone` names a list that is too long to be kept,
+ *   form?: string, isExample: boolean, hash: string}} StoredInput `gone` names a list that is too long to be kept,
  *   `isExample` says that the settings are an example's, `hash` is the address behind `#`
  */
 
 const KEY = "budlarem";
 const MOST_CHARACTERS = 1_000_000;
 
-export class Source {
+export class ListInput {
   constructor() {
-    this.list = /** @type {HTMLTextAreaElement} */ (part("list"));
-    this.mode = /** @type {HTMLSelectElement} */ (part("mode"));
-    this.clean = /** @type {HTMLInputElement} */ (part("clean"));
-    this.form = /** @type {HTMLSelectElement} */ (part("list-form"));
+    this.list = /** @type {HTMLTextAreaElement} */ (byId("list"));
+    this.mode = /** @type {HTMLSelectElement} */ (byId("mode"));
+    this.clean = /** @type {HTMLInputElement} */ (byId("clean"));
+    this.form = /** @type {HTMLSelectElement} */ (byId("list-form"));
     /** @type {File | null} */
     this.file = null;
     // The bytes of the file, unpacked; null where they weren't asked for yet.
@@ -33,13 +33,13 @@ export class Source {
     // Whether the settings are those of an example: then the next list has the defaults again.
     this.isExample = false;
     this.list.addEventListener("input", () => {
-      this.forgetExample();
-      this.nameRun();
+      this.resetExampleSettings();
+      this.labelButton();
       this.gone = "";
-      part("list-gone").hidden = true;
+      byId("list-gone").hidden = true;
     });
-    this.mode.addEventListener("change", () => this.nameRun());
-    part("defaults").addEventListener("click", () => this.toDefaults());
+    this.mode.addEventListener("change", () => this.labelButton());
+    byId("defaults").addEventListener("click", () => this.resetSettings());
   }
 
   /** @returns {Mode} how a list is answered that begins so */
@@ -51,21 +51,21 @@ export class Source {
   /** @returns {Form} the form by which the lines of a list are read that begins so */
   formOf(/** @type {Uint8Array} */ start) {
     const asked = /** @type {Form | "auto"} */ (this.form.value);
-    return asked === "auto" ? formOf(firstLines(start)) ?? "text" : asked;
+    return asked === "auto" ? detectForm(firstLines(start)) ?? "text" : asked;
   }
 
   /** Has the button say what it does with the text, or with a file once its begin is read. */
-  nameRun() {
+  labelButton() {
     if (this.file === null) {
-      this.nameMode(this.modeOf(new TextEncoder().encode(this.list.value.slice(0, BEGIN_BYTES))));
+      this.setButtonLabel(this.modeOf(new TextEncoder().encode(this.list.value.slice(0, DETECTION_BYTES))));
     } else {
       // A file that can't be read is told where it is run.
-      this.given(BEGIN_BYTES).catch(() => undefined);
+      this.read(DETECTION_BYTES).catch(() => undefined);
     }
   }
 
-  nameMode(/** @type {Mode} */ mode) {
-    part("run").textContent = mode === "check" ? "Check" : "Decide";
+  setButtonLabel(/** @type {Mode} */ mode) {
+    byId("run").textContent = mode === "check" ? "Check" : "Decide";
   }
 
   /**
@@ -73,14 +73,14 @@ export class Source {
    * form of its lines, and whether it begins as text in UTF-8.
    * @param {number} [bytes] how many first ones
    */
-  async given(bytes = FIRST_BYTES) {
+  async read(bytes = FIRST_READ_BYTES) {
     const { file } = this;
-    const blob = await (file === null ? new Blob([this.list.value]) : this.unpacked(file));
+    const blob = await (file === null ? new Blob([this.list.value]) : this.decompressOnce(file));
     await requireUtf8(blob);
     const first = await blob.slice(0, bytes).arrayBuffer();
-    const start = new Uint8Array(first, 0, Math.min(first.byteLength, BEGIN_BYTES));
+    const start = new Uint8Array(first, 0, Math.min(first.byteLength, DETECTION_BYTES));
     const mode = this.modeOf(start);
-    file === this.file && this.nameMode(mode);
+    file === this.file && this.setButtonLabel(mode);
     return { blob, first, mode, form: this.formOf(start), isText: isUtf8(start) };
   }
 
@@ -88,74 +88,74 @@ export class Source {
    * The bytes of a file, unpacked once where they are compressed; one that can't be read is tried again when
    * it is asked for again.
    */
-  unpacked(/** @type {File} */ file) {
-    this.bytes ??= unpacked(file).catch((error) => {
+  decompressOnce(/** @type {File} */ file) {
+    this.bytes ??= decompress(file).catch((error) => {
       this.bytes = null;
       throw error;
     });
     return this.bytes;
   }
 
-  fill(/** @type {string} */ text) {
+  setText(/** @type {string} */ text) {
     this.list.value = text;
-    this.hold(null);
+    this.setFile(null);
   }
 
   /** Takes a file in place of the text, which is named when it is run; null takes it away again. */
-  hold(/** @type {File | null} */ file) {
+  setFile(/** @type {File | null} */ file) {
     this.file = file;
     this.bytes = null;
     this.gone = file === null ? "" : `The file ${file.name}`;
-    part("file-shown").hidden = file === null;
-    part("list-gone").hidden = true;
-    setAside("list", "hidden", file !== null, "file-remove");
+    byId("file-shown").hidden = file === null;
+    byId("list-gone").hidden = true;
+    setInactive("list", "hidden", file !== null, "file-remove");
     if (file === null) {
-      this.nameRun();
+      this.labelButton();
     } else {
-      part("file-name").textContent = `${file.name}, ${counted(file.size, "byte")}`;
+      byId("file-name").textContent = `${file.name}, ${formatCount(file.size, "byte")}`;
     }
   }
 
-  tellGone(/** @type {string} */ name) {
-    showWords("list-gone", `${name} isn’t kept over a reload; choose it again.`);
+  reportMissing(/** @type {string} */ name) {
+    showText("list-gone", `${name} isn’t kept over a reload; choose it again.`);
     this.gone = name;
   }
 
-  toDefaults() {
-    this.leaveExample();
-    this.set({}, true, "auto");
+  resetSettings() {
+    this.clearExample();
+    this.applySettings({}, true, "auto");
   }
 
   /**
    * Sets limits, deciders, whether lines are cleaned, what they are, and the form of the list.
    * @param {Record<string, any>} plan @param {boolean} clean @param {string} mode @param {string} [form]
    */
-  set(plan, clean, mode, form = "auto") {
+  applySettings(plan, clean, mode, form = "auto") {
     setPlan(plan);
     this.clean.checked = clean;
     this.mode.value = mode;
     this.form.value = form;
-    this.nameRun();
+    this.labelButton();
   }
 
   /** Gives the next list the defaults again, where the settings are an example's. */
-  forgetExample() {
-    this.isExample && this.toDefaults();
+  resetExampleSettings() {
+    this.isExample && this.resetSettings();
   }
 
   /** The settings are no example's any more; each can be chosen again. */
-  leaveExample() {
+  clearExample() {
     this.isExample = false;
-    /** @type {HTMLSelectElement} */ (part("examples")).value = "";
+    /** @type {HTMLSelectElement} */ (byId("examples")).value = "";
   }
 
   /** Keeps list and settings for a reload; where the browser keeps nothing, nothing is kept. */
-  keep() {
+  store() {
     const { list, mode, clean, form, isExample } = this;
     const isShort = this.gone === "" && list.value.length <= MOST_CHARACTERS;
-    const gone = isShort ? "" : this.gone || `The list of ${shown(list.value.length)} characters`;
+    const gone = isShort ? "" : this.gone || `The list of ${formatNumber(list.value.length)} characters`;
     const lines = { mode: mode.value, form: form.value, clean: clean.checked, isExample };
-    const kept = { text: isShort ? list.value : "", gone, plan: planWords(), ...lines, hash: location.hash };
+    const kept = { text: isShort ? list.value : "", gone, plan: fieldTexts(), ...lines, hash: location.hash };
     try {
       sessionStorage.removeItem(KEY);
       sessionStorage.setItem(KEY, JSON.stringify(kept));
@@ -165,8 +165,8 @@ export class Source {
   }
 }
 
-/** @returns {Kept | null} what was kept; null where nothing was. */
-export function kept() {
+/** @returns {StoredInput | null} what was kept; null where nothing was. */
+export function readStored() {
   try {
     return JSON.parse(sessionStorage.getItem(KEY) ?? "null");
   } catch {

@@ -40,7 +40,7 @@ const ENTRY = "[\"'](?:[0-9][LRlr][A-Za-z]|---|\\.\\.\\.)[\"']";
 const GROUP = `\\[\\s*${ENTRY}(?:\\s*,\\s*${ENTRY})*\\s*\\]`;
 const ARRAYS = new RegExp(`\\[\\s*${GROUP}(?:\\s*,\\s*${GROUP})*\\s*\\]`, "g");
 // What nothing but a machine has in it, whole or not.
-const PIECES = /[0-9][LR](?:[A-Z_.-]|$)|[0-9][lr][a-z](?=[0-9_])|(?<=[a-z_])[0-9][lr][a-z]/;
+const FRAGMENTS = /[0-9][LR](?:[A-Z_.-]|$)|[0-9][lr][a-z](?=[0-9_])|(?<=[a-z_])[0-9][lr][a-z]/;
 // A word that looks like an entry.
 const ORDINAL = "3rd";
 const PART = /[^/?#&=]+/g;
@@ -50,7 +50,7 @@ const TOGETHER = /^[ \u00a0]*$/;
 export const endOf = (/** @type {Word} */ { begin, text }) => begin + text.length;
 
 /** The words of a text, with a space between them. */
-export const written = (/** @type {Text} */ { words }) => words.map(({ text }) => text).join(" ");
+export const joinWords = (/** @type {Text} */ { words }) => words.map(({ text }) => text).join(" ");
 
 export const isLoneEntry = (/** @type {Text} */ { words }) =>
   words.length === 1 && words[0].text.length === 3;
@@ -61,12 +61,12 @@ export function textOf(/** @type {Word[]} */ words) {
   return { words, begin: words[0].begin, end, isAddress: false, isLast: true, arrays: [] };
 }
 
-export const isOfEntries = (/** @type {Text} */ { words }) =>
+export const hasOnlyEntries = (/** @type {Text} */ { words }) =>
   words.length > 1 && words.every(({ text }) => text.length === 3);
 
 /** @returns {Parts} what of a line may be a machine */
-export function partsOf(/** @type {string} */ given) {
-  const texts = arraysOf(given);
+export function tokenize(/** @type {string} */ given) {
+  const texts = findArrays(given);
   const line = texts.reduce(
     (before, { begin, end }) => before.slice(0, begin) + "|".repeat(end - begin) + before.slice(end),
     given,
@@ -78,15 +78,15 @@ export function partsOf(/** @type {string} */ given) {
   for (const match of line.matchAll(TOKEN)) {
     const token = { begin: match.index ?? 0, text: match[0] };
     if (match.groups?.address !== undefined) {
-      texts.push(...textsIn(token));
-      rows.push(...rowsIn(token));
+      texts.push(...findAddressTexts(token));
+      rows.push(...findAddressRows(token));
     } else if (ROW.test(token.text)) {
       rows.push(token);
-    } else if (hasEntries(withoutStop(token).text)) {
-      words.push(withoutStop(token));
+    } else if (hasEntries(trimPunctuation(token).text)) {
+      words.push(trimPunctuation(token));
     }
   }
-  const plain = together(line, words, rows);
+  const plain = groupWords(line, words, rows);
   const inside = new Set(plain.flatMap((text) => text.words.map(({ begin }) => begin)));
   texts.push(...plain);
   texts.sort((one, two) => one.words[0].begin - two.words[0].begin);
@@ -94,7 +94,7 @@ export function partsOf(/** @type {string} */ given) {
 }
 
 /** @returns {Text[]} the machines of a line that are written as arrays of entries */
-function arraysOf(/** @type {string} */ line) {
+function findArrays(/** @type {string} */ line) {
   const found = line.includes("[") ? [...line.matchAll(ARRAYS)] : [];
   return found.map((match) => {
     const begin = match.index ?? 0;
@@ -111,7 +111,7 @@ function arraysOf(/** @type {string} */ line) {
 }
 
 /** A word without a list's number before it, and without the full stop or the marks at its end. */
-function withoutStop(/** @type {Word} */ word) {
+function trimPunctuation(/** @type {Word} */ word) {
   let { begin, text } = word;
   const number = NUMBER.exec(text)?.[0] ?? "";
   if (number !== "" && ENTRIES.test(text.slice(number.length).replace(/[.!?]+$/, ""))) {
@@ -124,44 +124,44 @@ function withoutStop(/** @type {Word} */ word) {
 }
 
 /** @returns {Text[]} what of an address may be a machine */
-function textsIn(/** @type {Word} */ address) {
+function findAddressTexts(/** @type {Word} */ address) {
   const last = address.text.replace(/\/+$/, "").lastIndexOf("/") + 1;
   return [...address.text.matchAll(PART)].flatMap((match) => {
     const at = match.index ?? 0;
-    const part = withoutStop({ begin: address.begin + at, text: match[0] });
+    const part = trimPunctuation({ begin: address.begin + at, text: match[0] });
     const whole = { begin: address.begin, end: endOf(address), isAddress: true, arrays: [] };
     return hasEntries(part.text) ? [{ words: [part], ...whole, isLast: at >= last }] : [];
   });
 }
 
-function rowsIn(/** @type {Word} */ { begin, text }) {
+function findAddressRows(/** @type {Word} */ { begin, text }) {
   const at = text.lastIndexOf("/") + 1;
   return ROW.test(text.slice(at)) ? [{ begin: begin + at, text: text.slice(at) }] : [];
 }
 
 /** Whether a word has entries, or pieces of them. */
 const hasEntries = (/** @type {string} */ text) =>
-  text !== ORDINAL && !ROW.test(text) && (ENTRIES.test(text) || PIECES.test(text));
+  text !== ORDINAL && !ROW.test(text) && (ENTRIES.test(text) || FRAGMENTS.test(text));
 
 /**
  * The texts that these words make: those between which there are only spaces are one. Between entries that
  * stand alone, `---` is an entry.
  */
-function together(/** @type {string} */ line, /** @type {Word[]} */ words, /** @type {Word[]} */ rows) {
+function groupWords(/** @type {string} */ line, /** @type {Word[]} */ words, /** @type {Word[]} */ rows) {
   const isDashes = (/** @type {Word} */ { text }) => text === "---";
   const all = [...words, ...rows.filter(isDashes)].sort((one, two) => one.begin - two.begin);
-  return runsOf(line, all).flatMap((run) => {
+  return adjacentRuns(line, all).flatMap((run) => {
     const plain = run.filter((word) => !isDashes(word));
     const inner = run.slice(run.indexOf(plain[0]), run.indexOf(plain[plain.length - 1]) + 1);
     if (plain.length > 0 && inner.every(({ text }) => text.length === 3)) {
       return [textOf(inner)];
     }
-    return runsOf(line, plain).map(textOf);
+    return adjacentRuns(line, plain).map(textOf);
   });
 }
 
 /** The words between which there are only spaces, together. */
-function runsOf(/** @type {string} */ line, /** @type {Word[]} */ words) {
+function adjacentRuns(/** @type {string} */ line, /** @type {Word[]} */ words) {
   /** @type {Word[][]} */
   const runs = [];
   for (const word of words) {
@@ -179,7 +179,7 @@ function runsOf(/** @type {string} */ line, /** @type {Word[]} */ words) {
  * The row beside a text, with only spaces between them, that is as long as a word of it, and so may be a
  * group.
  */
-export function rowBeside(/** @type {string} */ line, /** @type {Text} */ text, /** @type {Word[]} */ rows) {
+export function findAdjacentRow(/** @type {string} */ line, /** @type {Text} */ text, /** @type {Word[]} */ rows) {
   const before = line.slice(0, text.begin).replace(/[ \u00a0]+$/, "").length;
   const behind = line.length - line.slice(text.end).replace(/^[ \u00a0]+/, "").length;
   return rows.find((row) => {
@@ -198,7 +198,7 @@ const UNASSIGNED = /[\p{Co}\p{Cn}\p{Cs}]/u;
 const isHidden = (/** @type {string} */ character) => HIDDEN.test(character) && !UNASSIGNED.test(character);
 
 /** Where the first character stands that doesn't show; -1 where all show. */
-export function firstHidden(/** @type {string} */ text) {
+export function findHidden(/** @type {string} */ text) {
   let at = 0;
   for (const character of text) {
     if (isHidden(character)) {
@@ -210,19 +210,19 @@ export function firstHidden(/** @type {string} */ text) {
 }
 
 /** The code point of a character, as `U+200B`. */
-export function nameOf(/** @type {string} */ character) {
+export function codePointName(/** @type {string} */ character) {
   const code = (character.codePointAt(0) ?? 0).toString(16).toUpperCase();
   return `U+${code.padStart(4, "0")}`;
 }
 
 /** The text with the characters that don't show by name: controls as `\\x1b`, others as `U+200B`. */
-export const nameHidden = (/** @type {string} */ text) =>
-  /^[ -~]*$/.test(text) ? text : [...text].map(named).join("");
+export const escapeHidden = (/** @type {string} */ text) =>
+  /^[ -~]*$/.test(text) ? text : [...text].map(escapeCharacter).join("");
 
-function named(/** @type {string} */ character) {
+function escapeCharacter(/** @type {string} */ character) {
   if (!isHidden(character)) {
     return character;
   }
   const code = character.charCodeAt(0).toString(16).padStart(2, "0");
-  return CONTROL.test(character) && !"\t\n".includes(character) ? `\\x${code}` : nameOf(character);
+  return CONTROL.test(character) && !"\t\n".includes(character) ? `\\x${code}` : codePointName(character);
 }

@@ -1,24 +1,24 @@
 /**
  * One row of the tape: its cells, the entry of the table that is used next, and words.
  *
- * @typedef {import("../../worker/traced.mjs").Row} Row
+ * @typedef {import("../../worker/trace.mjs").Row} Row
  */
-import { entryText, machineOf, shown, stateLetter } from "../../reader/machine.mjs";
-import { made } from "../dom.mjs";
+import { entryText, parseMachine, formatNumber, stateLetter } from "../../reader/machine.mjs";
+import { create } from "../dom.mjs";
 
 const symbolOf = (/** @type {Row} */ { cells, head, low }) => cells[head - low] ?? 0;
 
 /** The entry of a machine's table that is used after a row; null where there is none. */
-export function entryAt(/** @type {Row} */ row, /** @type {string} */ text) {
+export function nextEntry(/** @type {Row} */ row, /** @type {string} */ text) {
   if (row.state === "Z") {
     return null;
   }
-  const machine = machineOf(text);
+  const machine = parseMachine(text);
   return machine.rules[(row.state.charCodeAt(0) - 65) * machine.symbols + symbolOf(row)].entry;
 }
 
 /** Marks the entry in the table that is shown. */
-export function markEntry(/** @type {Row} */ row) {
+export function highlightEntry(/** @type {Row} */ row) {
   const used = `${row.state}${symbolOf(row)}`;
   document.querySelectorAll("#machine-table td[data-entry]").forEach((cell) => {
     const isUsed = /** @type {HTMLElement} */ (cell).dataset.entry === used;
@@ -28,13 +28,13 @@ export function markEntry(/** @type {Row} */ row) {
 }
 
 /** The step, the state, and what comes next, in words. */
-export function wordsOf(/** @type {Row} */ row, /** @type {string} */ machine) {
-  const head = `Step ${shown(row.step)}: `;
+export function stepText(/** @type {Row} */ row, /** @type {string} */ machine) {
+  const head = `Step ${formatNumber(row.step)}: `;
   if (row.state === "Z") {
-    return `${head}halted, at position ${shown(row.head)}.`;
+    return `${head}halted, at position ${formatNumber(row.head)}.`;
   }
-  const entry = entryAt(row, machine);
-  const now = `${head}state ${row.state} reads ${symbolOf(row)} at position ${shown(row.head)}`;
+  const entry = nextEntry(row, machine);
+  const now = `${head}state ${row.state} reads ${symbolOf(row)} at position ${formatNumber(row.head)}`;
   if (entry === null) {
     return `${now}; no entry is defined there, so it halts.`;
   }
@@ -44,16 +44,16 @@ export function wordsOf(/** @type {Row} */ row, /** @type {string} */ machine) {
 }
 
 /** A cell of the tape with its symbol's colour; the head's has the state above it. */
-export function cellOf(/** @type {Row} */ row, /** @type {number} */ at) {
+export function createCell(/** @type {Row} */ row, /** @type {number} */ at) {
   const isSeen = at >= row.low && at < row.low + row.cells.length;
   const symbol = isSeen ? row.cells[at - row.low] : 0;
   const isHead = at === row.head;
-  const state = made("span", { class: "state" }, isHead ? row.state : "");
-  const cell = made("span", { class: isSeen || isHead ? "symbol" : "symbol blank" }, String(symbol));
+  const state = create("span", { class: "state" }, isHead ? row.state : "");
+  const cell = create("span", { class: isSeen || isHead ? "symbol" : "symbol blank" }, String(symbol));
   if (isSeen || isHead) {
     cell.style.background = `var(--s${symbol})`;
     cell.style.color = `var(--on${symbol})`;
   }
-  const position = made("span", { class: "position" }, at % 5 === 0 ? shown(at) : "");
-  return made("span", { class: isHead ? "cell head" : "cell", "data-at": at }, state, cell, position);
+  const position = create("span", { class: "position" }, at % 5 === 0 ? formatNumber(at) : "");
+  return create("span", { class: isHead ? "cell head" : "cell", "data-at": at }, state, cell, position);
 }

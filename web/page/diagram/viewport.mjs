@@ -31,22 +31,22 @@ const APART_PIXELS = 24;
 // The last step's row is outlined; it has this room below the sampled ones.
 const LAST_ROW_PIXELS = 6;
 
-export function isSame(/** @type {View} */ one, /** @type {View} */ two) {
+export function isSameView(/** @type {View} */ one, /** @type {View} */ two) {
   const isPlaced = one.top === two.top && one.left === two.left;
-  return isPlaced && stepsOf(one) === stepsOf(two) && cellsOf(one) === cellsOf(two);
+  return isPlaced && stepsPerPixel(one) === stepsPerPixel(two) && cellsPerPixel(one) === cellsPerPixel(two);
 }
 
 /** Steps of a pixel. */
-export const stepsOf = (/** @type {View} */ { every, high }) => every / high;
+export const stepsPerPixel = (/** @type {View} */ { every, high }) => every / high;
 
 /** Cells of a pixel. */
-export const cellsOf = (/** @type {View} */ { across, wide }) => across / wide;
+export const cellsPerPixel = (/** @type {View} */ { across, wide }) => across / wide;
 
 /** The size of a cell that is at most this one, so that a row or column fits. */
-const sizeUpTo = (/** @type {number} */ pixels) => Math.max(1, ...SIZES.filter((one) => one <= pixels));
+const cellSize = (/** @type {number} */ pixels) => Math.max(1, ...SIZES.filter((one) => one <= pixels));
 
 /** How so many units to a pixel are shown: as many in one, or one with several pixels. */
-function shownAs(/** @type {number} */ units) {
+function unitScale(/** @type {number} */ units) {
   if (units >= 1) {
     return { many: Math.round(units), pixels: 1 };
   }
@@ -56,14 +56,14 @@ function shownAs(/** @type {number} */ units) {
 }
 
 /** So many steps or a few more, which can be halved again and again: closer views have rows of this one. */
-function halved(/** @type {number} */ every) {
+function roundForHalving(/** @type {number} */ every) {
   const times = 2 ** Math.max(0, Math.floor(Math.log2(every / HALVED)));
   return Math.ceil(every / times) * times;
 }
 
 /** Nearly so many steps of a row, which are those of the whole, doubled or halved some times. */
-function levelNear(/** @type {number} */ steps, /** @type {View} */ home) {
-  const level = stepsOf(home) * 2 ** Math.round(Math.log2(steps / stepsOf(home)));
+function nearestLevel(/** @type {number} */ steps, /** @type {View} */ home) {
+  const level = stepsPerPixel(home) * 2 ** Math.round(Math.log2(steps / stepsPerPixel(home)));
   return level > 1 && Number.isInteger(level) ? level : steps;
 }
 
@@ -73,12 +73,12 @@ function levelNear(/** @type {number} */ steps, /** @type {View} */ home) {
  * @param {{first: number, last: number, low: number, high: number}} seen
  * @returns {View}
  */
-function viewOf(width, height, { first, last, low, high }) {
+function fitView(width, height, { first, last, low, high }) {
   const [rows, span] = [last - first + 1, high - low + 3];
   const across = Math.max(1, Math.ceil(span / width));
-  const every = halved(Math.max(across, Math.ceil(rows / Math.max(1, height - LAST_ROW_PIXELS))));
-  const tall = every > 1 ? 1 : sizeUpTo(height / (rows + 1));
-  const wide = across > 1 ? 1 : sizeUpTo(Math.min(width / span, MOST_WIDE * tall));
+  const every = roundForHalving(Math.max(across, Math.ceil(rows / Math.max(1, height - LAST_ROW_PIXELS))));
+  const tall = every > 1 ? 1 : cellSize(height / (rows + 1));
+  const wide = across > 1 ? 1 : cellSize(Math.min(width / span, MOST_WIDE * tall));
   const left = Math.round((low + high + 1) / 2 - (width / wide / 2) * across);
   return { top: first, left, every, high: Math.min(tall, wide), across, wide };
 }
@@ -87,9 +87,9 @@ function viewOf(width, height, { first, last, low, high }) {
  * The view of the whole, and the one that opens: on the pair where its rows would be too near each other.
  * @param {number} width @param {number} height @param {Whole} whole @param {Pair | null} pair
  */
-export function fitted(width, height, whole, pair) {
-  const home = viewOf(width, height, { first: 0, ...whole });
-  if (pair === null || (pair.second - pair.first) / stepsOf(home) >= APART_PIXELS) {
+export function fitViews(width, height, whole, pair) {
+  const home = fitView(width, height, { first: 0, ...whole });
+  if (pair === null || (pair.second - pair.first) / stepsPerPixel(home) >= APART_PIXELS) {
     return { home, opening: home };
   }
   const apart = pair.second - pair.first;
@@ -101,13 +101,13 @@ export function fitted(width, height, whole, pair) {
     low: Math.max(whole.low, (pair.low ?? whole.low) - margin),
     high: Math.min(whole.high, (pair.high ?? whole.high) + margin),
   };
-  return { home, opening: viewOf(width, height, seen) };
+  return { home, opening: fitView(width, height, seen) };
 }
 
 /** How many cells of a pixel go with so many steps of one, between the whole and single cells. */
-function cellsFor(/** @type {number} */ steps, /** @type {View} */ home) {
-  const even = (cellsOf(home) * steps) / stepsOf(home);
-  return steps >= stepsOf(home) ? even : Math.max(even, Math.min(1, cellsOf(home), steps));
+function cellsAt(/** @type {number} */ steps, /** @type {View} */ home) {
+  const even = (cellsPerPixel(home) * steps) / stepsPerPixel(home);
+  return steps >= stepsPerPixel(home) ? even : Math.max(even, Math.min(1, cellsPerPixel(home), steps));
 }
 
 /**
@@ -116,12 +116,12 @@ function cellsFor(/** @type {number} */ steps, /** @type {View} */ home) {
  * @param {{x: number, y: number}} place in pixels
  * @returns {View}
  */
-export function zoomed(view, home, factor, { x, y }) {
+export function zoomView(view, home, factor, { x, y }) {
   const least = 1 / LARGEST;
-  const most = Math.max(stepsOf(home), stepsOf(view)) * 1024;
-  const near = Math.min(Math.max(stepsOf(view) / factor, least), most);
-  const wanted = Math.max(factor, 1 / factor) >= LEAST_LEVEL ? levelNear(near, home) : near;
-  return scaled(view, wanted, cellsFor(wanted, home), { x, y });
+  const most = Math.max(stepsPerPixel(home), stepsPerPixel(view)) * 1024;
+  const near = Math.min(Math.max(stepsPerPixel(view) / factor, least), most);
+  const wanted = Math.max(factor, 1 / factor) >= LEAST_LEVEL ? nearestLevel(near, home) : near;
+  return scaleView(view, wanted, cellsAt(wanted, home), { x, y });
 }
 
 /**
@@ -129,8 +129,8 @@ export function zoomed(view, home, factor, { x, y }) {
  * @param {View} view @param {number} steps @param {number} cells @param {{x: number, y: number}} place
  * @returns {View}
  */
-function scaled(view, steps, cells, { x, y }) {
-  const [rows, columns] = [shownAs(steps), shownAs(cells)];
+function scaleView(view, steps, cells, { x, y }) {
+  const [rows, columns] = [unitScale(steps), unitScale(cells)];
   const step = view.top + Math.floor(y / view.high) * view.every;
   const position = view.left + Math.floor(x / view.wide) * view.across;
   const top = Math.max(0, Math.round(step / rows.many) - Math.floor(y / rows.pixels)) * rows.many;
@@ -144,7 +144,7 @@ function scaled(view, steps, cells, { x, y }) {
  * @param {View} view the one before; where its cells are seen it keeps its size
  * @returns {View}
  */
-export function closeTo(width, height, step, position, view) {
+export function closeView(width, height, step, position, view) {
   const isClose = view.every === 1 && view.across === 1 && view.high >= 6 && view.wide === view.high;
   const size = isClose ? view.high : CLOSE_PIXELS;
   const top = Math.max(0, step - Math.floor(height / size / 2));

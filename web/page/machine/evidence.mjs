@@ -1,14 +1,14 @@
 /** What stands behind a verdict: what is marked on the diagram, and what is shown below it. */
-import { counted, machineOf, shown, stateLetter } from "../../reader/machine.mjs";
-import { made, part } from "../dom.mjs";
-import { Asker } from "../workers.mjs";
-import { nodeText, treeOf } from "./tree.mjs";
+import { formatCount, parseMachine, formatNumber, stateLetter } from "../../reader/machine.mjs";
+import { create, byId } from "../dom.mjs";
+import { WorkerClient } from "../worker-client.mjs";
+import { nodeText, buildTree } from "./backward-tree.mjs";
 
 /**
  * @typedef {import("../../reader/machine.mjs").Verdict} Verdict
- * @typedef {import("../../worker/traced.mjs").Row} Row
+ * @typedef {import("../../worker/trace.mjs").Row} Row
  * @typedef {import("../diagram/paint.mjs").Mark} Mark
- * @typedef {import("../diagram/scale.mjs").Fit} Fit
+ * @typedef {import("../diagram/viewport.mjs").Fit} Fit
  */
 
 const MOST_NODES = 100_000;
@@ -25,16 +25,16 @@ const NODE_WORDS =
 const SHOW = ["The rows above show it.", "The rows above don’t show"];
 const NO_EXTENT = "The line doesn’t say which cells agree.";
 const NO_TREE = "No entry halts, so nothing could come before a halt.";
-const asker = new Asker();
+const client = new WorkerClient();
 /** @type {Verdict | null} the verdict that is shown: rows that come for another one are too late */
 let shownVerdict = null;
 
-export function forgetBehind() {
+export function clearEvidence() {
   shownVerdict = null;
 }
 
 /** The last step that the diagram of a verdict goes to, and the last one that there is. */
-export function stepsOf(/** @type {Verdict} */ { kind, numbers }, /** @type {number} */ limit) {
+export function diagramSteps(/** @type {Verdict} */ { kind, numbers }, /** @type {number} */ limit) {
   const [first, second] = numbers;
   if (kind === "halt") {
     return { last: first, upto: first };
@@ -48,17 +48,17 @@ export function stepsOf(/** @type {Verdict} */ { kind, numbers }, /** @type {num
 }
 
 /** Asks for the two rows of a pair, or for the last row of a halt. */
-function askRows(/** @type {any} */ about, /** @type {(rows: Row[]) => void} */ done) {
+function requestRows(/** @type {any} */ about, /** @type {(rows: Row[]) => void} */ done) {
   const { machine, cells, verdict } = about;
   const [first, second] = verdict.numbers;
   const pair = verdict.kind !== "halt";
   const sample = pair ? { every: second - first, upto: second } : { every: 1, upto: first };
-  const question = { what: "trace", machine, cells, from: first, ...sample };
-  asker.ask(question, (answer) => done(answer.rows ?? []));
+  const question = { type: "trace", machine, cells, from: first, ...sample };
+  client.request(question, (answer) => done(answer.rows ?? []));
 }
 
 /** The cells that agree in the rows of a translated cycler: those behind the head, itself with them. */
-const stretchOf = (/** @type {Row} */ { head }, /** @type {string} */ side, /** @type {number} */ length) =>
+const agreeingCells = (/** @type {Row} */ { head }, /** @type {string} */ side, /** @type {number} */ length) =>
   side === "R" ? [head - length + 1, head] : [head, head + length - 1];
 
 /**
@@ -67,25 +67,25 @@ const stretchOf = (/** @type {Row} */ { head }, /** @type {string} */ side, /** 
  * @param {{machine: string, cells: number, verdict: Verdict}} about
  * @param {(marks: Mark[], pair: Fit["pair"], end: Fit["end"]) => void} mark
  */
-export function showBehind(about, mark) {
-  const box = part("behind");
+export function showEvidence(about, mark) {
+  const box = byId("behind");
   const { kind } = about.verdict;
   shownVerdict = about.verdict;
   box.replaceChildren();
   if (kind === "backward" || kind === "undecided") {
-    box.append(...(kind === "backward" ? treeParts(about) : []));
+    box.append(...(kind === "backward" ? createTree(about) : []));
     mark([], null, null);
     return;
   }
-  askRows(about, (rows) => {
+  requestRows(about, (rows) => {
     if (shownVerdict !== about.verdict) {
       return;
     }
-    const { bands, parts } = rowsBehind(about.verdict, rows);
+    const { bands, parts } = rowEvidence(about.verdict, rows);
     box.replaceChildren(...parts);
     const [row] = kind === "halt" ? rows : [];
     const end = row === undefined ? null : { step: row.step, low: row.low, wide: row.cells.length };
-    const pair = kind === "halt" ? null : pairOf(about.verdict, bands);
+    const pair = kind === "halt" ? null : markedPair(about.verdict, bands);
     mark([{ bands, arrow: kind === "translated" }], pair, end);
   });
 }
@@ -94,43 +94,43 @@ export function showBehind(about, mark) {
  * The two steps that are marked.
  * @param {Verdict} verdict @param {import("../diagram/paint.mjs").Band[]} bands
  */
-function pairOf({ numbers: [first, second] }, bands) {
+function markedPair({ numbers: [first, second] }, bands) {
   const places = bands.flatMap(({ from, to }) => (from === null || to === null ? [] : [from, to]));
   const [low, high] = places.length > 0 ? [Math.min(...places), Math.max(...places)] : [null, null];
   return { first, second, low, high };
 }
 
 /** The bands and the words of the rows behind a verdict. */
-function rowsBehind(/** @type {Verdict} */ { kind, numbers, side }, /** @type {Row[]} */ rows) {
+function rowEvidence(/** @type {Verdict} */ { kind, numbers, side }, /** @type {Row[]} */ rows) {
   const [, second, shift, length] = numbers;
   const wanted = kind === "halt" ? 1 : 2;
   if (rows.length < wanted) {
-    return { bands: [], parts: [made("p", { class: "error" }, "The rows could not be traced.")] };
+    return { bands: [], parts: [create("p", { class: "error" }, "The rows could not be traced.")] };
   }
   const extent = length ?? 0;
   const isBare = kind === "translated" && length === undefined;
   const bands = rows.map((row) => {
-    const [from, to] = kind === "translated" && extent > 0 ? stretchOf(row, side, extent) : [null, null];
-    return { step: row.step, from, to, label: kind === "halt" ? "halt" : `step ${shown(row.step)}` };
+    const [from, to] = kind === "translated" && extent > 0 ? agreeingCells(row, side, extent) : [null, null];
+    return { step: row.step, from, to, label: kind === "halt" ? "halt" : `step ${formatNumber(row.step)}` };
   });
-  const lines = rows.map((row, k) => rowText(row, bands[k], rows, kind));
+  const lines = rows.map((row, k) => createRowLine(row, bands[k], rows, kind));
   /** @type {Record<string, string>} */
   const titles = {
-    halt: `The last row: ${counted(second, "cell")} other than 0`,
+    halt: `The last row: ${formatCount(second, "cell")} other than 0`,
     cycler: "The two rows that are the same",
     translated:
-      `The two records: the same ${counted(extent, "cell")}, ` + `${counted(shift ?? 0, "cell")} farther out`,
+      `The two records: the same ${formatCount(extent, "cell")}, ` + `${formatCount(shift ?? 0, "cell")} farther out`,
   };
-  const title = made("h3", {}, isBare ? "The two records" : titles[kind]);
-  const shownRows = made("div", { class: "cells" }, ...lines);
-  return { bands, parts: [title, shownRows, isBare ? hint(NO_EXTENT) : seen(kind, rows, bands, second)] };
+  const title = create("h3", {}, isBare ? "The two records" : titles[kind]);
+  const shownRows = create("div", { class: "cells" }, ...lines);
+  return { bands, parts: [title, shownRows, isBare ? createHint(NO_EXTENT) : createComparison(kind, rows, bands, second)] };
 }
 
 /**
  * What the page itself sees in the rows.
  * @param {string} kind @param {Row[]} rows @param {any[]} bands @param {number} score
  */
-function seen(kind, rows, bands, score) {
+function createComparison(kind, rows, bands, score) {
   let holds = rows.length > 0;
   if (kind === "halt") {
     holds = rows[0].cells.filter((symbol) => symbol !== 0).length === score;
@@ -139,14 +139,14 @@ function seen(kind, rows, bands, score) {
   } else if (bands[0].from !== null) {
     const parts = rows.map((row, k) => {
       const { from, to } = bands[k];
-      const cells = Array.from({ length: to - from + 1 }, (_, at) => cellOf(row, from + at));
+      const cells = Array.from({ length: to - from + 1 }, (_, at) => symbolOf(row, from + at));
       return row.state + cells.join("");
     });
     holds = parts[0] === parts[1];
   }
   const shows = kind === "halt" ? ["The row above shows it.", "The row above doesn’t show"] : SHOW;
   const words = holds ? shows[0] : `${shows[1]} what the verdict says.`;
-  return made("p", { class: holds ? "hint" : "error" }, words);
+  return create("p", { class: holds ? "hint" : "error" }, words);
 }
 
 /** A row's state, head, and cells that aren't 0 with their positions, as a text. */
@@ -155,13 +155,13 @@ function configurationOf(/** @type {Row} */ { state, head, low, cells }) {
   return [state, head, ...content.filter(Boolean)].join(" ");
 }
 
-const cellOf = (/** @type {Row} */ row, /** @type {number} */ position) => row.cells[position - row.low] ?? 0;
+const symbolOf = (/** @type {Row} */ row, /** @type {number} */ position) => row.cells[position - row.low] ?? 0;
 
 /**
  * A row as text: its step, state and cells, with the head and the stretch marked.
  * @param {Row} row @param {any} band @param {Row[]} rows @param {string} kind
  */
-function rowText(row, band, rows, kind) {
+function createRowLine(row, band, rows, kind) {
   const side = kind === "translated" && band.from !== null ? row.head - rows[0].head : 0;
   const low = Math.min(...rows.map((one) => one.low - (side ? one.head - rows[0].head : 0)));
   const center = kind === "translated" ? rows[0].head : Math.round((low + row.low + row.cells.length) / 2);
@@ -172,41 +172,41 @@ function rowText(row, band, rows, kind) {
     const isIn = kind === "cycler" || (band.from !== null && at >= band.from && at <= band.to);
     const isSeen = at >= row.low && at < row.low + row.cells.length;
     const names = [isIn && isSeen ? "same" : "", at === row.head ? "at" : ""].filter(Boolean).join(" ");
-    cells.push(made("b", { class: names }, isSeen ? String(cellOf(row, at)) : " "));
+    cells.push(create("b", { class: names }, isSeen ? String(symbolOf(row, at)) : " "));
   }
-  const words = `step ${shown(row.step)}, ${row.state === "Z" ? "halted" : `state ${row.state}`}`;
-  return made("div", {}, made("span", { class: "step" }, words), ...cells);
+  const words = `step ${formatNumber(row.step)}, ${row.state === "Z" ? "halted" : `state ${row.state}`}`;
+  return create("div", {}, create("span", { class: "step" }, words), ...cells);
 }
 
-function treeParts(/** @type {{machine: string, verdict: Verdict}} */ { machine, verdict }) {
+function createTree(/** @type {{machine: string, verdict: Verdict}} */ { machine, verdict }) {
   const [levels, nodes] = verdict.numbers;
-  const tree = treeOf(machineOf(machine), Math.min(nodes, MOST_NODES));
-  const counts = `${counted(nodes, "node")} in ${counted(levels, "level")}`;
-  const parts = [made("h3", {}, `The tree of what could come before a halt: ${counts}`)];
+  const tree = buildTree(parseMachine(machine), Math.min(nodes, MOST_NODES));
+  const counts = `${formatCount(nodes, "node")} in ${formatCount(levels, "level")}`;
+  const parts = [create("h3", {}, `The tree of what could come before a halt: ${counts}`)];
   if (!tree.ended && nodes > MOST_NODES) {
-    parts.push(hint(`Too large to draw: only ${shown(tree.count)} nodes are worked out.`));
+    parts.push(createHint(`Too large to draw: only ${formatNumber(tree.count)} nodes are worked out.`));
   } else if (!tree.ended || tree.levels.length !== levels || tree.count !== nodes) {
-    const found = `${counted(tree.count, "node")} in ${counted(tree.levels.length, "level")}`;
+    const found = `${formatCount(tree.count, "node")} in ${formatCount(tree.levels.length, "level")}`;
     const differs = `The tree worked out here has ${found}, which differs from the line.`;
-    parts.push(made("p", { class: "error" }, differs));
+    parts.push(create("p", { class: "error" }, differs));
   }
-  tree.levels.slice(0, LEVELS_SHOWN).forEach((level, k) => parts.push(levelPart(level, k)));
+  tree.levels.slice(0, LEVELS_SHOWN).forEach((level, k) => parts.push(createLevel(level, k)));
   if (tree.levels.length > LEVELS_SHOWN) {
-    parts.push(hint(`and ${counted(tree.levels.length - LEVELS_SHOWN, "level")} more`));
+    parts.push(createHint(`and ${formatCount(tree.levels.length - LEVELS_SHOWN, "level")} more`));
   }
-  parts.push(hint(nodes === 0 ? NO_TREE : NODE_WORDS));
+  parts.push(createHint(nodes === 0 ? NO_TREE : NODE_WORDS));
   return parts;
 }
 
-const hint = (/** @type {string} */ words) => made("p", { class: "hint" }, words);
+const createHint = (/** @type {string} */ words) => create("p", { class: "hint" }, words);
 
-function levelPart(/** @type {import("./tree.mjs").Node[]} */ level, /** @type {number} */ k) {
+function createLevel(/** @type {import("./backward-tree.mjs").Node[]} */ level, /** @type {number} */ k) {
   const texts = level.slice(0, NODES_SHOWN).map((node) => `${stateLetter(node.state)} ${nodeText(node)}`);
-  const nodes = texts.map((text) => made("span", {}, text));
+  const nodes = texts.map((text) => create("span", {}, text));
   if (level.length > NODES_SHOWN) {
-    nodes.push(made("span", {}, `and ${shown(level.length - NODES_SHOWN)} more`));
+    nodes.push(create("span", {}, `and ${formatNumber(level.length - NODES_SHOWN)} more`));
   }
-  const name = made("span", { class: "hint" }, `level ${k}: ${shown(level.length)}`);
-  const box = made("div", { class: "nodes" }, ...nodes);
-  return made("div", { class: "level", "data-count": level.length }, name, box);
+  const name = create("span", { class: "hint" }, `level ${k}: ${formatNumber(level.length)}`);
+  const box = create("div", { class: "nodes" }, ...nodes);
+  return create("div", { class: "level", "data-count": level.length }, name, box);
 }

@@ -3,28 +3,28 @@
  * where one reading is possible, and every rewriting is named. The reader of the Python package is held to
  * the same forms.
  *
- * @typedef {import("./words.mjs").Text} Text
- * @typedef {import("./texts.mjs").Found} Found
- * @typedef {import("./texts.mjs").Reason} Reason
- * @typedef {[Text, Found | Reason]} Read a text of the line, and what it was read as
- * @typedef {Found & {kind: "machine", before: string, behind: string}} Machine
+ * @typedef {import("./tokens.mjs").Text} Text
+ * @typedef {import("./machine-parser.mjs").ParsedMachine} ParsedMachine
+ * @typedef {import("./machine-parser.mjs").Reason} Reason
+ * @typedef {[Text, ParsedMachine | Reason]} Read a text of the line, and what it was read as
+ * @typedef {ParsedMachine & {kind: "machine", before: string, behind: string}} Machine
  * @typedef {Reason & {kind: "refusal"}} Refusal
  * @typedef {Machine | Refusal | {kind: "nothing"}} Reading
- * @typedef {import("./prepare.mjs").Form} Form
+ * @typedef {import("./list-reader.mjs").Form} Form
  */
-import { isCommentOfMachine, isPassedOver } from "./passing.mjs";
-import { REWRITINGS, cut, isMachine, readArrays, readEntries, readWords, reasonOf } from "./texts.mjs";
+import { isCommentWithMachine, isSkipped } from "./skipped-lines.mjs";
+import { REWRITINGS, abbreviate, isMachine, parseArrays, parseEntries, parseWords, reasonOf } from "./machine-parser.mjs";
 import {
   LONGEST_LINE,
-  firstHidden,
+  findHidden,
   isLoneEntry,
-  isOfEntries,
-  nameOf,
-  partsOf,
-  rowBeside,
+  hasOnlyEntries,
+  codePointName,
+  tokenize,
+  findAdjacentRow,
   textOf,
-  written,
-} from "./words.mjs";
+  joinWords,
+} from "./tokens.mjs";
 
 const NUMBER = "(?:0|[1-9][0-9]*)";
 const PAIR = `${NUMBER} ${NUMBER}`;
@@ -77,7 +77,7 @@ export const ADVICE = {
  * @param {string} given @param {Form} [form]
  * @returns {Reading}
  */
-export function readingOf(given, form = "text") {
+export function readLine(given, form = "text") {
   const line = given.replace(/^\ufeff+/, "").replace(/\r+$/, "");
   const bare = line.trim();
   if (line.length > LONGEST_LINE) {
@@ -85,24 +85,24 @@ export function readingOf(given, form = "text") {
     return { kind: "refusal", ...reasonOf("long", sentence, LONGEST_LINE + 1) };
   }
   if (form === "verdicts") {
-    return readingOfVerdict(line, bare);
+    return readVerdictLine(line, bare);
   }
   if (isMachine(bare) && (form === "machines" || !DASHES.test(bare))) {
-    return machineWith(bare, "");
+    return machineReading(bare, "");
   }
   const [machine] = bare.split(" ", 1);
   if (form !== "machines" && machine.includes("_") && isVerdictLine(bare)) {
-    return machineWith(machine, bare.slice(machine.length + 1));
+    return machineReading(machine, bare.slice(machine.length + 1));
   }
-  if (isPassedOver(bare)) {
+  if (isSkipped(bare)) {
     return { kind: "nothing" };
   }
-  const reading = readPlain(line);
-  return form === "machines" ? alone(reading, bare) : reading;
+  const reading = readTextLine(line);
+  return form === "machines" ? requireAlone(reading, bare) : reading;
 }
 
 /** @returns {Machine} */
-const machineWith = (/** @type {string} */ machine, /** @type {string} */ behind) =>
+const machineReading = (/** @type {string} */ machine, /** @type {string} */ behind) =>
   ({ kind: "machine", machine, rewritten: [], before: "", behind });
 
 /** Whether a line is a verdict line, which may have fields behind a tab. */
@@ -113,23 +113,23 @@ export function isVerdictLine(/** @type {string} */ bare) {
 }
 
 /** @returns {Reading} the reading of a line of the form of verdicts */
-function readingOfVerdict(/** @type {string} */ line, /** @type {string} */ bare) {
+function readVerdictLine(/** @type {string} */ line, /** @type {string} */ bare) {
   const place = line.length - line.trimStart().length + 1;
   if (REFUSED.test(bare)) {
     return { kind: "refusal", ...reasonOf("none", "no machine in this line", place) };
   }
   if (isVerdictLine(bare)) {
     const [machine] = bare.split(" ", 1);
-    return machineWith(machine, bare.slice(machine.length + 1));
+    return machineReading(machine, bare.slice(machine.length + 1));
   }
-  if (isPassedOver(bare)) {
+  if (isSkipped(bare)) {
     return { kind: "nothing" };
   }
   return { kind: "refusal", ...reasonOf("verdict", "this is no verdict line", place) };
 }
 
 /** @returns {Reading} the reading of a line whose machine has to stand alone */
-function alone(/** @type {Reading} */ reading, /** @type {string} */ bare) {
+function requireAlone(/** @type {Reading} */ reading, /** @type {string} */ bare) {
   if (reading.kind !== "machine") {
     return reading;
   }
@@ -137,28 +137,28 @@ function alone(/** @type {Reading} */ reading, /** @type {string} */ bare) {
   if (before === "" && behind === "" && OF_MACHINES.test(bare)) {
     return reading;
   }
-  return { kind: "refusal", ...reasonOf("beside", `the line has more than the machine ${cut(machine)}`, 1) };
+  return { kind: "refusal", ...reasonOf("beside", `the line has more than the machine ${abbreviate(machine)}`, 1) };
 }
 
 /** @returns {Reading} the reading of a line that isn't passed over */
-function readPlain(/** @type {string} */ line) {
-  const { text, places } = unescaped(line);
+function readTextLine(/** @type {string} */ line) {
+  const { text, places } = unescapeLine(line);
   const read = readTexts(text);
   if (!Array.isArray(read)) {
     // Some characters take two places in a text here, and one for who counts them.
     const place = [...line.slice(0, places[read.place - 1])].length + 1;
     return { kind: "refusal", ...read, place };
   }
-  const [begin, end] = spanOf(text, read).map((place) => places[place]);
+  const [begin, end] = machineSpan(text, read).map((place) => places[place]);
   const [before, behind] = [line.slice(0, begin), line.slice(end)].map((part) => part.replace(BESIDE, ""));
-  const found = /** @type {Found} */ (read[0][1]);
+  const found = /** @type {ParsedMachine} */ (read[0][1]);
   const kinds = line.slice(begin, end).includes("\\_") ? [...found.rewritten, "escapes"] : found.rewritten;
   const rewritten = Object.keys(REWRITINGS).filter((kind) => kinds.includes(kind));
   return { kind: "machine", machine: found.machine, rewritten, before, behind };
 }
 
 /** The line with `_` for `\\_`, and for each place of it, its end too, the place in the line. */
-function unescaped(/** @type {string} */ line) {
+function unescapeLine(/** @type {string} */ line) {
   const places = Array.from({ length: line.length + 1 }, (_, place) => place);
   if (!line.includes("\\_")) {
     return { text: line, places };
@@ -169,35 +169,35 @@ function unescaped(/** @type {string} */ line) {
 
 /** @returns {Read[] | Reason} the texts of a line that are its one machine, or why there is none */
 function readTexts(/** @type {string} */ line) {
-  const { texts, rows } = partsOf(line);
-  if (isCommentOfMachine(line.trim())) {
+  const { texts, rows } = tokenize(line);
+  if (isCommentWithMachine(line.trim())) {
     const place = texts[0].begin + 1;
     return reasonOf("comment", "a machine in a line that begins as a comment", place);
   }
   const found = texts.flatMap((text) => {
-    const read = ofState(line, text) ?? readText(text);
+    const read = findStateLine(line, text) ?? readText(text);
     return Array.isArray(read) ? read : [/** @type {Read} */ ([text, read])];
   });
   if (found.length === 0) {
-    return noText(line, rows);
+    return explainNoText(line, rows);
   }
   for (const [text, outcome] of found) {
     if ("refusal" in outcome && outcome.refusal === "state-line") {
       return outcome;
     }
-    const isPlain = "machine" in outcome && !written(text).includes("_");
-    const row = isPlain ? rowBeside(line, text, rows) : undefined;
+    const isPlain = "machine" in outcome && !joinWords(text).includes("_");
+    const row = isPlain ? findAdjacentRow(line, text, rows) : undefined;
     if (row !== undefined) {
-      const sentence = `${cut(row.text)} may be a rule or a group of the machine`;
+      const sentence = `${abbreviate(row.text)} may be a rule or a group of the machine`;
       return reasonOf("rule-or-group", sentence, row.begin + 1);
     }
   }
-  return oneOf(found);
+  return selectMachine(found);
 }
 
 /** Why a text is no machine before which the letter of a state stands: it is the line of that state. */
-function ofState(/** @type {string} */ line, /** @type {Text} */ text) {
-  const group = written(text);
+function findStateLine(/** @type {string} */ line, /** @type {Text} */ text) {
+  const group = joinWords(text);
   if (group.includes("_") || text.arrays.length > 0 || text.isAddress) {
     return null;
   }
@@ -206,12 +206,12 @@ function ofState(/** @type {string} */ line, /** @type {Text} */ text) {
     return null;
   }
   const letter = found[1] ?? found[2];
-  const sentence = `${letter} before ${cut(group)}: a machine of a state a line isn't read`;
+  const sentence = `${letter} before ${abbreviate(group)}: a machine of a state a line isn't read`;
   return reasonOf("state-line", sentence, found.index + found[0].indexOf(letter) + 1);
 }
 
 /** Why there is no machine where there are no entries. */
-function noText(/** @type {string} */ line, /** @type {import("./words.mjs").Word[]} */ rows) {
+function explainNoText(/** @type {string} */ line, /** @type {import("./tokens.mjs").Word[]} */ rows) {
   const rule = rows.find(({ text }) => text.length >= 6 || text === line.trim());
   if (rule !== undefined) {
     const what = rule.text.includes("-") ? "dashes" : "dots";
@@ -219,9 +219,9 @@ function noText(/** @type {string} */ line, /** @type {import("./words.mjs").Wor
   }
   const bare = line.trim();
   const [first] = bare;
-  const isHidden = [...bare].every((character) => firstHidden(character) === 0);
+  const isHidden = [...bare].every((character) => findHidden(character) === 0);
   const sentence = isHidden
-    ? `${nameOf(first)} in this line, a character that doesn't show`
+    ? `${codePointName(first)} in this line, a character that doesn't show`
     : "no machine in this line";
   return reasonOf(isHidden ? "hidden" : "none", sentence, line.indexOf(bare) + 1);
 }
@@ -235,33 +235,33 @@ function readText(/** @type {Text} */ text) {
     return reasonOf("none", "no machine in this line", text.words[0].begin + 1);
   }
   if (text.arrays.length > 0) {
-    return [[text, readArrays(text.arrays)]];
+    return [[text, parseArrays(text.arrays)]];
   }
   if (text.words.length === 1) {
-    return dotted(text.words[0]) ?? [[text, readWords(text.words)]];
+    return findAmbiguousDots(text.words[0]) ?? [[text, parseWords(text.words)]];
   }
-  if (isOfEntries(text)) {
-    return [[text, readEntries(text.words)]];
+  if (hasOnlyEntries(text)) {
+    return [[text, parseEntries(text.words)]];
   }
   /** @type {Read[]} */
-  const alone = text.words.map((word) => [textOf([word]), readWords([word])]);
+  const alone = text.words.map((word) => [textOf([word]), parseWords([word])]);
   const isEach = alone.every(([, outcome]) => "machine" in outcome);
   const machines = new Set(alone.map(([, outcome]) => ("machine" in outcome ? outcome.machine : "")));
   const second = text.words[1].begin + 1;
-  if (written(text).includes("_")) {
+  if (joinWords(text).includes("_")) {
     return isEach ? alone : reasonOf("mixed", "some groups are set apart by _, some by spaces", second);
   }
-  const together = readWords(text.words);
+  const together = parseWords(text.words);
   if (isEach && "machine" in together) {
-    return eachOf(alone.length, second);
+    return ambiguousWords(alone.length, second);
   }
   return isEach && machines.size > 1 ? alone : [[text, together]];
 }
 
 /** Why a word is no machine that is one with the dots at an end, and without them too. */
-function dotted(/** @type {import("./words.mjs").Word} */ { begin, text }) {
+function findAmbiguousDots(/** @type {import("./tokens.mjs").Word} */ { begin, text }) {
   const isFound = (/** @type {number} */ at, /** @type {string} */ part) =>
-    "machine" in readWords([{ begin: at, text: part }]);
+    "machine" in parseWords([{ begin: at, text: part }]);
   const [head, tail] = [text.slice(0, -3), text.slice(3)];
   const sentence = "... may be an undefined entry, or no part of the machine";
   if (text.endsWith("...") && head !== "" && isFound(begin, head) && isFound(begin, text)) {
@@ -273,50 +273,50 @@ function dotted(/** @type {import("./words.mjs").Word} */ { begin, text }) {
   return null;
 }
 
-function eachOf(/** @type {number} */ count, /** @type {number} */ place) {
+function ambiguousWords(/** @type {number} */ count, /** @type {number} */ place) {
   const sentence = `each of ${count} words is a machine by itself, and they may be one together`;
   return reasonOf("words", sentence, place);
 }
 
 /** @returns {Read[] | Reason} the texts that are one machine, or why they aren't */
-function oneOf(/** @type {Read[]} */ found) {
+function selectMachine(/** @type {Read[]} */ found) {
   const read = found.filter(([, outcome]) => "machine" in outcome);
-  const isSetApart = read.every(([text]) => written(text).includes("_"));
+  const isSetApart = read.every(([text]) => joinWords(text).includes("_"));
   const others = found.filter(
     ([text, outcome]) => !("machine" in outcome) && !(read.length > 0 && isSetApart && isLoneEntry(text)),
   );
   if (read.length === 0) {
-    const length = (/** @type {Read} */ one) => [...written(one[0])].length;
+    const length = (/** @type {Read} */ one) => [...joinWords(one[0])].length;
     const longest = others.reduce((best, one) => (length(one) > length(best) ? one : best));
     return /** @type {Reason} */ (longest[1]);
   }
-  const { machine } = /** @type {Found} */ (read[0][1]);
+  const { machine } = /** @type {ParsedMachine} */ (read[0][1]);
   if (others.length > 0) {
     const [text] = others[0];
-    const sentence = `${cut(written(text))} beside the machine ${cut(machine)} may be a part of it`;
+    const sentence = `${abbreviate(joinWords(text))} beside the machine ${abbreviate(machine)} may be a part of it`;
     return reasonOf("part", sentence, text.words[0].begin + 1);
   }
   for (const [text, outcome] of read) {
-    const other = /** @type {Found} */ (outcome).machine;
+    const other = /** @type {ParsedMachine} */ (outcome).machine;
     if (other !== machine) {
-      const sentence = `two different machines: ${cut(machine)} and ${cut(other)}`;
+      const sentence = `two different machines: ${abbreviate(machine)} and ${abbreviate(other)}`;
       return reasonOf("two", sentence, text.words[0].begin + 1);
     }
   }
-  const plain = read.filter(([text]) => !text.isAddress && !written(text).includes("_"));
-  return plain.length > 1 ? eachOf(plain.length, plain[1][0].begin + 1) : read;
+  const plain = read.filter(([text]) => !text.isAddress && !joinWords(text).includes("_"));
+  return plain.length > 1 ? ambiguousWords(plain.length, plain[1][0].begin + 1) : read;
 }
 
 /** Where the machine stands in a line, with what encloses it, and the address of a link whose text it is. */
-function spanOf(/** @type {string} */ line, /** @type {Read[]} */ read) {
-  const [begin, end] = enclosed(line, read[0][0].begin, read[0][0].end);
+function machineSpan(/** @type {string} */ line, /** @type {Read[]} */ read) {
+  const [begin, end] = expandPairs(line, read[0][0].begin, read[0][0].end);
   const address = read[1]?.[0];
   const isLink = address?.isAddress && line[begin] === "[" && line.slice(end, address.begin) === "(";
   return isLink && line[address.end] === ")" ? [begin, address.end + 1] : [begin, end];
 }
 
 /** A stretch of a line with the pairs of characters right around it. */
-function enclosed(/** @type {string} */ line, /** @type {number} */ begin, /** @type {number} */ end) {
+function expandPairs(/** @type {string} */ line, /** @type {number} */ begin, /** @type {number} */ end) {
   let [first, last] = [begin, end];
   while (first > 0 && last < line.length && PAIRS.includes(line[first - 1] + line[last])) {
     [first, last] = [first - 1, last + 1];

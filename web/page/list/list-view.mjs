@@ -1,46 +1,46 @@
 /** The lines of a list that are shown: their kinds, their order, and which one is open. */
-import { KINDS, shown } from "../../reader/machine.mjs";
-import { made, onClick, part, setAside, tellLive } from "../dom.mjs";
-import { Asker } from "../workers.mjs";
-import { Rows } from "./rows.mjs";
+import { KINDS, formatNumber } from "../../reader/machine.mjs";
+import { create, onClick, byId, setInactive, announce } from "../dom.mjs";
+import { WorkerClient } from "../worker-client.mjs";
+import { RowTable } from "./row-table.mjs";
 
 // How the time is called, in the browser's list, at which the page showed its first verdict.
 const FIRST_VERDICT = "first verdict";
 
 /** @typedef {import("./results.mjs").Results} Results */
 
-export class Lines {
+export class ListView {
   /**
-   * @param {import("../machine/view.mjs").View} view shows the line that is opened
-   * @param {import("./work.mjs").Work} work has the answers that are known by now
+   * @param {import("../machine/machine-view.mjs").MachineView} view shows the line that is opened
+   * @param {import("./list-run.mjs").ListRun} work has the answers that are known by now
    */
   constructor(view, work) {
     this.view = view;
-    view.replace = (by, plan) => {
-      const isIn = this.replaceOpen(by, plan);
-      isIn && work.refreshed();
+    view.replaceRow = (by, plan) => {
+      const isIn = this.replaceOpenRow(by, plan);
+      isIn && work.refresh();
       return isIn;
     };
     this.work = work;
-    this.rows = new Rows((row) => this.open(row, true));
-    this.sorter = new Asker();
+    this.rows = new RowTable((row) => this.openRow(row, true));
+    this.sorter = new WorkerClient();
     this.kindsShown = new Set(KINDS.keys());
-    this.kindButtons = KINDS.map((_, k) => this.kindButton(k));
-    part("kinds").append(...this.kindButtons);
-    this.order = /** @type {HTMLSelectElement} */ (part("order"));
+    this.kindButtons = KINDS.map((_, k) => this.createKindButton(k));
+    byId("kinds").append(...this.kindButtons);
+    this.order = /** @type {HTMLSelectElement} */ (byId("order"));
     // Whether a line of the list was opened.
-    this.isOpen = false;
-    /** @type {import("./results.mjs").Place | null} the line that is open, and its verdict */
+    this.wasOpened = false;
+    /** @type {import("./results.mjs").LinePlace | null} the line that is open, and its verdict */
     this.openLine = null;
     this.openText = "";
     // How often rows were shown, so that what comes late isn't.
     this.turn = 0;
     this.order.addEventListener("change", () => this.showRows());
     onClick({
-      "row-before": () => this.openBeside(-1, false),
-      "row-next": () => this.openBeside(1, false),
-      "open-before": () => this.openBeside(-1, true),
-      "open-next": () => this.openBeside(1, true),
+      "row-before": () => this.openNeighbour(-1, false),
+      "row-next": () => this.openNeighbour(1, false),
+      "open-before": () => this.openNeighbour(-1, true),
+      "open-next": () => this.openNeighbour(1, true),
     });
   }
 
@@ -48,22 +48,22 @@ export class Lines {
    * Begins with a list of which nothing is answered yet. Where its first line takes long, or none comes, no
    * machine is shown.
    */
-  begin() {
-    this.rows.begin();
-    this.isOpen = false;
+  reset() {
+    this.rows.reset();
+    this.wasOpened = false;
     this.openLine = null;
-    this.view.closeSoon();
+    this.view.scheduleClose();
   }
 
   /** Shows what is answered, and opens the first line once it has come, if none was opened before. */
   show() {
     this.showKinds();
     this.showRows();
-    const { results, isUnderWay } = this.work;
+    const { results, isRunning } = this.work;
     this.refreshOpen(results);
-    if (!this.isOpen && results.lines > 0 && (results.hasFirst ? !results.isWaiting(0) : !isUnderWay)) {
+    if (!this.wasOpened && results.lines > 0 && (results.hasFirstLine ? !results.isWaiting(0) : !isRunning)) {
       this.rows.choose(0, false);
-      this.open(this.rows.rows[0] ?? 0, false);
+      this.openRow(this.rows.rows[0] ?? 0, false);
       if (performance.getEntriesByName(FIRST_VERDICT).length === 0) {
         performance.mark(FIRST_VERDICT);
       }
@@ -75,13 +75,13 @@ export class Lines {
    * checked stays.
    * @param {import("../../worker/worker.mjs").Part} by @param {Record<string, any>} plan its limits
    */
-  replaceOpen(by, plan) {
+  replaceOpenRow(by, plan) {
     const { openLine } = this;
     const { results } = this.work;
     const row = openLine?.part.lines === null ? results.rowOf(openLine) : -1;
     if (row >= 0) {
       results.replace(Uint32Array.of(row), by, results.planNumber(plan));
-      this.openText = results.row(row).verdict.text;
+      this.openText = results.rowAt(row).verdict.text;
     }
     return row >= 0;
   }
@@ -89,8 +89,8 @@ export class Lines {
   /** Shows the open line anew, where the second pass has decided it otherwise than the first. */
   refreshOpen(/** @type {Results} */ results) {
     const row = this.openLine === null ? -1 : results.rowOf(this.openLine);
-    if (row >= 0 && !results.isWaiting(row) && this.openText !== results.row(row).verdict.text) {
-      this.open(row, false);
+    if (row >= 0 && !results.isWaiting(row) && this.openText !== results.rowAt(row).verdict.text) {
+      this.openRow(row, false);
     }
   }
 
@@ -98,17 +98,17 @@ export class Lines {
   showKinds() {
     const { counts } = this.work.results;
     this.kindButtons.forEach((button, k) => {
-      button.textContent = `${KINDS[k]} ${shown(counts[k])}`;
+      button.textContent = `${KINDS[k]} ${formatNumber(counts[k])}`;
       button.setAttribute("aria-pressed", String(this.kindsShown.has(k)));
-      setAside(button.id, "hidden", counts[k] === 0, "rows");
+      setInactive(button.id, "hidden", counts[k] === 0, "rows");
     });
     const isAll = KINDS.every((_, k) => this.kindsShown.has(k) || counts[k] === 0);
-    setAside("save-shown", "hidden", isAll, "save");
+    setInactive("save-shown", "hidden", isAll, "save");
   }
 
-  kindButton(/** @type {number} */ k) {
+  createKindButton(/** @type {number} */ k) {
     const { kindsShown } = this;
-    const button = made("button", { type: "button", id: `kind-${KINDS[k]}`, hidden: true });
+    const button = create("button", { type: "button", id: `kind-${KINDS[k]}`, hidden: true });
     button.addEventListener("click", () => {
       kindsShown.has(k) ? kindsShown.delete(k) : kindsShown.add(k);
       this.showKinds();
@@ -119,14 +119,14 @@ export class Lines {
 
   /** Shows the rows of these kinds in the order that is asked for. */
   showRows() {
-    const { results, isUnderWay } = this.work;
+    const { results, isRunning } = this.work;
     const order = this.order.value;
-    const rows = results.rows(this.kindsShown);
-    const isSorted = order !== "list" && !isUnderWay;
+    const rows = results.rowsOfKinds(this.kindsShown);
+    const isSorted = order !== "list" && !isRunning;
     this.turn += 1;
     // The line that is opened first is the first one of the list.
-    if (!isSorted || !this.isOpen) {
-      this.rows.show(results, rows, true);
+    if (!isSorted || !this.wasOpened) {
+      this.rows.showRows(results, rows, true);
     }
     if (isSorted) {
       this.showSorted(results, rows.slice(), order === "down");
@@ -142,28 +142,28 @@ export class Lines {
     const isLast = () => turn === this.turn && results === this.work.results;
     const steps = await results.stepsOf(rows, isLast);
     if (isLast()) {
-      this.sorter.ask({ what: "sort", rows, steps, down }, ({ order }) => {
-        order !== undefined && isLast() && this.rows.show(results, order, false);
+      this.sorter.request({ type: "sort", rows, steps, down }, ({ order }) => {
+        order !== undefined && isLast() && this.rows.showRows(results, order, false);
       });
     }
   }
 
-  open(/** @type {number} */ row, /** @type {boolean} */ moves) {
-    const { results, run } = this.work;
-    const { machine, verdict, answer, given, number, plan } = results.row(row);
+  openRow(/** @type {number} */ row, /** @type {boolean} */ moves) {
+    const { results, info } = this.work;
+    const { machine, verdict, answer, given, number, plan } = results.rowAt(row);
     const isWaiting = results.isWaiting(row);
-    this.isOpen = true;
-    this.openLine = results.place(row);
+    this.wasOpened = true;
+    this.openLine = results.placeOf(row);
     this.openText = isWaiting ? "" : verdict.text;
-    const form = run.mode === "decide" ? run.form : null;
+    const form = info.mode === "decide" ? info.form : null;
     this.view.open({ machine, verdict, answer, plan, isWaiting }, moves, { text: given, number, form });
   }
 
   /** Opens the next or the previous row that is shown, of any kind or an undecided one. */
-  openBeside(/** @type {number} */ by, /** @type {boolean} */ isUndecided) {
+  openNeighbour(/** @type {number} */ by, /** @type {boolean} */ isUndecided) {
     const { rows } = this.rows;
     const { results } = this.work;
-    let place = this.rows.placeBeside(by);
+    let place = this.rows.placeAtOffset(by);
     const fits = () => !isUndecided || results.isUndecided(rows[place]);
     while (place >= 0 && place < rows.length && !fits()) {
       place += by;
@@ -171,7 +171,7 @@ export class Lines {
     if (place >= 0 && place < rows.length) {
       this.rows.choose(place, true);
     } else {
-      tellLive(`There is no other ${isUndecided ? "undecided line" : "line"} that way.`);
+      announce(`There is no other ${isUndecided ? "undecided line" : "line"} that way.`);
     }
   }
 }

@@ -7,7 +7,7 @@
  */
 
 /** The nodes of the halting entries: those undefined or into Z. */
-function halting(/** @type {Machine} */ machine) {
+function haltingNodes(/** @type {Machine} */ machine) {
   /** @type {Node[]} */
   const nodes = [];
   for (const { state, symbol, entry } of machine.rules) {
@@ -22,7 +22,7 @@ function halting(/** @type {Machine} */ machine) {
  * What could come before a node: by each entry that leads to its state, unless the cell that the head left is
  * known to have another symbol than was written.
  */
-function before(/** @type {Machine} */ machine, /** @type {Node} */ node) {
+function predecessors(/** @type {Machine} */ machine, /** @type {Node} */ node) {
   /** @type {Node[]} */
   const nodes = [];
   for (const { state, symbol, entry } of machine.rules) {
@@ -40,14 +40,14 @@ function before(/** @type {Machine} */ machine, /** @type {Node} */ node) {
 }
 
 /** @returns {Tree} the levels of the tree until one is empty, or until more nodes than `most` stand in it */
-export function treeOf(/** @type {Machine} */ machine, /** @type {number} */ most) {
+export function buildTree(/** @type {Machine} */ machine, /** @type {number} */ most) {
   const levels = [];
   let count = 0;
-  let level = halting(machine);
+  let level = haltingNodes(machine);
   while (level.length > 0 && count + level.length <= most) {
     levels.push(level);
     count += level.length;
-    level = level.flatMap((node) => before(machine, node));
+    level = level.flatMap((node) => predecessors(machine, node));
   }
   return { levels, count, ended: level.length === 0 };
 }

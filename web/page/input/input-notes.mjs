@@ -1,8 +1,8 @@
 /** What is said of a line that isn't the machine and nothing else: how it was read, or why it wasn't. */
-import { shown } from "../../reader/machine.mjs";
-import { ADVICE, readingOf } from "../../reader/reading.mjs";
-import { REWRITINGS, isMachine } from "../../reader/texts.mjs";
-import { part, showWords } from "../dom.mjs";
+import { formatNumber } from "../../reader/machine.mjs";
+import { ADVICE, readLine } from "../../reader/line-reader.mjs";
+import { REWRITINGS, isMachine } from "../../reader/machine-parser.mjs";
+import { byId, showText } from "../dom.mjs";
 
 // Characters that are shown about the place where a line goes wrong.
 const AROUND = 30;
@@ -12,53 +12,53 @@ const NO_VERDICT_LINE =
 
 /**
  * @typedef {import("../../reader/machine.mjs").Verdict} Verdict
- * @typedef {import("../../reader/reading.mjs").Reading} Reading
- * @typedef {import("../../reader/prepare.mjs").Form} Form
- * @typedef {{text: string | null, number: number, form: Form | null}} Given the line, null where it is the
+ * @typedef {import("../../reader/line-reader.mjs").Reading} Reading
+ * @typedef {import("../../reader/list-reader.mjs").Form} Form
+ * @typedef {{text: string | null, number: number, form: Form | null}} InputLine the line, null where it is the
  *   machine, its number, and the form by which lines are read, null where they aren't
  */
 
 /** Tells a line's text and, of a refused one, where and why it goes wrong. */
-export function tellGiven(/** @type {Given} */ given, /** @type {Verdict} */ verdict) {
+export function showInputNotes(/** @type {InputLine} */ given, /** @type {Verdict} */ verdict) {
   const isRefused = verdict.kind === "refused";
   const { text, form } = given;
-  const reading = text !== null && form !== null ? readingOf(text, form) : null;
-  const words = reading?.kind === "machine" && !isRefused ? rewrittenWords(reading, given.text ?? "") : "";
-  showWords("machine-given", words);
-  const caret = isRefused && given.text !== null ? caretOf(given.text, placeOf(reading, verdict)) : "";
-  showWords("machine-caret", caret);
+  const reading = text !== null && form !== null ? readLine(text, form) : null;
+  const words = reading?.kind === "machine" && !isRefused ? rewritingText(reading, given.text ?? "") : "";
+  showText("machine-given", words);
+  const caret = isRefused && given.text !== null ? caretText(given.text, errorPlace(reading, verdict)) : "";
+  showText("machine-caret", caret);
   if (isRefused) {
-    const what = isUnread(verdict) ? "verdict line" : "machine";
-    part("machine-text").textContent = `Line ${shown(given.number + 1)} is no ${what}`;
-    part("machine-says").textContent = refusedWords(reading, verdict, isMachine((text ?? "").trim()));
+    const what = isUnreadLine(verdict) ? "verdict line" : "machine";
+    byId("machine-text").textContent = `Line ${formatNumber(given.number + 1)} is no ${what}`;
+    byId("machine-says").textContent = refusalText(reading, verdict, isMachine((text ?? "").trim()));
   }
 }
 
 /** Whether a line is no verdict line; of a machine's refusal the column is known. */
-const isUnread = (/** @type {Verdict} */ { numbers }) => numbers.length === 0;
+const isUnreadLine = (/** @type {Verdict} */ { numbers }) => numbers.length === 0;
 
 /** The place where a line goes wrong, from 1 on; null where none is known. */
-const placeOf = (/** @type {Reading | null} */ reading, /** @type {Verdict} */ { numbers: [column] }) =>
+const errorPlace = (/** @type {Reading | null} */ reading, /** @type {Verdict} */ { numbers: [column] }) =>
   reading?.kind === "refusal" ? reading.place : column ?? null;
 
 /**
  * @param {Reading | null} reading @param {Verdict} verdict
  * @param {boolean} isTaken whether the program reads a machine there
  */
-function refusedWords(reading, verdict, isTaken) {
+function refusalText(reading, verdict, isTaken) {
   const { numbers: [column], text } = verdict;
-  if (isUnread(verdict)) {
+  if (isUnreadLine(verdict)) {
     return NO_VERDICT_LINE;
   }
   if (reading?.kind !== "refusal") {
-    return `Refused: as it stands it goes wrong at column ${shown(column)}; ${ADVICE.none}.`;
+    return `Refused: as it stands it goes wrong at column ${formatNumber(column)}; ${ADVICE.none}.`;
   }
   const program = isTaken ? "" : ` The program says ${text}.`;
   return `Refused: ${reading.reason}; ${ADVICE[reading.refusal]}.${program}`;
 }
 
-/** @param {import("../../reader/reading.mjs").Machine} reading @param {string} text */
-function rewrittenWords({ rewritten, before, behind }, text) {
+/** @param {import("../../reader/line-reader.mjs").Machine} reading @param {string} text */
+function rewritingText({ rewritten, before, behind }, text) {
   const kinds = rewritten.map((kind) => REWRITINGS[/** @type {"spaces"} */ (kind)]);
   const beside = [before, behind].filter((one) => one !== "").map((one) => `“${one}”`);
   const parts = [
@@ -69,7 +69,7 @@ function rewrittenWords({ rewritten, before, behind }, text) {
 }
 
 /** A line about a place, with a caret under it; without a place its begin. */
-function caretOf(/** @type {string} */ text, /** @type {number | null} */ place) {
+function caretText(/** @type {string} */ text, /** @type {number | null} */ place) {
   const characters = [...text.replace(/^\ufeff/, "")].map((one) => (/[\s\p{C}]/u.test(one) ? " " : one));
   if (place === null) {
     return characters.slice(0, 2 * AROUND).join("") + (characters.length > 2 * AROUND ? "…" : "");

@@ -1,21 +1,21 @@
 /** A list, read piece by piece, each of whole lines; and rows of one that are decided again. */
 import { countLines } from "../../lib/memory.mjs";
-import { joined } from "../../reader/prepare.mjs";
-import { BYTES_KEPT } from "../../reader/words.mjs";
+import { concatBytes } from "../../reader/list-reader.mjs";
+import { BYTES_KEPT } from "../../reader/tokens.mjs";
 
 const NEWLINE = 10;
 const MOST_READ_BYTES = 4_194_304;
 const LEAST_BYTES = 64;
 const MOST_BYTES = 262_144;
 // A worker gets a piece so often, where there are enough rows.
-const PIECES_OF_A_WORKER = 12;
+const CHUNKS_PER_WORKER = 12;
 const MOST_LINES = 4_096;
 const encoder = new TextEncoder();
 
 /** The bytes of the first read, enough that each of four workers begins at once; each next one has twice. */
-export const FIRST_BYTES = 2_097_152;
+export const FIRST_READ_BYTES = 2_097_152;
 
-export class Pieces {
+export class ChunkReader {
   /**
    * @param {Blob} blob @param {ArrayBuffer} first its first bytes, as many as a first read has
    * @param {number} workers that share it
@@ -24,50 +24,50 @@ export class Pieces {
     this.blob = blob;
     this.size = Math.max(LEAST_BYTES, Math.min(MOST_BYTES, Math.ceil(blob.size / (12 * workers))));
     this.offset = first.byteLength;
-    this.wanted = 2 * FIRST_BYTES;
+    this.wanted = 2 * FIRST_READ_BYTES;
     /** @type {Promise<ArrayBuffer> | null} what is read while the bytes before it are given out */
-    this.ahead = Promise.resolve(first);
-    this.held = new Uint8Array(0);
-    this.skips = false;
+    this.pendingRead = Promise.resolve(first);
+    this.buffered = new Uint8Array(0);
+    this.isSkipping = false;
     this.line = 0;
   }
 
   /** The next piece and the number of its first line; null where there is none. */
   async next() {
     for (;;) {
-      const newline = this.held.indexOf(NEWLINE, Math.min(this.size, this.held.length) - 1);
+      const newline = this.buffered.indexOf(NEWLINE, Math.min(this.size, this.buffered.length) - 1);
       if (newline >= 0) {
-        return this.given(newline + 1);
+        return this.cutChunk(newline + 1);
       }
-      if (this.ahead === null && this.offset >= this.blob.size) {
-        return this.held.length > 0 ? this.given(this.held.length) : null;
+      if (this.pendingRead === null && this.offset >= this.blob.size) {
+        return this.buffered.length > 0 ? this.cutChunk(this.buffered.length) : null;
       }
-      this.shorten();
+      this.dropLongTail();
       const bytes = await this.read();
-      this.held = this.held.length === 0 ? bytes : joined([this.held, bytes]);
+      this.buffered = this.buffered.length === 0 ? bytes : concatBytes([this.buffered, bytes]);
     }
   }
 
   /** Gives the first bytes that are held, which nobody writes to. */
-  given(/** @type {number} */ length) {
-    const bytes = this.held.subarray(0, length);
+  cutChunk(/** @type {number} */ length) {
+    const bytes = this.buffered.subarray(0, length);
     const { line } = this;
-    this.held = this.held.subarray(length);
+    this.buffered = this.buffered.subarray(length);
     this.line += countLines(bytes);
     return { bytes, line };
   }
 
   /** Drops what a long line has beyond the bytes that are kept, up to its newline. */
-  shorten() {
-    const begin = this.held.lastIndexOf(NEWLINE) + 1;
-    if (this.held.length - begin > BYTES_KEPT) {
-      this.held = this.held.slice(0, begin + BYTES_KEPT);
-      this.skips = true;
+  dropLongTail() {
+    const begin = this.buffered.lastIndexOf(NEWLINE) + 1;
+    if (this.buffered.length - begin > BYTES_KEPT) {
+      this.buffered = this.buffered.slice(0, begin + BYTES_KEPT);
+      this.isSkipping = true;
     }
   }
 
   /** Begins to read; `offset` is then where the next read begins. */
-  begun() {
+  startRead() {
     const end = Math.min(this.offset + this.wanted, this.blob.size);
     const bytes = this.blob.slice(this.offset, end).arrayBuffer();
     // Whoever awaits it hears what went wrong; where the work is stopped before, nobody needs to.
@@ -82,16 +82,16 @@ export class Pieces {
    * one; what stands behind it is read again with the next bytes, so that nothing has to be joined.
    */
   async read() {
-    const read = new Uint8Array(await (this.ahead ?? this.begun()));
+    const read = new Uint8Array(await (this.pendingRead ?? this.startRead()));
     const last = this.offset < this.blob.size ? read.lastIndexOf(NEWLINE) + 1 : read.length;
     const bytes = last > 0 ? read.subarray(0, last) : read;
     this.offset -= read.length - bytes.length;
-    this.ahead = this.offset < this.blob.size ? this.begun() : null;
-    if (!this.skips) {
+    this.pendingRead = this.offset < this.blob.size ? this.startRead() : null;
+    if (!this.isSkipping) {
       return bytes;
     }
     const newline = bytes.indexOf(NEWLINE);
-    this.skips = newline < 0;
+    this.isSkipping = newline < 0;
     return newline < 0 ? bytes.subarray(0, 0) : bytes.subarray(newline);
   }
 }
@@ -105,7 +105,7 @@ export class Holdouts {
   constructor(results, rows, workers) {
     this.results = results;
     this.rows = rows;
-    this.size = Math.min(MOST_LINES, Math.ceil(rows.length / (PIECES_OF_A_WORKER * workers)));
+    this.size = Math.min(MOST_LINES, Math.ceil(rows.length / (CHUNKS_PER_WORKER * workers)));
     this.at = 0;
   }
 

@@ -6,15 +6,15 @@
  * @typedef {{machine: string, cells: number, steps: number, verdict: Verdict, isConfirmed: boolean}} About
  * @typedef {{growth: string, steps: number, visited: number[]}} Growth
  */
-import { counted, entryText, machineOf, shown } from "../../reader/machine.mjs";
-import { made, part } from "../dom.mjs";
-import { Asker } from "../workers.mjs";
+import { formatCount, entryText, parseMachine, formatNumber } from "../../reader/machine.mjs";
+import { create, byId } from "../dom.mjs";
+import { WorkerClient } from "../worker-client.mjs";
 
 const NORMAL_STEPS = 10_000;
 const MOST_GROWTH_STEPS = 1_000_000;
 const FEWEST_GROWTH_STEPS = 100;
 const LATER = 10n ** 15n;
-const KEPT = "However each --- is filled, the machine has the same verdict.";
+const SAME_VERDICT = "However each --- is filled, the machine has the same verdict.";
 /** @type {Record<string, string>} */
 const GROWTHS = {
   stays: "They stay",
@@ -23,12 +23,12 @@ const GROWTHS = {
   line: "They grow as a line",
   halts: "The run ends",
 };
-const asker = new Asker();
-const growthAsker = new Asker();
+const client = new WorkerClient();
+const growthClient = new WorkerClient();
 /** @type {About | null} what it is about: an answer that comes for another one is too late */
 let current = null;
 
-export const mirrorOf = (/** @type {string} */ text) =>
+export const mirrorImage = (/** @type {string} */ text) =>
   text.replace(/[LR]/g, (move) => (move === "L" ? "R" : "L"));
 
 /** The states in the order in which a run of so many steps comes to them. */
@@ -50,8 +50,8 @@ function firstUses(/** @type {import("../../reader/machine.mjs").Machine} */ { s
 }
 
 /** The normal form: states in the order of their first use, and the first move to the right. */
-export function normalOf(/** @type {string} */ text) {
-  const machine = machineOf(text);
+export function normalForm(/** @type {string} */ text) {
+  const machine = parseMachine(text);
   const { states, symbols, rules } = machine;
   const used = firstUses(machine);
   const order = [...used, ...Array.from({ length: states }, (_, k) => k).filter((k) => !used.includes(k))];
@@ -61,21 +61,21 @@ export function normalOf(/** @type {string} */ text) {
     }),
   );
   const form = groups.map((entries) => entries.join("")).join("_");
-  return text[1] === "L" ? mirrorOf(form) : form;
+  return text[1] === "L" ? mirrorImage(form) : form;
 }
 
 /** What a verdict says of the machines that fill a `---`. */
-function completionsWords(/** @type {About} */ { machine, verdict }, /** @type {string} */ lastState) {
+function completionsText(/** @type {About} */ { machine, verdict }, /** @type {string} */ lastState) {
   if (!machine.includes("---")) {
     return "It has no undefined entry.";
   }
   switch (verdict.kind) {
     case "cycler":
     case "translated":
-      return KEPT;
+      return SAME_VERDICT;
     case "halt":
       return lastState === "Z"
-        ? KEPT
+        ? SAME_VERDICT
         : "It halts on a ---. Where only others are filled, the machine has the same verdict; of one that " +
             "fills that --- nothing is said.";
     case "backward":
@@ -86,10 +86,10 @@ function completionsWords(/** @type {About} */ { machine, verdict }, /** @type {
 }
 
 /** What a verdict says of other starts than A on the blank tape. */
-function startsWords(/** @type {Verdict} */ { kind, numbers: [levels] }) {
+function startsText(/** @type {Verdict} */ { kind, numbers: [levels] }) {
   return kind === "backward"
     ? "From each of its states, at any position of any tape, it halts within " +
-        `${counted(levels, "step")} or never.`
+        `${formatCount(levels, "step")} or never.`
     : "The verdict speaks of the start in A on the blank tape alone.";
 }
 
@@ -97,7 +97,7 @@ function startsWords(/** @type {Verdict} */ { kind, numbers: [levels] }) {
  * Where a pair of steps says that a machine is much later: it comes back to a step of the pair, farther out
  * by the shift each time.
  */
-function laterOf(/** @type {Verdict} */ { kind, numbers: [first, second, shift], side }) {
+function laterStep(/** @type {Verdict} */ { kind, numbers: [first, second, shift], side }) {
   const apart = BigInt(second - first);
   const times = (LATER - BigInt(first)) / apart;
   const early = first + Number((LATER - BigInt(first)) % apart);
@@ -106,75 +106,75 @@ function laterOf(/** @type {Verdict} */ { kind, numbers: [first, second, shift],
 }
 
 /** Tells what is known; what takes a run comes when it is done. */
-export function tellFacts(/** @type {About} */ about) {
+export function showMachineInfo(/** @type {About} */ about) {
   const { machine, verdict, isConfirmed } = about;
   current = about;
-  const normal = normalOf(machine);
-  const mirror = mirrorOf(machine);
-  const code = (/** @type {string} */ text) => made("code", {}, text);
+  const normal = normalForm(machine);
+  const mirror = mirrorImage(machine);
+  const code = (/** @type {string} */ text) => create("code", {}, text);
   /** @type {[string, string, Node | string][]} */
   const facts = [
     ["normal", "Normal form", normal === machine ? "It is in normal form." : code(normal)],
     ["mirror", "Mirror image", code(mirror)],
     ["growth", "Cells visited", "…"],
     ["completions", "Undefined entries", isConfirmed ? "…" : "The checker hasn’t confirmed the verdict."],
-    ["starts", "Every start", isConfirmed ? startsWords(verdict) : "–"],
+    ["starts", "Every start", isConfirmed ? startsText(verdict) : "–"],
     ["later", "Step 10¹⁵", isConfirmed ? "…" : "–"],
   ];
   const parts = facts.flatMap(([id, name, words]) => {
-    return [made("dt", {}, name), made("dd", { id: `fact-${id}` }, words)];
+    return [create("dt", {}, name), create("dd", { id: `fact-${id}` }, words)];
   });
-  part("facts").replaceChildren(...parts);
-  askGrowth(about);
+  byId("facts").replaceChildren(...parts);
+  requestGrowth(about);
   if (isConfirmed) {
-    askLater(about);
+    requestLaterRow(about);
   }
 }
 
 /** Asks for the row that says where the machine is later, or what it halts on. */
-function askLater(/** @type {About} */ about) {
+function requestLaterRow(/** @type {About} */ about) {
   const { machine, cells, verdict } = about;
   const { kind, numbers } = verdict;
   const isPair = kind === "cycler" || kind === "translated";
   if (!isPair && kind !== "halt") {
-    part("fact-completions").textContent = completionsWords(about, "");
-    part("fact-later").textContent = "The verdict doesn’t say.";
+    byId("fact-completions").textContent = completionsText(about, "");
+    byId("fact-later").textContent = "The verdict doesn’t say.";
     return;
   }
-  const { early, farther } = isPair ? laterOf(verdict) : { early: numbers[0], farther: 0n };
-  asker.ask({ what: "trace", machine, cells, from: early, every: 1, upto: early }, (answer) => {
+  const { early, farther } = isPair ? laterStep(verdict) : { early: numbers[0], farther: 0n };
+  client.request({ type: "trace", machine, cells, from: early, every: 1, upto: early }, (answer) => {
     const row = answer.rows?.[0];
     if (row === undefined || current !== about) {
       return;
     }
-    part("fact-completions").textContent = completionsWords(about, row.state);
+    byId("fact-completions").textContent = completionsText(about, row.state);
     const isWithout = kind === "translated" && numbers[2] === undefined;
-    const place = `state ${row.state}, head at ${shown(BigInt(row.head) + farther)}`;
+    const place = `state ${row.state}, head at ${formatNumber(BigInt(row.head) + farther)}`;
     const later = kind === "halt" ? "It halted before." : isWithout ? "The line has no shift." : `${place}.`;
-    part("fact-later").textContent = later;
+    byId("fact-later").textContent = later;
   });
 }
 
-function askGrowth(/** @type {About} */ about) {
+function requestGrowth(/** @type {About} */ about) {
   const { machine, cells, steps } = about;
   const upto = Math.min(steps, MOST_GROWTH_STEPS);
   if (upto < FEWEST_GROWTH_STEPS) {
-    part("fact-growth").textContent = "Too few steps to say.";
+    byId("fact-growth").textContent = "Too few steps to say.";
     return;
   }
-  growthAsker.ask({ what: "growth", machine, cells, upto }, (answer) => {
+  growthClient.request({ type: "growth", machine, cells, upto }, (answer) => {
     if (current !== about) {
       return;
     }
     if (answer.growth === undefined) {
-      part("fact-growth").textContent = `Not known: ${answer.message}.`;
+      byId("fact-growth").textContent = `Not known: ${answer.message}.`;
       return;
     }
     const { growth, steps: last, visited } = /** @type {Growth} */ (answer.growth);
-    const many = visited.map(shown).join(", ");
-    const all = counted(last, "step");
+    const many = visited.map(formatNumber).join(", ");
+    const all = formatCount(last, "step");
     const looks = `${many} after a hundredth, a tenth and all of ${all}; a guess from these`;
-    const rest = growth === "halts" ? `, with ${counted(visited[2], "cell")}` : `: ${looks}`;
-    part("fact-growth").textContent = `${GROWTHS[growth]}${rest}.`;
+    const rest = growth === "halts" ? `, with ${formatCount(visited[2], "cell")}` : `: ${looks}`;
+    byId("fact-growth").textContent = `${GROWTHS[growth]}${rest}.`;
   });
 }

@@ -6,26 +6,26 @@
 import { readFileSync } from "node:fs";
 import { createInterface } from "node:readline";
 import { load } from "../lib/bb.mjs";
-import { symbolsOf } from "../worker/sample.mjs";
-import { Run } from "../worker/samples.mjs";
+import { unpackSymbols } from "../worker/packed-rows.mjs";
+import { RowCache } from "../worker/row-cache.mjs";
 
 const LAST = 5_000;
 const engine = await load(readFileSync(process.argv[2]));
 
-/** The lines of rows, as the engine writes them. @param {import("../worker/sample.mjs").Sample} sample */
+/** The lines of rows, as the engine writes them. @param {import("../worker/packed-rows.mjs").Sample} sample */
 function linesOf({ steps, states, heads, lows, wide, ...cells }) {
   return Array.from(steps, (step, k) => {
-    const symbols = symbolsOf({ wide, ...cells }, k, 0, wide[k] - 1);
+    const symbols = unpackSymbols({ wide, ...cells }, k, 0, wide[k] - 1);
     return `${step} ${states[k]} ${heads[k]} ${lows[k]} ${Array.from(symbols).join("")}`;
   });
 }
 
 for await (const line of createInterface({ input: process.stdin })) {
   const { machine, cells, asked } = JSON.parse(line);
-  const run = new Run(machine, cells);
+  const run = new RowCache(machine, cells);
   let traces = 0;
   const counted = { traceInPlace: (...words) => ((traces += 1), engine.traceInPlace(...words)) };
-  const lines = asked.map((one) => linesOf(run.rows(counted, { machine, cells, ...one }, true).sample));
-  const { step, low, wide } = new Run(machine, cells).last(engine, LAST);
+  const lines = asked.map((one) => linesOf(run.getRows(counted, { machine, cells, ...one }, true).sample));
+  const { step, low, wide } = new RowCache(machine, cells).lastRow(engine, LAST);
   console.log(JSON.stringify({ lines, known: asked.length - traces, last: [step, low, wide] }));
 }
