@@ -1,16 +1,16 @@
 /**
- * A list as it is given to the engine: its form, and the machines that its lines are read as.
+ * Prepares a list for the engine: finds its form, and the machine on each line.
  *
- * @typedef {"machines" | "verdicts" | "table" | "text"} Form a machine a line and nothing else; verdict
- *   lines; a table with a column of machines; what people paste, with one machine a line
- * @typedef {(line: Uint8Array, text: string) => Uint8Array | null} LineFilter gives what is taken of a line
- * @typedef {{bytes: Uint8Array, numbers: Uint32Array | null, places: Uint32Array | null, left: number}}
- *   PreparedList what the engine is given; of each of its lines the number among the lines that were given, from
- *   0, and where it begins there, null where all are as they were; and how many lines were left out
+ * @typedef {"machines" | "verdicts" | "table" | "text"} Form one bare machine a line; verdict lines; a table
+ *   with a column of machines; any text with one machine a line
+ * @typedef {(line: Uint8Array, text: string) => Uint8Array | null} LineFilter returns null to skip a line
+ * @typedef {{bytes: Uint8Array, numbers: Uint32Array | null, places: Uint32Array | null, skipped: number}}
+ *   PreparedList the engine's input; the number of each of its lines in the original list, from 0, and the
+ *   offset there, or null if all lines are unchanged; and the number of skipped lines
  */
-import { isTableHeader, isSkipped } from "./skipped-lines.mjs";
 import { OF_MACHINES, isVerdictLine, readLine } from "./line-reader.mjs";
 import { isMachine } from "./machine-parser.mjs";
+import { isSkipped, isTableHeader } from "./skipped-lines.mjs";
 import { LONGEST_LINE } from "./tokens.mjs";
 
 const NEWLINE = 10;
@@ -21,15 +21,15 @@ const NUMBERS = "(?:(?:halt|cycler|backward) \\d+ \\d+|translated [LR] \\d+ \\d+
 const VERDICT = new RegExp(
   `^(?:[0-9LRA-Z_-]+ (?:${NUMBERS}|undecided (?:steps|cells))|refused \\d+)(?:\\t.*)?$`,
 );
-// So many lines that aren't passed over settle the form of a list.
+// The form of a list is decided by at most this many lines that aren't skipped.
 const FIRST_LINES = 100;
 const decoder = new TextDecoder();
 const encoder = new TextEncoder();
 
-/** So many bytes of a list tell whether it has verdict lines. */
+/** The prefix of a list by which its form and encoding are detected. */
 export const DETECTION_BYTES = 65_536;
 
-/** Whether a list has verdict lines: most of the lines at its begin are whole ones. */
+/** Whether most of the first lines are verdict lines. */
 export function hasVerdicts(/** @type {Uint8Array} */ bytes) {
   const whole = firstLines(bytes).map((line) => line.replace(/^\ufeff/, "").trim());
   const texts = whole.filter((text) => !isSkipped(text));
@@ -37,22 +37,23 @@ export function hasVerdicts(/** @type {Uint8Array} */ bytes) {
   return verdicts > 0 && 2 * verdicts > texts.length;
 }
 
-/** The first whole lines of a list. */
+/** The complete lines at the beginning of a list. */
 export function firstLines(/** @type {Uint8Array} */ bytes) {
   const lines = decoder.decode(bytes.subarray(0, DETECTION_BYTES)).split("\n");
   return bytes.length >= DETECTION_BYTES && lines.length > 1 ? lines.slice(0, -1) : lines;
 }
 
-/** Whether the first bytes of a list are text in UTF-8, but for a character that is cut at their end. */
+/** Whether a list begins as UTF-8; the last character may be truncated. */
 export const isUtf8 = (/** @type {Uint8Array} */ bytes) =>
   !/\ufffd[^]/.test(decoder.decode(bytes.subarray(0, DETECTION_BYTES)));
 
-/** @returns {PreparedList} a list that is given as it stands */
-export const unchangedList = (/** @type {Uint8Array} */ bytes) => ({ bytes, numbers: null, places: null, left: 0 });
+/** @returns {PreparedList} */
+export const unchangedList = (/** @type {Uint8Array} */ bytes) => {
+  return { bytes, numbers: null, places: null, skipped: 0 };
+};
 
 /**
- * What the engine is given of a list.
- * @param {Uint8Array} bytes @param {{mode: string, clean: boolean, form: Form}} asked
+ * @param {Uint8Array} bytes @param {{mode: string, clean: boolean, form: Form}} request
  * @returns {PreparedList}
  */
 export function prepareList(bytes, { mode, clean, form }) {
@@ -61,11 +62,11 @@ export function prepareList(bytes, { mode, clean, form }) {
   return clean ? selectLines(bytes, mode === "check" ? readClaim : machine) : unchangedList(bytes);
 }
 
-/** @returns {PreparedList} the lines that are taken, each as the engine is given it */
+/** @returns {PreparedList} the lines that a filter returns */
 function selectLines(/** @type {Uint8Array} */ bytes, /** @type {LineFilter} */ read) {
-  // Where each byte is a character the lines are cut out of one text: browsers decode short ones slowly.
+  // ASCII lines are cut out of one text: browsers decode short texts slowly.
   const all = decoder.decode(bytes);
-  const isCut = all.length === bytes.length;
+  const isAscii = all.length === bytes.length;
   const numbers = [];
   const places = [];
   const lines = [];
@@ -74,7 +75,7 @@ function selectLines(/** @type {Uint8Array} */ bytes, /** @type {LineFilter} */ 
     const end = lineEnd(bytes, from);
     const given = bytes.subarray(from, end);
     const isLong = given.length > LONGEST_LINE;
-    const line = isLong ? given : read(given, isCut ? all.slice(from, end) : decoder.decode(given));
+    const line = isLong ? given : read(given, isAscii ? all.slice(from, end) : decoder.decode(given));
     if (line !== null) {
       lines.push(line, LINE_END);
       numbers.push(number);
@@ -82,11 +83,10 @@ function selectLines(/** @type {Uint8Array} */ bytes, /** @type {LineFilter} */ 
     }
     from = end + 1;
   }
-  const left = number - numbers.length;
-  return { bytes: concatBytes(lines), numbers: Uint32Array.from(numbers), places: Uint32Array.from(places), left };
+  const origin = { numbers: Uint32Array.from(numbers), places: Uint32Array.from(places) };
+  return { bytes: concatBytes(lines), ...origin, skipped: number - numbers.length };
 }
 
-/** The bytes of arrays, one after another. */
 export function concatBytes(/** @type {Uint8Array[]} */ arrays) {
   const bytes = new Uint8Array(arrays.reduce((sum, { length }) => sum + length, 0));
   let at = 0;
@@ -97,9 +97,7 @@ export function concatBytes(/** @type {Uint8Array[]} */ arrays) {
   return bytes;
 }
 
-/**
- * The machine of a line, or a line that the engine refuses where it has none; null where it is passed over.
- */
+/** A line's machine, or a line that the engine refuses; null for a skipped line. */
 function readMachine(/** @type {Uint8Array} */ line, /** @type {string} */ text, /** @type {Form} */ form) {
   const isWhole = isMachine(text);
   if (isWhole && form !== "verdicts" && text.length === line.length && text[0] !== "-") {
@@ -109,11 +107,11 @@ function readMachine(/** @type {Uint8Array} */ line, /** @type {string} */ text,
   if (reading.kind === "machine") {
     return encoder.encode(reading.machine);
   }
-  // A machine that the form doesn't allow there is refused by a space before it.
+  // A leading space makes the engine refuse a machine that the form doesn't allow.
   return reading.kind === "nothing" ? null : isWhole ? Uint8Array.of(SPACE, ...line) : line;
 }
 
-/** @type {LineFilter} a verdict line without the spaces about it; null where the line is passed over */
+/** @type {LineFilter} a trimmed verdict line; null for a skipped line */
 function readClaim(line, given) {
   const text = given.replace(/^\ufeff/, "").trim();
   if (VERDICT.test(text)) {
@@ -127,57 +125,50 @@ function lineEnd(/** @type {Uint8Array} */ bytes, /** @type {number} */ from) {
   return newline < 0 ? bytes.length : newline;
 }
 
-/**
- * A line that was given, as a text.
- * @param {Uint8Array} bytes @param {number} from @param {number} most bytes of it
- */
-export function lineAt(bytes, from, most) {
+/** The text of a line, `most` bytes at most. */
+export function lineAt(
+  /** @type {Uint8Array} */ bytes,
+  /** @type {number} */ from,
+  /** @type {number} */ most,
+) {
   const end = Math.min(lineEnd(bytes, from), from + most);
   return decoder.decode(bytes.subarray(from, bytes[end - 1] === RETURN ? end - 1 : end));
 }
 
-/** @returns {Form | null} the form that the first lines of a list have; null where there are none. */
+/** @returns {Form | null} the form of a list by its first lines; null if all of them are skipped. */
 export function detectForm(/** @type {Iterable<string>} */ lines) {
   /** @type {string[]} */
-  const alone = [];
+  const machines = [];
   let verdicts = 0;
   for (const line of lines) {
     const bare = line.trim();
-    if (alone.length === 0 && verdicts === 0 && isTableHeader(bare)) {
+    if (machines.length === 0 && verdicts === 0 && isTableHeader(bare)) {
       return "table";
     }
     if (isSkipped(bare)) {
       continue;
     }
-    const isAlone = OF_MACHINES.test(bare) && readLine(bare, "machines").kind === "machine";
-    if (isAlone) {
-      alone.push(bare);
+    if (OF_MACHINES.test(bare) && readLine(bare, "machines").kind === "machine") {
+      machines.push(bare);
     } else if (isVerdictLine(bare)) {
       verdicts += 1;
     } else {
       return "text";
     }
-    if (alone.length > 0 && verdicts > 0) {
+    if (machines.length > 0 && verdicts > 0) {
       return "text";
     }
-    if (alone.length + verdicts === FIRST_LINES) {
+    if (machines.length + verdicts === FIRST_LINES) {
       break;
     }
   }
-  if (verdicts > 0) {
-    return "verdicts";
-  }
-  return alone.length > 0 ? formOfMachines(alone) : null;
+  return verdicts > 0 ? "verdicts" : machines.length > 0 ? formOfMachines(machines) : null;
 }
 
-/**
- * The form of a list whose lines are machines: where rows of dashes are among others of another length, they
- * are rules.
- * @returns {Form}
- */
-function formOfMachines(/** @type {string[]} */ alone) {
+/** @returns {Form} `text` if rows of dashes differ in length from the machines, and so are rules */
+function formOfMachines(/** @type {string[]} */ lines) {
   const isRow = (/** @type {string} */ text) => /^-*$/.test(text);
-  const lengths = new Set(alone.filter((text) => !isRow(text)).map(({ length }) => length));
-  const isOther = alone.some((text) => isRow(text) && !lengths.has(text.length));
-  return lengths.size > 0 && isOther ? "text" : "machines";
+  const lengths = new Set(lines.filter((text) => !isRow(text)).map(({ length }) => length));
+  const hasRules = lines.some((text) => isRow(text) && !lengths.has(text.length));
+  return lengths.size > 0 && hasRules ? "text" : "machines";
 }

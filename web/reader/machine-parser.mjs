@@ -1,22 +1,21 @@
 /**
- * A text of entries read as a machine: in one way, or with the reason why there is none.
+ * Parses a text of entries as a machine, or explains why it is none.
  *
  * @typedef {import("./tokens.mjs").Word} Word
- * @typedef {{machine: string, rewritten: string[]}} ParsedMachine a machine as the engine reads it, and what was
- *   rewritten
- * @typedef {{refusal: string, reason: string, place: number}} Reason why there is none: its kind, in words,
- *   and the character of the line where it is, from 1
- * @typedef {[number, string][]} Group entries, each with how many characters come before it
+ * @typedef {{machine: string, rewritten: string[]}} ParsedMachine in the engine's format, and the rewritings
+ * @typedef {{refusal: string, reason: string, place: number}} Reason its kind, a sentence, and the column,
+ *   from 1
+ * @typedef {[number, string][]} Group entries with their offsets in the line
  */
-import { LONGEST_QUOTED, findHidden, escapeHidden, codePointName } from "./tokens.mjs";
+import { codePointName, findHidden } from "./tokens.mjs";
 
 const STATES = "ABCDEFGHIJKLMNOPQRSTUVWXY";
 const MOST_SYMBOLS = 10;
-// Of so many states at most H is none, so it may be meant for the halting state.
+// Machines with at most this many states have no state H, so H may mean the halting state.
 const MOST_BEFORE_H = STATES.indexOf("H");
 const ENTRY = /^(?:[0-9][LRlr][A-Za-z]|---|\.\.\.)$/;
 const LOST = /^[0-9][LRlr][-_]$/;
-/** What is rewritten, in the order in which it is named, in words. */
+/** Descriptions of rewritings, in display order. */
 export const REWRITINGS = {
   "small-letters": "small letters read as capital ones",
   "halting-state": "H read as Z, the halting state",
@@ -34,16 +33,10 @@ export const REWRITINGS = {
  */
 export const reasonOf = (refusal, reason, place) => ({ refusal, reason, place });
 
-/** A text as a sentence has it: characters that don't show by name, cut where it is long. */
-export function abbreviate(/** @type {string} */ given) {
-  const text = escapeHidden(given);
-  return text.length <= LONGEST_QUOTED ? text : `${text.slice(0, LONGEST_QUOTED - 2)}..`;
-}
-
-/** @type {Map<number, RegExp>} the machines of so many states and symbols */
+/** @type {Map<number, RegExp>} by the numbers of states and symbols */
 const PATTERNS = new Map();
 
-/** Whether the engine reads a text as a machine. */
+/** Whether the engine accepts a text as a machine. */
 export function isMachine(/** @type {string} */ text) {
   const size = `${text}_`.indexOf("_");
   const [symbols, states] = [size / 3, (text.length + 1) / (size + 1)];
@@ -63,8 +56,7 @@ function patternOf(/** @type {number} */ states, /** @type {number} */ symbols) 
 }
 
 /**
- * The machine whose groups are set apart by `_` in one word, or are these words; or that of one word without
- * `_`, where there is one division into groups that makes one.
+ * Several words are the groups. One word is split at `_`, or into groups if only one division is a machine.
  * @returns {ParsedMachine | Reason}
  */
 export function parseWords(/** @type {Word[]} */ words) {
@@ -83,22 +75,20 @@ export function parseWords(/** @type {Word[]} */ words) {
   return buildMachine(entries, words.length > 1 ? [...rewritten, "spaces"] : rewritten);
 }
 
-/**
- * The machine whose entries are these words, where one division into groups makes one.
- * @returns {ParsedMachine | Reason}
- */
+/** @returns {ParsedMachine | Reason} the machine with these words as entries */
 export function parseEntries(/** @type {Word[]} */ words) {
   const entries = parseGroups(words);
-  return Array.isArray(entries) ? divideEntries(entries.flat(), [...letterRewritings(words), "entries"]) : entries;
+  const rewritten = [...letterRewritings(words), "entries"];
+  return Array.isArray(entries) ? divideEntries(entries.flat(), rewritten) : entries;
 }
 
-/** The machine whose groups are arrays of these entries. */
+/** The machine with these arrays as groups. */
 export function parseArrays(/** @type {Word[][]} */ groups) {
   const entries = groups.map((group) => /** @type {Group} */ (group.map(({ begin, text }) => [begin, text])));
   return buildMachine(entries, [...letterRewritings(groups.flat()), "arrays"]);
 }
 
-/** @returns {Group[] | Reason} the entries of each group, or why one of them has others */
+/** @returns {Group[] | Reason} */
 function parseGroups(/** @type {Word[]} */ groups) {
   /** @type {Group[]} */
   const entries = [];
@@ -113,7 +103,6 @@ function parseGroups(/** @type {Word[]} */ groups) {
   return entries;
 }
 
-/** What `_` sets apart in a word. */
 function splitGroups(/** @type {Word} */ word) {
   let { begin } = word;
   return word.text.split("_").map((text) => {
@@ -124,9 +113,8 @@ function splitGroups(/** @type {Word} */ word) {
 }
 
 /**
- * The entries of a group, before which there are so many entries and groups.
- * @param {Word} group @param {number} before @param {number} place
- * @param {boolean} isFollowed whether a `_` or a space stands behind it
+ * @param {Word} group @param {number} before entries of earlier groups @param {number} place from 0
+ * @param {boolean} isFollowed whether another group follows
  * @returns {Group | Reason}
  */
 function parseGroup(group, before, place, isFollowed) {
@@ -147,7 +135,7 @@ function parseGroup(group, before, place, isFollowed) {
 }
 
 /**
- * Why a text of up to three characters is no entry.
+ * Explains why a text of up to three characters is not an entry.
  * @param {string} text @param {number} number @param {number} place @param {boolean} isFollowed
  */
 function explainEntry(text, number, place, isFollowed) {
@@ -164,17 +152,13 @@ function explainEntry(text, number, place, isFollowed) {
   return reasonOf("entry", `entry ${number} is no entry: ${text}`, place);
 }
 
-/** What is rewritten in the letters of these groups. */
 function letterRewritings(/** @type {Word[]} */ groups) {
   const text = groups.map((group) => group.text).join("");
   const kinds = text === text.toUpperCase() ? [] : ["small-letters"];
   return text.includes("...") ? [...kinds, "undefined-entries"] : kinds;
 }
 
-/**
- * The machine that a text without `_` is, where there is one division into groups that makes one.
- * @returns {ParsedMachine | Reason}
- */
+/** @returns {ParsedMachine | Reason} the machine if exactly one division into groups makes one */
 function divideEntries(/** @type {Group} */ entries, /** @type {string[]} */ rewritten) {
   const count = entries.length;
   const place = entries[0][0] + 1;
@@ -200,7 +184,7 @@ function divideEntries(/** @type {Group} */ entries, /** @type {string[]} */ rew
     : reasonOf("divisions", `${found.length} ways to divide ${all} into groups make a machine`, place);
 }
 
-/** @returns {ParsedMachine | Reason} the machine that has these groups */
+/** @returns {ParsedMachine | Reason} */
 function buildMachine(/** @type {Group[]} */ groups, /** @type {string[]} */ rewritten) {
   const wrong = checkSizes(groups);
   if (wrong !== null) {
@@ -228,7 +212,7 @@ function normalizeEntry(/** @type {string} */ text, /** @type {boolean} */ halts
   return haltsByH && entry[2] === "H" ? `${entry.slice(0, 2)}Z` : entry;
 }
 
-/** Why no machine has groups of these lengths; null where one may. */
+/** Explains why groups of these lengths make no machine; null if they can. */
 function checkSizes(/** @type {Group[]} */ groups) {
   const lengths = [...new Set(groups.map((group) => group.length))];
   const place = groups[0][0][0] + 1;
@@ -250,7 +234,7 @@ function checkSizes(/** @type {Group[]} */ groups) {
 }
 
 /**
- * Why no machine of so many states and symbols has this entry; null where one may.
+ * Explains why a machine of this size can't have an entry; null if it can.
  * @param {string} entry @param {number} number @param {number} begin @param {number} states
  * @param {number} symbols
  */

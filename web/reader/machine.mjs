@@ -1,22 +1,22 @@
 /**
- * A machine and its verdict, as read from a line that the engine wrote.
+ * Machines and verdict lines as the engine writes them, and verdicts in words.
  *
  * @typedef {{write: number, move: 1 | -1, next: number}} Entry `next` is -1 for Z
- * @typedef {{state: number, symbol: number, entry: Entry | null}} Rule `null` where it is undefined
- * @typedef {{text: string, states: number, symbols: number, rules: Rule[]}} Machine
+ * @typedef {{state: number, symbol: number, entry: Entry | null}} Rule `entry` is null if undefined
+ * @typedef {{states: number, symbols: number, rules: Rule[]}} Machine
  * @typedef {{kind: Kind, numbers: number[], side: string, text: string}} Verdict
  * @typedef {"halt" | "cycler" | "translated" | "backward" | "undecided" | "refused"} Kind
  */
 
-/** The kinds of a verdict line, in the order in which they are shown. @type {readonly Kind[]} */
+/** The kinds of verdict lines, in display order. @type {readonly Kind[]} */
 export const KINDS = ["halt", "cycler", "translated", "backward", "undecided", "refused"];
-/** The answers to a verdict line, as they are shown. */
+/** The checker's answers, in display order. */
 export const ANSWERS = ["ok", "open", "bad", "over", "unread"];
 
-/** @type {{machine: string, verdict: Verdict}} what a line says that is no verdict line: nothing */
+/** @type {{machine: string, verdict: Verdict}} the content of a line that isn't a verdict line */
 export const UNREAD_LINE = { machine: "", verdict: { kind: "refused", numbers: [], side: "", text: "" } };
 
-/** @returns {Machine} the machine of a text that the engine took for one */
+/** @returns {Machine} */
 export function parseMachine(/** @type {string} */ text) {
   const groups = text.split("_");
   const rules = groups.flatMap((group, state) =>
@@ -26,7 +26,7 @@ export function parseMachine(/** @type {string} */ text) {
       entry: parseEntry(group.slice(3 * symbol, 3 * symbol + 3)),
     })),
   );
-  return { text, states: groups.length, symbols: groups[0].length / 3, rules };
+  return { states: groups.length, symbols: groups[0].length / 3, rules };
 }
 
 /** @returns {Entry | null} */
@@ -40,14 +40,10 @@ function parseEntry(/** @type {string} */ text) {
 
 export const stateLetter = (/** @type {number} */ state) => state < 0 ? "Z" : String.fromCharCode(65 + state);
 
-/** An entry as machines have it. */
 export const entryText = (/** @type {Entry | null} */ entry) =>
   entry === null ? "---" : `${entry.write}${entry.move > 0 ? "R" : "L"}${stateLetter(entry.next)}`;
 
-/**
- * The machine's text of a verdict line, and what is said of it.
- * @returns {{machine: string, verdict: Verdict}}
- */
+/** @returns {{machine: string, verdict: Verdict}} */
 export function parseVerdictLine(/** @type {string} */ line) {
   const [machine, word, ...rest] = line.split(" ");
   if (machine === "refused") {
@@ -59,48 +55,45 @@ export function parseVerdictLine(/** @type {string} */ line) {
   return { machine, verdict: { kind, numbers, side, text: line.slice(machine.length + 1) } };
 }
 
-const NO_STEPS =
-  "Undecided: it doesn’t halt within the limit of steps, and no decider that is on found anything.";
-const NO_CELLS =
-  "Undecided: its head would pass the limit of cells before it halts and before the steps end, and no " +
-  "decider that is on found anything.";
-/** @type {Record<string, string>} */
-const SIDES = { L: "left", R: "right" };
+const NO_STEPS = "Undecided: no halt within the limit of steps, and no enabled decider succeeded.";
+const NO_CELLS = "Undecided: the head reaches the limit of cells first, and no enabled decider succeeded.";
 const numberFormat = new Intl.NumberFormat("en");
 
-/** A number as people read it, with a word behind it. */
-export const formatCount = (/** @type {number} */ count, /** @type {string} */ word) =>
-  `${numberFormat.format(count)} ${word}${count === 1 ? "" : "s"}`;
+/** A count with its noun, as in `1,000 steps`. */
+export const formatCount = (/** @type {number} */ count, /** @type {string} */ noun) =>
+  `${numberFormat.format(count)} ${noun}${count === 1 ? "" : "s"}`;
 
-/** A number as people read it, below 0 with a minus. */
-export const formatNumber = (/** @type {number | bigint} */ value) => numberFormat.format(value).replace("-", "−");
+export const formatNumber = (/** @type {number | bigint} */ value) =>
+  numberFormat.format(value).replace("-", "−");
 
-/** What a verdict says, in plain English. */
+/** A verdict in plain English. */
 export function verdictText(/** @type {Verdict} */ { kind, numbers, side }) {
   const [first, second, shift, length] = numbers;
-  const never = "It never halts: ";
+  const pair = [first, second].map((step) => formatNumber(step ?? 0));
   switch (kind) {
     case "halt":
-      return `It halts after ${formatCount(first, "step")}, with ${formatCount(second, "cell")} other than 0.`;
+      return `It halts after ${formatCount(first, "step")}, with ${formatCount(second, "nonzero cell")}.`;
     case "cycler":
-      return `${never}the configuration at step ${formatNumber(first)} comes again at step ${formatNumber(second)}.`;
+      return `It never halts: the configuration of step ${pair[0]} repeats at step ${pair[1]}.`;
     case "translated": {
-      const steps = `at steps ${formatNumber(first)} and ${formatNumber(second)}`;
       const extent = length === undefined ? "" : ` of ${formatCount(length, "cell")}`;
-      const farther = shift === undefined ? "" : `, ${formatCount(shift, "cell")} farther out`;
+      const distance = shift === undefined ? "" : `, ${formatCount(shift, "cell")} farther out`;
+      const direction = side === "R" ? "right" : "left";
       return (
-        `${never}${steps} the head is farther ${SIDES[side]} than before, ` +
-        `with the same pattern${extent} behind it${farther}.`
+        `It never halts: at steps ${pair.join(" and ")} the head is farther ${direction} than before, ` +
+        `with the same pattern${extent} behind it${distance}.`
       );
     }
-    case "backward":
+    case "backward": {
+      const size = `${formatCount(second, "node")} in ${formatCount(first, "level")}`;
       return (
-        `${never}what could come before a halt is a tree that ends, with ${formatCount(second, "node")} in ` +
-        `${formatCount(first, "level")}, and the start fits none of them.`
+        `It never halts: the tree of configurations before a halt ends, with ${size}, ` +
+        "and the start matches none of them."
       );
+    }
     case "undecided":
       return side === "cells" ? NO_CELLS : NO_STEPS;
     default:
-      return `Refused: the line is no machine; it goes wrong at column ${formatNumber(first)}.`;
+      return `Refused: the line is not a machine; the error is at column ${pair[0]}.`;
   }
 }

@@ -111,7 +111,7 @@ function answerList(/** @type {any} */ { job, bytes: given, line: first, asked }
     const next = done ? given.length : list.places?.[line + count] ?? end;
     const nextLine = list.numbers?.[line + count] ?? line + count;
     const place = { first: list.numbers === null ? first + line : first, next, nextLine };
-    sendPart({ job, ...part, ...origin, ...place, left: done ? list.left : 0, done, taken });
+    sendPart({ job, ...part, ...origin, ...place, left: done ? list.skipped : 0, done, taken });
     [from, line] = [end, line + count];
   }
 }
