@@ -62,7 +62,7 @@ function warmUp(/** @type {Worker} */ worker) {
   const examples = JSON.parse(embeddedText("examples-data"));
   const lists = examples.filter(({ call }) => call === "decide").map(({ lines }) => lines);
   const list = new TextEncoder().encode(lists.join("\n"));
-  whenReady(() => worker.postMessage({ type: "warm", list }));
+  whenReady(() => worker.postMessage({ type: "warm-up", list }));
 }
 
 /** What went wrong, as it is said. */

@@ -1,79 +1,75 @@
 /**
- * Rows of a run, read from the engine's trace, as they are kept, painted and pointed at: with packed cells.
+ * Rows of a trace with packed cells.
  *
- * @typedef {{steps: Float64Array, heads: Int32Array, lows: Int32Array, wide: Int32Array, places: Int32Array,
- *   states: string, cells: Uint8Array, bits: number}} PackedRows of each row the step, the head, the lowest
- *   position visited, how many are, and where its cells begin in `cells`, lowest first, each of so many bits:
- *   1 where the machine has two symbols, else 4
+ * @typedef {{steps: Float64Array, heads: Int32Array, lows: Int32Array, widths: Int32Array,
+ *   offsets: Int32Array, states: string, cells: Uint8Array, bits: number}} PackedRows for each row the step,
+ *   the head, the lowest visited position, the number of visited cells, and the offset of its first cell in
+ *   `cells`; a cell has 1 bit if the machine has two symbols, else 4
  */
 import { numberAt } from "./replies.mjs";
 
-// Where cells are at least so wide and high, the head is framed by the page, and no pixel of the picture.
-export const FRAMED = 6;
 const SPACE = 32;
 const NEWLINE = 10;
 const MINUS = 45;
-// The lowest bits of four bytes, and the factor that brings them together as the highest ones of a word.
+// The lowest bits of four bytes, and the factor that gathers them in the highest four bits.
 const LOWEST_BITS = 0x01010101;
-const TOGETHER = 0x10204080;
+const GATHER = 0x10204080;
 const NIBBLE = 15;
 
-/** How many bytes so many cells take, each row's beginning with one of its own. */
-export const packedSize = (/** @type {number} */ cells, /** @type {number} */ bits) =>
-  Math.ceil((cells * bits) / 8);
+/** Bytes of a row's cells. */
+const packedSize = (/** @type {number} */ cells, /** @type {number} */ bits) => Math.ceil((cells * bits) / 8);
 
-/** The symbol of a cell of a row, counted from its lowest one. */
-export function symbolAtCell(/** @type {PackedRows} */ sample, /** @type {number} */ k, /** @type {number} */ cell) {
-  const { cells, places, bits } = sample;
+/**
+ * The symbol of row `k` at a cell, counted from the lowest.
+ * @param {PackedRows} rows @param {number} k @param {number} cell
+ */
+export function symbolAtCell({ cells, offsets, bits }, k, cell) {
   const bit = cell * bits;
-  return (cells[places[k] + (bit >> 3)] >> (bit & 7)) & ((1 << bits) - 1);
-}
-
-/** The symbol of a row at a position; -1 where it isn't visited yet. */
-export function symbolAt(
-  /** @type {PackedRows} */ sample,
-  /** @type {number} */ k,
-  /** @type {number} */ position,
-) {
-  const cell = position - sample.lows[k];
-  return cell < 0 || cell >= sample.wide[k] ? -1 : symbolAtCell(sample, k, cell);
+  return (cells[offsets[k] + (bit >> 3)] >> (bit & 7)) & ((1 << bits) - 1);
 }
 
 /**
- * The symbols of a row from one cell to another, counted from its lowest one.
- * @param {PackedRows} sample @param {number} k @param {number} first @param {number} last
+ * The symbol of row `k` at a position; -1 if unvisited.
+ * @param {PackedRows} rows @param {number} k @param {number} position
  */
-export function unpackSymbols(sample, k, first, last) {
-  const symbols = new Uint8Array(last - first + 1);
-  for (let cell = first; cell <= last; cell += 1) {
-    symbols[cell - first] = symbolAtCell(sample, k, cell);
+export function symbolAt(rows, k, position) {
+  const cell = position - rows.lows[k];
+  return cell < 0 || cell >= rows.widths[k] ? -1 : symbolAtCell(rows, k, cell);
+}
+
+/** All symbols of row `k`. */
+export function unpackRow(/** @type {PackedRows} */ rows, /** @type {number} */ k) {
+  const symbols = new Uint8Array(rows.widths[k]);
+  for (let cell = 0; cell < symbols.length; cell += 1) {
+    symbols[cell] = symbolAtCell(rows, k, cell);
   }
   return symbols;
 }
 
 /**
- * Some of the rows: so many from one on, each so many behind the one before, with cells of their own.
- * @param {PackedRows} sample @param {number} first @param {number} apart @param {number} count
+ * A copy of `count` rows, from one on at an interval.
+ * @param {PackedRows} rows @param {number} first @param {number} interval @param {number} count
  * @returns {PackedRows}
  */
-export function selectRows(sample, first, apart, count) {
-  const { places, states, cells, bits } = sample;
-  const numbers = Array.from({ length: count }, (_, row) => first + row * apart);
+export function selectRows(rows, first, interval, count) {
+  const { bits } = rows;
+  const numbers = Array.from({ length: count }, (_, row) => first + row * interval);
   const column = (/** @type {Int32Array} */ all) => Int32Array.from(numbers, (k) => all[k]);
-  const [heads, lows, wide] = [sample.heads, sample.lows, sample.wide].map(column);
-  const steps = Float64Array.from(numbers, (k) => sample.steps[k]);
-  const begins = new Int32Array(count);
-  const size = wide.reduce((sum, one) => sum + packedSize(one, bits), 0);
-  const own = new Uint8Array(size);
-  let at = 0;
+  const [heads, lows, widths] = [rows.heads, rows.lows, rows.widths].map(column);
+  const steps = Float64Array.from(numbers, (k) => rows.steps[k]);
+  const { offsets, cells } = allocateCells(widths, bits);
   numbers.forEach((k, row) => {
-    const length = packedSize(wide[row], bits);
-    own.set(cells.subarray(places[k], places[k] + length), at);
-    begins[row] = at;
-    at += length;
+    const length = packedSize(widths[row], bits);
+    cells.set(rows.cells.subarray(rows.offsets[k], rows.offsets[k] + length), offsets[row]);
   });
-  const letters = numbers.map((k) => states[k]).join("");
-  return { steps, heads, lows, wide, places: begins, states: letters, cells: own, bits };
+  const states = numbers.map((k) => rows.states[k]).join("");
+  return { steps, heads, lows, widths, offsets, states, cells, bits };
+}
+
+function allocateCells(/** @type {Int32Array} */ widths, /** @type {number} */ bits) {
+  let size = 0;
+  const offsets = widths.map((width) => (size += packedSize(width, bits)) - packedSize(width, bits));
+  return { offsets, cells: new Uint8Array(size) };
 }
 
 /** @returns {PackedRows} the rows of a trace of a machine with so many symbols */
@@ -82,22 +78,18 @@ export function parseTrace(/** @type {Uint8Array} */ text, /** @type {number} */
   const bits = symbols === 2 ? 1 : 4;
   const pack = bits === 1 ? packBits : packNibbles;
   const steps = Float64Array.from(columns.steps);
-  const [heads, lows, wide] = [columns.heads, columns.lows, columns.wide].map((all) => Int32Array.from(all));
-  const places = new Int32Array(begins.length);
-  const cells = new Uint8Array(wide.reduce((sum, one) => sum + packedSize(one, bits), 0));
-  let at = 0;
-  begins.forEach((begin, k) => {
-    places[k] = at;
-    at += packedSize(wide[k], bits);
-    pack(cells.subarray(places[k], at), text, begin, wide[k]);
-  });
-  return { steps, heads, lows, wide, places, states, cells, bits };
+  const heads = Int32Array.from(columns.heads);
+  const lows = Int32Array.from(columns.lows);
+  const widths = Int32Array.from(columns.widths);
+  const { offsets, cells } = allocateCells(widths, bits);
+  begins.forEach((begin, k) => pack(cells.subarray(offsets[k]), text, begin, widths[k]));
+  return { steps, heads, lows, widths, offsets, states, cells, bits };
 }
 
-/** What stands in the lines of a trace: of each its numbers, and where its cells begin. */
+/** The fields of a trace's lines, and the offsets of their cells. */
 function parseColumns(/** @type {Uint8Array} */ text) {
-  /** @type {Record<"steps" | "heads" | "lows" | "wide" | "begins", number[]>} */
-  const columns = { steps: [], heads: [], lows: [], wide: [], begins: [] };
+  /** @type {Record<"steps" | "heads" | "lows" | "widths" | "begins", number[]>} */
+  const columns = { steps: [], heads: [], lows: [], widths: [], begins: [] };
   let states = "";
   for (let from = 0; from < text.length; ) {
     const letter = text.indexOf(SPACE, from) + 1;
@@ -107,7 +99,7 @@ function parseColumns(/** @type {Uint8Array} */ text) {
     columns.steps.push(numberAt(text, from));
     columns.heads.push(signedAt(text, letter + 2));
     columns.lows.push(signedAt(text, low));
-    columns.wide.push(end - begin);
+    columns.widths.push(end - begin);
     columns.begins.push(begin);
     states += String.fromCharCode(text[letter]);
     from = end + 1;
@@ -115,12 +107,11 @@ function parseColumns(/** @type {Uint8Array} */ text) {
   return { ...columns, states };
 }
 
-/** The number that stands there, with a sign where it is below 0. */
 const signedAt = (/** @type {Uint8Array} */ text, /** @type {number} */ from) =>
   text[from] === MINUS ? -numberAt(text, from + 1) : numberAt(text, from);
 
 /**
- * Packs cells of two symbols, eight in a byte.
+ * Packs digits 0 and 1, eight in a byte.
  * @param {Uint8Array} cells @param {Uint8Array} text @param {number} begin @param {number} count
  */
 function packBits(cells, text, begin, count) {
@@ -134,11 +125,11 @@ function packBits(cells, text, begin, count) {
   }
 }
 
-/** The four symbols of four digits, each 0 or 1, as four bits. */
-const packFour = (/** @type {number} */ digits) => Math.imul(digits & LOWEST_BITS, TOGETHER) >>> 28;
+/** Four digits 0 or 1 as four bits. */
+const packFour = (/** @type {number} */ digits) => Math.imul(digits & LOWEST_BITS, GATHER) >>> 28;
 
 /**
- * Packs cells of more symbols, two in a byte.
+ * Packs digits, two in a byte.
  * @param {Uint8Array} cells @param {Uint8Array} text @param {number} begin @param {number} count
  */
 function packNibbles(cells, text, begin, count) {

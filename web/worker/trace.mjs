@@ -1,111 +1,116 @@
 /**
- * Rows of a space-time diagram, from the engine's trace, and the picture of them.
+ * Rows, pictures and growth of a machine's run, from its cached trace.
  *
  * @typedef {{step: number, state: string, head: number, low: number, cells: Uint8Array}} Row
  * @typedef {import("../lib/bb.mjs").Engine} Engine
  * @typedef {import("./row-cache.mjs").RowRequest} RowRequest
- * @typedef {import("./row-cache.mjs").CachedRows} CachedRows
  * @typedef {import("../page/diagram/viewport.mjs").View} View
- * @typedef {{machine: string, cells: number, upto: number}} BoundedRun a run up to a step, within so many cells
+ * @typedef {{machine: string, cells: number}} Run
  */
 import { ZOOM, fitViews, zoomView } from "../page/diagram/viewport.mjs";
+import { unpackRow } from "./packed-rows.mjs";
 import { paintRows } from "./pixels.mjs";
-import { unpackSymbols } from "./packed-rows.mjs";
 import { RowCache } from "./row-cache.mjs";
 
-// The powers of the steps between which cells are said to grow as a root.
+// The exponents of the steps between which growth counts as a root.
 const ROOT = [0.2, 0.8];
 
-/** @type {RowCache | null} what is known of the last machine's run */
+/** @type {RowCache | null} of the last machine */
 let cache = null;
 
-/** A machine's run within so many cells. */
-function cacheFor(/** @type {{machine: string, cells: number}} */ { machine, cells }) {
-  cache = cache?.machine === machine && cache.cells === cells ? cache : new RowCache(machine, cells);
+const isCached = (/** @type {Run} */ run) => cache?.machine === run.machine && cache.cells === run.cells;
+
+function cacheFor(/** @type {Engine} */ engine, /** @type {Run} */ run) {
+  if (cache === null || !isCached(run)) {
+    cache = new RowCache(engine, run.machine, run.cells);
+  }
   return cache;
 }
 
-/** The rows of a machine that are asked for, and the last step that there is, where fewer than two come. */
-export function traceRows(/** @type {Engine} */ engine, /** @type {RowRequest} */ asked) {
-  const run = cacheFor(asked);
-  const { sample } = run.getRows(engine, asked, false);
+/** The requested rows, and the last step of the run if fewer than two exist. */
+export function traceRows(/** @type {Engine} */ engine, /** @type {Run & RowRequest} */ request) {
+  const own = cacheFor(engine, request);
+  const { rows: packed } = own.getRows(request, false);
   /** @type {Row[]} */
-  const rows = Array.from(sample.steps, (step, k) => {
-    const cells = unpackSymbols(sample, k, 0, sample.wide[k] - 1);
-    return { step, state: sample.states[k], head: sample.heads[k], low: sample.lows[k], cells };
+  const rows = Array.from(packed.steps, (step, k) => {
+    const [state, head, low] = [packed.states[k], packed.heads[k], packed.lows[k]];
+    return { step, state, head, low, cells: unpackRow(packed, k) };
   });
-  const isShort = rows.length < 2 && asked.from + asked.every <= asked.upto;
-  return { rows, last: isShort ? run.lastRow(engine, asked.upto).step : rows.at(-1)?.step };
+  const isShort = rows.length < 2 && request.from + request.every <= request.upto;
+  return { rows, last: isShort ? own.lastRow(request.upto).step : rows.at(-1)?.step };
 }
 
-/** Rows that views may need, as another worker keeps them. */
-export function traceAhead(/** @type {Engine} */ engine, /** @type {import("./row-cache.mjs").AheadRequest} */ asked) {
-  return cacheFor(asked).trace(engine, asked, asked.space);
+/** Rows for another worker's cache. */
+export function traceAhead(
+  /** @type {Engine} */ engine,
+  /** @type {import("./row-cache.mjs").AheadRequest} */ request,
+) {
+  return cacheFor(engine, request).trace(request, request.space);
 }
 
-/** Keeps rows that another worker took, if they are of the run that is shown. */
-export function storeRows(/** @type {CachedRows} */ kept) {
-  if (cache?.machine === kept.asked.machine && cache.cells === kept.asked.cells) {
-    cache.store(kept);
-  }
+/** Caches another worker's rows if they belong to the current run. */
+export function storeRows(/** @type {Run & {cached: import("./row-cache.mjs").CachedRows}} */ message) {
+  isCached(message) && cache?.store(message.cached);
 }
 
 /**
- * How the cells that a run visits grow, by how many they are after a hundredth of the steps, a tenth, and
- * all.
- * @param {Engine} engine @param {BoundedRun} asked @returns {import("../page/machine/machine-info.mjs").Growth}
+ * The growth of the visited cells, by their numbers after a hundredth, a tenth and all of the steps.
+ * @param {Engine} engine @param {Run & {upto: number}} request
+ * @returns {import("../page/machine/machine-info.mjs").Growth}
  */
-export function measureGrowth(engine, asked) {
-  const { upto } = asked;
-  const run = cacheFor(asked);
-  const { step: reached, halts, wide } = run.lastRow(engine, upto);
-  const steps = halts ? upto : reached;
-  const apart = Math.max(1, Math.floor(steps / 100));
-  if (Math.floor(reached / apart) < 100) {
-    return { growth: halts ? "halts" : "line", steps: reached, visited: [wide, wide, wide] };
+export function measureGrowth(engine, request) {
+  const { upto } = request;
+  const own = cacheFor(engine, request);
+  const { step: last, halts, width } = own.lastRow(upto);
+  const steps = halts ? upto : last;
+  const hundredth = Math.max(1, Math.floor(steps / 100));
+  if (Math.floor(last / hundredth) < 100) {
+    return { growth: halts ? "halts" : "line", steps: last, visited: [width, width, width] };
   }
-  // The first rows are those of a hundredth and a tenth, the last one is that of all.
-  const { sample } = run.getRows(engine, { ...asked, from: apart, every: 9 * apart, upto: 100 * apart }, false);
-  const visited = [0, 1, 11].map((k) => sample.wide[k]);
-  const power = Math.log10(visited[2] / visited[0]) / 2;
-  const grows = power < ROOT[0] ? "logarithm" : power < ROOT[1] ? "root" : "line";
-  return { growth: visited[1] === visited[2] ? "stays" : grows, steps, visited };
+  // Row 0 is a hundredth of the steps, row 1 a tenth, row 11 all.
+  const { rows } = own.getRows({ from: hundredth, every: 9 * hundredth, upto: 100 * hundredth }, false);
+  const visited = [0, 1, 11].map((k) => rows.widths[k]);
+  const exponent = Math.log10(visited[2] / visited[0]) / 2;
+  const growth = exponent < ROOT[0] ? "logarithm" : exponent < ROOT[1] ? "root" : "line";
+  return { growth: visited[1] === visited[2] ? "stays" : growth, steps, visited };
 }
 
 /**
- * The picture of a view: a pixel for each column and row, in the mean colour of the cells that it stands for.
+ * The picture of a view.
  * @param {Engine} engine
- * @param {BoundedRun & {view: View | null, width: number, height: number, palette: number[][],
- *   fit: import("../page/diagram/viewport.mjs").Fit}} asked `view` is null where the picture is to fit
+ * @param {Run & {upto: number, view: View | null, width: number, height: number, palette: number[][],
+ *   fit: import("../page/diagram/viewport.mjs").Fit}} request a null view means the best fit
  */
-export function makePicture(engine, asked) {
-  const { machine, cells, upto, width, height, fit, palette } = asked;
-  const run = cacheFor(asked);
-  fit.end && run.addLastRow({ ...fit.end, upto: fit.end.step, halts: true });
-  const whole = run.lastRow(engine, Math.min(upto, fit.last));
+export function makePicture(engine, request) {
+  const { upto, width, height, fit, palette } = request;
+  const own = cacheFor(engine, request);
+  fit.end && own.addLastRow({ ...fit.end, upto: fit.end.step, halts: true });
+  const whole = own.lastRow(Math.min(upto, fit.last));
   const { home, opening } = fitViews(width, height, { last: whole.step, ...spanOf(whole) }, fit.pair);
-  const view = asked.view ?? (fit.opens ? opening : home);
+  const view = request.view ?? (fit.opens ? opening : home);
   const top = Math.min(view.top, upto);
   const end = Math.min(upto, top + (rowCount(view, height) - 1) * view.every);
-  const given = { machine, cells, upto: end, from: top, every: view.every };
-  const { sample, cut, every } = run.getRows(engine, given, true);
+  const wanted = { from: top, every: view.every, upto: end };
+  const { rows, cut, every } = own.getRows(wanted, true);
   const columns = Math.ceil(width / view.wide);
-  const image = paintRows(sample, view, columns, palette);
-  const k = sample.steps.length - 1;
-  const isWhole = k < 0 || (end >= whole.step && whole.wide > sample.wide[k]);
-  const span = spanOf(isWhole ? whole : { low: sample.lows[k], wide: sample.wide[k] });
-  const isEnd = k < 0 || sample.steps[k] + every <= end || whole.step < Math.min(end, fit.last);
-  const made = { sample, cut: cut && isEnd, every, columns, image, ...span };
-  return { ...made, view, home, ahead: run.aheadRequests(given, nextViews(view, home, height, upto)) };
+  const image = paintRows(rows, view, columns, palette);
+  const k = rows.steps.length - 1;
+  const isWhole = k < 0 || (end >= whole.step && whole.width > rows.widths[k]);
+  const span = spanOf(isWhole ? whole : { low: rows.lows[k], width: rows.widths[k] });
+  const isEnd = k < 0 || rows.steps[k] + every <= end || whole.step < Math.min(end, fit.last);
+  const ahead = own.aheadRequests(wanted, nextViews(view, home, height, upto));
+  return { rows, cut: cut && isEnd, every, columns, image, ...span, view, home, ahead };
 }
 
-/** The lowest and the highest of positions. */
-const spanOf = (/** @type {{low: number, wide: number}} */ { low, wide }) => ({ low, high: low + wide - 1 });
+/** The lowest and highest positions. */
+const spanOf = (/** @type {{low: number, width: number}} */ { low, width }) => {
+  return { low, high: low + width - 1 };
+};
 
 const rowCount = (/** @type {View} */ { high }, /** @type {number} */ height) => Math.ceil(height / high);
 
 /**
- * The views that keys zoom to from this one, by their rows.
+ * The rows of the views one zoom away.
  * @param {View} view @param {View} home @param {number} height @param {number} most the last step
  */
 function nextViews(view, home, height, most) {

@@ -2,30 +2,31 @@
  * The space-time diagram: a row is a step, a column a position.
  *
  * @typedef {import("./viewport.mjs").View} View
+ * @typedef {import("./viewport.mjs").Fit} Fit
+ * @typedef {import("./viewport.mjs").Point} Point
  * @typedef {import("./geometry.mjs").Place} Place
- * @typedef {import("./geometry.mjs").Point} Point
  * @typedef {import("./geometry.mjs").Scene} Scene
- * @typedef {{machine: string, cells: number, upto: number} & Omit<import("./viewport.mjs").Fit, "opens">} DiagramRun
- * @typedef {{view: View, home: View, sample: import("../../worker/packed-rows.mjs").PackedRows, cut: boolean,
+ * @typedef {import("../../worker/row-cache.mjs").AheadRequest} AheadRequest
+ * @typedef {{machine: string, cells: number, upto: number} & Omit<Fit, "opens">} DiagramRun
+ * @typedef {{view: View, home: View, rows: import("../../worker/packed-rows.mjs").PackedRows, cut: boolean,
  *   every: number, columns: number, image: Uint8ClampedArray, low: number, high: number,
- *   ahead: import("../../worker/row-cache.mjs").AheadRequest[]}} Picture `ahead` are rows of views that may come next
+ *   ahead: AheadRequest[]}} Picture `ahead`: requests for rows of probable next views
  */
-import { clearColours, readPalette, byId } from "../dom.mjs";
+import { byId, clearColours, readPalette } from "../dom.mjs";
 import { WorkerClient } from "../worker-client.mjs";
+import * as geometry from "./geometry.mjs";
 import { Painter, createSheet } from "./paint.mjs";
-import * as places from "./geometry.mjs";
-import { closeView, isSameView, zoomView } from "./viewport.mjs";
+import { FRAMED, closeView, isSameView, zoomView } from "./viewport.mjs";
 
-// A picture is waited for so long before the next one is begun: what was traced for it is of use.
+// A picture may take this long before the next one interrupts it: its trace is of use.
 const PATIENCE_MILLISECONDS = 1_500;
 
 export class Diagram {
-  /** @param {(place: Place) => void} choose what happens where a step is chosen in the picture */
-  constructor(choose) {
-    this.onChoose = choose;
+  /** @param {(place: Place) => void} onChoose called when a step is chosen in the picture */
+  constructor(onChoose) {
+    this.onChoose = onChoose;
     this.canvas = /** @type {HTMLCanvasElement} */ (byId("diagram"));
     this.client = new WorkerClient(PATIENCE_MILLISECONDS);
-    // What takes rows of views that may come next.
     this.aheadClient = new WorkerClient();
     /** @type {DiagramRun | null} */
     this.run = null;
@@ -35,22 +36,17 @@ export class Diagram {
     this.sheet = null;
     /** @type {import("./paint.mjs").Mark[]} */
     this.marks = [];
-    /** @type {View | null} the view that is shown; null until the first picture says how it opens */
+    /** @type {View | null} null until the first picture */
     this.view = null;
     this.isOpening = true;
-    // Whether the view is as large as fits, and nobody chose another.
+    // Whether the view follows the canvas's size.
     this.isFitted = true;
-    // The step that the tape shows, and its head.
+    /** The head at the tape's step. */
     this.tapePlace = { step: 0, position: 0 };
-    /** @type {Place | null} what the keys point at */
+    /** @type {Place | null} the pointer of the keys */
     this.pointed = null;
     this.frame = 0;
-    // How often a picture was asked for.
     this.requests = 0;
-    this.addListeners();
-  }
-
-  addListeners() {
     new ResizeObserver(() => this.onResize()).observe(this.canvas);
     matchMedia("(prefers-color-scheme: dark)").addEventListener("change", () => {
       clearColours();
@@ -59,24 +55,23 @@ export class Diagram {
   }
 
   get area() {
-    return places.pictureArea(this.canvas, this.run?.last ?? 0);
+    return geometry.pictureArea(this.canvas, this.run?.last ?? 0);
   }
 
-  /** @returns {Scene | null} what the canvas shows; null until something does. */
+  /** @returns {Scene | null} */
   get scene() {
     const { view, area, picture } = this;
     return view === null ? null : { view, area, picture };
   }
 
-  /** Shows a machine from its start on, or what is marked. */
-  open(/** @type {DiagramRun} */ asked, /** @type {import("./paint.mjs").Mark[]} */ marks) {
+  /** Shows a machine from its start, or its marks. */
+  open(/** @type {DiagramRun} */ run, /** @type {import("./paint.mjs").Mark[]} */ marks) {
     this.close();
-    Object.assign(this, { run: asked, marks, isOpening: true, isFitted: true });
-    this.tapePlace = { step: 0, position: 0 };
-    this.requestPicture();
+    Object.assign(this, { run, marks, tapePlace: { step: 0, position: 0 } });
+    this.fit(true);
   }
 
-  /** Leaves a machine: a picture of it that comes is too late. */
+  /** Leaves a machine and drops its outstanding pictures. */
   close() {
     Object.assign(this, { run: null, picture: null, sheet: null, view: null, marks: [], pointed: null });
     this.requests += 1;
@@ -85,15 +80,14 @@ export class Diagram {
     this.aheadClient.isBusy && this.aheadClient.cancel();
   }
 
-  /** Shows nothing, where no picture of the next machine has come. */
+  /** Empties the canvas, unless a picture has come. */
   clear() {
     if (this.picture === null) {
-      // A new width has it empty.
+      // Setting the width clears a canvas.
       this.canvas.width = this.canvas.clientWidth;
     }
   }
 
-  /** Shows as much as fits now, where nobody chose another view. */
   onResize() {
     if (this.run !== null && this.canvas.clientWidth > 0) {
       this.view = this.isFitted ? null : this.view;
@@ -101,9 +95,9 @@ export class Diagram {
     }
   }
 
-  /** Shows the whole, or what is marked, as the picture opened. */
-  fit(opens = false) {
-    Object.assign(this, { view: null, isOpening: opens, isFitted: true });
+  /** Shows the whole, or the opening view. */
+  fit(isOpening = false) {
+    Object.assign(this, { view: null, isOpening, isFitted: true });
     this.requestPicture();
   }
 
@@ -112,7 +106,7 @@ export class Diagram {
     this.requestPicture();
   }
 
-  /** Asks for the picture of the view, and shows the one before until it is there. */
+  /** Requests the view's picture; the last one stays until it comes. */
   requestPicture() {
     if (this.run === null) {
       return;
@@ -123,67 +117,66 @@ export class Diagram {
       byId("diagram-text").textContent = "Drawing …";
     }
     this.canvas.dataset.state = "requested";
-    const fit = { last, pair, opens: this.isOpening, end };
-    const question = { type: "picture", machine, cells, upto, view: this.view, width, height, fit };
     this.requests += 1;
     const { requests } = this;
-    this.client.request({ ...question, palette: readPalette() }, (answer) => this.receivePicture(answer, requests === this.requests));
+    const fit = { last, pair, opens: this.isOpening, end };
+    const run = { machine, cells, upto, view: this.view, width, height, fit };
+    this.client.request({ type: "picture", ...run, palette: readPalette() }, (reply) => {
+      this.receivePicture(reply, requests === this.requests);
+    });
     this.scheduleDraw();
   }
 
-  /**
-   * Takes a picture; that of an older view is shown, scaled, until the last one comes. It is drawn at once,
-   * so that it stands ready for the browser's next frame.
-   */
-  receivePicture(/** @type {any} */ answer, /** @type {boolean} */ isLast) {
-    if (!isLast && (answer.error || this.view === null)) {
+  /** Draws a picture at once, in time for the next frame. One of an older view is scaled. */
+  receivePicture(/** @type {any} */ reply, /** @type {boolean} */ isLast) {
+    if (!isLast && (reply.error || this.view === null)) {
       return;
     }
-    if (answer.error) {
+    if (reply.error) {
       Object.assign(this, { picture: null, sheet: null });
       this.clear();
-      byId("diagram-text").textContent = `No diagram: ${answer.message}.`;
+      byId("diagram-text").textContent = `No diagram: ${reply.message}.`;
       return;
     }
     /** @type {Picture} */
-    const data = answer.picture;
-    this.picture = data;
-    this.sheet = createSheet(data);
-    this.view ??= data.view;
+    const picture = reply.picture;
+    this.picture = picture;
+    this.sheet = createSheet(picture);
+    this.view ??= picture.view;
     this.canvas.dataset.state = isLast ? "received" : "requested";
     this.draw();
     if (isLast) {
-      this.traceAhead(data.ahead, this.requests);
+      this.traceAhead(picture.ahead, this.requests);
       this.canvas.dispatchEvent(new Event("received"));
     }
   }
 
   /**
-   * Has rows of views that may come next taken by another worker, one after another, and kept by the one that
-   * makes pictures, until another picture is asked for.
-   * @param {import("../../worker/row-cache.mjs").AheadRequest[]} ahead @param {number} asked
+   * Traces rows of probable next views in another worker, for the cache of this one, until the next request.
+   * @param {AheadRequest[]} ahead @param {number} requests
    */
-  traceAhead([rows, ...others], asked) {
-    if (rows === undefined || asked !== this.requests) {
+  traceAhead([request, ...others], requests) {
+    if (request === undefined || requests !== this.requests) {
       return;
     }
-    this.aheadClient.request({ type: "trace-ahead", request: rows }, ({ error, cached }) => {
-      cached && this.client.post({ type: "store-rows", cached }, [cached.sample.cells.buffer]);
-      error || this.traceAhead(others, asked);
+    const { machine, cells } = request;
+    this.aheadClient.request({ type: "trace-ahead", request }, ({ error, cached }) => {
+      cached && this.client.post({ type: "store-rows", machine, cells, cached }, [cached.rows.cells.buffer]);
+      error || this.traceAhead(others, requests);
     });
   }
 
-  /** Shows a view, or one nearby with something visited, where it isn't the one that is shown. */
+  /** Shows a view, moved to visited cells. */
   setNearView(/** @type {View} */ wanted) {
     const { scene, run } = this;
     if (scene !== null && run !== null) {
-      const view = places.clampView({ ...scene, view: wanted }, run.upto);
+      const view = geometry.clampView({ ...scene, view: wanted }, run.upto);
       isSameView(view, scene.view) || this.setView(view);
     }
   }
 
   /**
-   * Shows a view zoomed so many times, with what was at one point of the canvas at another.
+   * Zooms a view around a point, and moves the point to another.
    * @param {View} from @param {number} factor @param {Point} point @param {Point} goal
    */
   moveAndZoom(from, factor, point, goal) {
@@ -191,29 +184,25 @@ export class Diagram {
       const { x, y } = this.area;
       const at = { x: point.x - x, y: point.y - y };
       const view = factor === 1 ? from : zoomView(from, this.picture.home, factor, at);
-      this.setNearView(places.moveView(view, point.x - goal.x, point.y - goal.y));
+      this.setNearView(geometry.moveView(view, point.x - goal.x, point.y - goal.y));
     }
   }
 
-  /**
-   * Zooms so many times at a place of the canvas; without one at what the keys point at, at the chosen step's
-   * head, or at a head.
-   * @param {number} factor @param {Point} [place]
-   */
-  zoom(factor, place) {
+  /** Zooms around a point of the canvas; the default is the pointer, the tape's step or a head. */
+  zoom(/** @type {number} */ factor, /** @type {Point | undefined} */ point) {
     const { scene, picture } = this;
     if (scene !== null && picture !== null) {
-      const { x, y } = place ?? this.zoomCentre(scene);
-      this.setView(zoomView(scene.view, picture.home, factor, { x: x - scene.area.x, y: y - scene.area.y }));
+      const { x, y } = point ?? this.zoomCentre(scene);
+      const at = { x: x - scene.area.x, y: y - scene.area.y };
+      this.setView(zoomView(scene.view, picture.home, factor, at));
     }
   }
 
-  /** The place in the canvas at which keys zoom. */
   zoomCentre(/** @type {Scene} */ scene) {
-    return places.zoomCentre(scene, [this.pointed, this.tapePlace]);
+    return geometry.zoomCentre(scene, [this.pointed, this.tapePlace]);
   }
 
-  /** Chooses a step whose head is there; where the view is too far away to see its cells, it comes near. */
+  /** Marks the tape's step. If its cells are too small, `closes` zooms in on it. */
   showStep(/** @type {Place} */ place, /** @type {boolean} */ closes) {
     this.tapePlace = place;
     const { scene } = this;
@@ -221,33 +210,32 @@ export class Diagram {
       return;
     }
     this.pointed = closes ? null : this.pointed;
-    if (closes || (!places.isVisible(scene, place) && scene.view.high >= places.LEGIBLE)) {
+    if (closes || (!geometry.isVisible(scene, place) && scene.view.high >= FRAMED)) {
       const { width, height } = scene.area;
       this.setView(closeView(width, height, place.step, place.position, scene.view));
     }
     this.scheduleDraw();
   }
 
-  /** The place under a point of the canvas; null where there is none. */
+  /** @returns {Place | null} */
   placeAt(/** @type {number} */ x, /** @type {number} */ y) {
     const { scene } = this;
-    return scene === null ? null : places.placeAt(scene, { x, y });
+    return scene === null ? null : geometry.placeAt(scene, { x, y });
   }
 
-  /** Moves what the keys point at by cells that are seen, or by so much of the view. */
+  /** Moves the pointer of the keys by cells or by part of the view; the view follows. */
   movePointer(/** @type {number} */ right, /** @type {number} */ down, /** @type {boolean} */ far) {
-    const { scene, run } = this;
+    const { scene, run, tapePlace } = this;
     if (scene === null || run === null) {
       return;
     }
-    const isSeen = places.isVisible(scene, this.tapePlace);
-    const middle = isSeen ? null : places.placeAt(scene, this.zoomCentre(scene));
-    const from = this.pointed ?? middle ?? this.tapePlace;
-    this.pointed = places.nextPlace(scene, from, { right, down, far }, run.upto);
-    // The view follows, so that the place is seen.
-    const way = places.offsetTo(scene, this.pointed);
-    if (way.right !== 0 || way.down !== 0) {
-      this.setNearView(places.moveView(scene.view, way.right, way.down));
+    const isVisible = geometry.isVisible(scene, tapePlace);
+    const middle = isVisible ? null : geometry.placeAt(scene, this.zoomCentre(scene));
+    const from = this.pointed ?? middle ?? tapePlace;
+    this.pointed = geometry.nextPlace(scene, from, { right, down, far }, run.upto);
+    const offset = geometry.offsetTo(scene, this.pointed);
+    if (offset.right !== 0 || offset.down !== 0) {
+      this.setNearView(geometry.moveView(scene.view, offset.right, offset.down));
     }
     this.scheduleDraw();
   }
@@ -267,18 +255,18 @@ export class Diagram {
     }
     const painter = new Painter(canvas, scene);
     painter.paintPicture(picture, this.sheet);
-    painter.paintHeads(picture.sample);
+    painter.paintHeads(picture);
     this.marks.forEach((mark) => painter.paintMark(mark));
     painter.paintAxes(this.tapePlace.step);
     this.pointed !== null && painter.paintPlace(this.pointed);
     const isNew = canvas.dataset.state === "received" || canvas.dataset.state === "drawn";
     Object.assign(canvas.dataset, { ...scene.view, x: scene.area.x, y: scene.area.y, ratio: painter.ratio });
-    byId("diagram-text").textContent = places.pictureText(picture, scene.area.width);
+    byId("diagram-text").textContent = geometry.pictureText(picture, scene.area.width);
     canvas.dataset.state = isNew ? "drawn" : "requested";
   }
 
-  /** @returns {Promise<Blob | null>} the picture as a file */
+  /** @returns {Promise<Blob | null>} */
   async toPng() {
-    return new Promise((done) => this.canvas.toBlob(done, "image/png"));
+    return new Promise((resolve) => this.canvas.toBlob(resolve, "image/png"));
   }
 }

@@ -1,34 +1,34 @@
 /**
- * How large a diagram is shown: which steps and positions a view has, and what zooming makes of it.
+ * Views of a diagram: their steps, positions and scale, fitting and zooming.
  *
  * @typedef {{top: number, left: number, every: number, high: number, across: number, wide: number}} View the
- *   step of the first row and the position of the first column; a row is each `every`-th step and `high`
- *   pixels high, a column is `across` cells and `wide` pixels wide; where one is above 1 the other is 1
- * @typedef {{first: number, second: number, low: number | null, high: number | null}} Pair two steps that are
- *   marked, and the positions between which they are, null for all
- * @typedef {{step: number, low: number, wide: number}} End the last row of a run: the positions visited
- * @typedef {{last: number, pair: Pair | null, opens: boolean, end: End | null}} Fit the last step of the
- *   whole, what is marked on it, whether the view opens, so that what is marked has to be seen, and the last
- *   row of a run that halts, where it is known
- * @typedef {{last: number, low: number, high: number}} Whole
+ *   first row's step and the first column's position; a row is every `every`-th step and `high` pixels high,
+ *   a column is `across` cells and `wide` pixels wide; in each pair at least one number is 1
+ * @typedef {{first: number, second: number, low: number | null, high: number | null}} Pair two marked steps,
+ *   and the positions between which they are marked, null for all
+ * @typedef {{step: number, low: number, width: number}} End the visited positions of a run's last row
+ * @typedef {{last: number, pair: Pair | null, opens: boolean, end: End | null}} Fit the last step, the marked
+ *   pair, whether the view is to open on it, and the last row if the run is known to halt
+ * @typedef {{x: number, y: number}} Point in pixels
  */
 
-// Keys and buttons zoom so many times.
+/** The factor of zooming by keys and buttons. */
 export const ZOOM = 4;
-// Pixels of a cell where one is seen by itself.
+/** The least size in pixels of legible cells, which have a frame around the head. */
+export const FRAMED = 6;
+// Sizes of single cells, in pixels.
 const SIZES = [1, 2, 3, 4, 6, 8, 12, 16, 24, 32];
-// A cell has so many where a step is gone to from far away.
+// The size of cells after going to a step from far away.
 const CLOSE_PIXELS = 12;
-const LARGEST = SIZES[SIZES.length - 1];
-// A cell is at most so many times as wide as high.
+// The greatest ratio of a cell's width to its height.
 const MOST_WIDE = 4;
-// Steps of a row are halved down to so many, at least.
-const HALVED = 16;
-// What zooms less goes through all sizes.
+// Rows are halved down to at least this many steps.
+const LEAST_HALVED = 16;
+// Smaller zooms go through all sizes.
 const LEAST_LEVEL = 2;
-// Rows of a pair nearer than this many pixels can't be kept apart: then the picture opens on them.
-const APART_PIXELS = 24;
-// The last step's row is outlined; it has this room below the sampled ones.
+// A view opens on a pair whose rows would be nearer than this.
+const PAIR_PIXELS = 24;
+// Room for the outline of the last row.
 const LAST_ROW_PIXELS = 6;
 
 export function isSameView(/** @type {View} */ one, /** @type {View} */ two) {
@@ -36,16 +36,14 @@ export function isSameView(/** @type {View} */ one, /** @type {View} */ two) {
   return isPlaced && stepsPerPixel(one) === stepsPerPixel(two) && cellsPerPixel(one) === cellsPerPixel(two);
 }
 
-/** Steps of a pixel. */
 export const stepsPerPixel = (/** @type {View} */ { every, high }) => every / high;
 
-/** Cells of a pixel. */
 export const cellsPerPixel = (/** @type {View} */ { across, wide }) => across / wide;
 
-/** The size of a cell that is at most this one, so that a row or column fits. */
+/** The greatest cell size up to a number of pixels. */
 const cellSize = (/** @type {number} */ pixels) => Math.max(1, ...SIZES.filter((one) => one <= pixels));
 
-/** How so many units to a pixel are shown: as many in one, or one with several pixels. */
+/** The nearest scale to `units` per pixel: several units in one pixel, or one in several. */
 function unitScale(/** @type {number} */ units) {
   if (units >= 1) {
     return { many: Math.round(units), pixels: 1 };
@@ -55,22 +53,22 @@ function unitScale(/** @type {number} */ units) {
   return { many: 1, pixels };
 }
 
-/** So many steps or a few more, which can be halved again and again: closer views have rows of this one. */
+/** An interval rounded up so that it halves repeatedly: closer views then share its rows. */
 function roundForHalving(/** @type {number} */ every) {
-  const times = 2 ** Math.max(0, Math.floor(Math.log2(every / HALVED)));
+  const times = 2 ** Math.max(0, Math.floor(Math.log2(every / LEAST_HALVED)));
   return Math.ceil(every / times) * times;
 }
 
-/** Nearly so many steps of a row, which are those of the whole, doubled or halved some times. */
+/** The nearest scale that is the whole's, doubled or halved repeatedly. */
 function nearestLevel(/** @type {number} */ steps, /** @type {View} */ home) {
   const level = stepsPerPixel(home) * 2 ** Math.round(Math.log2(steps / stepsPerPixel(home)));
   return level > 1 && Number.isInteger(level) ? level : steps;
 }
 
 /**
- * The view of some steps between two positions, as large as fits.
- * @param {number} width @param {number} height in pixels
- * @param {{first: number, last: number, low: number, high: number}} seen
+ * The largest view of a range of steps and positions that fits in so many pixels.
+ * @param {number} width @param {number} height
+ * @param {{first: number, last: number, low: number, high: number}} range
  * @returns {View}
  */
 function fitView(width, height, { first, last, low, high }) {
@@ -84,53 +82,43 @@ function fitView(width, height, { first, last, low, high }) {
 }
 
 /**
- * The view of the whole, and the one that opens: on the pair where its rows would be too near each other.
- * @param {number} width @param {number} height @param {Whole} whole @param {Pair | null} pair
+ * The view of the whole, and the opening one: on the pair if its rows would be too near each other.
+ * @param {number} width @param {number} height
+ * @param {{last: number, low: number, high: number}} whole @param {Pair | null} pair
  */
 export function fitViews(width, height, whole, pair) {
   const home = fitView(width, height, { first: 0, ...whole });
-  if (pair === null || (pair.second - pair.first) / stepsPerPixel(home) >= APART_PIXELS) {
+  if (pair === null || (pair.second - pair.first) / stepsPerPixel(home) >= PAIR_PIXELS) {
     return { home, opening: home };
   }
-  const apart = pair.second - pair.first;
-  const about = Math.max(4, Math.ceil(apart / 2));
+  const around = Math.max(4, Math.ceil((pair.second - pair.first) / 2));
   const margin = pair.low === null || pair.high === null ? 0 : Math.max(8, pair.high - pair.low);
-  const seen = {
-    first: Math.max(0, pair.first - about),
-    last: pair.second + about,
+  const range = {
+    first: Math.max(0, pair.first - around),
+    last: pair.second + around,
     low: Math.max(whole.low, (pair.low ?? whole.low) - margin),
     high: Math.min(whole.high, (pair.high ?? whole.high) + margin),
   };
-  return { home, opening: fitView(width, height, seen) };
+  return { home, opening: fitView(width, height, range) };
 }
 
-/** How many cells of a pixel go with so many steps of one, between the whole and single cells. */
+/** Cells per pixel for a number of steps per pixel, between the whole and single cells. */
 function cellsAt(/** @type {number} */ steps, /** @type {View} */ home) {
   const even = (cellsPerPixel(home) * steps) / stepsPerPixel(home);
   return steps >= stepsPerPixel(home) ? even : Math.max(even, Math.min(1, cellsPerPixel(home), steps));
 }
 
 /**
- * A view so many times as close, or farther away where it is below 1; the place stays where it is.
- * @param {View} view @param {View} home @param {number} factor
- * @param {{x: number, y: number}} place in pixels
+ * A view zoomed around a fixed point; a factor below 1 zooms out.
+ * @param {View} view @param {View} home @param {number} factor @param {Point} point
  * @returns {View}
  */
 export function zoomView(view, home, factor, { x, y }) {
-  const least = 1 / LARGEST;
+  const least = 1 / SIZES[SIZES.length - 1];
   const most = Math.max(stepsPerPixel(home), stepsPerPixel(view)) * 1024;
   const near = Math.min(Math.max(stepsPerPixel(view) / factor, least), most);
-  const wanted = Math.max(factor, 1 / factor) >= LEAST_LEVEL ? nearestLevel(near, home) : near;
-  return scaleView(view, wanted, cellsAt(wanted, home), { x, y });
-}
-
-/**
- * A view with so many steps and cells of a pixel; the place stays where it is.
- * @param {View} view @param {number} steps @param {number} cells @param {{x: number, y: number}} place
- * @returns {View}
- */
-function scaleView(view, steps, cells, { x, y }) {
-  const [rows, columns] = [unitScale(steps), unitScale(cells)];
+  const steps = Math.max(factor, 1 / factor) >= LEAST_LEVEL ? nearestLevel(near, home) : near;
+  const [rows, columns] = [unitScale(steps), unitScale(cellsAt(steps, home))];
   const step = view.top + Math.floor(y / view.high) * view.every;
   const position = view.left + Math.floor(x / view.wide) * view.across;
   const top = Math.max(0, Math.round(step / rows.many) - Math.floor(y / rows.pixels)) * rows.many;
@@ -139,13 +127,13 @@ function scaleView(view, steps, cells, { x, y }) {
 }
 
 /**
- * A view on one step and position, so close that its cells are seen.
+ * A view centred on a step and position with visible cells; one with visible cells keeps its scale.
  * @param {number} width @param {number} height @param {number} step @param {number} position
- * @param {View} view the one before; where its cells are seen it keeps its size
+ * @param {View} view the current one
  * @returns {View}
  */
 export function closeView(width, height, step, position, view) {
-  const isClose = view.every === 1 && view.across === 1 && view.high >= 6 && view.wide === view.high;
+  const isClose = view.every === 1 && view.across === 1 && view.high >= FRAMED && view.wide === view.high;
   const size = isClose ? view.high : CLOSE_PIXELS;
   const top = Math.max(0, step - Math.floor(height / size / 2));
   const left = position - Math.floor(width / size / 2);
@@ -153,16 +141,15 @@ export function closeView(width, height, step, position, view) {
 }
 
 /**
- * Numbers for an axis, at least so many pixels from each other.
- * @param {number} first @param {number} units of a pixel @param {number} pixels of the axis
- * @param {number} apart
+ * Numbers for an axis, at least `least` pixels apart.
+ * @param {number} first @param {number} units per pixel @param {number} pixels @param {number} least
  */
-export function ticks(first, units, pixels, apart) {
-  const least = Math.max(1, units * apart);
-  const power = 10 ** Math.floor(Math.log10(least));
-  const between = [1, 2, 5, 10].map((one) => one * power).find((one) => one >= least) ?? 10 * power;
+export function ticks(first, units, pixels, least) {
+  const wanted = Math.max(1, units * least);
+  const power = 10 ** Math.floor(Math.log10(wanted));
+  const interval = [1, 2, 5, 10].map((one) => one * power).find((one) => one >= wanted) ?? 10 * power;
   const found = [];
-  for (let at = Math.ceil(first / between) * between; at <= first + units * pixels; at += between) {
+  for (let at = Math.ceil(first / interval) * interval; at <= first + units * pixels; at += interval) {
     found.push(at === 0 ? 0 : at);
   }
   return found;

@@ -86,7 +86,7 @@ export class WorkerPool {
     const { worker, size } = hand;
     await ready;
     const rest = bytes.slice(done);
-    const message = { type: "list", job, bytes: rest, line, asked: this.asked, size };
+    const message = { type: "list", job, bytes: rest, line, request: this.asked, size };
     worker.postMessage(message, [rest.buffer]);
     hand.size = undefined;
   }
@@ -108,7 +108,7 @@ export class WorkerPool {
   addPart(/** @type {PoolWorker} */ hand, /** @type {Part} */ part) {
     const piece = hand.chunks[0];
     const read = part.next - (piece.done - piece.begin);
-    Object.assign(hand, { note: null, held: part.held, taken: part.taken });
+    Object.assign(hand, { note: null, held: part.memoryBytes, taken: part.milliseconds });
     piece.done = piece.begin + part.next;
     piece.nextLine = piece.line + part.nextLine;
     this.work.part(part, read);

@@ -48,7 +48,7 @@ export class Results {
     (this.jobs[part.job] ??= []).push(part);
     this.flat = null;
     this.lines += part.kinds.length;
-    this.skipped += part.left;
+    this.skipped += part.skipped;
     this.read += read;
     part.kindCounts.forEach((count, kind) => (this.counts[kind] += count));
     part.answerCounts.forEach((count, answer) => (this.answers[answer] += count));

@@ -84,7 +84,7 @@ export function showEvidence(about, mark) {
     const { bands, parts } = rowEvidence(about.verdict, rows);
     box.replaceChildren(...parts);
     const [row] = kind === "halt" ? rows : [];
-    const end = row === undefined ? null : { step: row.step, low: row.low, wide: row.cells.length };
+    const end = row === undefined ? null : { step: row.step, low: row.low, width: row.cells.length };
     const pair = kind === "halt" ? null : markedPair(about.verdict, bands);
     mark([{ bands, arrow: kind === "translated" }], pair, end);
   });
