@@ -1,11 +1,11 @@
-/** The page: reads what is asked, has workers answer it, and shows what comes. */
+/** The page's entry point: reads the input, runs lists, and shows results. */
 import { isSupported } from "../lib/memory.mjs";
-import { copyText, create, onClick, byId, dispatchKey, saveFile } from "./dom.mjs";
-import { createFields, readPlan, readLink, showRefusal, setPlan } from "./input/fields.mjs";
+import { byId, copyText, create, dispatchKey, onClick, saveFile } from "./dom.mjs";
+import { createFields, readLink, readPlan, setPlan, showRefusal } from "./input/fields.mjs";
 import { listenToFiles } from "./input/files.mjs";
 import { ListInput, readStored } from "./input/list-input.mjs";
-import { ListView } from "./list/list-view.mjs";
 import { ListRun, failureText, showError } from "./list/list-run.mjs";
+import { ListView } from "./list/list-view.mjs";
 import { MachineView } from "./machine/machine-view.mjs";
 import { errorFields } from "./worker-client.mjs";
 
@@ -17,14 +17,9 @@ const input = new ListInput();
 const run = new ListRun(() => listView.show());
 /** @type {ListView} */
 const listView = new ListView(new MachineView(), run);
+let runs = 0;
 
-// How often a list was given.
-let runCount = 0;
-
-/**
- * Answers the list that is given; where another one is given meanwhile, only that. A list that isn't a link's
- * takes the link out of the address.
- */
+/** Runs the list, unless a newer run starts while it is read. A list of another origin drops the link. */
 async function startRun(isOfLink = false) {
   const plan = planOrRefusal();
   if (plan === null) {
@@ -34,16 +29,16 @@ async function startRun(isOfLink = false) {
   showError("");
   run.stop();
   byId("results").dataset.state = "requested";
-  runCount += 1;
-  const mine = runCount;
-  const given = await input.read().catch((error) => (mine === runCount ? reportUnreadable(error) : null));
-  if (mine === runCount && given !== null) {
+  runs += 1;
+  const own = runs;
+  const list = await input.read().catch((error) => (own === runs ? reportUnreadable(error) : null));
+  if (own === runs && list !== null) {
     if (!isOfLink && location.hash !== "") {
       history.replaceState(null, "", location.pathname + location.search);
     }
     input.store();
     listView.reset();
-    const { blob, first, isText, mode, form } = given;
+    const { blob, first, isText, mode, form } = list;
     run.start(blob, first, { mode, form, clean: input.clean.checked, plan }, isText);
   }
 }
@@ -54,7 +49,7 @@ function reportUnreadable(/** @type {Error} */ error) {
   return null;
 }
 
-/** What the fields say; null where a limit is refused, which is said beside it. */
+/** The plan of the fields; null if a limit is refused, with the refusal shown beside it. */
 function planOrRefusal() {
   try {
     return readPlan();
@@ -65,32 +60,29 @@ function planOrRefusal() {
   }
 }
 
-/** Takes a file in place of the text; none takes it away again. */
+/** Runs a file in place of the text; null removes it. */
 function useFile(/** @type {File | null} */ file) {
-  if (file !== null) {
-    input.resetExampleSettings();
-  }
+  file && input.resetExample();
   input.setFile(file);
-  if (file !== null) {
-    startRun();
-  }
+  file && startRun();
 }
 
-// The lists of the examples, and the one that a click has selected.
+// The lists of the examples, and the one selected by a click.
 const exampleLists = new Set([FIRST_LIST]);
 let selectedExample = "";
 
-/** Selects an example at the first click into it, so that what is typed or pasted replaces it. */
+/** Selects an example at the first click, so that typing replaces it. */
 function selectExample() {
   const { list } = input;
-  if (exampleLists.has(list.value) && selectedExample !== list.value && list.selectionStart === list.selectionEnd) {
+  const isNew = exampleLists.has(list.value) && selectedExample !== list.value;
+  if (isNew && list.selectionStart === list.selectionEnd) {
     list.select();
     selectedExample = list.value;
   }
 }
 
 function clearList() {
-  input.resetExampleSettings();
+  input.resetExample();
   input.clearExample();
   input.setText("");
   input.list.focus();
@@ -99,9 +91,9 @@ function clearList() {
 function fillExampleMenu() {
   const menu = /** @type {HTMLSelectElement} */ (byId("examples"));
   const examples = JSON.parse(byId("examples-data").textContent ?? "[]");
-  for (const [k, { name, lines: list }] of examples.entries()) {
+  for (const [k, { name, lines }] of examples.entries()) {
     menu.append(create("option", { value: String(k) }, name));
-    exampleLists.add(list);
+    exampleLists.add(lines);
   }
   menu.addEventListener("change", () => {
     const example = examples[Number(menu.value || -1)];
@@ -115,10 +107,7 @@ function fillExampleMenu() {
   });
 }
 
-/**
- * Opens what a link says; without one, or where the page is loaded again with it, what was kept; else the
- * list that stands there first.
- */
+/** Opens the link of the address; without one, or after a reload, the stored list; else the first list. */
 function openLink(isAgain = false) {
   const link = readLink(location.hash);
   const stored = readStored();
@@ -140,23 +129,17 @@ function openLink(isAgain = false) {
   startRun(link !== null && input.list.value === list);
 }
 
-/** Whether the page is loaded again, or come back to. */
+/** Whether the page was reloaded, or left and reopened. */
 function isReload() {
   const [entry] = performance.getEntriesByType("navigation");
   return /** @type {PerformanceNavigationTiming | undefined} */ (entry)?.type !== "navigate";
 }
 
-function onKey(/** @type {KeyboardEvent} */ event) {
-  const isField = event.target instanceof Element && event.target.matches("input, textarea, select");
-  const open = (/** @type {number} */ by, isUndecided = false) => () => listView.openNeighbour(by, isUndecided);
-  isField || dispatchKey(event, { n: open(1), p: open(-1), N: open(1, true), P: open(-1, true) });
-}
-
-/** Copies what the program would write. */
+/** Copies the output. */
 async function copyAll() {
   const blob = await run.results.blobOf();
   if (blob.size > MOST_COPIED) {
-    showError("Too long to be copied; save it.");
+    showError("Too long to copy. Save it instead.");
   } else {
     await copyText(await blob.text(), byId("copy"));
   }
@@ -169,7 +152,7 @@ function addListeners() {
     startRun();
   });
   onClick({
-    clearList,
+    clear: clearList,
     list: selectExample,
     stop: () => run.stop(),
     left: () => run.redecideUndecided(),
@@ -177,7 +160,13 @@ function addListeners() {
     "save-shown": async () => saveFile(await run.results.blobOf(listView.kindsShown), name()),
     copy: copyAll,
   });
-  addEventListener("keydown", onKey);
+  addEventListener("keydown", (event) => {
+    const isField = event.target instanceof Element && event.target.matches("input, textarea, select");
+    const open = (/** @type {number} */ by, isUndecided = false) => {
+      return () => listView.openNeighbour(by, isUndecided);
+    };
+    isField || dispatchKey(event, { n: open(1), p: open(-1), N: open(1, true), P: open(-1, true) });
+  });
   addEventListener("hashchange", () => openLink());
   addEventListener("pagehide", () => input.store());
 }
@@ -186,7 +175,7 @@ function start() {
   createFields();
   fillExampleMenu();
   listenToFiles(useFile, (text) => {
-    input.resetExampleSettings();
+    input.resetExample();
     input.setText(text);
   });
   addListeners();
@@ -195,7 +184,7 @@ function start() {
   } else {
     showError(
       "This browser’s WebAssembly has no vectors (SIMD), which the engine needs, so nothing can be decided " +
-        "here. Tried and found to have them: Chromium 156.",
+        "here. Chromium 156 is known to have them.",
     );
     /** @type {HTMLButtonElement} */ (byId("run")).disabled = true;
   }

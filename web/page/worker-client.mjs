@@ -1,46 +1,44 @@
-/** Workers, each with the engine's module, which is compiled once for all of them, and questions to one. */
+/** Workers, which share one compiled engine, and requests to a worker. */
 import { isSupported } from "../lib/memory.mjs";
 import { byId } from "./dom.mjs";
 
-const READY_MILLISECONDS = 50;
-// A question is ended for the next one where it takes longer.
+const PRESTART_MILLISECONDS = 50;
+// A request may take this long before the next one interrupts it.
 const PATIENCE_MILLISECONDS = 400;
 
 const embeddedText = (/** @type {string} */ id) => byId(id).textContent ?? "";
 
 const workerUrl = URL.createObjectURL(new Blob([embeddedText("worker")], { type: "text/javascript" }));
-/** @type {Promise<WebAssembly.Module | null>} ends when the module is compiled; null where it isn't */
+/** @type {Promise<WebAssembly.Module | null>} the compiled module; null if unsupported */
 export const ready = isSupported()
   ? WebAssembly.compile(Uint8Array.from(atob(embeddedText("module")), (one) => one.charCodeAt(0)))
   : Promise.resolve(null);
-/** Does something with the module once it is compiled; nothing where it can't be. */
 const whenReady = (/** @type {(module: WebAssembly.Module | null) => void} */ act) => {
   ready.then(act, () => undefined);
 };
-/** @type {Worker[]} workers that wait for a list */
+/** @type {Worker[]} */
 const idleWorkers = [];
-/** @type {WeakSet<Worker>} workers that answered the examples */
+/** @type {WeakSet<Worker>} */
 const warmWorkers = new WeakSet();
 
-/** A new worker, which gets the module before anything that waits for `ready` is sent to it. */
+/** A new worker, which gets the module before all messages that wait for `ready`. */
 export function newWorker() {
   const worker = new Worker(workerUrl);
   whenReady((module) => worker.postMessage({ type: "load", module }));
   return worker;
 }
 
-/** A worker for a list: one that waits, or a new one. */
 export const acquireWorker = () => idleWorkers.pop() ?? newWorker();
 
-/** Has a worker wait for the next list; it keeps nothing of the last one. */
+/** Returns a worker for the next list, and drops its listeners. */
 export function releaseWorker(/** @type {Worker} */ worker) {
   Object.assign(worker, { onmessage: null, onerror: null });
   idleWorkers.push(worker);
 }
 
 /**
- * Begins workers for the next list, one after another since each takes a while, until so many wait or a list
- * has come. Each answers the examples for a moment: the browser compiles then what a list calls often.
+ * Starts up to `most` idle workers, one at a time, until a list comes. Each answers the examples for a
+ * moment, so that the browser optimizes its hot code.
  */
 export function prestartWorkers(/** @type {number} */ most, /** @type {() => boolean} */ isBusy) {
   setTimeout(() => {
@@ -49,10 +47,9 @@ export function prestartWorkers(/** @type {number} */ most, /** @type {() => boo
       idleWorkers.push(newWorker());
       prestartWorkers(most, isBusy);
     }
-  }, READY_MILLISECONDS);
+  }, PRESTART_MILLISECONDS);
 }
 
-/** Has a worker that waits answer the examples, once. */
 function warmUp(/** @type {Worker} */ worker) {
   if (warmWorkers.has(worker)) {
     return;
@@ -65,15 +62,14 @@ function warmUp(/** @type {Worker} */ worker) {
   whenReady(() => worker.postMessage({ type: "warm-up", list }));
 }
 
-/** What went wrong, as it is said. */
+/** An error as workers report it. */
 export const errorFields = (/** @type {Error} */ { name, message }) => ({ error: name, message });
 
 /**
- * A worker of its own for one question after another, as for pictures. A new question waits a moment for the
- * one before, and takes the place of one that waits; one that takes longer is ended.
+ * A worker for one request at a time, such as pictures. A new request waits a moment for the current one,
+ * then interrupts it. It replaces a waiting one.
  */
 export class WorkerClient {
-  /** @param {number} patience the milliseconds after which a question is ended for the next one */
   constructor(patience = PATIENCE_MILLISECONDS) {
     this.patience = patience;
     /** @type {Worker | undefined} */
@@ -85,63 +81,63 @@ export class WorkerClient {
     this.timer = 0;
   }
 
-  /** Asks, and hands over what comes back. */
-  request(/** @type {Record<string, any>} */ question, /** @type {(answer: any) => void} */ done) {
+  /** Sends a message, and passes on the reply. */
+  request(/** @type {Record<string, any>} */ message, /** @type {(reply: any) => void} */ onReply) {
     if (!this.isBusy) {
-      this.send(question, done);
+      this.send(message, onReply);
       return;
     }
-    this.pending = () => this.send(question, done);
+    this.pending = () => this.send(message, onReply);
     clearTimeout(this.timer);
-    const left = this.sentAt + this.patience - performance.now();
-    this.timer = setTimeout(() => this.terminate(), Math.max(0, left));
+    const delay = this.sentAt + this.patience - performance.now();
+    this.timer = setTimeout(() => this.interrupt(), Math.max(0, delay));
   }
 
-  /** Tells the worker what has no answer, if there is one. */
-  post(/** @type {Record<string, any>} */ message, /** @type {Transferable[]} */ moved) {
-    whenReady(() => this.worker?.postMessage(message, moved));
+  /** Sends a message without a reply, if there is a worker. */
+  post(/** @type {Record<string, any>} */ message, /** @type {Transferable[]} */ transfer) {
+    whenReady(() => this.worker?.postMessage(message, transfer));
   }
 
-  /** Ends the worker in the middle of its answer, which isn't handed over. */
+  /** Cancels all requests. */
   cancel() {
     this.pending = null;
-    this.terminate();
+    this.interrupt();
   }
 
-  /** Ends the worker in the middle of its answer, and asks what waits. */
-  terminate() {
+  /** Cancels the current request, and sends the waiting one. */
+  interrupt() {
     this.worker?.terminate();
     this.worker = undefined;
-    this.runPending();
+    this.sendPending();
   }
 
-  runPending() {
+  sendPending() {
     const { pending } = this;
     clearTimeout(this.timer);
     Object.assign(this, { isBusy: false, pending: null });
     pending?.();
   }
 
-  /** @param {Record<string, any>} question @param {(answer: any) => void} done */
-  send(question, done) {
+  /** @param {Record<string, any>} message @param {(reply: any) => void} onReply */
+  send(message, onReply) {
     this.worker ??= newWorker();
     const worker = this.worker;
     this.isBusy = true;
     this.sentAt = performance.now();
-    const receive = (/** @type {any} */ answer) => {
-      // What waited for the answer isn't kept with the worker.
+    const receive = (/** @type {any} */ reply) => {
+      // Release the listeners' closures.
       Object.assign(worker, { onmessage: null, onerror: null });
       const isLast = this.pending === null;
-      this.runPending();
-      // Of a question that another one followed only rows and pictures are of use.
-      if (isLast || answer.picture || answer.cached) {
-        done(answer);
+      this.sendPending();
+      // Outdated replies are dropped, except rows and pictures.
+      if (isLast || reply.picture || reply.cached) {
+        onReply(reply);
       }
     };
     worker.onmessage = (event) => receive(event.data);
     worker.onerror = (event) => receive({ error: "Error", message: event.message });
     ready.then(
-      () => worker.postMessage(question),
+      () => worker.postMessage(message),
       (error) => receive(errorFields(error)),
     );
   }

@@ -1,59 +1,53 @@
-/** What is said of a line that isn't the machine and nothing else: how it was read, or why it wasn't. */
-import { formatNumber } from "../../reader/machine.mjs";
+/** Notes on a machine's input line: how it was rewritten, or why it is refused. */
 import { ADVICE, readLine } from "../../reader/line-reader.mjs";
+import { formatNumber } from "../../reader/machine.mjs";
 import { REWRITINGS, isMachine } from "../../reader/machine-parser.mjs";
 import { byId, showText } from "../dom.mjs";
 
-// Characters that are shown about the place where a line goes wrong.
+// Characters shown on each side of an error.
 const AROUND = 30;
 const NO_VERDICT_LINE =
-  "Unread: a verdict line has a machine, a space and what is said of it, as “1RB1LB_1LA1RZ halt 6 4”, and " +
-  "1,023 bytes at most.";
+  "Unread: a verdict line is a machine, a space and a verdict, as in “1RB1LB_1LA1RZ halt 6 4”, of at most " +
+  "1,023 bytes.";
 
 /**
  * @typedef {import("../../reader/machine.mjs").Verdict} Verdict
  * @typedef {import("../../reader/line-reader.mjs").Reading} Reading
  * @typedef {import("../../reader/list-reader.mjs").Form} Form
- * @typedef {{text: string | null, number: number, form: Form | null}} InputLine the line, null where it is the
- *   machine, its number, and the form by which lines are read, null where they aren't
+ * @typedef {{text: string | null, number: number, form: Form | null}} InputLine the original line, null if it
+ *   is the machine; its number; and the form of its list, null if lines aren't rewritten
  */
 
-/** Tells a line's text and, of a refused one, where and why it goes wrong. */
-export function showInputNotes(/** @type {InputLine} */ given, /** @type {Verdict} */ verdict) {
+/** Shows a line's rewriting, or the place and reason of its refusal. */
+export function showInputNotes(/** @type {InputLine} */ line, /** @type {Verdict} */ verdict) {
+  const { text, number, form } = line;
   const isRefused = verdict.kind === "refused";
-  const { text, form } = given;
   const reading = text !== null && form !== null ? readLine(text, form) : null;
-  const words = reading?.kind === "machine" && !isRefused ? rewritingText(reading, given.text ?? "") : "";
-  showText("machine-given", words);
-  const caret = isRefused && given.text !== null ? caretText(given.text, errorPlace(reading, verdict)) : "";
-  showText("machine-caret", caret);
+  const isRewritten = reading?.kind === "machine" && !isRefused;
+  showText("machine-given", isRewritten ? rewritingText(reading, text ?? "") : "");
+  const [column] = verdict.numbers;
+  const place = reading?.kind === "refusal" ? reading.place : column ?? null;
+  showText("machine-caret", isRefused && text !== null ? caretText(text, place) : "");
   if (isRefused) {
-    const what = isUnreadLine(verdict) ? "verdict line" : "machine";
-    byId("machine-text").textContent = `Line ${formatNumber(given.number + 1)} is no ${what}`;
+    // Only a refused machine has a column.
+    const noun = column === undefined ? "verdict line" : "machine";
+    byId("machine-text").textContent = `Line ${formatNumber(number + 1)} is no ${noun}`;
     byId("machine-says").textContent = refusalText(reading, verdict, isMachine((text ?? "").trim()));
   }
 }
 
-/** Whether a line is no verdict line; of a machine's refusal the column is known. */
-const isUnreadLine = (/** @type {Verdict} */ { numbers }) => numbers.length === 0;
-
-/** The place where a line goes wrong, from 1 on; null where none is known. */
-const errorPlace = (/** @type {Reading | null} */ reading, /** @type {Verdict} */ { numbers: [column] }) =>
-  reading?.kind === "refusal" ? reading.place : column ?? null;
-
 /**
  * @param {Reading | null} reading @param {Verdict} verdict
- * @param {boolean} isTaken whether the program reads a machine there
+ * @param {boolean} isAccepted whether the program accepts the line
  */
-function refusalText(reading, verdict, isTaken) {
-  const { numbers: [column], text } = verdict;
-  if (isUnreadLine(verdict)) {
+function refusalText(reading, { numbers: [column], text }, isAccepted) {
+  if (column === undefined) {
     return NO_VERDICT_LINE;
   }
   if (reading?.kind !== "refusal") {
-    return `Refused: as it stands it goes wrong at column ${formatNumber(column)}; ${ADVICE.none}.`;
+    return `Refused: the error is at column ${formatNumber(column)}; ${ADVICE.none}.`;
   }
-  const program = isTaken ? "" : ` The program says ${text}.`;
+  const program = isAccepted ? "" : ` The program reports ${text}.`;
   return `Refused: ${reading.reason}; ${ADVICE[reading.refusal]}.${program}`;
 }
 
@@ -63,12 +57,12 @@ function rewritingText({ rewritten, before, behind }, text) {
   const beside = [before, behind].filter((one) => one !== "").map((one) => `“${one}”`);
   const parts = [
     ...(kinds.length > 0 ? [`The line is “${text.trim()}”: ${kinds.join("; ")}`] : []),
-    ...(beside.length > 0 ? [`Beside it stands ${beside.join(" and ")}`] : []),
+    ...(beside.length > 0 ? [`Beside the machine: ${beside.join(" and ")}`] : []),
   ];
   return parts.length > 0 ? `${parts.join(". ")}.` : "";
 }
 
-/** A line about a place, with a caret under it; without a place its begin. */
+/** A line around a place, with a caret below it; its beginning without a place. */
 function caretText(/** @type {string} */ text, /** @type {number | null} */ place) {
   const characters = [...text.replace(/^\ufeff/, "")].map((one) => (/[\s\p{C}]/u.test(one) ? " " : one));
   if (place === null) {
@@ -76,6 +70,6 @@ function caretText(/** @type {string} */ text, /** @type {number | null} */ plac
   }
   const first = Math.max(0, place - 1 - AROUND);
   const [head, tail] = [first > 0 ? "…" : "", place - 1 + AROUND < characters.length ? "…" : ""];
-  const seen = characters.slice(first, place - 1 + AROUND).join("");
-  return `${head}${seen}${tail}\n${" ".repeat(head.length + place - 1 - first)}^`;
+  const shown = characters.slice(first, place - 1 + AROUND).join("");
+  return `${head}${shown}${tail}\n${" ".repeat(head.length + place - 1 - first)}^`;
 }

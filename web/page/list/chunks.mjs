@@ -1,4 +1,4 @@
-/** A list, read piece by piece, each of whole lines; and rows of one that are decided again. */
+/** Chunks of a list for workers: of its lines, or of rows to decide again. */
 import { countLines } from "../../lib/memory.mjs";
 import { concatBytes } from "../../reader/list-reader.mjs";
 import { BYTES_KEPT } from "../../reader/tokens.mjs";
@@ -7,32 +7,29 @@ const NEWLINE = 10;
 const MOST_READ_BYTES = 4_194_304;
 const LEAST_BYTES = 64;
 const MOST_BYTES = 262_144;
-// A worker gets a piece so often, where there are enough rows.
 const CHUNKS_PER_WORKER = 12;
 const MOST_LINES = 4_096;
 const encoder = new TextEncoder();
 
-/** The bytes of the first read, enough that each of four workers begins at once; each next one has twice. */
+/** The size of the first read, enough for four workers to start at once; reads double in size. */
 export const FIRST_READ_BYTES = 2_097_152;
 
 export class ChunkReader {
-  /**
-   * @param {Blob} blob @param {ArrayBuffer} first its first bytes, as many as a first read has
-   * @param {number} workers that share it
-   */
+  /** @param {Blob} blob @param {ArrayBuffer} first the first read @param {number} workers */
   constructor(blob, first, workers) {
     this.blob = blob;
-    this.size = Math.max(LEAST_BYTES, Math.min(MOST_BYTES, Math.ceil(blob.size / (12 * workers))));
+    const share = Math.ceil(blob.size / (CHUNKS_PER_WORKER * workers));
+    this.size = Math.max(LEAST_BYTES, Math.min(MOST_BYTES, share));
     this.offset = first.byteLength;
     this.wanted = 2 * FIRST_READ_BYTES;
-    /** @type {Promise<ArrayBuffer> | null} what is read while the bytes before it are given out */
+    /** @type {Promise<ArrayBuffer> | null} the read ahead */
     this.pendingRead = Promise.resolve(first);
     this.buffered = new Uint8Array(0);
     this.isSkipping = false;
     this.line = 0;
   }
 
-  /** The next piece and the number of its first line; null where there is none. */
+  /** The next chunk of whole lines and the number of its first line; null at the end. */
   async next() {
     for (;;) {
       const newline = this.buffered.indexOf(NEWLINE, Math.min(this.size, this.buffered.length) - 1);
@@ -48,7 +45,6 @@ export class ChunkReader {
     }
   }
 
-  /** Gives the first bytes that are held, which nobody writes to. */
   cutChunk(/** @type {number} */ length) {
     const bytes = this.buffered.subarray(0, length);
     const { line } = this;
@@ -57,7 +53,7 @@ export class ChunkReader {
     return { bytes, line };
   }
 
-  /** Drops what a long line has beyond the bytes that are kept, up to its newline. */
+  /** Truncates a long line, and skips its rest. */
   dropLongTail() {
     const begin = this.buffered.lastIndexOf(NEWLINE) + 1;
     if (this.buffered.length - begin > BYTES_KEPT) {
@@ -66,21 +62,18 @@ export class ChunkReader {
     }
   }
 
-  /** Begins to read; `offset` is then where the next read begins. */
+  /** Starts a read, and moves `offset` to its end. */
   startRead() {
     const end = Math.min(this.offset + this.wanted, this.blob.size);
     const bytes = this.blob.slice(this.offset, end).arrayBuffer();
-    // Whoever awaits it hears what went wrong; where the work is stopped before, nobody needs to.
+    // A stopped run doesn't await the last read.
     bytes.catch(() => undefined);
     this.offset = end;
     this.wanted = Math.min(2 * this.wanted, MOST_READ_BYTES);
     return bytes;
   }
 
-  /**
-   * The next bytes of the list, without those that are skipped. They end with a line where they have a whole
-   * one; what stands behind it is read again with the next bytes, so that nothing has to be joined.
-   */
+  /** The next bytes, up to their last newline. The rest is read again, so that no bytes are joined. */
   async read() {
     const read = new Uint8Array(await (this.pendingRead ?? this.startRead()));
     const last = this.offset < this.blob.size ? read.lastIndexOf(NEWLINE) + 1 : read.length;
@@ -96,12 +89,9 @@ export class ChunkReader {
   }
 }
 
-/** Rows of a list that are decided again: their machines, in pieces for workers. */
+/** Rows to decide again, in chunks of their machines. */
 export class Holdouts {
-  /**
-   * @param {import("./results.mjs").Results} results @param {Uint32Array} rows in the order of the list
-   * @param {number} workers that share them
-   */
+  /** @param {import("./results.mjs").Results} results @param {Uint32Array} rows @param {number} workers */
   constructor(results, rows, workers) {
     this.results = results;
     this.rows = rows;
@@ -109,7 +99,7 @@ export class Holdouts {
     this.at = 0;
   }
 
-  /** The next piece, of which a line's number is that of its row among these; null where there is none. */
+  /** The next chunk and the index of its first row; null at the end. */
   async next() {
     const line = this.at;
     const rows = this.rows.subarray(line, line + this.size);
@@ -118,7 +108,6 @@ export class Holdouts {
     return rows.length === 0 ? null : { bytes: encoder.encode(texts.join("")), line };
   }
 
-  /** The rows that the lines of a part are of. */
   rowsOf(/** @type {import("../../worker/worker.mjs").Part} */ { first, kinds }) {
     return this.rows.subarray(first, first + kinds.length);
   }

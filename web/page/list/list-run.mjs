@@ -1,12 +1,12 @@
-/** The work on a list: workers answer it, and how far they are is said. */
+/** A run over a list: dispatches it to workers, collects results, and shows the progress. */
 import { KINDS, formatCount } from "../../reader/machine.mjs";
-import { byId, setInactive, showText, announce } from "../dom.mjs";
+import { announce, byId, setInactive, showText } from "../dom.mjs";
 import { enlargePlan, showRefusal } from "../input/fields.mjs";
 import { prestartWorkers } from "../worker-client.mjs";
-import { Holdouts, ChunkReader } from "./chunks.mjs";
+import { ChunkReader, Holdouts } from "./chunks.mjs";
 import { WorkerPool } from "./pool.mjs";
 import { FIRST_PASS, Results } from "./results.mjs";
-import { statusText, slowLineText } from "./status.mjs";
+import { slowLineText, statusText } from "./status.mjs";
 
 /**
  * @typedef {import("../../worker/worker.mjs").ListRequest} ListRequest
@@ -15,33 +15,27 @@ import { statusText, slowLineText } from "./status.mjs";
 
 const MOST_WORKERS = 8;
 const REFRESH_MILLISECONDS = 250;
-// So often it is said how far a list is, to those who hear the page.
-const TELL_MILLISECONDS = 10_000;
-// A worker isn't begun for fewer bytes.
+const ANNOUNCE_MILLISECONDS = 10_000;
+// The least bytes for each worker. A machine to decide again counts as many.
 const LEAST_BYTES = 256;
-// As many are counted for a machine that is decided again, which may take long.
-const LEAST_MACHINE = 256;
 const UNDECIDED = KINDS.indexOf("undecided");
-// A list is decided with so many steps first, and with those of its limits then what is open by that.
+// The steps of the first pass.
 const FIRST_STEPS = 1_000n;
-const NO_MEMORY =
-  "Out of memory. What was decided until then stays. Fewer cells would do, or a browser with more memory.";
-const NO_FILE = "It could not be read: a folder, or a file that has changed since. Choose a file again.";
+const NO_MEMORY = "Out of memory. Results so far are kept. Try fewer cells, or a browser with more memory.";
+const NO_FILE = "The file can’t be read: it is a folder, or has changed. Choose it again.";
+/** @type {Record<string, string>} */
+const FAILURES = {
+  MemoryError: NO_MEMORY,
+  RangeError: NO_MEMORY,
+  NotReadableError: NO_FILE,
+  NotFoundError: NO_FILE,
+};
 
-/** What went wrong, in words that say what would do. */
-export function failureText(/** @type {{error: string, message: string}} */ { error, message }) {
-  /** @type {Record<string, string>} */
-  const words = {
-    MemoryError: NO_MEMORY,
-    RangeError: NO_MEMORY,
-    NotReadableError: NO_FILE,
-    NotFoundError: NO_FILE,
-    ListError: message,
-  };
-  return words[error] ?? `The engine ended: ${message}`;
-}
+/** A failure, with advice. */
+export const failureText = (/** @type {{error: string, message: string}} */ { error, message }) =>
+  error === "ListError" ? message : FAILURES[error] ?? `The engine failed: ${message}`;
 
-/** Says what went wrong, above the results. */
+/** Shows a message above the results. */
 export const showError = (/** @type {string} */ message) => showText("error", message);
 
 const maxWorkers = () => Math.min(MOST_WORKERS, navigator.hardwareConcurrency || 1);
@@ -50,22 +44,20 @@ const workerCount = (/** @type {number} */ size) =>
   Math.max(1, Math.min(maxWorkers(), Math.ceil(size / LEAST_BYTES)));
 
 export class ListRun {
-  /** @param {() => void} shows what else is shown, when more of the list is answered */
-  constructor(shows) {
-    this.onShow = shows;
+  /** @param {() => void} onShow called when results are shown */
+  constructor(onShow) {
+    this.onShow = onShow;
     /** @type {WorkerPool | null} */
     this.pool = null;
     this.results = new Results({});
     /** @type {import("./status.mjs").RunInfo} */
     this.info = { mode: "decide", plan: {}, form: null, isText: true, size: 0, begun: 0, taken: 0 };
-    // The limits that were last asked for.
+    // The latest limits.
     this.plan = {};
     this.outcome = "Done";
-    // Whether anything of the list is shown.
     this.isShown = false;
     this.refreshTimer = 0;
     this.clock = 0;
-    // When it was last said how far the list is.
     this.announcedAt = 0;
   }
 
@@ -73,34 +65,32 @@ export class ListRun {
     return this.pool !== null;
   }
 
-  /**
-   * Has workers answer a list.
-   * @param {Blob} blob @param {ArrayBuffer} start its first bytes, as `Pieces` takes them
-   * @param {ListRequest} asked @param {boolean} isText whether it begins as text in UTF-8
-   */
-  start(blob, start, asked, isText) {
-    const { mode, plan, clean } = asked;
-    const form = clean ? asked.form : null;
+  /** @param {Blob} blob @param {ArrayBuffer} first its first read @param {ListRequest} request @param {boolean} isText */
+  start(blob, first, request, isText) {
+    const { mode, plan, clean } = request;
+    const form = clean ? request.form : null;
     this.info = { mode, plan, form, isText, size: blob.size, begun: performance.now(), taken: 0 };
     this.announcedAt = this.info.begun;
     this.plan = plan;
-    this.results = new Results(plan);
+    const results = new Results(plan);
+    this.results = results;
     this.isShown = false;
     byId("results").hidden = false;
-    const source = new ChunkReader(blob, start, workerCount(blob.size));
+    const workers = workerCount(blob.size);
+    const chunks = new ChunkReader(blob, first, workers);
     const isFirst = mode === "decide" && plan.steps > FIRST_STEPS;
-    const first = { ...asked, plan: { ...plan, steps: FIRST_STEPS } };
-    /** @type {(part: Part, line: number) => boolean} whether only the first pass has answered a line */
-    const isOpen = ({ plans }, line) => plans?.[line] === FIRST_PASS;
-    this.startPool(workerCount(blob.size), isFirst ? first : asked, {
-      nextChunk: () => source.next(),
-      part: (one, read) => (isFirst ? this.results.addFirstPass(one, read) : this.results.add(one, read)),
-      end: () => this.decideRows(this.results.filterRows(isOpen), plan, 0),
+    const firstPass = { ...request, plan: { ...plan, steps: FIRST_STEPS } };
+    /** @type {(part: Part, line: number) => boolean} */
+    const isProvisional = ({ plans }, line) => plans?.[line] === FIRST_PASS;
+    this.startPool(workers, isFirst ? firstPass : request, {
+      nextChunk: () => chunks.next(),
+      part: (part, read) => (isFirst ? results.addFirstPass(part, read) : results.add(part, read)),
+      end: () => this.decideRows(results.filterRows(isProvisional), plan, 0),
     });
     this.startClock();
   }
 
-  /** Decides what is undecided again, with larger limits, into its rows. */
+  /** Decides the undecided rows again, with larger limits. */
   redecideUndecided() {
     this.plan = enlargePlan(this.plan);
     Object.assign(this.info, { begun: performance.now(), taken: 0 });
@@ -109,21 +99,18 @@ export class ListRun {
     this.startClock();
   }
 
-  /**
-   * Has workers decide rows again, into the list.
-   * @param {Uint32Array} rows @param {Record<string, any>} plan @param {number} number of these limits
-   */
+  /** @param {Uint32Array} rows @param {Record<string, any>} plan @param {number} number of the plan */
   decideRows(rows, plan, number) {
     const { results } = this;
     if (rows.length === 0) {
       this.finish("Done");
       return;
     }
-    const workers = workerCount(rows.length * LEAST_MACHINE);
+    const workers = workerCount(rows.length * LEAST_BYTES);
     const holdouts = new Holdouts(results, rows, workers);
     this.startPool(workers, { mode: "decide", form: "machines", clean: false, plan }, {
       nextChunk: () => holdouts.next(),
-      part: (one) => results.replace(holdouts.rowsOf(one), one, number),
+      part: (part) => results.replace(holdouts.rowsOf(part), part, number),
       end: () => this.finish("Done"),
     });
   }
@@ -135,39 +122,41 @@ export class ListRun {
   }
 
   /**
-   * Has workers answer pieces.
-   * @param {number} workers @param {ListRequest} asked @param {Omit<import("./pool.mjs").PoolTask, "fail">} work
+   * @param {number} workers @param {ListRequest} request
+   * @param {Omit<import("./pool.mjs").PoolTask, "fail">} task
    */
-  startPool(workers, asked, work) {
+  startPool(workers, request, task) {
     /** @type {HTMLButtonElement} */ (byId("stop")).disabled = false;
-    this.pool = new WorkerPool(workers, asked, {
-      ...work,
-      part: (one, read) => {
-        work.part(one, read);
+    this.pool = new WorkerPool(workers, request, {
+      ...task,
+      part: (part, read) => {
+        task.part(part, read);
         this.scheduleShow();
       },
-      fail: (error) => this.fail(error),
+      fail: (failure) => this.fail(failure),
     });
   }
 
-  /** The work is over, by itself or since it was stopped. */
-  finish(/** @type {string} */ how) {
+  finish(/** @type {string} */ outcome) {
     clearInterval(this.clock);
     this.info.taken = performance.now() - this.info.begun;
     this.pool = null;
-    this.outcome = how;
+    this.outcome = outcome;
     setInactive("stop", "disabled", true, "run");
-    byId("results").dataset.state = how.toLowerCase();
-    this.show(how);
+    byId("results").dataset.state = outcome.toLowerCase();
+    this.show(outcome);
     announce(byId("status").textContent ?? "");
     prestartWorkers(maxWorkers(), () => this.isRunning);
   }
 
-  /** What can't be done is said, a refused limit beside its field. */
-  fail(/** @type {{error: string, message: string, limit?: string}} */ told) {
+  fail(/** @type {import("./pool.mjs").Failure} */ failure) {
     this.finish("Ended");
-    const { error, message, limit } = told;
-    error === "LimitsError" && limit !== undefined ? showRefusal(limit, message) : showError(failureText(told));
+    const { error, message, limit } = failure;
+    if (error === "LimitsError" && limit !== undefined) {
+      showRefusal(limit, message);
+    } else {
+      showError(failureText(failure));
+    }
   }
 
   stop() {
@@ -177,7 +166,6 @@ export class ListRun {
     }
   }
 
-  /** Shows results soon, but not too often. */
   scheduleShow() {
     byId("results").dataset.state = "running";
     if (this.refreshTimer === 0) {
@@ -185,7 +173,6 @@ export class ListRun {
     }
   }
 
-  /** The time, how far the list is, and what takes long. */
   tick() {
     if (this.pool === null) {
       return;
@@ -193,40 +180,40 @@ export class ListRun {
     if (this.refreshTimer === 0) {
       this.showProgress("Running");
     }
-    if (performance.now() - this.announcedAt > TELL_MILLISECONDS) {
+    if (performance.now() - this.announcedAt > ANNOUNCE_MILLISECONDS) {
       this.announcedAt = performance.now();
       announce(byId("status").textContent ?? "");
     }
   }
 
-  showProgress(/** @type {string} */ how) {
+  showProgress(/** @type {string} */ outcome) {
     const { info, results } = this;
     const { lines, waiting } = results;
-    const read = how === "Done" || info.size === 0 ? 1 : results.read / info.size;
+    const read = outcome === "Done" || info.size === 0 ? 1 : results.read / info.size;
     const share = lines === 0 ? read : read * (1 - waiting / lines);
     /** @type {HTMLProgressElement} */ (byId("progress")).value = share;
-    byId("status").textContent = statusText(how, share, info, results);
+    byId("status").textContent = statusText(outcome, share, info, results);
     showText("under-way", slowLineText(this.pool?.slowestLine() ?? null));
   }
 
-  /** Shows the results anew, of which one was changed. */
+  /** Shows results after a change. */
   refresh() {
     this.show(this.pool === null ? this.outcome : "Running");
   }
 
-  show(/** @type {string} */ how) {
+  show(/** @type {string} */ outcome) {
     clearTimeout(this.refreshTimer);
     this.refreshTimer = 0;
-    if (how === "Running" && this.pool === null) {
+    if (outcome === "Running" && this.pool === null) {
       return;
     }
-    const { info, results } = this;
-    this.showProgress(how);
-    const hasLeft = how !== "Running" && info.mode !== "check" && results.counts[UNDECIDED] > 0;
-    const left = formatCount(results.counts[UNDECIDED], "undecided machine");
-    byId("left").textContent = `Decide ${left} again, with larger limits`;
-    setInactive("left", "hidden", !hasLeft, "rows");
-    this.isShown = results.lines > 0;
+    const { info, results: { counts, lines } } = this;
+    this.showProgress(outcome);
+    const canRedecide = outcome !== "Running" && info.mode !== "check" && counts[UNDECIDED] > 0;
+    const undecided = formatCount(counts[UNDECIDED], "undecided machine");
+    byId("left").textContent = `Decide ${undecided} again, with larger limits`;
+    setInactive("left", "hidden", !canRedecide, "rows");
+    this.isShown = lines > 0;
     this.onShow();
   }
 }
