@@ -65,7 +65,10 @@ export class ListRun {
     return this.pool !== null;
   }
 
-  /** @param {Blob} blob @param {ArrayBuffer} first its first read @param {ListRequest} request @param {boolean} isText */
+  /**
+   * @param {Blob} blob @param {ArrayBuffer} first its first read @param {ListRequest} request
+   * @param {boolean} isText
+   */
   start(blob, first, request, isText) {
     const { mode, plan, clean } = request;
     const form = clean ? request.form : null;

@@ -4,8 +4,8 @@
  * @typedef {import("../../worker/worker.mjs").Part} Part
  * @typedef {import("../../worker/worker.mjs").BatchNote} BatchNote
  * @typedef {{bytes: Uint8Array, line: number}} Chunk whole lines, and the number of the first
- * @typedef {Chunk & {job: number, begin: number, done: number, nextLine: number}} SentChunk the byte from which
- *   it was sent, the next byte, and the number of its line
+ * @typedef {Chunk & {job: number, begin: number, done: number, nextLine: number}} SentChunk its first sent
+ *   byte, its next byte, and the number of that line
  * @typedef {{worker: Worker, chunks: SentChunk[], note: BatchNote | null, since: number, memoryBytes: number,
  *   milliseconds: number, size: number | undefined}} PoolWorker `note` and `since`: the current batch;
  *   `milliseconds`: of the last batch; `size`: the bytes of the next batch, if set
@@ -28,7 +28,8 @@ const FRESH = { note: null, since: 0, memoryBytes: 0, milliseconds: 0, size: 1 }
 
 export class WorkerPool {
   /**
-   * @param {number} size @param {import("../../worker/worker.mjs").ListRequest} request @param {PoolTask} task
+   * @param {number} size @param {import("../../worker/worker.mjs").ListRequest} request
+   * @param {PoolTask} task
    */
   constructor(size, request, task) {
     this.task = task;
@@ -44,7 +45,8 @@ export class WorkerPool {
     for (let round = 0; round < CHUNKS_PER_WORKER; round += 1) {
       this.workers.forEach((one) => this.queueChunk(one));
     }
-    this.watch = setInterval(() => this.workers.forEach((one) => this.splitSlowBatch(one)), WATCH_MILLISECONDS);
+    const split = () => this.workers.forEach((one) => this.splitSlowBatch(one));
+    this.watch = setInterval(split, WATCH_MILLISECONDS);
   }
 
   listen(/** @type {PoolWorker} */ one) {
@@ -54,7 +56,8 @@ export class WorkerPool {
 
   /** Sends a worker the next chunk. Chunks are read one after another, in order. */
   queueChunk(/** @type {PoolWorker} */ one) {
-    this.queue = this.queue.then(() => this.sendNextChunk(one)).catch((error) => this.fail(errorFields(error)));
+    const sent = this.queue.then(() => this.sendNextChunk(one));
+    this.queue = sent.catch((error) => this.fail(errorFields(error)));
   }
 
   async sendNextChunk(/** @type {PoolWorker} */ one) {

@@ -93,7 +93,8 @@ export class Results {
   }
 
   /** Counts a line, or takes it out of the counts. */
-  adjustCounts(/** @type {Part} */ { kinds, answers, plans }, /** @type {number} */ line, /** @type {1 | -1} */ by) {
+  adjustCounts(/** @type {Part} */ part, /** @type {number} */ line, /** @type {1 | -1} */ by) {
+    const { kinds, answers, plans } = part;
     const plan = plans?.[line] ?? 0;
     this.counts[kinds[line]] += by;
     this.answers[answers[line]] += by;

@@ -3,8 +3,8 @@
  *
  * @typedef {import("../../reader/list-reader.mjs").Form} Form
  * @typedef {{mode: "decide" | "check", plan: Record<string, any>, form: Form | null, isText: boolean,
- *   size: number, begun: number, taken: number}} RunInfo the form of its lines, null if they aren't rewritten;
- *   whether it begins as UTF-8; its bytes; its start and duration in milliseconds, 0 while it runs
+ *   size: number, begun: number, taken: number}} RunInfo the form of its lines, null if they aren't
+ *   rewritten; whether it begins as UTF-8; its bytes; its start and duration in milliseconds, 0 while it runs
  */
 import { ANSWERS, KINDS, formatCount, formatNumber } from "../../reader/machine.mjs";
 import { LONGEST_QUOTED } from "../../reader/tokens.mjs";
@@ -45,8 +45,9 @@ export function statusText(outcome, share, info, results) {
   const checked = ANSWERS.flatMap((answer, k) =>
     answers[k] > 0 && answer !== "open" ? [`${formatNumber(answers[k])} ${answer}`] : [],
   );
-  const list = info.mode === "check" ? `These are ${formatCount(lines, "verdict line")}, checked` : "The checker";
-  parts.push(`${list}: ${checked.join(", ") || "nothing to confirm"}`);
+  const claims = `These are ${formatCount(lines, "verdict line")}, checked`;
+  const subject = info.mode === "check" ? claims : "The checker";
+  parts.push(`${subject}: ${checked.join(", ") || "nothing to confirm"}`);
   if (info.form !== null && info.mode === "decide") {
     parts.push(`Read as ${FORMS[info.form]}`);
   }
