@@ -1,37 +1,35 @@
-/** Moving and zooming a diagram by wheel, keys, mouse and fingers, and pointing at its cells. */
+/** Input to a diagram by wheel, keys, mouse and fingers. */
 import { byId, dispatchKey } from "../dom.mjs";
 import { snapToRow, placeText } from "./geometry.mjs";
 import { ZOOM } from "./viewport.mjs";
 
 const DOUBLE = 8;
-// A wheel's notch has so many pixels, and zooms twice.
+// The pixels of a wheel's notch, which zooms by 2.
 const NOTCH_PIXELS = 100;
 const LINE_PIXELS = 33;
 const MOST_NOTCHES = 3;
-// What moves less than this is a click.
+// Shorter movements are clicks.
 const CLICK_PIXELS = 4;
 
 /**
- * What is done on a diagram.
- *
  * @typedef {import("./geometry.mjs").Point} Point
- * @typedef {{view: import("./viewport.mjs").View, middle: Point, apart: number}} GestureStart the view when the fingers
- *   that are there began to move it, the middle between them in the canvas, and how far they were apart
+ * @typedef {{view: import("./viewport.mjs").View, middle: Point, apart: number}} GestureStart the view, the
+ *   middle between the fingers in the canvas, and their distance
  */
 export class Gestures {
   /**
    * @param {import("./diagram.mjs").Diagram} diagram
-   * @param {(words: string, byKeys: boolean) => void} tell what is pointed at
+   * @param {(words: string, byKeys: boolean) => void} tell shows a description of the pointed cell
    */
   constructor(diagram, tell) {
     this.diagram = diagram;
     this.report = tell;
-    /** @type {Map<number, Point>} where each finger is in the window; the mouse is one */
+    /** @type {Map<number, Point>} in the window; the mouse is a finger */
     this.fingers = new Map();
     this.moved = 0;
     /** @type {GestureStart | null} */
     this.start = null;
-    // One finger scrolls the page until the picture has been tapped.
+    // One finger scrolls the page until the picture is tapped.
     this.canMove = false;
     const { canvas } = diagram;
     canvas.addEventListener("keydown", (event) => this.onKey(event));
@@ -51,14 +49,14 @@ export class Gestures {
     canvas.addEventListener("pointerleave", () => tell("", false));
   }
 
-  /** Tells what keys point at, where the picture has a row of that very step. */
+  /** Describes the pointer of the keys if the picture has its exact row. */
   reportPlace() {
     const { pointed, picture } = this.diagram;
     const isShown = pointed !== null && snapToRow(picture, pointed).step === pointed.step;
     this.report(isShown ? placeText(picture, pointed) : "", true);
   }
 
-  /** A picture has come: what keys point at may not have been in the one before. */
+  /** Describes the pointer once its picture has come. */
   onPicture() {
     const { diagram } = this;
     if (diagram.pointed !== null && byId("place-text").textContent === "") {
@@ -100,7 +98,6 @@ export class Gestures {
 
   onDown(/** @type {PointerEvent} */ event) {
     const { canvas } = this.diagram;
-    // Only the main button moves the picture.
     if (event.button !== 0) {
       return;
     }
@@ -118,13 +115,12 @@ export class Gestures {
     this.start = this.startGesture();
   }
 
-  /** @returns {GestureStart | null} where the fingers begin that are there now */
+  /** @returns {GestureStart | null} */
   startGesture() {
     const { view } = this.diagram;
     return view === null || this.fingers.size === 0 ? null : { view, ...this.span() };
   }
 
-  /** The middle between the fingers, and how far they are apart. */
   span() {
     const [one, other] = [...this.fingers.values()];
     const two = other ?? one;
@@ -153,7 +149,7 @@ export class Gestures {
     }
   }
 
-  /** Moves and zooms the picture: what was between the fingers stays there. */
+  /** Moves and zooms the picture around the point between the fingers. */
   applyGesture() {
     const { diagram, start } = this;
     if (start !== null) {
@@ -163,7 +159,7 @@ export class Gestures {
     }
   }
 
-  /** Tells what is under the mouse or a finger, and gives the place. */
+  /** Describes the cell under the pointer, and returns its place. */
   reportPointer(/** @type {PointerEvent} */ event) {
     const place = this.diagram.placeAt(event.offsetX, event.offsetY);
     this.report(place === null ? "" : placeText(this.diagram.picture, place), false);

@@ -1,18 +1,18 @@
-/** The lines of a list that are shown: their kinds, their order, and which one is open. */
+/** The view of a list: its kinds, order, rows and open line. */
 import { KINDS, formatNumber } from "../../reader/machine.mjs";
 import { create, onClick, byId, setInactive, announce } from "../dom.mjs";
 import { WorkerClient } from "../worker-client.mjs";
 import { RowTable } from "./row-table.mjs";
 
-// How the time is called, in the browser's list, at which the page showed its first verdict.
+// The performance mark of the first verdict.
 const FIRST_VERDICT = "first verdict";
 
 /** @typedef {import("./results.mjs").Results} Results */
 
 export class ListView {
   /**
-   * @param {import("../machine/machine-view.mjs").MachineView} view shows the line that is opened
-   * @param {import("./list-run.mjs").ListRun} work has the answers that are known by now
+   * @param {import("../machine/machine-view.mjs").MachineView} view
+   * @param {import("./list-run.mjs").ListRun} work
    */
   constructor(view, work) {
     this.view = view;
@@ -28,12 +28,11 @@ export class ListView {
     this.kindButtons = KINDS.map((_, k) => this.createKindButton(k));
     byId("kinds").append(...this.kindButtons);
     this.order = /** @type {HTMLSelectElement} */ (byId("order"));
-    // Whether a line of the list was opened.
     this.wasOpened = false;
-    /** @type {import("./results.mjs").LinePlace | null} the line that is open, and its verdict */
+    /** @type {import("./results.mjs").LinePlace | null} */
     this.openLine = null;
     this.openText = "";
-    // How often rows were shown, so that what comes late isn't.
+    // Counts displays, so that outdated sorts are dropped.
     this.turn = 0;
     this.order.addEventListener("change", () => this.showRows());
     onClick({
@@ -44,10 +43,7 @@ export class ListView {
     });
   }
 
-  /**
-   * Begins with a list of which nothing is answered yet. Where its first line takes long, or none comes, no
-   * machine is shown.
-   */
+  /** Prepares for a new list. The machine is hidden unless the first line comes soon. */
   reset() {
     this.rows.reset();
     this.wasOpened = false;
@@ -55,7 +51,7 @@ export class ListView {
     this.view.scheduleClose();
   }
 
-  /** Shows what is answered, and opens the first line once it has come, if none was opened before. */
+  /** Shows the results, and opens the first line once it is answered. */
   show() {
     this.showKinds();
     this.showRows();
@@ -71,9 +67,8 @@ export class ListView {
   }
 
   /**
-   * Puts a line that was decided again into the row that is open; gives whether it has one. A claim that was
-   * checked stays.
-   * @param {import("../../worker/worker.mjs").Part} by @param {Record<string, any>} plan its limits
+   * Replaces the open row after a new decision; returns whether it could. Checked claims stay.
+   * @param {import("../../worker/worker.mjs").Part} by @param {Record<string, any>} plan
    */
   replaceOpenRow(by, plan) {
     const { openLine } = this;
@@ -86,7 +81,7 @@ export class ListView {
     return row >= 0;
   }
 
-  /** Shows the open line anew, where the second pass has decided it otherwise than the first. */
+  /** Updates the open line if the second pass has changed its verdict. */
   refreshOpen(/** @type {Results} */ results) {
     const row = this.openLine === null ? -1 : results.rowOf(this.openLine);
     if (row >= 0 && !results.isWaiting(row) && this.openText !== results.rowAt(row).verdict.text) {
@@ -94,7 +89,7 @@ export class ListView {
     }
   }
 
-  /** The kinds with their counts; each is shown or not. Their buttons stay, so that a click finds them. */
+  /** Updates the kinds' buttons, which stay in place for clicks. */
   showKinds() {
     const { counts } = this.work.results;
     this.kindButtons.forEach((button, k) => {
@@ -117,14 +112,14 @@ export class ListView {
     return button;
   }
 
-  /** Shows the rows of these kinds in the order that is asked for. */
+  /** Shows the rows of the chosen kinds in the chosen order. */
   showRows() {
     const { results, isRunning } = this.work;
     const order = this.order.value;
     const rows = results.rowsOfKinds(this.kindsShown);
     const isSorted = order !== "list" && !isRunning;
     this.turn += 1;
-    // The line that is opened first is the first one of the list.
+    // The first line to open is the list's first.
     if (!isSorted || !this.wasOpened) {
       this.rows.showRows(results, rows, true);
     }
@@ -134,7 +129,7 @@ export class ListView {
   }
 
   /**
-   * Shows rows in the order of their steps, by which a worker sorts them, unless others are shown meanwhile.
+   * Sorts rows by steps in a worker, and shows them unless others are shown meanwhile.
    * @param {Results} results @param {Uint32Array} rows @param {boolean} down
    */
   async showSorted(results, rows, down) {
@@ -159,7 +154,7 @@ export class ListView {
     this.view.open({ machine, verdict, answer, plan, isWaiting }, moves, { text: given, number, form });
   }
 
-  /** Opens the next or the previous row that is shown, of any kind or an undecided one. */
+  /** Opens the next or previous row, or undecided row. */
   openNeighbour(/** @type {number} */ by, /** @type {boolean} */ isUndecided) {
     const { rows } = this.rows;
     const { results } = this.work;

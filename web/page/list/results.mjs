@@ -1,5 +1,5 @@
 /**
- * What was said of a list, in the order of its lines, though pieces of it may end in another order.
+ * The results of a list, in the order of its lines; chunks may finish in another order.
  *
  * @typedef {import("../../worker/worker.mjs").Part} Part
  * @typedef {{part: Part, line: number}} LinePlace
@@ -9,14 +9,14 @@ import { concatBytes, lineAt } from "../../reader/list-reader.mjs";
 import { BYTES_KEPT, LONGEST_SHOWN } from "../../reader/tokens.mjs";
 import { startsOf, readSteps } from "../../worker/replies.mjs";
 
-// How long work takes before the page rests.
+// Sorting pauses after this long.
 const BUSY_MILLISECONDS = 20;
 const SPACE = 32;
 const decoder = new TextDecoder();
 const [UNDECIDED, BACKWARD] = [KINDS.indexOf("undecided"), KINDS.indexOf("backward")];
-/** The number of the limits of a list's first pass. */
+/** The number of the first pass's limits. */
 export const FIRST_PASS = 1;
-/** The number of the first limits that are larger than the list's. */
+/** The number of the first larger limits. */
 export const LARGER = 2;
 const MOST_PLANS = 255;
 
@@ -25,10 +25,10 @@ export class Results {
   constructor(plan) {
     // Limits by their numbers.
     this.plans = [plan, plan];
-    // How many lines only the first pass has answered, and how many of these it left undecided.
+    // Lines that only the first pass has answered, and the undecided ones among them.
     this.provisional = 0;
     this.waiting = 0;
-    // How many lines were decided again with larger limits.
+    // Lines decided again with larger limits.
     this.redecided = 0;
     /** @type {Part[][]} */
     this.jobs = [];
@@ -40,7 +40,7 @@ export class Results {
     /** @type {Part[] | null} */
     this.flat = null;
     this.firstRows = new Float64Array(1);
-    // The numbers from 0 on.
+    // The numbers from 0.
     this.rowNumbers = new Uint32Array(0);
   }
 
@@ -54,10 +54,7 @@ export class Results {
     part.answerCounts.forEach((count, answer) => (this.answers[answer] += count));
   }
 
-  /**
-   * Takes in a part of the first pass: of what it left undecided, and of backward reasoning, which comes
-   * last, the limits of the list may find another verdict.
-   */
+  /** Adds a part of the first pass. Its undecided and backward verdicts are provisional. */
   addFirstPass(/** @type {Part} */ part, /** @type {number} */ read) {
     const { kinds } = part;
     part.plans = kinds.map((kind) => (kind === UNDECIDED || kind === BACKWARD ? FIRST_PASS : 0));
@@ -66,7 +63,7 @@ export class Results {
     this.add(part, read);
   }
 
-  /** The number of limits; those that are new get one. */
+  /** The number of a plan, new or known. */
   planNumber(/** @type {Record<string, any>} */ plan) {
     const { plans } = this;
     const isSame = (/** @type {any} */ one) => one.steps === plan.steps && one.cells === plan.cells;
@@ -75,8 +72,8 @@ export class Results {
   }
 
   /**
-   * Puts the lines of a part in the place of rows, of which it has the machines in this order.
-   * @param {Uint32Array} rows in order @param {Part} by @param {number} plan the number of its limits
+   * Replaces rows by the lines of a part, in the same order.
+   * @param {Uint32Array} rows in order @param {Part} by @param {number} plan its number
    */
   replace(rows, by, plan) {
     for (let first = 0; first < rows.length; ) {
@@ -92,7 +89,6 @@ export class Results {
     }
   }
 
-  /** Counts a line, or takes it out of the counts. */
   adjustCounts(/** @type {Part} */ part, /** @type {number} */ line, /** @type {1 | -1} */ by) {
     const { kinds, answers, plans } = part;
     const plan = plans?.[line] ?? 0;
@@ -109,7 +105,7 @@ export class Results {
     return decoder.decode(part.bytes.subarray(from, part.bytes.indexOf(SPACE, from)));
   }
 
-  /** The parts in order, with the number of the first line of each in `begins`. */
+  /** The parts in order; `firstRows` has the row of each one's first line. */
   partsInOrder() {
     if (this.flat === null) {
       this.flat = this.jobs.filter(Boolean).flat();
@@ -121,7 +117,7 @@ export class Results {
     return this.flat;
   }
 
-  /** @returns {LinePlace} where a line stands */
+  /** @returns {LinePlace} */
   placeOf(/** @type {number} */ row) {
     const parts = this.partsInOrder();
     let [low, high] = [0, parts.length];
@@ -132,25 +128,24 @@ export class Results {
     return { part: parts[low], line: row - this.firstRows[low] };
   }
 
-  /** The row of a line; -1 where it has none. */
+  /** The row of a line, or -1. */
   rowOf(/** @type {LinePlace} */ { part, line }) {
     const at = this.partsInOrder().indexOf(part);
     return at < 0 ? -1 : this.firstRows[at] + line;
   }
 
-  /** Whether a row is undecided. */
   isUndecided(/** @type {number} */ row) {
     const { part, line } = this.placeOf(row);
     return part.kinds[line] === UNDECIDED;
   }
 
-  /** Whether a row is undecided by the first pass, and waits for the second one. */
+  /** Whether an undecided row waits for the second pass. */
   isWaiting(/** @type {number} */ row) {
     const { part, line } = this.placeOf(row);
     return part.plans?.[line] === FIRST_PASS && this.isUndecided(row);
   }
 
-  /** Whether the first line of the list has come: no piece before it has one that comes later. */
+  /** Whether the first line is answered; earlier chunks may have none. */
   get hasFirstLine() {
     for (const parts of this.jobs) {
       if (parts?.some(({ kinds }) => kinds.length > 0)) {
@@ -163,7 +158,7 @@ export class Results {
     return false;
   }
 
-  /** A row as it is shown: its number in the list, its verdict line, and as what it was given. */
+  /** A row's number, verdict line, original line and limits. */
   rowAt(/** @type {number} */ row) {
     const { part, line } = this.placeOf(row);
     const text = part.lines ?? part.bytes;
@@ -178,10 +173,7 @@ export class Results {
     return { ...read, answer, kind: KINDS[part.kinds[line]], number, given, pass, plan: this.plans[pass] };
   }
 
-  /**
-   * The lines of these kinds, as the program would write them; the page rests between parts that aren't taken
-   * whole. Lines that only the first pass has answered are left out.
-   */
+  /** The program's output for these kinds, without provisional lines. Pauses between incomplete parts. */
   async blobOf(kinds = new Set(KINDS.keys())) {
     const parts = [];
     for (const part of this.partsInOrder()) {
@@ -192,7 +184,7 @@ export class Results {
     return new Blob(parts, { type: "text/plain" });
   }
 
-  /** All rows, in order, in a list that is kept. */
+  /** All rows, in a cached array. */
   allRows() {
     if (this.rowNumbers.length < this.lines) {
       this.rowNumbers = new Uint32Array(Math.max(this.lines, 2 * this.rowNumbers.length)).map((_, k) => k);
@@ -200,13 +192,11 @@ export class Results {
     return this.rowNumbers.subarray(0, this.lines);
   }
 
-  /** The rows of these kinds, in order. */
   rowsOfKinds(/** @type {Set<number>} */ kinds) {
     const isAll = this.counts.every((count, kind) => count === 0 || kinds.has(kind));
     return isAll ? this.allRows() : this.filterRows(({ kinds: own }, line) => kinds.has(own[line]));
   }
 
-  /** The rows that are so, in order. */
   filterRows(/** @type {(part: Part, line: number) => boolean} */ isIn) {
     const rows = new Uint32Array(this.lines);
     let [count, row] = [0, 0];
@@ -220,10 +210,7 @@ export class Results {
     return rows.subarray(0, count);
   }
 
-  /**
-   * The steps that these rows name, -1 for none; the page rests while they are read for the first time. Where
-   * they aren't wanted any more, they are left.
-   */
+  /** The steps of rows, -1 for none. Pauses while they are parsed, and stops once they aren't wanted. */
   async stepsOf(/** @type {Uint32Array} */ rows, /** @type {() => boolean} */ isWanted) {
     const all = new Float64Array(this.lines);
     let begun = performance.now();
@@ -246,7 +233,7 @@ export class Results {
 
 const pause = () => new Promise((done) => setTimeout(done));
 
-/** The lines of a part whose kinds are among these, as bytes; those that stand together are one. */
+/** A part's lines of these kinds, as bytes; adjacent lines are joined. */
 function linesOf(/** @type {Part} */ part, /** @type {Set<number>} */ kinds) {
   const { plans } = part;
   const starts = part.lines === null ? part.starts : startsOf(part.bytes).slice();
@@ -263,13 +250,11 @@ function linesOf(/** @type {Part} */ part, /** @type {Set<number>} */ kinds) {
 }
 
 /**
- * Replaces lines of a part by the first lines of another one from `first` on. The part stays the same object,
- * and its bytes become another one.
- * @param {Part} part of machines that were decided
- * @param {ArrayLike<number>} lines the numbers of the lines in the part, in order
- * @param {Part} by @param {number} first @param {number} plan the number of the limits of the new lines
+ * Replaces lines of a part by another one's, from line `first`. The part stays the same object.
+ * @param {Part} part @param {ArrayLike<number>} lines in order
+ * @param {Part} by @param {number} first @param {number} plan its number
  */
-export function replaceLines(part, lines, by, first, plan) {
+function replaceLines(part, lines, by, first, plan) {
   const { bytes, starts } = part;
   const plans = (part.plans ??= new Uint8Array(part.kinds.length));
   const pieces = [];

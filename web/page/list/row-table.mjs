@@ -1,10 +1,10 @@
 /**
- * The table of lines: only the rows that are seen stand in the page, so a list of millions scrolls.
+ * The table of lines. Only visible rows are in the document, so that millions of lines scroll.
  *
  * @typedef {import("./results.mjs").Results} Results
  * @typedef {import("../../worker/worker.mjs").Part} Part
- * @typedef {{element: HTMLElement, of: Part, line: number, bytes: Uint8Array, isChosen: boolean}} DrawnRow a row
- *   that stands in the page, and of which line of which part it is, with the bytes that the part had
+ * @typedef {{element: HTMLElement, of: Part, line: number, bytes: Uint8Array, isChosen: boolean}} DrawnRow
+ *   `of`, `line` and `bytes`: its part, its line there, and the part's bytes when it was drawn
  */
 import { formatNumber } from "../../reader/machine.mjs";
 import { readLine } from "../../reader/line-reader.mjs";
@@ -12,26 +12,26 @@ import { LONGEST_SHOWN } from "../../reader/tokens.mjs";
 import { create, byId } from "../dom.mjs";
 import { FIRST_PASS, LARGER } from "./results.mjs";
 
-// A row's height; on a phone it has two lines.
+// Row heights; on a phone rows have two lines.
 const ROW_PIXELS = 28;
 const PHONE_ROW_PIXELS = 48;
 const PHONE = "(max-width: 600px)";
-// Browsers have no higher elements; in longer lists a pixel of the bar stands for more than one.
+// Browsers limit an element's height; longer lists scale the scroll bar.
 const MOST_PIXELS = 8_000_000;
 
 export class RowTable {
-  /** @param {(row: number) => void} open what happens where a row is chosen */
+  /** @param {(row: number) => void} open called when a row is opened */
   constructor(open) {
     this.open = open;
     /** @type {Results | null} */
     this.results = null;
     this.rows = new Uint32Array(0);
-    /** @type {Map<number, DrawnRow>} the rows that stand in the page, by their places */
+    /** @type {Map<number, DrawnRow>} by place */
     this.drawn = new Map();
     this.top = 0;
-    // The place of the chosen line; -1 where it isn't among those that are shown.
+    // The place of the chosen line, or -1 if it is filtered out.
     this.chosen = -1;
-    // Where the chosen line would stand, between the places before and from it on.
+    // The place of the chosen line, or the next one if it is filtered out.
     this.gap = 0;
     /** @type {import("./results.mjs").LinePlace | null} */
     this.line = null;
@@ -42,7 +42,7 @@ export class RowTable {
     this.box.addEventListener("keydown", (event) => this.onKey(event));
     this.box.addEventListener("wheel", (event) => this.onWheel(event), { passive: false });
     byId("shown").addEventListener("click", (event) => this.onClick(event));
-    // How high the box is inside. To ask for it costs the browser a layout.
+    // The box's inner height; reading it costs a layout.
     this.inner = 0;
     new ResizeObserver(() => {
       this.measure();
@@ -66,14 +66,14 @@ export class RowTable {
     return this.rows.length * this.pixels > MOST_PIXELS;
   }
 
-  /** Begins with other results, of which no line is chosen. */
+  /** Forgets the chosen line. */
   reset() {
     Object.assign(this, { chosen: -1, gap: 0, line: null, top: 0 });
   }
 
   /**
-   * Shows these rows of results; the chosen line stays chosen, wherever it stands then.
-   * @param {Results} results @param {Uint32Array} rows @param {boolean} isInOrder of the list
+   * Shows rows; the chosen line stays chosen.
+   * @param {Results} results @param {Uint32Array} rows @param {boolean} isInOrder whether rows ascend
    */
   showRows(results, rows, isInOrder) {
     const fewer = Math.min(rows.length, this.rows.length);
@@ -81,7 +81,7 @@ export class RowTable {
     this.rows = rows;
     this.locateChosen(results, rows, isInOrder);
     byId("spacer").style.height = `${this.height}px`;
-    // Where there are more rows than it has room for, before and now, it is as high as it was.
+    // A full box keeps its height.
     if (fewer * this.pixels <= this.inner) {
       this.measure();
     }
@@ -94,8 +94,8 @@ export class RowTable {
     this.inner = this.box.clientHeight;
   }
 
-  /** Finds where the chosen line stands now. */
-  locateChosen(/** @type {Results} */ results, /** @type {Uint32Array} */ rows, /** @type {boolean} */ isInOrder) {
+  /** @param {Results} results @param {Uint32Array} rows @param {boolean} isInOrder */
+  locateChosen(results, rows, isInOrder) {
     const row = this.line === null ? -1 : results.rowOf(this.line);
     this.chosen = row < 0 ? -1 : rows.indexOf(row);
     if (this.chosen >= 0) {
@@ -107,7 +107,7 @@ export class RowTable {
     this.gap = Math.min(this.gap, rows.length);
   }
 
-  /** The place that is so many from the chosen line. */
+  /** The place at an offset from the chosen line. */
   placeAtOffset(/** @type {number} */ by) {
     return this.gap + (this.chosen < 0 && by > 0 ? by - 1 : by);
   }
@@ -160,10 +160,7 @@ export class RowTable {
       : this.box.removeAttribute("aria-activedescendant");
   }
 
-  /**
-   * The row of a place: the one that stands there, where it is of the same line and chosen or not as before.
-   * @param {number} place @returns {DrawnRow}
-   */
+  /** @param {number} place @returns {DrawnRow} the row at a place, drawn anew only after a change */
   drawnRowAt(place) {
     const { part: of, line } = /** @type {Results} */ (this.results).placeOf(this.rows[place]);
     const isChosen = place === this.chosen;
@@ -182,7 +179,7 @@ export class RowTable {
     const cell = (/** @type {string} */ text, name = "") =>
       create("span", { role: "gridcell", class: name, title: text }, text);
     const isRefused = kind === "refused";
-    // A refused machine has no claim that could be checked.
+    // A refused machine has no claim to check.
     const hasNone = isRefused && answer !== "unread";
     const text = isRefused ? cell((given ?? "").slice(0, LONGEST_SHOWN)) : cell(machine);
     const reading = given === null || isRefused ? null : readLine(given);
@@ -223,7 +220,7 @@ export class RowTable {
     }
   }
 
-  /** Chooses a row, and opens its machine where that is asked for. */
+  /** Chooses a row, and opens its machine on request. */
   choose(/** @type {number} */ place, /** @type {boolean} */ opens) {
     if (this.rows.length === 0) {
       return;

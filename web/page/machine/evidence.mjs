@@ -1,4 +1,4 @@
-/** What stands behind a verdict: what is marked on the diagram, and what is shown below it. */
+/** The evidence for a verdict: marks on the diagram, and rows or the backward tree below it. */
 import { formatCount, parseMachine, formatNumber, stateLetter } from "../../reader/machine.mjs";
 import { create, byId } from "../dom.mjs";
 import { WorkerClient } from "../worker-client.mjs";
@@ -15,25 +15,24 @@ const MOST_NODES = 100_000;
 const NODES_SHOWN = 60;
 const LEVELS_SHOWN = 40;
 const CELLS_SHOWN = 400;
-// Of a machine whose verdict names no step so many are shown first.
+// The first view's steps if the verdict names none.
 const FIRST_STEPS = 100;
-// Where no verdict names a step, the picture goes no farther: it would take longer than anyone waits.
+// The most steps of a picture beyond the verdict's.
 const MOST_STEPS = 100_000_000;
 const NODE_WORDS =
-  "A node is a state and the cells that are known; the head is in brackets, a dot is a cell of which " +
-  "nothing is known.";
+  "A node is a state and the known cells. The head’s cell is in brackets, a dot is an unknown cell.";
 const SHOW = ["The rows above show it.", "The rows above don’t show"];
-const NO_EXTENT = "The line doesn’t say which cells agree.";
-const NO_TREE = "No entry halts, so nothing could come before a halt.";
+const NO_EXTENT = "The line doesn’t name the cells that agree.";
+const NO_TREE = "No entry halts, so the tree is empty.";
 const client = new WorkerClient();
-/** @type {Verdict | null} the verdict that is shown: rows that come for another one are too late */
+/** @type {Verdict | null} the current verdict; rows for another one are dropped */
 let shownVerdict = null;
 
 export function clearEvidence() {
   shownVerdict = null;
 }
 
-/** The last step that the diagram of a verdict goes to, and the last one that there is. */
+/** The last step of a verdict's first view, and the last one of its diagram. */
 export function diagramSteps(/** @type {Verdict} */ { kind, numbers }, /** @type {number} */ limit) {
   const [first, second] = numbers;
   if (kind === "halt") {
@@ -47,7 +46,7 @@ export function diagramSteps(/** @type {Verdict} */ { kind, numbers }, /** @type
   return { last: kind === "undecided" ? upto : Math.min(upto, FIRST_STEPS), upto };
 }
 
-/** Asks for the two rows of a pair, or for the last row of a halt. */
+/** Requests the two rows of a pair, or the last row of a halt. */
 function requestRows(/** @type {any} */ about, /** @type {(rows: Row[]) => void} */ done) {
   const { machine, cells, verdict } = about;
   const [first, second] = verdict.numbers;
@@ -57,13 +56,15 @@ function requestRows(/** @type {any} */ about, /** @type {(rows: Row[]) => void}
   client.request(question, (answer) => done(answer.rows ?? []));
 }
 
-/** The cells that agree in the rows of a translated cycler: those behind the head, itself with them. */
-const agreeingCells = (/** @type {Row} */ { head }, /** @type {string} */ side, /** @type {number} */ length) =>
+/**
+ * The cells of a translated cycler that agree: the head's and those behind it.
+ * @param {Row} row @param {string} side @param {number} length
+ */
+const agreeingCells = ({ head }, side, length) =>
   side === "R" ? [head - length + 1, head] : [head, head + length - 1];
 
 /**
- * Finds what stands behind a verdict, shows it, and hands over what is to be marked on the diagram, with the
- * pair of steps and the positions between which that is, or the last row of a halt.
+ * Shows a verdict's evidence, and passes on the diagram's marks, the marked pair, and the last row of a halt.
  * @param {{machine: string, cells: number, verdict: Verdict}} about
  * @param {(marks: Mark[], pair: Fit["pair"], end: Fit["end"]) => void} mark
  */
@@ -90,22 +91,19 @@ export function showEvidence(about, mark) {
   });
 }
 
-/**
- * The two steps that are marked.
- * @param {Verdict} verdict @param {import("../diagram/paint.mjs").Band[]} bands
- */
+/** @param {Verdict} verdict @param {import("../diagram/paint.mjs").Band[]} bands */
 function markedPair({ numbers: [first, second] }, bands) {
   const places = bands.flatMap(({ from, to }) => (from === null || to === null ? [] : [from, to]));
   const [low, high] = places.length > 0 ? [Math.min(...places), Math.max(...places)] : [null, null];
   return { first, second, low, high };
 }
 
-/** The bands and the words of the rows behind a verdict. */
+/** The bands and elements of a verdict's rows. */
 function rowEvidence(/** @type {Verdict} */ { kind, numbers, side }, /** @type {Row[]} */ rows) {
   const [, second, shift, length] = numbers;
   const wanted = kind === "halt" ? 1 : 2;
   if (rows.length < wanted) {
-    return { bands: [], parts: [create("p", { class: "error" }, "The rows could not be traced.")] };
+    return { bands: [], parts: [create("p", { class: "error" }, "The rows can’t be traced.")] };
   }
   const extent = length ?? 0;
   const isBare = kind === "translated" && length === undefined;
@@ -116,18 +114,20 @@ function rowEvidence(/** @type {Verdict} */ { kind, numbers, side }, /** @type {
   const lines = rows.map((row, k) => createRowLine(row, bands[k], rows, kind));
   /** @type {Record<string, string>} */
   const titles = {
-    halt: `The last row: ${formatCount(second, "cell")} other than 0`,
-    cycler: "The two rows that are the same",
+    halt: `The last row: ${formatCount(second, "nonzero cell")}`,
+    cycler: "The two equal rows",
     translated:
-      `The two records: the same ${formatCount(extent, "cell")}, ` + `${formatCount(shift ?? 0, "cell")} farther out`,
+      `The two records: the same ${formatCount(extent, "cell")}, ` +
+      `${formatCount(shift ?? 0, "cell")} farther out`,
   };
   const title = create("h3", {}, isBare ? "The two records" : titles[kind]);
   const shownRows = create("div", { class: "cells" }, ...lines);
-  return { bands, parts: [title, shownRows, isBare ? createHint(NO_EXTENT) : createComparison(kind, rows, bands, second)] };
+  const note = isBare ? createHint(NO_EXTENT) : createComparison(kind, rows, bands, second);
+  return { bands, parts: [title, shownRows, note] };
 }
 
 /**
- * What the page itself sees in the rows.
+ * Compares the rows with the verdict.
  * @param {string} kind @param {Row[]} rows @param {any[]} bands @param {number} score
  */
 function createComparison(kind, rows, bands, score) {
@@ -149,16 +149,17 @@ function createComparison(kind, rows, bands, score) {
   return create("p", { class: holds ? "hint" : "error" }, words);
 }
 
-/** A row's state, head, and cells that aren't 0 with their positions, as a text. */
+/** A row's state, head and nonzero cells as a text. */
 function configurationOf(/** @type {Row} */ { state, head, low, cells }) {
   const content = Array.from(cells, (symbol, k) => (symbol === 0 ? "" : `${low + k}:${symbol}`));
   return [state, head, ...content.filter(Boolean)].join(" ");
 }
 
-const symbolOf = (/** @type {Row} */ row, /** @type {number} */ position) => row.cells[position - row.low] ?? 0;
+const symbolOf = (/** @type {Row} */ row, /** @type {number} */ position) =>
+  row.cells[position - row.low] ?? 0;
 
 /**
- * A row as text: its step, state and cells, with the head and the stretch marked.
+ * A row's step, state and cells, with the head and the agreeing cells marked.
  * @param {Row} row @param {any} band @param {Row[]} rows @param {string} kind
  */
 function createRowLine(row, band, rows, kind) {
@@ -182,12 +183,12 @@ function createTree(/** @type {{machine: string, verdict: Verdict}} */ { machine
   const [levels, nodes] = verdict.numbers;
   const tree = buildTree(parseMachine(machine), Math.min(nodes, MOST_NODES));
   const counts = `${formatCount(nodes, "node")} in ${formatCount(levels, "level")}`;
-  const parts = [create("h3", {}, `The tree of what could come before a halt: ${counts}`)];
+  const parts = [create("h3", {}, `The tree of configurations before a halt: ${counts}`)];
   if (!tree.ended && nodes > MOST_NODES) {
-    parts.push(createHint(`Too large to draw: only ${formatNumber(tree.count)} nodes are worked out.`));
+    parts.push(createHint(`Too large to draw: only ${formatNumber(tree.count)} nodes are computed.`));
   } else if (!tree.ended || tree.levels.length !== levels || tree.count !== nodes) {
     const found = `${formatCount(tree.count, "node")} in ${formatCount(tree.levels.length, "level")}`;
-    const differs = `The tree worked out here has ${found}, which differs from the line.`;
+    const differs = `The tree computed here has ${found}, unlike the line.`;
     parts.push(create("p", { class: "error" }, differs));
   }
   tree.levels.slice(0, LEVELS_SHOWN).forEach((level, k) => parts.push(createLevel(level, k)));

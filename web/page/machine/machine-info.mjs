@@ -1,6 +1,6 @@
 /**
- * What is known of a machine beside its verdict: its other forms, what the verdict says of other machines,
- * other starts and later steps, and how its cells grow.
+ * Facts about a machine: other forms, consequences of its verdict for other machines, starts and later steps,
+ * and the growth of its cells.
  *
  * @typedef {import("../../reader/machine.mjs").Verdict} Verdict
  * @typedef {{machine: string, cells: number, steps: number, verdict: Verdict, isConfirmed: boolean}} About
@@ -14,7 +14,7 @@ const NORMAL_STEPS = 10_000;
 const MOST_GROWTH_STEPS = 1_000_000;
 const FEWEST_GROWTH_STEPS = 100;
 const LATER = 10n ** 15n;
-const SAME_VERDICT = "However each --- is filled, the machine has the same verdict.";
+const SAME_VERDICT = "Any completion of its --- has the same verdict.";
 /** @type {Record<string, string>} */
 const GROWTHS = {
   stays: "They stay",
@@ -25,13 +25,13 @@ const GROWTHS = {
 };
 const client = new WorkerClient();
 const growthClient = new WorkerClient();
-/** @type {About | null} what it is about: an answer that comes for another one is too late */
+/** @type {About | null} replies for another machine are dropped */
 let current = null;
 
 export const mirrorImage = (/** @type {string} */ text) =>
   text.replace(/[LR]/g, (move) => (move === "L" ? "R" : "L"));
 
-/** The states in the order in which a run of so many steps comes to them. */
+/** The states in the order of their first use. */
 function firstUses(/** @type {import("../../reader/machine.mjs").Machine} */ { symbols, rules }) {
   const cells = new Uint8Array(2 * NORMAL_STEPS + 1);
   const found = new Set([0]);
@@ -49,7 +49,7 @@ function firstUses(/** @type {import("../../reader/machine.mjs").Machine} */ { s
   return [...found];
 }
 
-/** The normal form: states in the order of their first use, and the first move to the right. */
+/** The machine with states in the order of their first use, and the first move to the right. */
 export function normalForm(/** @type {string} */ text) {
   const machine = parseMachine(text);
   const { states, symbols, rules } = machine;
@@ -64,7 +64,7 @@ export function normalForm(/** @type {string} */ text) {
   return text[1] === "L" ? mirrorImage(form) : form;
 }
 
-/** What a verdict says of the machines that fill a `---`. */
+/** A verdict's consequences for completions of undefined entries. */
 function completionsText(/** @type {About} */ { machine, verdict }, /** @type {string} */ lastState) {
   if (!machine.includes("---")) {
     return "It has no undefined entry.";
@@ -76,27 +76,24 @@ function completionsText(/** @type {About} */ { machine, verdict }, /** @type {s
     case "halt":
       return lastState === "Z"
         ? SAME_VERDICT
-        : "It halts on a ---. Where only others are filled, the machine has the same verdict; of one that " +
-            "fills that --- nothing is said.";
+        : "It halts on a ---. Completions of only the other --- have the same verdict; nothing is known of " +
+            "completions of that one.";
     case "backward":
-      return "No machine that fills a --- of it halts; its tree may be another.";
+      return "No completion of its --- halts; the tree may differ.";
     default:
-      return "Undecided, it says nothing of them.";
+      return "Nothing is known: the machine is undecided.";
   }
 }
 
-/** What a verdict says of other starts than A on the blank tape. */
+/** A verdict's consequences for other starts than A on the blank tape. */
 function startsText(/** @type {Verdict} */ { kind, numbers: [levels] }) {
   return kind === "backward"
-    ? "From each of its states, at any position of any tape, it halts within " +
+    ? "From every state, at any position of any tape, it halts within " +
         `${formatCount(levels, "step")} or never.`
-    : "The verdict speaks of the start in A on the blank tape alone.";
+    : "The verdict is about the start in A on the blank tape alone.";
 }
 
-/**
- * Where a pair of steps says that a machine is much later: it comes back to a step of the pair, farther out
- * by the shift each time.
- */
+/** The early step equivalent to the late one, by the verdict's pair, and the distance between their heads. */
 function laterStep(/** @type {Verdict} */ { kind, numbers: [first, second, shift], side }) {
   const apart = BigInt(second - first);
   const times = (LATER - BigInt(first)) / apart;
@@ -105,7 +102,7 @@ function laterStep(/** @type {Verdict} */ { kind, numbers: [first, second, shift
   return { early, farther: times * moved };
 }
 
-/** Tells what is known; what takes a run comes when it is done. */
+/** Shows the facts; those that need a run appear later. */
 export function showMachineInfo(/** @type {About} */ about) {
   const { machine, verdict, isConfirmed } = about;
   current = about;
@@ -117,7 +114,7 @@ export function showMachineInfo(/** @type {About} */ about) {
     ["normal", "Normal form", normal === machine ? "It is in normal form." : code(normal)],
     ["mirror", "Mirror image", code(mirror)],
     ["growth", "Cells visited", "…"],
-    ["completions", "Undefined entries", isConfirmed ? "…" : "The checker hasn’t confirmed the verdict."],
+    ["completions", "Undefined entries", isConfirmed ? "…" : "The verdict isn’t confirmed by the checker."],
     ["starts", "Every start", isConfirmed ? startsText(verdict) : "–"],
     ["later", "Step 10¹⁵", isConfirmed ? "…" : "–"],
   ];
@@ -131,7 +128,7 @@ export function showMachineInfo(/** @type {About} */ about) {
   }
 }
 
-/** Asks for the row that says where the machine is later, or what it halts on. */
+/** Requests the row for the late step, or for the halting entry. */
 function requestLaterRow(/** @type {About} */ about) {
   const { machine, cells, verdict } = about;
   const { kind, numbers } = verdict;
@@ -150,7 +147,7 @@ function requestLaterRow(/** @type {About} */ about) {
     byId("fact-completions").textContent = completionsText(about, row.state);
     const isWithout = kind === "translated" && numbers[2] === undefined;
     const place = `state ${row.state}, head at ${formatNumber(BigInt(row.head) + farther)}`;
-    const later = kind === "halt" ? "It halted before." : isWithout ? "The line has no shift." : `${place}.`;
+    const later = kind === "halt" ? "It has halted." : isWithout ? "The line has no shift." : `${place}.`;
     byId("fact-later").textContent = later;
   });
 }
@@ -159,7 +156,7 @@ function requestGrowth(/** @type {About} */ about) {
   const { machine, cells, steps } = about;
   const upto = Math.min(steps, MOST_GROWTH_STEPS);
   if (upto < FEWEST_GROWTH_STEPS) {
-    byId("fact-growth").textContent = "Too few steps to say.";
+    byId("fact-growth").textContent = "Too few steps.";
     return;
   }
   growthClient.request({ type: "growth", machine, cells, upto }, (answer) => {
@@ -167,7 +164,7 @@ function requestGrowth(/** @type {About} */ about) {
       return;
     }
     if (answer.growth === undefined) {
-      byId("fact-growth").textContent = `Not known: ${answer.message}.`;
+      byId("fact-growth").textContent = `Unknown: ${answer.message}.`;
       return;
     }
     const { growth, steps: last, visited } = /** @type {Growth} */ (answer.growth);

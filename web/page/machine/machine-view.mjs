@@ -1,4 +1,4 @@
-/** The view of one machine: its verdict in words, diagram, tape and table, and what stands behind. */
+/** The view of one machine: verdict, diagram, tape, table, evidence and facts. */
 import { entryText, parseMachine, verdictText, stateLetter } from "../../reader/machine.mjs";
 import { Diagram } from "../diagram/diagram.mjs";
 import { Gestures } from "../diagram/gestures.mjs";
@@ -12,23 +12,21 @@ import { clearEvidence, showEvidence, diagramSteps } from "./evidence.mjs";
 import { showMachineInfo } from "./machine-info.mjs";
 
 const NARROW = "(max-width: 900px)";
-// What is shown of the machine before goes where the next one's pictures take longer, and all of it where the
-// first machine of a list takes longer.
+// The previous machine's pictures are cleared after this long, and the view is closed for a slow list.
 const BLANK_MILLISECONDS = 100;
 const CLOSE_MILLISECONDS = 250;
 const ELSEWHERE = "https://bbchallenge.org/";
 /** @type {Record<string, string>} */
 const DOUBTS = {
   bad: "The checker refutes it.",
-  over: "The checker would need larger limits to tell.",
-  unread: "The checker doesn’t read the line.",
+  over: "The checker needs larger limits.",
+  unread: "The checker can’t read the line.",
 };
 
 /**
  * @typedef {import("../../reader/machine.mjs").Verdict} Verdict
  * @typedef {{machine: string, verdict: Verdict, answer: string, plan: Record<string, any>,
- *   isWaiting?: boolean}} About a machine, its verdict at these limits, the checker's answer, and whether it
- *   waits for the second pass
+ *   isWaiting?: boolean}} About `answer`: the checker's; `isWaiting`: for the second pass
  */
 
 export class MachineView {
@@ -37,7 +35,7 @@ export class MachineView {
     this.tape = new Tape((place, closes) => this.diagram.showStep(place, closes));
     this.redecider = new Redecider((about, by) => this.showRedecided(about, by));
     /**
-     * Puts the line of the machine that is open, which was decided again, into its row; gives whether it did.
+     * Replaces the open machine's row after a new decision; returns whether it could.
      * @type {(by: import("../../worker/worker.mjs").Part, plan: Record<string, any>) => boolean}
      */
     this.replaceRow = () => false;
@@ -66,7 +64,7 @@ export class MachineView {
   /**
    * Shows a machine with its verdict.
    * @param {About} about @param {boolean} moves whether a narrow page scrolls to it
-   * @param {import("../input/input-notes.mjs").InputLine} given the line as it was given
+   * @param {import("../input/input-notes.mjs").InputLine} given
    */
   open(about, moves, given) {
     const { machine, verdict } = about;
@@ -99,7 +97,7 @@ export class MachineView {
     }
   }
 
-  /** Shows no machine; a focus in it goes to the rows. */
+  /** Hides the view; its focus moves to the rows. */
   close() {
     const hasFocus = byId("machine").contains(document.activeElement);
     this.about = null;
@@ -109,13 +107,13 @@ export class MachineView {
     hasFocus && byId("rows").focus({ preventScroll: true });
   }
 
-  /** Shows no machine soon, unless one is opened before. */
+  /** Hides the view soon, unless a machine is opened. */
   scheduleClose() {
     clearTimeout(this.closeTimer);
     this.closeTimer = setTimeout(() => this.close(), CLOSE_MILLISECONDS);
   }
 
-  /** Leaves the machine before; nothing of it plays on, and what is asked of it comes too late. */
+  /** Stops playback and drops outstanding replies. */
   leave() {
     this.redecider.stop();
     clearEvidence();
@@ -129,7 +127,7 @@ export class MachineView {
     }, BLANK_MILLISECONDS);
   }
 
-  /** Shows a machine's pictures, its table, and what is known of it. */
+  /** Shows a machine's pictures, table and facts. */
   show(/** @type {About} */ { machine: text, verdict, answer, plan }) {
     const machine = parseMachine(text);
     const cells = Number(plan.cells);
@@ -145,12 +143,13 @@ export class MachineView {
       this.diagram.open({ ...about, last, upto, pair, end }, marks);
       this.tape.open({ ...about, last: upto }, pair?.first ?? 0);
     });
-    showMachineInfo({ ...about, steps, verdict, isConfirmed: answer === "ok" || verdict.kind === "undecided" });
+    const isConfirmed = answer === "ok" || verdict.kind === "undecided";
+    showMachineInfo({ ...about, steps, verdict, isConfirmed });
   }
 
   /**
-   * Shows what larger limits said, and puts it into the row; gives whether it did.
-   * @param {About} about @param {import("../../worker/worker.mjs").Part} by the line
+   * Shows a new decision, and replaces the row; returns whether it could.
+   * @param {About} about @param {import("../../worker/worker.mjs").Part} by
    */
   showRedecided(about, by) {
     this.about = about;
@@ -161,7 +160,7 @@ export class MachineView {
     return isIn;
   }
 
-  /** Puts the machine's link into the address, and where it can be pasted from. */
+  /** Sets the address to the machine's link, and copies it. */
   copyLink() {
     if (this.about !== null) {
       history.replaceState(null, "", `#${linkOf(this.about.machine, this.about.plan)}`);
@@ -170,16 +169,16 @@ export class MachineView {
   }
 }
 
-/** What is said before a verdict that the checker doesn't confirm; nothing of others. */
+/** A warning before an unconfirmed verdict; empty for others. */
 function doubtText(/** @type {About} */ { verdict, answer, isWaiting }) {
   if (isWaiting) {
-    return "The second pass, with the limits of the list, hasn’t come to it yet. By the first one: ";
+    return "Waiting for the second pass, with the list’s limits. First pass: ";
   }
   const isSure = answer === "ok" || verdict.kind === "undecided" || verdict.kind === "refused";
-  return isSure ? "" : `${DOUBTS[answer] ?? DOUBTS.unread} The line says: `;
+  return isSure ? "" : `${DOUBTS[answer] ?? DOUBTS.unread} The line claims: `;
 }
 
-/** A machine's table: a row for each state, a column for each symbol. */
+/** A table with a row for each state and a column for each symbol. */
 function createTable(/** @type {import("../../reader/machine.mjs").Machine} */ machine) {
   const column = (/** @type {number} */ symbol) => create("th", { scope: "col" }, String(symbol));
   const symbols = Array.from({ length: machine.symbols }, (_, symbol) => column(symbol));

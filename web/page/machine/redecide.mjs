@@ -1,4 +1,4 @@
-/** Deciding one machine again with larger limits, beside what the list says of it. */
+/** Decides one machine again with larger limits. */
 import { parseVerdictLine, formatNumber } from "../../reader/machine.mjs";
 import { byId, setInactive, showText } from "../dom.mjs";
 import { enlargePlan } from "../input/fields.mjs";
@@ -12,10 +12,7 @@ import { WorkerClient } from "../worker-client.mjs";
 const LABEL = "Decide again with larger limits";
 
 export class Redecider {
-  /**
-   * @param {(about: About, by: Part) => boolean} done shows the new verdict, and puts its line into the list,
-   *   if it can
-   */
+  /** @param {(about: About, by: Part) => boolean} done shows the verdict; returns whether its row changed */
   constructor(done) {
     this.onDecided = done;
     this.client = new WorkerClient();
@@ -25,7 +22,7 @@ export class Redecider {
     byId("again").addEventListener("click", () => (this.isRunning ? this.stop() : this.start()));
   }
 
-  /** Begins with a machine as the list has it. */
+  /** Starts with a machine of the list. */
   reset(/** @type {About} */ about) {
     this.stop();
     this.about = about;
@@ -52,7 +49,7 @@ export class Redecider {
       const { verdict } = parseVerdictLine(answer.line);
       this.about = { machine: about.machine, verdict, answer: answer.answer, plan };
       const isIn = this.onDecided(this.about, answer.part);
-      const where = isIn ? "Its row has it, marked." : "The list stays.";
+      const where = isIn ? "Its row is updated." : "The list is unchanged.";
       showText("again-text", `With ${limits}: ${verdict.text}. ${where}`);
       setInactive("again", "hidden", verdict.kind !== "undecided", "copy-text");
     });
@@ -62,7 +59,7 @@ export class Redecider {
     if (this.isRunning) {
       this.client.cancel();
       this.setIdle();
-      showText("again-text", "Stopped. What the list has stays.");
+      showText("again-text", "Stopped. The list is unchanged.");
     }
   }
 

@@ -1,5 +1,5 @@
 /**
- * One row of the tape: its cells, the entry of the table that is used next, and words.
+ * A row of the tape: its cells, the next entry, and its description.
  *
  * @typedef {import("../../worker/trace.mjs").Row} Row
  */
@@ -8,7 +8,7 @@ import { create } from "../dom.mjs";
 
 const symbolOf = (/** @type {Row} */ { cells, head, low }) => cells[head - low] ?? 0;
 
-/** The entry of a machine's table that is used after a row; null where there is none. */
+/** The next entry; null at a halt. */
 export function nextEntry(/** @type {Row} */ row, /** @type {string} */ text) {
   if (row.state === "Z") {
     return null;
@@ -17,7 +17,6 @@ export function nextEntry(/** @type {Row} */ row, /** @type {string} */ text) {
   return machine.rules[(row.state.charCodeAt(0) - 65) * machine.symbols + symbolOf(row)].entry;
 }
 
-/** Marks the entry in the table that is shown. */
 export function highlightEntry(/** @type {Row} */ row) {
   const used = `${row.state}${symbolOf(row)}`;
   document.querySelectorAll("#machine-table td[data-entry]").forEach((cell) => {
@@ -27,7 +26,6 @@ export function highlightEntry(/** @type {Row} */ row) {
   });
 }
 
-/** The step, the state, and what comes next, in words. */
 export function stepText(/** @type {Row} */ row, /** @type {string} */ machine) {
   const head = `Step ${formatNumber(row.step)}: `;
   if (row.state === "Z") {
@@ -43,7 +41,7 @@ export function stepText(/** @type {Row} */ row, /** @type {string} */ machine) 
   return `${now}; ${entryText(entry)}: it writes ${write}, moves ${move > 0 ? "right" : "left"} and ${goes}.`;
 }
 
-/** A cell of the tape with its symbol's colour; the head's has the state above it. */
+/** A cell in its symbol's colour, with the state above the head's. */
 export function createCell(/** @type {Row} */ row, /** @type {number} */ at) {
   const isSeen = at >= row.low && at < row.low + row.cells.length;
   const symbol = isSeen ? row.cells[at - row.low] : 0;

@@ -1,4 +1,4 @@
-/** The tape at one step: its cells about the head, the entry that is used next, and moving on by one step. */
+/** The tape at one step: the cells around the head, the next entry, and stepping. */
 import { formatNumber } from "../../reader/machine.mjs";
 import { onClick, byId, dispatchKey, setInactive, announce } from "../dom.mjs";
 import { parseNumber } from "../input/fields.mjs";
@@ -8,17 +8,17 @@ import { createCell, nextEntry, highlightEntry, stepText } from "./tape-row.mjs"
 /**
  * @typedef {import("../../worker/trace.mjs").Row} Row
  * @typedef {import("../diagram/geometry.mjs").Place} Place
- * @typedef {{machine: string, cells: number, last: number}} About `last` is the last step that may be shown
+ * @typedef {{machine: string, cells: number, last: number}} About `last`: the last step
  */
 
-// Rows are asked for in stretches: as many as have about so many cells.
+// The cells of the rows in one request.
 const STRETCH_CELLS = 2_000_000;
 const [FEWEST, MOST] = [16, 512];
 const CELL_PIXELS = 26;
 const PACE_MILLISECONDS = 250;
 
 export class Tape {
-  /** @param {(place: Place, closes: boolean) => void} went follows a step's change */
+  /** @param {(place: Place, closes: boolean) => void} went called after each step */
   constructor(went) {
     this.onStep = went;
     this.client = new WorkerClient();
@@ -28,7 +28,7 @@ export class Tape {
     /** @type {Row[]} */
     this.rows = [];
     this.closes = false;
-    // How often a step was gone to: an answer to what was asked for before is too late.
+    // Counts steps, so that outdated replies are dropped.
     this.requests = 0;
     this.timer = 0;
     this.reducedMotion = matchMedia("(prefers-reduced-motion: reduce)");
@@ -59,7 +59,7 @@ export class Tape {
     this.goTo(step);
   }
 
-  /** Leaves a machine: nothing of it plays on. */
+  /** Leaves a machine and stops playback. */
   close() {
     this.pause();
     this.requests += 1;
@@ -67,7 +67,7 @@ export class Tape {
     byId("tape-text").textContent = "…";
   }
 
-  /** Shows nothing, where no row of the next machine has come. */
+  /** Empties the tape, unless a row has come. */
   clear() {
     if (this.row === undefined) {
       byId("tape-cells").replaceChildren();
@@ -93,13 +93,12 @@ export class Tape {
     announce(words);
   }
 
-  /** Takes back that what is in the field was refused. */
   clearRefusal() {
     byId("tape-step").removeAttribute("aria-invalid");
     byId("tape-refused").textContent = "";
   }
 
-  /** Goes to a step; where the run ends before, to its last one. */
+  /** Goes to a step, or to the last one. */
   goTo(/** @type {number} */ step, closes = false) {
     if (this.about === null) {
       return;
@@ -115,7 +114,7 @@ export class Tape {
     this.requestRows(from);
   }
 
-  /** Asks for the rows about a step: those that follow in the direction of the way. */
+  /** Requests rows around a step, mostly in the direction of travel. */
   requestRows(/** @type {number} */ from) {
     const { machine, cells } = /** @type {About} */ (this.about);
     const wide = this.rows[0]?.cells.length ?? this.step;
@@ -125,7 +124,6 @@ export class Tape {
     const upto = begin + many;
     const { requests } = this;
     this.client.request({ type: "trace", machine, cells, from: begin, every: 1, upto }, (answer) => {
-      // Where somebody went elsewhere since, the answer is too late.
       if (requests === this.requests) {
         answer.error ? this.showFailure(answer.message) : this.setRows(answer.rows, answer.last, upto);
       }
@@ -137,13 +135,10 @@ export class Tape {
     byId("tape-text").textContent = `The tape can’t be shown: ${message}.`;
   }
 
-  /**
-   * Takes rows; where they end before the last step that was asked for, the run has no more.
-   * @param {Row[]} rows @param {number} last the step of the last one, or of the run @param {number} upto
-   */
+  /** @param {Row[]} rows @param {number} last step of the rows or the run @param {number} upto */
   setRows(rows, last, upto) {
     this.rows = rows;
-    // Of very wide rows only some come.
+    // Very wide rows are sampled.
     if (last < upto && (rows.length === 0 || last - rows[0].step === rows.length - 1)) {
       this.limitTo(last);
     }
@@ -158,7 +153,7 @@ export class Tape {
     this.showStep();
   }
 
-  /** Knows that the run goes no farther than a step. */
+  /** Ends the run at a step. */
   limitTo(/** @type {number} */ step) {
     const about = /** @type {About} */ (this.about);
     this.about = { ...about, last: Math.min(about.last, step) };
@@ -175,7 +170,7 @@ export class Tape {
     this.closes = false;
   }
 
-  /** Puts the step that is shown into the field, but while somebody writes there. */
+  /** Shows the step in the field, unless it has the focus. */
   updateField(/** @type {number} */ step) {
     const field = /** @type {HTMLInputElement} */ (byId("tape-step"));
     if (document.activeElement !== field) {
@@ -199,7 +194,7 @@ export class Tape {
     this.labelPlay();
   }
 
-  /** Plays on by a step, once the row before has come. */
+  /** Plays the next step, once the current row has come. */
   tick() {
     if (this.hasNext) {
       this.goTo(this.step + 1);
@@ -220,7 +215,7 @@ export class Tape {
     byId("tape-play").textContent = words;
   }
 
-  /** Does what a key asks, but for those of a field and of a button that has the focus. */
+  /** Handles keys, except in the field, and Space on a button. */
   onKey(/** @type {KeyboardEvent} */ event) {
     const keeps = event.key === " " ? "input, button" : "input";
     const far = event.shiftKey ? 10 : 1;
@@ -249,7 +244,7 @@ export class Tape {
     const words = stepText(row, about.machine);
     byId("tape-text").textContent = words;
     this.box.setAttribute("aria-label", `Tape. ${words}`);
-    // The focus goes from a button that does nothing here to the tape, whose keys do the same.
+    // The focus moves from a disabled button to the tape, which has the same keys.
     setInactive("tape-first", "disabled", row.step === 0, "tape");
     setInactive("tape-back", "disabled", row.step === 0, "tape");
     setInactive("tape-on", "disabled", !this.hasNext, "tape");
