@@ -74,8 +74,8 @@ export class Engine {
 
   /**
    * One line for each step `from`, `from + every`, .. up to `steps`: step, state, head, lowest visited
-   * position, and the cells from there. `clean` is false if the limit of cells cut the trace or the text is not
-   * a machine. Throws as `decide` does.
+   * position, and the cells from there. `clean` is false if the limit of cells cut the trace or the text is
+   * not a machine. Throws as `decide` does.
    * @param {string} machine @param {TraceOptions} options
    */
   trace(machine, options) {

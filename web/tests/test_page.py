@@ -50,7 +50,7 @@ def test_machines_out_of_lines(tab: Page) -> None:
     """Machines are taken out of their lines, as the recipe does, and lines without one are counted."""
     tab.answer_file(b"# a list\n\n  1RB1LB_1LA1RZ # two states\n17, 1RA1RA,x\r\n1rB\nno machine\n")
     assert tab.save() == tab.program_output("decide", {}, b"1RB1LB_1LA1RZ\n1RA1RA\n1rB\nno machine\n")
-    assert "2 decided, 0 undecided, 2 refused, 2 left out" in tab.text("status")
+    assert "2 decided, 0 undecided, 2 refused, 2 skipped" in tab.text("status")
 
 
 @pytest.mark.parametrize("example", LISTS, ids=[example.name for example in LISTS])

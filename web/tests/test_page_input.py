@@ -173,7 +173,7 @@ def test_changed_file_is_named(tab: Page) -> None:
     time.sleep(1.1)
     path.write_bytes(b"1RB1LB_1LA1RZ\n1RA1RA\n")
     tab.run()
-    assert soon(lambda: "could not be read" in tab.text("error"))
+    assert soon(lambda: "can\u2019t be read" in tab.text("error"))
     tab.js("document.getElementById('file').click = () => {}")
     tab.click("file-choose")
     assert tab.js("return document.getElementById('file').files.length") == 0

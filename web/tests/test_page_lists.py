@@ -23,7 +23,7 @@ DISGUISES = [
 ]  # fmt: skip
 # What is put into a line, or in the place of a character.
 MORE = (*" \t_-.,;:|#*~`'\"[](){}<>!?\\/01LRABZHabr=\u200b\xa0\x1b\u00e9\u2013", "---", "1RB")
-LEFT_OUT = "3 left out (empty lines, comments, code fences, rules and headers of tables)"
+SKIPPED = "3 skipped (empty lines, comments, code fences, rules and headers of tables)"
 
 
 def read_by_page(asked: List[Any]) -> List[Any]:
@@ -160,7 +160,7 @@ def test_form_of_a_list_is_found(tab: Page, text: str, form: str, rows: List[str
     tab.open_list(text)
     assert tab.text("status").endswith("Read as %s." % form)
     assert [row[1].partition(" \u2190")[0] for row in tab.rows()] == rows
-    assert (LEFT_OUT in tab.text("status")) == (form == "a table")
+    assert (SKIPPED in tab.text("status")) == (form == "a table")
 
 
 def test_form_of_a_list_is_chosen(tab: Page) -> None:
@@ -187,7 +187,7 @@ def test_packed_lists(tab: Page, forms: Forms) -> None:
         tab.answer_file(content)
         assert words in tab.text("error")
     tab.answer_file("1RA1RA \u00e9\n1RA1RA \u00fc\n".encode("latin-1"))
-    assert tab.text("status").count("no UTF-8") == 1
+    assert tab.text("status").count("not UTF-8") == 1
     tab.answer_file("1RA1RA \u00e9\n".encode())
     assert "UTF-8" not in tab.text("status")
     tab.open_list("1RA1RA\n")
@@ -226,10 +226,10 @@ def test_lines_that_are_no_verdict_lines(tab: Page) -> None:
 
 
 def test_each_line_is_counted_once(tab: Page) -> None:
-    """As decided, undecided, refused or left out; and the kinds have the same."""
+    """As decided, undecided, refused or skipped; and the kinds have the same."""
     tab.plan({"steps": 100}, "auto", True)
     tab.open_list("1RB1LB_1LA1RZ\n1RA1RA\nno\n# c\n\n%s\n" % CHAMPION)
-    assert "2 decided, 1 undecided, 1 refused, 2 left out" in tab.text("status")
+    assert "2 decided, 1 undecided, 1 refused, 2 skipped" in tab.text("status")
     script = "return [...document.querySelectorAll('#kinds button')].map((one) => one.textContent)"
     kinds = {text.split()[0]: int(text.split()[1]) for text in tab.js(script)}
     assert (sum(kinds.values()), kinds["refused"]) == (4, 1)

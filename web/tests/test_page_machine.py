@@ -85,9 +85,9 @@ def test_growth_at_the_default_limits(tab: Page, machine: str, words: str) -> No
     "machine, completions, starts",
     [
         (HALT, "no undefined entry", ON_BLANK),
-        (LONG, "However each --- is filled", ON_BLANK),
-        ("1RB---_1LA1RA", "Where only others are filled", ON_BLANK),
-        (TREE, "No machine that fills a --- of it halts", "it halts within 11 steps"),
+        (LONG, "Any completion of its --- has the same", ON_BLANK),
+        ("1RB---_1LA1RA", "Completions of only the other ---", ON_BLANK),
+        (TREE, "No completion of its --- halts", "it halts within 11 steps"),
     ],
 )
 def test_what_a_verdict_says_of_others(tab: Page, machine: str, completions: str, starts: str) -> None:

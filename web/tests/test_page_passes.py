@@ -28,10 +28,10 @@ def test_first_pass_comes_before_long_machines(tab: Page) -> None:
     tab.submit_file(as_lines([LONG] * 32 + [HALT] * 6_368))
     tab.until(lambda: percent(tab) == 99)
     assert "6,368 decided, 0 undecided" in tab.text("status")
-    assert "32 left for the second pass" in tab.text("status")
+    assert "32 waiting for the second pass" in tab.text("status")
     assert tab.rows()[0][2] == "undecided steps first pass"
     tab.click("stop")
-    assert "leave out 32 lines of the first pass" in tab.text("status")
+    assert "omit 32 lines of the first pass" in tab.text("status")
     assert tab.save() == as_lines([HALT + " halt 6 4"] * 6_368)
 
 
@@ -106,7 +106,7 @@ def test_machine_decided_again_comes_into_its_row(tab: Page) -> None:
     tab.press("rows", "n")
     tab.click("again")
     tab.until(lambda: HALTS_LATE in tab.text("machine-says"))
-    assert "halt 107 13. Its row has it, marked" in tab.text("again-text")
+    assert "halt 107 13. Its row is updated" in tab.text("again-text")
     assert tab.rows()[1][2:] == ["halt 107 13 again, 500 steps", "ok"]
     status = tab.text("status")
     assert "2 decided, 0 undecided" in status and "1 decided again with larger limits" in status

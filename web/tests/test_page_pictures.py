@@ -153,7 +153,7 @@ def test_whole_run_of_the_champion(tab: Page, sampled: Any, rng: random.Random) 
     tab.open("#machine=%s&steps=50000000" % CHAMPION)
     view, shown = tab.wait_until_drawn(), tab.text("diagram-text")
     every = int(view["every"])
-    assert "mean colour of %d cells" % view["across"] in shown and "all of 12,289 cells visited" in shown
+    assert "mean colour of %d cells" % view["across"] in shown and "all of 12,289 visited cells" in shown
     last = int(re.sub(r"\D", "", shown.split(" to ")[1].split(" every")[0]))
     assert last <= 47_176_870 < last + every and view["top"] == 0
     # The last row has a mark.
@@ -176,7 +176,7 @@ def test_resized_window_shows_the_whole(tab: Page) -> None:
     tab.wait_until_drawn()
     for width in (390, 1280):
         resize(width)
-        assert "all of 14 cells visited" in tab.text("diagram-text")
+        assert "all of 14 visited cells" in tab.text("diagram-text")
     tab.press("diagram", "+")
     chosen = tab.wait_until_drawn()
     assert resize(1000)["high"] == chosen["high"]
