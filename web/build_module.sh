@@ -3,10 +3,9 @@
 #
 #     web/build_module.sh
 #
-# It proves the crate of the library's calls where that isn't done, which takes about two minutes after `./bb`.
-# The kit's own clang compiles the intermediate code of the library a second time, for WebAssembly, after
-# web/narrow.py has narrowed its pointers to 32 bits; the kit's files are only read, and a folder of links
-# stands for it meanwhile. Standard error tells what it does.
+# It proves the library's crate if needed, in about two minutes after `./bb`. web/narrow.py narrows the pointers
+# of the library's LLVM IR to 32 bits, and the kit's clang compiles it for WebAssembly. The kit stays unchanged:
+# a folder of links replaces it during the build. Progress goes to standard error.
 set -eu
 [ $# -eq 0 ] || { echo "build_module.sh: it takes no arguments" >&2; exit 2; }
 web=$(cd "$(dirname "$0")" && pwd)
@@ -26,8 +25,8 @@ unexpected() {
     exit 1
 }
 
-# Links to all of the kit, under $room/kit; its `bin` is a copy, since `rt` finds the kit by where it stands
-# itself, and its clang a script that keeps the intermediate code.
+# Links the kit's files under $room/kit. `bin` is a copy, since `rt` finds the kit by its own path, and clang is
+# a script that keeps the LLVM IR.
 stand_in() {
     command -v rt >/dev/null || unexpected 'there is no command rt'
     kit=$(dirname "$(rt doc)")

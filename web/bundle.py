@@ -1,13 +1,12 @@
 #!/usr/bin/env python3
-"""Bundles the page, its worker, the examples and the engine into one file.
+"""Bundle the page, its worker, the examples and the engine into one file.
 
     python3 web/bundle.py
 
-It needs `web/out/bb.wasm`, and makes `web/out/bb.html`. A page that is opened from a disk may load no other
-file. So esbuild (Debian's `esbuild`) makes one script of the page's modules and one of the worker's, and the
-style smaller; the engine stands beside them in base64. A content security policy names the page's script and
-style by their hashes: the browser runs no other script, and connects to nothing. The same sources give the
-same bytes.
+It reads `web/out/bb.wasm` and writes `web/out/bb.html`. A page opened from a disk can't load other files, so
+esbuild (Debian's `esbuild`) bundles scripts and style, and the engine is embedded in base64. A content
+security policy names script and style by their hashes: the browser runs no other script, and connects to
+nothing. The build is reproducible.
 """
 
 import base64
@@ -26,16 +25,16 @@ MOST_EXAMPLE_CHARACTERS = 20_000
 
 
 def bundle(path: str, *options: str) -> str:
-    """A script or style with all that it imports, as short as esbuild makes it."""
+    """Return a minified script or style with its imports."""
     command = ["esbuild", str(WEB / path), "--bundle", "--minify", "--charset=utf8", "--target=es2022"]
     text = subprocess.run([*command, *options], check=True, stdout=subprocess.PIPE, text=True).stdout.strip()
     if "</script" in text or "</style" in text or "<!--" in text:
-        sys.exit("bundle: %s can't stand in a page" % path)
+        sys.exit("bundle: %s can't be embedded in a page" % path)
     return text
 
 
 def plan_of(words: List[str]) -> Dict[str, Any]:
-    """Limits and switches by name, for the words of a command."""
+    """Return limits and switches by name from a command's options."""
     plan: Dict[str, Any] = {word[5:]: False for word in words if word.startswith("--no-")}
     for word, value in zip(words, words[1:]):
         if word.startswith("--") and not word.startswith("--no-"):
@@ -44,7 +43,7 @@ def plan_of(words: List[str]) -> Dict[str, Any]:
 
 
 def examples() -> Iterator[Dict[str, Any]]:
-    """The examples that decide or check lists of their own."""
+    """Yield the examples with lists of their own."""
     for path in sorted(EXAMPLES.glob("*/lines.txt")):
         call, *words = shlex.split((path.parent / "command").read_text(encoding="utf-8"))
         lines = path.read_text(encoding="utf-8")
@@ -54,12 +53,12 @@ def examples() -> Iterator[Dict[str, Any]]:
 
 
 def source_of(text: str) -> str:
-    """A script or style as a policy names it: by its hash."""
+    """Return the policy's source expression for a script or style: its hash."""
     return "'sha256-%s'" % base64.b64encode(hashlib.sha256(text.encode()).digest()).decode()
 
 
 def policy(script: str, style: str) -> str:
-    """What the page may do: run its script, also in workers, and compile the engine; and connect to nothing."""
+    """Return the content security policy: its own script, workers and engine, and no connections."""
     allowed = {
         "default-src": "'none'",
         "script-src": source_of(script) + " 'wasm-unsafe-eval'",
@@ -73,7 +72,7 @@ def policy(script: str, style: str) -> str:
 
 
 def page_of(module: bytes) -> str:
-    """The page that has the engine's module inside."""
+    """Return the page with the engine's module embedded."""
     style = bundle("page/page.css")
     script = bundle("page/page.mjs", "--format=esm")
     worker = bundle("worker/worker.mjs", "--format=iife")

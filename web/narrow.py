@@ -1,14 +1,12 @@
 #!/usr/bin/env python3
-"""Narrows the pointers of LLVM's intermediate code, given as text, from 64 bits to 32.
+"""Narrow the pointers of LLVM IR, as text, from 64 bits to 32.
 
     python3 web/narrow.py WIDE NARROW
 
-An engine of WebAssembly guards each access to a 64-bit memory by a comparison, but puts pages that can't be
-touched behind a 32-bit one; and every browser with vectors has 32-bit memory. So the code is compiled for
-that. In memory each pointer keeps the 8 bytes that the code's layout has for it: it is stored as a number of
-64 bits whose upper half is 0, and of what stands there the lower half is loaded. All else stays where it was.
-Addresses are the same where none is above 4 GiB, where a 32-bit memory ends. Code with pointers in a form
-that isn't known here is refused: the status is then 1, with a line that says what it was.
+WebAssembly engines check bounds in software for 64-bit memory, but use guard pages for 32-bit memory, which
+every browser with SIMD has. In memory each pointer keeps its 8 bytes: it is stored as a 64-bit number with a
+zero upper half, and its lower half is loaded. The layout is unchanged. Addresses are equal below 4 GiB, the
+end of 32-bit memory. Unknown forms of pointers are refused with exit status 1 and a message.
 """
 
 import re
@@ -16,12 +14,12 @@ import sys
 from typing import Callable, Iterator, List, Match, NoReturn, Pattern, Tuple
 
 TARGET = 'target triple = "wasm32-unknown-unknown"\n'
-# Of the processor for which the code was made, which this target lacks.
+# Attributes of the original processor.
 PROCESSOR = re.compile(r' "(?:probe-stack|stack-probe-size|target-cpu)"="[^"]*"')
-# Texts, and names in quotes; both may have anything in them.
+# Strings and quoted names, with any content.
 QUOTED = re.compile(r'c?"[^"]*"')
 POINTER = re.compile(r"\bptr\b|ptrto|toptr")
-# Two numbers or pointers, which a function gives back together.
+# A pair of numbers or pointers, returned by a function.
 PAIR = re.compile(r"\{ (ptr|i\d+), (ptr|i\d+) \}")
 
 LOCAL = r"%[\w.]+"
@@ -32,7 +30,7 @@ WORDS = r"(?: (?:noundef|zeroext|immarg|readonly|writeonly|captures\(none\)))*"
 ARGUMENT = r"(?:ptr|i\d+)%s(?: (?:%s|%s|-?\d+|true|false|null))?" % (WORDS, LOCAL, NAME)
 ARGUMENTS = r"\((?:%s(?:, %s)*)?\)" % (ARGUMENT, ARGUMENT)
 RESULT = r"(?:noundef )?(?:zeroext )?(?:void|ptr|%s)" % NUMBER
-# What is the same with pointers of 32 bits: offsets count bytes, and pairs have no pointer any more.
+# Lines that stay the same: offsets count bytes, and pairs have no pointers any more.
 SAME = [
     r"  %s = getelementptr (?:inbounds nuw )?i8, ptr %s, i64 (?:%s|-?\d+)" % (LOCAL, LOCAL, LOCAL),
     r"  %s = load (?:ptr|%s), ptr %s%s" % (LOCAL, NUMBER, LOCAL, REST),
@@ -50,71 +48,71 @@ def refuse(line: str) -> NoReturn:
     sys.exit("narrow: %s isn't known here" % line.strip()[:200])
 
 
-def without_pointers(line: str) -> str:
-    """A line whose pairs have numbers of 64 bits in place of pointers, as wide as those are in memory."""
+def replace_pairs(line: str) -> str:
+    """Replace pointers in pairs by 64-bit numbers, their size in memory."""
     return PAIR.sub(lambda pair: pair[0].replace("ptr", "i64"), line)
 
 
-def stored(found: Match[str], at: str) -> List[str]:
-    """A pointer is stored as a number of 64 bits."""
+def narrow_store(found: Match[str], at: str) -> List[str]:
+    """Store a pointer as a 64-bit number."""
     value, place, rest = found.groups()
     return ["  %s = ptrtoint ptr %s to i64" % (at, value), "  store i64 %s, ptr %s%s" % (at, place, rest)]
 
 
-def taken(found: Match[str], at: str) -> List[str]:
-    """What is taken of a pair; a pointer stands in it as a number."""
+def narrow_extract(found: Match[str], at: str) -> List[str]:
+    """Extract an element of a pair; pointers are numbers there."""
     name, pair, value, which = found.groups()
     kinds = PAIR.fullmatch(pair)
     is_pointer = kinds is not None and kinds[int(which) + 1] == "ptr"
     line = "  %s = extractvalue %s %s, %s" % (
         at if is_pointer else name,
-        without_pointers(pair),
+        replace_pairs(pair),
         value,
         which,
     )
     return [line, "  %s = inttoptr i64 %s to ptr" % (name, at)] if is_pointer else [line]
 
 
-def with_room(found: Match[str], at: str) -> List[str]:
-    """A pointer among a function's own has room for 8 bytes."""
+def narrow_alloca(found: Match[str], at: str) -> List[str]:
+    """Allocate 8 bytes for a local pointer."""
     return ["  %s = alloca i64, align 8" % found[1]]
 
 
-def numbered(found: Match[str], at: str) -> List[str]:
-    """A pointer's address as a number."""
+def narrow_address(found: Match[str], at: str) -> List[str]:
+    """Convert a pointer to its address."""
     return ["  %s = ptrtoint ptr %s to i64" % found.groups()]
 
 
-# What is written otherwise, and how; the second word names a number that stands nowhere else.
+# Rewritten lines; the second argument is a fresh name.
 CHANGED: List[Tuple[Pattern[str], Callable[[Match[str], str], List[str]]]] = [
-    (re.compile(r"  store ptr (%s|%s|null), ptr (%s)%s" % (LOCAL, NAME, LOCAL, REST)), stored),
-    (re.compile(r"  (%s) = extractvalue (\{ \w+, \w+ \}) (%s), ([01])" % (LOCAL, LOCAL)), taken),
-    (re.compile(r"  (%s) = alloca ptr, align 8" % LOCAL), with_room),
-    (re.compile(r"  (%s) = ptrtoaddr ptr (%s) to i64" % (LOCAL, LOCAL)), numbered),
+    (re.compile(r"  store ptr (%s|%s|null), ptr (%s)%s" % (LOCAL, NAME, LOCAL, REST)), narrow_store),
+    (re.compile(r"  (%s) = extractvalue (\{ \w+, \w+ \}) (%s), ([01])" % (LOCAL, LOCAL)), narrow_extract),
+    (re.compile(r"  (%s) = alloca ptr, align 8" % LOCAL), narrow_alloca),
+    (re.compile(r"  (%s) = ptrtoaddr ptr (%s) to i64" % (LOCAL, LOCAL)), narrow_address),
 ]
 
 
-def narrowed(line: str, at: str) -> List[str]:
-    """A line of code, or those that do the same with pointers of 32 bits."""
+def narrow_line(line: str, at: str) -> List[str]:
+    """Return the lines that do the same with 32-bit pointers."""
     if not POINTER.search(QUOTED.sub('""', line)):
         return [line]
-    for form, written in CHANGED:
+    for form, rewrite in CHANGED:
         found = form.fullmatch(line)
         if found:
-            return written(found, at)
-    same = without_pointers(line)
+            return rewrite(found, at)
+    same = replace_pairs(line)
     if not KNOWN.fullmatch(same):
         refuse(line)
     return [same]
 
 
 def narrow(lines: Iterator[str]) -> Iterator[str]:
-    """The code with pointers of 32 bits, line by line."""
+    """Yield the code with 32-bit pointers."""
     for count, line in enumerate(lines):
         if line.startswith("target triple"):
             yield TARGET
         elif not line.startswith("target datalayout"):
-            for one in narrowed(PROCESSOR.sub("", line.rstrip("\n")), "%%narrow.%d" % count):
+            for one in narrow_line(PROCESSOR.sub("", line.rstrip("\n")), "%%narrow.%d" % count):
                 yield one + "\n"
 
 

@@ -1,11 +1,11 @@
 #!/usr/bin/env python3
-"""Makes the npm package of the engine, with its types, and prints where it is.
+"""Build the npm package of the engine, with its types, and print its path.
 
     python3 web/package.py [--out FOLDER]
 
-It needs `web/out/bb.wasm`, npm and tsc (Debian's `npm` and `node-typescript`), and no network. The types are
-those of the modules' comments. The version names the commit, with `.changed` and a digest behind it where
-files differ from the commit. The same commit gives the same bytes.
+It needs `web/out/bb.wasm`, npm and tsc (Debian's `npm` and `node-typescript`), and no network. The types come
+from the modules' comments. The version names the commit; `.changed` and a digest follow if files differ from
+it. The build is reproducible.
 """
 
 import argparse
@@ -26,7 +26,7 @@ TYPES += "--module es2022 --moduleResolution node".split()
 
 
 def fill(folder: pathlib.Path) -> None:
-    """Puts all files of the package into a folder."""
+    """Write the package's files into a folder."""
     shutil.copytree(WEB / "lib", folder / "lib", ignore=shutil.ignore_patterns("*.md"))
     output_of("tsc", *TYPES, "--outDir", folder / "lib", *(WEB / "lib").glob("*.mjs"))
     shutil.copy(WEB / "lib" / "README.md", folder)

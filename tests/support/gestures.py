@@ -1,16 +1,16 @@
-"""What a person does in the page, as the browser hears it of mouse, fingers and keys."""
+"""Input events by mouse, fingers and keys."""
 
 from typing import Any, Dict, List, Sequence, Tuple
 
 from .browser import Page
 
 Point = Tuple[float, float]
-# A key as the browser hears it: its name and number.
+# Key codes by name.
 KEY_NUMBERS = {"Tab": 9, "Enter": 13}
 SHIFT = 8
-# A gesture is made in so many moves.
+# The moves of a gesture.
 MOVES = 12
-# Where the canvas begins in the window, inside its border.
+# The canvas's corner in the window, inside its border.
 BOX = """
 const canvas = document.getElementById("diagram");
 const { x, y } = canvas.getBoundingClientRect();
@@ -19,26 +19,26 @@ return [x + canvas.clientLeft, y + canvas.clientTop];
 
 
 class Keys:
-    """Keys as the driver of the browser writes them."""
+    """Keys as WebDriver encodes them."""
 
     ENTER, SPACE, END, HOME = "\ue007", "\ue00d", "\ue010", "\ue011"
     ARROW_LEFT, ARROW_UP, ARROW_RIGHT, ARROW_DOWN = "\ue012", "\ue013", "\ue014", "\ue015"
 
 
-def mouse(page: Page, kind: str, place: Point, **words: Any) -> None:
-    """Something that the mouse does at a place of the window."""
+def send_mouse(page: Page, kind: str, place: Point, **words: Any) -> None:
+    """Send a mouse event at a place of the window."""
     x, y = place
     page.command("Input.dispatchMouseEvent", type=kind, x=x, y=y, **words)
 
 
-def touch(page: Page, kind: str, places: Sequence[Point]) -> None:
-    """Something that fingers do which are at these places of the window."""
+def send_touch(page: Page, kind: str, places: Sequence[Point]) -> None:
+    """Send a touch event of fingers at places of the window."""
     points = [{"x": x, "y": y, "id": number} for number, (x, y) in enumerate(places)]
     page.command("Input.dispatchTouchEvent", type=kind, touchPoints=points)
 
 
-def key(page: Page, name: str, shift: bool = False) -> None:
-    """Presses a key, wherever the focus is."""
+def press_key(page: Page, name: str, shift: bool = False) -> None:
+    """Press a key in the focused element."""
     words: Dict[str, Any] = {"key": name, "code": name, "windowsVirtualKeyCode": KEY_NUMBERS[name]}
     words["modifiers"] = SHIFT if shift else 0
     if name == "Enter":
@@ -48,55 +48,55 @@ def key(page: Page, name: str, shift: bool = False) -> None:
     page.command("Input.dispatchKeyEvent", type="keyUp", **words)
 
 
-def write(page: Page, text: str) -> None:
-    """Types a text, wherever the focus is."""
+def type_text(page: Page, text: str) -> None:
+    """Type a text into the focused element."""
     page.command("Input.insertText", text=text)
 
 
-def way(begin: Point, end: Point) -> List[Point]:
-    """The places between two, the last one with them."""
+def points_between(begin: Point, end: Point) -> List[Point]:
+    """Return the places between two, with the last one."""
     (x, y), (to_x, to_y) = begin, end
     shares = [k / MOVES for k in range(1, MOVES + 1)]
     return [(x + share * (to_x - x), y + share * (to_y - y)) for share in shares]
 
 
-def in_window(page: Page, right: float, down: float) -> Point:
-    """Where a place of the canvas is in the window."""
+def window_point(page: Page, right: float, down: float) -> Point:
+    """Return a place of the canvas in the window."""
     x, y = page.js(BOX)
     return (x + right, y + down)
 
 
 def drag(page: Page, begin: Point, end: Point) -> None:
-    """Drags by the mouse from one place of the window to another."""
+    """Drag the mouse from one place of the window to another."""
     button: Dict[str, Any] = {"button": "left", "buttons": 1, "clickCount": 1}
-    mouse(page, "mouseMoved", begin)
-    mouse(page, "mousePressed", begin, **button)
-    for place in way(begin, end):
-        mouse(page, "mouseMoved", place, **button)
-    mouse(page, "mouseReleased", end, **{**button, "buttons": 0})
+    send_mouse(page, "mouseMoved", begin)
+    send_mouse(page, "mousePressed", begin, **button)
+    for place in points_between(begin, end):
+        send_mouse(page, "mouseMoved", place, **button)
+    send_mouse(page, "mouseReleased", end, **{**button, "buttons": 0})
 
 
 def swipe(page: Page, begin: Point, end: Point) -> None:
-    """Moves one finger."""
-    touch(page, "touchStart", [begin])
-    for place in way(begin, end):
-        touch(page, "touchMove", [place])
-    touch(page, "touchEnd", [])
+    """Move one finger."""
+    send_touch(page, "touchStart", [begin])
+    for place in points_between(begin, end):
+        send_touch(page, "touchMove", [place])
+    send_touch(page, "touchEnd", [])
 
 
 def tap(page: Page, place: Point) -> None:
-    touch(page, "touchStart", [place])
-    touch(page, "touchEnd", [])
+    send_touch(page, "touchStart", [place])
+    send_touch(page, "touchEnd", [])
 
 
 def pinch(page: Page, middle: Point, apart: float, then: float) -> None:
-    """Moves two fingers, one above the other, from so far apart to as far."""
+    """Move two fingers, one above the other, from one distance to another."""
     x, y = middle
 
     def places(far: float) -> List[Point]:
         return [(x, y - far / 2), (x, y + far / 2)]
 
-    touch(page, "touchStart", places(apart))
-    for far, _ in way((apart, 0), (then, 0)):
-        touch(page, "touchMove", places(far))
-    touch(page, "touchEnd", [])
+    send_touch(page, "touchStart", places(apart))
+    for far, _ in points_between((apart, 0), (then, 0)):
+        send_touch(page, "touchMove", places(far))
+    send_touch(page, "touchEnd", [])

@@ -11,8 +11,8 @@ from . import TOP
 MODULE = TOP / "web" / "out" / "bb.wasm"
 
 
-def documented(heading: str) -> str:
-    """The script below a heading of docs/web.md, or the only block of code there."""
+def documented_script(heading: str) -> str:
+    """Return the script, or the only block of code, below a heading of docs/web.md."""
     text = (TOP / "docs" / "web.md").read_text(encoding="utf-8")
     part = text.split("\n## %s\n" % heading)[1].split("\n## ")[0]
     begin = part.find("\n    import")
@@ -21,8 +21,8 @@ def documented(heading: str) -> str:
     return "".join(line[4:] + "\n" for line in block).strip("\n") + "\n"
 
 
-class CallEnd(NamedTuple):
-    """What a call gives: the status of the program and the bytes, or the error that it threw."""
+class CallResult(NamedTuple):
+    """A call's result: the program's status and bytes, or the error."""
 
     status: int
     reply: bytes
@@ -30,7 +30,7 @@ class CallEnd(NamedTuple):
 
 
 class Engine:
-    """A process of Node that answers calls; bytes go through files of a folder."""
+    """A Node process that answers calls; bytes pass through files in a folder."""
 
     def __init__(self, folder: object, module: object = MODULE) -> None:
         command = ["node", str(TOP / "web" / "tests" / "engine.mjs"), str(module)]
@@ -40,13 +40,13 @@ class Engine:
         self.about = self.line()
 
     def line(self) -> Dict[str, Any]:
-        """The next line of the process; empty where it ended."""
+        """Return the process's next line; empty at its end."""
         assert self.process.stdout
         answer: Dict[str, Any] = json.loads(self.process.stdout.readline() or "{}")
         return answer
 
-    def call(self, name: str, plan: Dict[str, Any], given: bytes, **more: int) -> CallEnd:
-        """One call, with limits and switches by name."""
+    def call(self, name: str, plan: Dict[str, Any], given: bytes, **more: int) -> CallResult:
+        """Make a call, with limits and switches by name."""
         self.given.write_bytes(given)
         job: Dict[str, Any] = {
             "call": name,
@@ -60,11 +60,11 @@ class Engine:
         self.process.stdin.flush()
         answer = self.line()
         if "clean" not in answer:
-            return CallEnd(2, b"", answer)
-        return CallEnd(0 if answer["clean"] else 1, self.out.read_bytes(), answer)
+            return CallResult(2, b"", answer)
+        return CallResult(0 if answer["clean"] else 1, self.out.read_bytes(), answer)
 
     def end(self) -> None:
-        """Ends the process."""
+        """End the process."""
         assert self.process.stdin
         self.process.stdin.close()
         self.process.wait()

@@ -6,69 +6,62 @@
  *     engine.check(["1RB1LB_1LA1RZ halt 6 4"]);   // ["ok"]
  *     engine.trace("1RB1LB_1LA1RZ", { steps: 2 }).lines;   // ["0 A 0 0 0", "1 B 1 0 10", "2 A 0 0 11"]
  *
- * The engine is compiled from what was proved; nothing proves this module. The lines are those of the program
- * `bb`, byte for byte; those of a trace have also the position of their first cell. A call blocks until it is
- * done: in a page, call from a worker.
- */
-
-/**
- * @typedef {import("./limits.mjs").Whole} Whole
+ * The engine is compiled from proved code; this module is not proved. Lines are those of the program `bb`,
+ * byte for byte; trace lines also name the position of their first cell. Calls block: call from a worker.
+ *
+ * @typedef {import("./limits.mjs").Integer} Integer
  * @typedef {import("./limits.mjs").Limit} Limit
- * @typedef {{steps?: Whole, cells?: Whole, depth?: Whole, nodes?: Whole}} Limits
+ * @typedef {{steps?: Integer, cells?: Integer, depth?: Integer, nodes?: Integer}} Limits
  * @typedef {Limits & {cyclers?: boolean, translated?: boolean, backward?: boolean}} Plan
- * @typedef {{steps: Whole, cells?: Whole, from?: Whole, every?: Whole}} Sample
- * @typedef {{bytes: Uint8Array, clean: boolean}} Reply What is written; whether the program's status is 0.
- * @typedef {(...words: (bigint | boolean | number)[]) => number} Call its addresses are numbers, all else
- *   that counts has 64 bits
+ * @typedef {{steps: Integer, cells?: Integer, from?: Integer, every?: Integer}} TraceOptions
+ * @typedef {{bytes: Uint8Array, clean: boolean}} Reply output, and whether the program's status is 0
+ * @typedef {(...words: (bigint | boolean | number)[]) => number} Call addresses are numbers, other integers
+ *   are 64-bit
  */
-
-import { LimitsError, RANGES, limitsOf, raiseLimits, switchesOf } from "./limits.mjs";
-import { MemoryError, Room, UnsupportedError, countLines, isSupported } from "./memory.mjs";
+import { LimitsError, RANGES, parseLimits, parseSwitches, throwLimitsError } from "./limits.mjs";
+import { Allocator, MemoryError, UnsupportedError, countLines, isSupported } from "./memory.mjs";
 
 export { LimitsError, MemoryError, RANGES, UnsupportedError, isSupported };
 
-const LIMITS_REFUSED = 2;
-const NO_MEMORY = 3;
-const SHORT = 4;
+const STATUS_LIMITS = 2;
+const STATUS_MEMORY = 3;
+const STATUS_SHORT = 4;
 const COUNT_BYTES = 8;
-// Bytes of a verdict behind its machine and of an answer, newlines included; of a trace's line but its cells.
-const VERDICT_ROOM = 98;
-const ANSWER_ROOM = 7;
-const STEP_ROOM = 64;
-const FIRST_TRACE_ROOM = 4_194_304;
+// The most bytes of a verdict behind its machine, of an answer, and of a trace line besides its cells.
+const VERDICT_BYTES = 98;
+const ANSWER_BYTES = 7;
+const STEP_BYTES = 64;
+const FIRST_TRACE_BYTES = 4_194_304;
 /** @type {Limit[]} */
 const LIMITS = ["steps", "cells", "depth", "nodes"];
 /** @type {Limit[]} */
-const SAMPLE = ["steps", "cells", "from", "every"];
+const TRACE_LIMITS = ["steps", "cells", "from", "every"];
 
-/** The engine: each of its calls is one of `include/bb.h`. */
+/** The engine; its calls are those of `include/bb.h`. */
 export class Engine {
-  /**
-   * @param {Room} room
-   * @param {Record<string, Call | undefined>} calls
-   */
-  constructor(room, calls) {
-    this.room = room;
+  /** @param {Allocator} allocator @param {Record<string, Call | undefined>} calls */
+  constructor(allocator, calls) {
+    this.allocator = allocator;
     this.calls = calls;
   }
 
-  /** Bytes of memory that the engine holds; it keeps the most that a call needed. */
-  get held() {
-    return /** @type {WebAssembly.Memory} */ (this.room.memory).buffer.byteLength;
+  /** Bytes of WebAssembly memory, which never shrinks. */
+  get memoryBytes() {
+    return /** @type {WebAssembly.Memory} */ (this.allocator.memory).buffer.byteLength;
   }
 
   /** Whether this module has the call `trace`. */
-  get traces() {
+  get hasTrace() {
     return this.calls.bb_trace !== undefined;
   }
 
   /**
-   * The verdict line of each machine, or `refused` and a column.
-   * Throws LimitsError, MemoryError, or TypeError where a line has a newline or a name is unknown.
+   * The verdict line of each machine, or `refused` and a column. Throws LimitsError, MemoryError, or
+   * TypeError for a newline in a line or an unknown name.
    * @param {readonly string[]} machines @param {Plan} [plan]
    */
   decide(machines, plan = {}) {
-    return linesOf(this.decideBytes(bytesOf(machines), plan).bytes);
+    return decodeLines(this.decideBytes(encodeLines(machines), plan).bytes);
   }
 
   /**
@@ -76,139 +69,128 @@ export class Engine {
    * @param {readonly string[]} lines @param {Limits} [limits]
    */
   check(lines, limits = {}) {
-    return linesOf(this.checkBytes(bytesOf(lines), limits).bytes);
+    return decodeLines(this.checkBytes(encodeLines(lines), limits).bytes);
   }
 
   /**
-   * The lines of the steps `from`, `from + every` and so on up to `steps`, each with its step, state, head,
-   * lowest position visited, and the cells from there on; and whether the trace is clean: not where the cells
-   * cut it, or where the text is no machine. Throws as `decide` does.
+   * One line for each step `from`, `from + every`, .. up to `steps`: step, state, head, lowest visited
+   * position, and the cells from there. `clean` is false if the limit of cells cut the trace or the text is
+   * not a machine. Throws as `decide` does.
+   * @param {string} machine @param {TraceOptions} options
    */
-  trace(/** @type {string} */ machine, /** @type {Sample} */ sample) {
-    const { bytes, clean } = this.traceBytes(bytesOf([machine]).slice(0, -1), sample);
-    return { lines: linesOf(bytes), clean };
+  trace(machine, options) {
+    const { bytes, clean } = this.traceBytes(encodeLines([machine]).slice(0, -1), options);
+    return { lines: decodeLines(bytes), clean };
   }
 
   /**
-   * As `decide`, from bytes to bytes: what the program reads and writes. Whoever knows how many lines the
-   * list has may say so, which saves counting them.
+   * `decide` from bytes to bytes, as the program reads and writes them. Pass the number of lines to save
+   * counting them.
    * @param {Uint8Array} list @param {Plan} [plan] @param {number} [lines]
    */
   decideBytes(list, plan = {}, lines = countLines(list)) {
     const { cyclers = true, translated = true, backward = true, ...limits } = plan;
-    const words = [...limitsOf(limits, LIMITS), ...switchesOf({ cyclers, translated, backward })];
-    const space = list.length + VERDICT_ROOM * lines;
-    return copied(this.called("bb_decide", LIMITS, words, list, space));
+    const words = [...parseLimits(limits, LIMITS), ...parseSwitches({ cyclers, translated, backward })];
+    return copyReply(this.invoke("bb_decide", LIMITS, words, list, list.length + VERDICT_BYTES * lines));
   }
 
   /**
-   * As `check`, from bytes to bytes.
-   * @param {Uint8Array} list @param {Limits} [limits] @param {number} [lines] as of `decideBytes`
+   * `check` from bytes to bytes.
+   * @param {Uint8Array} list @param {Limits} [limits] @param {number} [lines] as in `decideBytes`
    */
   checkBytes(list, limits = {}, lines = countLines(list)) {
-    const words = limitsOf(limits, LIMITS);
-    return copied(this.called("bb_check", LIMITS, words, list, ANSWER_ROOM * lines));
+    const words = parseLimits(limits, LIMITS);
+    return copyReply(this.invoke("bb_check", LIMITS, words, list, ANSWER_BYTES * lines));
   }
 
   /**
-   * As `trace`, from bytes to bytes. Whoever knows how many bytes the trace has may say so, or more: else it
-   * is made twice where it is long.
-   * @param {Uint8Array} line @param {Sample} sample @param {number} [space]
+   * `trace` from bytes to bytes. Pass the bytes of the trace, or more, in `space`: a long trace is made twice
+   * otherwise.
+   * @param {Uint8Array} line @param {TraceOptions} options @param {number} [space]
    */
-  traceBytes(line, sample, space = 0) {
-    return copied(this.traceInPlace(line, sample, space));
+  traceBytes(line, options, space = 0) {
+    return copyReply(this.traceInPlace(line, options, space));
   }
 
   /**
-   * As `traceBytes`, without a copy: the bytes are the engine's own, which its next call overwrites.
-   * @param {Uint8Array} line @param {Sample} sample @param {number} [space]
+   * `traceBytes` without a copy: the next call overwrites the bytes.
+   * @param {Uint8Array} line @param {TraceOptions} options @param {number} [space]
    */
-  traceInPlace(line, sample, space = 0) {
-    if (sample.steps === undefined) {
+  traceInPlace(line, options, space = 0) {
+    if (options.steps === undefined) {
       throw new TypeError("a trace needs a limit of steps");
     }
-    const words = limitsOf(sample, SAMPLE);
-    return this.called("bb_trace", SAMPLE, words, line, space || traceRoom(words));
+    const words = parseLimits(options, TRACE_LIMITS);
+    return this.invoke("bb_trace", TRACE_LIMITS, words, line, space || traceSpace(words));
   }
 
   /**
-   * A call with room for a reply of so many bytes, and again where it has more. The reply stands in the
-   * engine's memory until the next call.
-   * @param {string} name @param {Limit[]} names of the limits among the words
-   * @param {(bigint | boolean)[]} words @param {Uint8Array} given @param {number} space
+   * Calls the module with room for a reply of `space` bytes, and again if the reply is longer. The next call
+   * overwrites the reply.
+   * @param {string} name @param {Limit[]} names of the limits at the beginning of `words`
+   * @param {(bigint | boolean)[]} words @param {Uint8Array} input @param {number} space
    * @returns {Reply}
    */
-  called(name, names, words, given, space) {
-    const call = this.calls[name];
+  invoke(name, names, words, input, space) {
+    const { allocator, calls: { [name]: call } } = this;
     if (call === undefined) {
       throw new TypeError(`this module has no ${name}`);
     }
-    const room = this.room;
-    room.clear();
-    const list = room.take(given.length + 1, 1);
-    const out = list && room.take(space + 1, 1);
-    const count = out && room.take(COUNT_BYTES, COUNT_BYTES);
+    allocator.reset();
+    const list = allocator.allocate(input.length + 1, 1);
+    const out = list && allocator.allocate(space + 1, 1);
+    const count = out && allocator.allocate(COUNT_BYTES, COUNT_BYTES);
     if (count === 0) {
       throw new MemoryError();
     }
-    room.bytes(list, given.length).set(given);
-    const status = call(...words, list, BigInt(given.length), out, BigInt(space), count);
-    const length = Number(new DataView(room.bytes(count, COUNT_BYTES).slice().buffer).getBigUint64(0, true));
-    if (status === SHORT) {
-      return this.called(name, names, words, given, length);
+    allocator.bytes(list, input.length).set(input);
+    const status = call(...words, list, BigInt(input.length), out, BigInt(space), count);
+    const length = Number(new DataView(allocator.bytes(0, 0).buffer, count).getBigUint64(0, true));
+    if (status === STATUS_SHORT) {
+      return this.invoke(name, names, words, input, length);
     }
-    raise(status, names, words);
-    return { bytes: room.bytes(out, length), clean: status === 0 };
+    if (status === STATUS_LIMITS) {
+      throwLimitsError(names, /** @type {bigint[]} */ (words.slice(0, names.length)));
+    }
+    if (status === STATUS_MEMORY) {
+      throw new MemoryError();
+    }
+    return { bytes: allocator.bytes(out, length), clean: status === 0 };
   }
 }
 
-/** @returns {Reply} a reply with bytes of its own */
-const copied = (/** @type {Reply} */ { bytes, clean }) => ({ bytes: bytes.slice(), clean });
+/** @returns {Reply} */
+const copyReply = (/** @type {Reply} */ { bytes, clean }) => ({ bytes: bytes.slice(), clean });
 
 /**
- * An engine from the bytes of `bb.wasm`, or from the module that WebAssembly compiled of them, which several
- * workers can share. Throws UnsupportedError; WebAssembly's errors for other bytes.
+ * An engine from the bytes of `bb.wasm`, or from their compiled module, which workers can share. Throws
+ * UnsupportedError, or WebAssembly's errors for other bytes.
  * @param {BufferSource | WebAssembly.Module} bytes
- * @param {{memory?: number}} [most] bytes of memory; a call that needs more throws MemoryError
+ * @param {{memory?: number}} [limit] the most bytes of memory; a call that needs more throws MemoryError
  */
-export async function load(bytes, most = {}) {
+export async function load(bytes, limit = {}) {
   if (!isSupported()) {
     throw new UnsupportedError();
   }
-  const room = new Room(most.memory ?? Infinity);
+  const allocator = new Allocator(limit.memory ?? Infinity);
   const module = bytes instanceof WebAssembly.Module ? bytes : await WebAssembly.compile(bytes);
-  const instance = await WebAssembly.instantiate(module, { env: room.imports() });
-  const { memory: held, __heap_base: base, ...calls } = instance.exports;
-  room.memory = /** @type {WebAssembly.Memory} */ (held);
-  room.base = Number(/** @type {WebAssembly.Global} */ (base).value);
-  return new Engine(room, /** @type {Record<string, Call>} */ (calls));
+  const instance = await WebAssembly.instantiate(module, { env: allocator.imports() });
+  const { memory, __heap_base: base, ...calls } = instance.exports;
+  allocator.memory = /** @type {WebAssembly.Memory} */ (memory);
+  allocator.base = Number(/** @type {WebAssembly.Global} */ (base).value);
+  return new Engine(allocator, /** @type {Record<string, Call>} */ (calls));
 }
 
-/**
- * Throws what a status other than that of a reply means.
- * @param {number} status @param {Limit[]} names of the limits among the words
- * @param {(bigint | boolean)[]} words
- */
-function raise(status, names, words) {
-  if (status === LIMITS_REFUSED) {
-    raiseLimits(names, /** @type {bigint[]} */ (words.slice(0, names.length)));
-  }
-  if (status === NO_MEMORY) {
-    throw new MemoryError();
-  }
-}
-
-/** Room for a trace; where it has more, the call says how much. */
-function traceRoom(/** @type {bigint[]} */ words) {
-  const [steps, cells, from, every] = words;
+/** Room for a trace; a longer one reports its length. */
+function traceSpace(/** @type {bigint[]} */ [steps, cells, from, every]) {
   const lines = steps < from || every === 0n ? 1n : (steps - from) / every + 1n;
-  const bytes = lines * (BigInt(STEP_ROOM) + (cells < steps ? cells : steps));
-  return bytes < FIRST_TRACE_ROOM ? Number(bytes) : FIRST_TRACE_ROOM;
+  const bytes = lines * (BigInt(STEP_BYTES) + (cells < steps ? cells : steps));
+  return bytes < FIRST_TRACE_BYTES ? Number(bytes) : FIRST_TRACE_BYTES;
 }
 
-function bytesOf(/** @type {readonly string[]} */ lines) {
+function encodeLines(/** @type {readonly string[]} */ lines) {
   if (!Array.isArray(lines) || lines.some((line) => typeof line !== "string")) {
-    throw new TypeError("a list of texts is wanted");
+    throw new TypeError("expected an array of strings");
   }
   if (lines.some((line) => line.includes("\n"))) {
     throw new TypeError("a text has a newline");
@@ -216,5 +198,5 @@ function bytesOf(/** @type {readonly string[]} */ lines) {
   return new TextEncoder().encode(lines.map((line) => line + "\n").join(""));
 }
 
-/** The lines of a reply, without their newlines. */
-const linesOf = (/** @type {Uint8Array} */ bytes) => new TextDecoder().decode(bytes).split("\n").slice(0, -1);
+const decodeLines = (/** @type {Uint8Array} */ bytes) =>
+  new TextDecoder().decode(bytes).split("\n").slice(0, -1);

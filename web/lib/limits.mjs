@@ -1,26 +1,23 @@
 /**
- * The limits and switches of the engine: their ranges, and what is said of one that is refused.
+ * The limits and switches of the engine.
  *
- * @typedef {number | bigint} Whole A whole number.
+ * @typedef {number | bigint} Integer
  * @typedef {keyof typeof RANGES} Limit
  */
 
-/** The limits: the least, the greatest, and the one where none is said. `from` and `every` are of a trace. */
+/** The range of each limit and its default. `from` and `every` apply to traces. */
 export const RANGES = Object.freeze({
-  steps: { least: 0n, most: 1_000_000_000_000n, usual: 1_000_000n },
-  cells: { least: 1n, most: 67_108_864n, usual: 65_536n },
-  depth: { least: 0n, most: 10_000n, usual: 300n },
-  nodes: { least: 0n, most: 1_000_000_000_000n, usual: 1_000_000n },
-  from: { least: 0n, most: 2n ** 64n - 1n, usual: 0n },
-  every: { least: 1n, most: 2n ** 64n - 1n, usual: 1n },
+  steps: { min: 0n, max: 1_000_000_000_000n, default: 1_000_000n },
+  cells: { min: 1n, max: 67_108_864n, default: 65_536n },
+  depth: { min: 0n, max: 10_000n, default: 300n },
+  nodes: { min: 0n, max: 1_000_000_000_000n, default: 1_000_000n },
+  from: { min: 0n, max: 2n ** 64n - 1n, default: 0n },
+  every: { min: 1n, max: 2n ** 64n - 1n, default: 1n },
 });
 
-/** The limits are out of their ranges, or the depth doesn't fit in the cells. */
+/** A limit is out of its range, or the depth doesn't fit in the cells. The message is the program's. */
 export class LimitsError extends RangeError {
-  /**
-   * @param {Limit} limit which one
-   * @param {string} message in the program's words
-   */
+  /** @param {Limit} limit @param {string} message */
   constructor(limit, message) {
     super(message);
     this.name = "LimitsError";
@@ -28,48 +25,43 @@ export class LimitsError extends RangeError {
   }
 }
 
-const END_OF_WORDS = 2n ** 64n;
-
-export function limitsOf(/** @type {Partial<Record<Limit, Whole>>} */ given, /** @type {Limit[]} */ names) {
-  for (const name of Object.keys(given)) {
+/** @param {Partial<Record<Limit, Integer>>} values @param {Limit[]} names @returns the values in order */
+export function parseLimits(values, names) {
+  for (const name of Object.keys(values)) {
     if (!names.includes(/** @type {Limit} */ (name))) {
       throw new TypeError(`no limit or switch has the name ${name}`);
     }
   }
-  return names.map((name) => wholeOf(name, given[name] ?? RANGES[name].usual));
+  return names.map((name) => parseInteger(name, values[name] ?? RANGES[name].default));
 }
 
-function wholeOf(/** @type {Limit} */ name, /** @type {Whole} */ given) {
-  if (typeof given !== "number" && typeof given !== "bigint") {
+function parseInteger(/** @type {Limit} */ name, /** @type {Integer} */ value) {
+  if (typeof value !== "number" && typeof value !== "bigint") {
     throw new TypeError(`${name} is no number`);
   }
-  if (typeof given === "number" && !Number.isSafeInteger(given)) {
+  if (typeof value === "number" && !Number.isSafeInteger(value)) {
     throw new LimitsError(name, `${name} is not a whole number that is exact; use a BigInt`);
   }
-  const value = BigInt(given);
-  if (value < 0n || value >= END_OF_WORDS) {
-    throw outOfRange(name);
+  if (value < 0n || value >= 2n ** 64n) {
+    throw rangeError(name);
   }
-  return value;
+  return BigInt(value);
 }
 
-/** The switches, in order, each on or off. */
-export function switchesOf(/** @type {Record<string, boolean>} */ given) {
-  for (const [name, value] of Object.entries(given)) {
+/** The values of switches, in order. */
+export function parseSwitches(/** @type {Record<string, boolean>} */ switches) {
+  for (const [name, value] of Object.entries(switches)) {
     if (typeof value !== "boolean") {
       throw new TypeError(`${name} is neither true nor false`);
     }
   }
-  return Object.values(given);
+  return Object.values(switches);
 }
 
-/** Throws the error of limits that the engine refused; of several wrong ones the program's first. */
-export function raiseLimits(/** @type {Limit[]} */ names, /** @type {bigint[]} */ values) {
-  const wrong = names.find((name, k) => values[k] < RANGES[name].least || values[k] > RANGES[name].most);
-  if (wrong !== undefined) {
-    throw outOfRange(wrong);
-  }
-  throw new LimitsError("depth", "depth does not fit in cells");
+/** Throws the error for limits that the engine refused: of several wrong ones, the program's first. */
+export function throwLimitsError(/** @type {Limit[]} */ names, /** @type {bigint[]} */ values) {
+  const wrong = names.find((name, k) => values[k] < RANGES[name].min || values[k] > RANGES[name].max);
+  throw wrong ? rangeError(wrong) : new LimitsError("depth", "depth does not fit in cells");
 }
 
-const outOfRange = (/** @type {Limit} */ name) => new LimitsError(name, `${name} out of range`);
+const rangeError = (/** @type {Limit} */ name) => new LimitsError(name, `${name} out of range`);

@@ -1,23 +1,20 @@
-/** Elements, their texts and the colours of the style; text goes in as text, never as HTML. */
+/** Elements, announcements, the clipboard and colours. Texts are inserted as text, never as HTML. */
 
 /**
- * The element of an id.
  * @template {HTMLElement} [T=HTMLElement]
  * @param {string} id
  * @returns {T}
  */
-export const part = (id) => /** @type {T} */ (document.getElementById(id));
+export const byId = (id) => /** @type {T} */ (document.getElementById(id));
 
 /**
  * A new element with properties, attributes and children.
- * @param {string} name @param {Record<string, any>} [given] @param {(Node | string)[]} children
+ * @param {string} name @param {Record<string, any>} [properties] @param {(Node | string)[]} children
  */
-export function made(name, given = {}, ...children) {
+export function create(name, properties = {}, ...children) {
   const element = document.createElement(name);
-  for (const [key, value] of Object.entries(given)) {
-    if (key === "class") {
-      element.className = value;
-    } else if (key.includes("-") || key === "role" || key === "for") {
+  for (const [key, value] of Object.entries(properties)) {
+    if (key.includes("-") || key === "role" || key === "for" || key === "class") {
       element.setAttribute(key, String(value));
     } else {
       Object.assign(element, { [key]: value });
@@ -28,101 +25,90 @@ export function made(name, given = {}, ...children) {
 }
 
 /**
- * Hides or disables something, or takes that back; where it has the focus, something else gets that.
- * @param {string} id @param {"hidden" | "disabled"} how @param {boolean} is @param {string} other
+ * Hides or disables an element, or undoes it. Its focus moves to another element.
+ * @param {string} id @param {"hidden" | "disabled"} property @param {boolean} value @param {string} other
  */
-export function setAside(id, how, is, other) {
-  const hasFocus = is && document.activeElement === part(id);
-  Object.assign(part(id), { [how]: is });
+export function setInactive(id, property, value, other) {
+  const hasFocus = value && document.activeElement === byId(id);
+  Object.assign(byId(id), { [property]: value });
   if (hasFocus) {
-    part(other).focus({ preventScroll: true });
+    byId(other).focus({ preventScroll: true });
   }
 }
 
-/** Has elements, by their ids, do something where they are clicked. */
-export function onClick(/** @type {Record<string, () => void>} */ acts) {
-  Object.entries(acts).forEach(([id, act]) => part(id).addEventListener("click", act));
+/** Adds click listeners by element id. */
+export function onClick(/** @type {Record<string, () => void>} */ listeners) {
+  Object.entries(listeners).forEach(([id, listener]) => byId(id).addEventListener("click", listener));
 }
 
-/** Does what a key asks, where it asks something and no other key is held with it. */
-export function pressKey(/** @type {KeyboardEvent} */ event, /** @type {Record<string, () => void>} */ keys) {
-  if (event.key in keys && !event.ctrlKey && !event.metaKey && !event.altKey) {
+/** Runs a key's action if no modifier but Shift is pressed. */
+export function dispatchKey(
+  /** @type {KeyboardEvent} */ event,
+  /** @type {Record<string, () => void>} */ actions,
+) {
+  if (event.key in actions && !event.ctrlKey && !event.metaKey && !event.altKey) {
     event.preventDefault();
-    keys[event.key]();
+    actions[event.key]();
   }
 }
 
-/** Shows words in an element; without any it is hidden. */
-export function showWords(/** @type {string} */ id, /** @type {string} */ words) {
-  Object.assign(part(id), { textContent: words, hidden: words === "" });
+/** Shows a text in an element, which is hidden if empty. */
+export function showText(/** @type {string} */ id, /** @type {string} */ text) {
+  Object.assign(byId(id), { textContent: text, hidden: text === "" });
 }
 
-export function save(/** @type {Blob} */ blob, /** @type {string} */ name) {
+export function saveFile(/** @type {Blob} */ blob, /** @type {string} */ name) {
   const url = URL.createObjectURL(blob);
-  made("a", { href: url, download: name }).click();
+  create("a", { href: url, download: name }).click();
   setTimeout(() => URL.revokeObjectURL(url), 60_000);
 }
 
-/** Puts a text where it can be pasted from, and says so by a button's words for a while. */
-export async function copy(/** @type {string} */ text, /** @type {HTMLElement} */ button) {
-  await saying(button, () => navigator.clipboard.writeText(text));
-}
-
-/** Does something, and says by a button's words for a while how it went. */
-async function saying(/** @type {HTMLElement} */ button, /** @type {() => Promise<void>} */ does) {
-  const words = (button.dataset.words ??= button.textContent ?? "");
+/** Runs an action and shows its outcome on its button for a while. */
+async function reportOutcome(/** @type {HTMLElement} */ button, /** @type {() => Promise<void>} */ act) {
+  const label = (button.dataset.words ??= button.textContent ?? "");
   try {
-    await does();
+    await act();
     button.textContent = "Copied";
   } catch {
     button.textContent = "The browser refused";
   }
-  tellLive(button.textContent);
+  announce(button.textContent);
   setTimeout(() => {
-    button.textContent = words;
+    button.textContent = label;
   }, 1500);
 }
 
-/**
- * Puts a picture where it can be pasted from.
- * @param {Promise<Blob | null>} png @param {HTMLElement} button
- */
-export async function copyPicture(png, button) {
-  await saying(button, async () => {
+export const copyText = (/** @type {string} */ text, /** @type {HTMLElement} */ button) =>
+  reportOutcome(button, () => navigator.clipboard.writeText(text));
+
+export const copyPicture = (/** @type {Promise<Blob | null>} */ png, /** @type {HTMLElement} */ button) =>
+  reportOutcome(button, async () => {
     const item = new ClipboardItem({ "image/png": png.then((blob) => /** @type {Blob} */ (blob)) });
     await navigator.clipboard.write([item]);
   });
-}
 
-// A little more than a second, since a timer may come a little early beside what it is held against.
+// Slightly more than a second: timers may fire a little early.
 const LIVE_MILLISECONDS = 1_050;
-let lastSaid = -Infinity;
+let lastAnnounced = -Infinity;
 let liveTimer = 0;
 
-/** Tells whoever hears the page, at most once a second; of what comes faster the last. */
-export function tellLive(/** @type {string} */ words) {
+/** Announces a text to screen readers, at most once a second; a newer text replaces a pending one. */
+export function announce(/** @type {string} */ text) {
   clearTimeout(liveTimer);
-  const left = lastSaid + LIVE_MILLISECONDS - performance.now();
+  const delay = lastAnnounced + LIVE_MILLISECONDS - performance.now();
   liveTimer = setTimeout(() => {
-    lastSaid = performance.now();
-    part("live").textContent = words;
-  }, Math.max(0, left));
+    lastAnnounced = performance.now();
+    byId("live").textContent = text;
+  }, Math.max(0, delay));
 }
 
-const SYMBOLS = 10;
-
-/**
- * The colours that were asked for; the browser works out its style anew each time that it is asked.
- * @type {Map<string, string>}
- */
+/** @type {Map<string, string>} the style's colours; `getComputedStyle` is slow */
 const colours = new Map();
 
-/** Has colours be asked for again, since the style has others. */
-export function forgetColours() {
-  colours.clear();
-}
+/** Drops the cached colours, after a change of scheme. */
+export const clearColours = () => colours.clear();
 
-export function ink(/** @type {string} */ name) {
+export function colourOf(/** @type {string} */ name) {
   const known = colours.get(name);
   if (known !== undefined) {
     return known;
@@ -132,13 +118,10 @@ export function ink(/** @type {string} */ name) {
   return text;
 }
 
-function colour(/** @type {string} */ name) {
-  const text = ink(name);
-  return [1, 3, 5].map((at) => parseInt(text.slice(at, at + 2), 16));
-}
-
-/** The colours of the symbols, of what isn't visited yet, and of the head. */
-export function palette() {
-  const symbols = Array.from({ length: SYMBOLS }, (_, symbol) => colour(`--s${symbol}`));
-  return [...symbols, colour("--unvisited"), colour("--head")];
+/** The channels of the ten symbols' colours, of unvisited cells and of the head. */
+export function readPalette() {
+  const symbols = Array.from({ length: 10 }, (_, symbol) => `--s${symbol}`);
+  return [...symbols, "--unvisited", "--head"].map((name) =>
+    [1, 3, 5].map((at) => parseInt(colourOf(name).slice(at, at + 2), 16)),
+  );
 }

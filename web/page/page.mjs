@@ -1,203 +1,192 @@
-/** The page: reads what is asked, has workers answer it, and shows what comes. */
+/** The page's entry point: reads the input, runs lists, and shows results. */
 import { isSupported } from "../lib/memory.mjs";
-import { copy, made, onClick, part, pressKey, save } from "./dom.mjs";
-import { makeFields, planOf, readLink, refuse, setPlan } from "./input/fields.mjs";
+import { byId, copyText, create, dispatchKey, onClick, saveFile } from "./dom.mjs";
+import { createFields, readLink, readPlan, setPlan, showRefusal } from "./input/fields.mjs";
 import { listenToFiles } from "./input/files.mjs";
-import { Source, kept } from "./input/source.mjs";
-import { Lines } from "./list/lines.mjs";
-import { Work, failureWords, tell } from "./list/work.mjs";
-import { View } from "./machine/view.mjs";
-import { toldOf } from "./workers.mjs";
+import { ListInput, readStored } from "./input/list-input.mjs";
+import { ListRun, failureText, showError } from "./list/list-run.mjs";
+import { ListView } from "./list/list-view.mjs";
+import { MachineView } from "./machine/machine-view.mjs";
+import { errorFields } from "./worker-client.mjs";
 
 const MOST_COPIED = 50_000_000;
 const FIRST_LIST = "1RB1LB_1LA1RZ\n1RA1RA\n1rB1LB\n";
 
-const source = new Source();
-/** @type {Work} */
-const work = new Work(() => lines.show());
-/** @type {Lines} */
-const lines = new Lines(new View(), work);
+const input = new ListInput();
+/** @type {ListRun} */
+const run = new ListRun(() => listView.show());
+/** @type {ListView} */
+const listView = new ListView(new MachineView(), run);
+let runs = 0;
 
-// How often a list was given.
-let begun = 0;
-
-/**
- * Answers the list that is given; where another one is given meanwhile, only that. A list that isn't a link's
- * takes the link out of the address.
- */
-async function begin(isOfLink = false) {
-  const plan = planOrRefused();
+/** Runs the list, unless a newer run starts while it is read. A list of another origin drops the link. */
+async function startRun(isOfLink = false) {
+  const plan = planOrRefusal();
   if (plan === null) {
-    source.nameRun();
+    input.labelButton();
     return;
   }
-  tell("");
-  work.stop();
-  part("results").dataset.state = "asked";
-  begun += 1;
-  const mine = begun;
-  const given = await source.given().catch((error) => (mine === begun ? unread(error) : null));
-  if (mine === begun && given !== null) {
+  showError("");
+  run.stop();
+  byId("results").dataset.state = "requested";
+  runs += 1;
+  const own = runs;
+  const list = await input.read().catch((error) => (own === runs ? reportUnreadable(error) : null));
+  if (own === runs && list !== null) {
     if (!isOfLink && location.hash !== "") {
       history.replaceState(null, "", location.pathname + location.search);
     }
-    source.keep();
-    lines.begin();
-    const { blob, first, isText, mode, form } = given;
-    work.begin(blob, first, { mode, form, clean: source.clean.checked, plan }, isText);
+    input.store();
+    listView.reset();
+    const { blob, first, isText, mode, form } = list;
+    run.start(blob, first, { mode, form, clean: input.clean.checked, plan }, isText);
   }
 }
 
-function unread(/** @type {Error} */ error) {
-  tell(failureWords(toldOf(error)));
-  part("results").dataset.state = "ended";
+function reportUnreadable(/** @type {Error} */ error) {
+  showError(failureText(errorFields(error)));
+  byId("results").dataset.state = "ended";
   return null;
 }
 
-/** What the fields say; null where a limit is refused, which is said beside it. */
-function planOrRefused() {
+/** The plan of the fields; null if a limit is refused, with the refusal shown beside it. */
+function planOrRefusal() {
   try {
-    return planOf();
+    return readPlan();
   } catch (error) {
     const { limit, message } = /** @type {any} */ (error);
-    refuse(limit, message);
+    showRefusal(limit, message);
     return null;
   }
 }
 
-/** Takes a file in place of the text; none takes it away again. */
-function take(/** @type {File | null} */ file) {
-  if (file !== null) {
-    source.forgetExample();
-  }
-  source.hold(file);
-  if (file !== null) {
-    begin();
-  }
+/** Runs a file in place of the text; null removes it. */
+function useFile(/** @type {File | null} */ file) {
+  file && input.resetExample();
+  input.setFile(file);
+  file && startRun();
 }
 
-// The lists of the examples, and the one that a click has selected.
-const samples = new Set([FIRST_LIST]);
-let selected = "";
+// The lists of the examples, and the one selected by a click.
+const exampleLists = new Set([FIRST_LIST]);
+let selectedExample = "";
 
-/** Selects an example at the first click into it, so that what is typed or pasted replaces it. */
+/** Selects an example at the first click, so that typing replaces it. */
 function selectExample() {
-  const { list } = source;
-  if (samples.has(list.value) && selected !== list.value && list.selectionStart === list.selectionEnd) {
+  const { list } = input;
+  const isNew = exampleLists.has(list.value) && selectedExample !== list.value;
+  if (isNew && list.selectionStart === list.selectionEnd) {
     list.select();
-    selected = list.value;
+    selectedExample = list.value;
   }
 }
 
-function clear() {
-  source.forgetExample();
-  source.leaveExample();
-  source.fill("");
-  source.list.focus();
+function clearList() {
+  input.resetExample();
+  input.clearExample();
+  input.setText("");
+  input.list.focus();
 }
 
-function makeExamples() {
-  const menu = /** @type {HTMLSelectElement} */ (part("examples"));
-  const examples = JSON.parse(part("examples-data").textContent ?? "[]");
-  for (const [k, { name, lines: list }] of examples.entries()) {
-    menu.append(made("option", { value: String(k) }, name));
-    samples.add(list);
+function fillExampleMenu() {
+  const menu = /** @type {HTMLSelectElement} */ (byId("examples"));
+  const examples = JSON.parse(byId("examples-data").textContent ?? "[]");
+  for (const [k, { name, lines }] of examples.entries()) {
+    menu.append(create("option", { value: String(k) }, name));
+    exampleLists.add(lines);
   }
   menu.addEventListener("change", () => {
     const example = examples[Number(menu.value || -1)];
     if (example) {
-      selected = "";
-      source.isExample = true;
-      source.set(example.plan, false, example.call);
-      source.fill(example.lines);
-      begin();
+      selectedExample = "";
+      input.isExample = true;
+      input.applySettings(example.plan, false, example.call);
+      input.setText(example.lines);
+      startRun();
     }
   });
 }
 
-/**
- * Opens what a link says; without one, or where the page is loaded again with it, what was kept; else the
- * list that stands there first.
- */
+/** Opens the link of the address; without one, or after a reload, the stored list; else the first list. */
 function openLink(isAgain = false) {
   const link = readLink(location.hash);
-  const stored = kept();
+  const stored = readStored();
   const before = link === null || (isAgain && stored?.hash === location.hash) ? stored : null;
-  source.toDefaults();
+  input.resetSettings();
   if (before === null) {
     setPlan(link?.plan ?? {});
   } else {
-    source.set(before.plan, before.clean, before.mode, before.form);
-    source.isExample = before.isExample;
+    input.applySettings(before.plan, before.clean, before.mode, before.form);
+    input.isExample = before.isExample;
   }
   if (before !== null && before.gone !== "") {
-    source.fill("");
-    source.tellGone(before.gone);
+    input.setText("");
+    input.reportMissing(before.gone);
     return;
   }
   const list = link === null ? FIRST_LIST : `${link.machine}\n`;
-  source.fill(before?.text ?? list);
-  begin(link !== null && source.list.value === list);
+  input.setText(before?.text ?? list);
+  startRun(link !== null && input.list.value === list);
 }
 
-/** Whether the page is loaded again, or come back to. */
-function isLoadedAgain() {
+/** Whether the page was reloaded, or left and reopened. */
+function isReload() {
   const [entry] = performance.getEntriesByType("navigation");
   return /** @type {PerformanceNavigationTiming | undefined} */ (entry)?.type !== "navigate";
 }
 
-function pressed(/** @type {KeyboardEvent} */ event) {
-  const isField = event.target instanceof Element && event.target.matches("input, textarea, select");
-  const open = (/** @type {number} */ by, isUndecided = false) => () => lines.openBeside(by, isUndecided);
-  isField || pressKey(event, { n: open(1), p: open(-1), N: open(1, true), P: open(-1, true) });
-}
-
-/** Copies what the program would write. */
+/** Copies the output. */
 async function copyAll() {
-  const blob = await work.results.blobOf();
+  const blob = await run.results.blobOf();
   if (blob.size > MOST_COPIED) {
-    tell("Too long to be copied; save it.");
+    showError("Too long to copy. Save it instead.");
   } else {
-    await copy(await blob.text(), part("copy"));
+    await copyText(await blob.text(), byId("copy"));
   }
 }
 
-function listen() {
-  const name = () => (work.run.mode === "check" ? "answers.txt" : "verdicts.txt");
-  part("form").addEventListener("submit", (event) => {
+function addListeners() {
+  const name = () => (run.info.mode === "check" ? "answers.txt" : "verdicts.txt");
+  byId("form").addEventListener("submit", (event) => {
     event.preventDefault();
-    begin();
+    startRun();
   });
   onClick({
-    clear,
+    clear: clearList,
     list: selectExample,
-    stop: () => work.stop(),
-    left: () => work.decideAgain(),
-    save: async () => save(await work.results.blobOf(), name()),
-    "save-shown": async () => save(await work.results.blobOf(lines.kindsShown), name()),
+    stop: () => run.stop(),
+    left: () => run.redecideUndecided(),
+    save: async () => saveFile(await run.results.blobOf(), name()),
+    "save-shown": async () => saveFile(await run.results.blobOf(listView.kindsShown), name()),
     copy: copyAll,
   });
-  addEventListener("keydown", pressed);
+  addEventListener("keydown", (event) => {
+    const isField = event.target instanceof Element && event.target.matches("input, textarea, select");
+    const open = (/** @type {number} */ by, isUndecided = false) => {
+      return () => listView.openNeighbour(by, isUndecided);
+    };
+    isField || dispatchKey(event, { n: open(1), p: open(-1), N: open(1, true), P: open(-1, true) });
+  });
   addEventListener("hashchange", () => openLink());
-  addEventListener("pagehide", () => source.keep());
+  addEventListener("pagehide", () => input.store());
 }
 
 function start() {
-  makeFields();
-  makeExamples();
-  listenToFiles(take, (text) => {
-    source.forgetExample();
-    source.fill(text);
+  createFields();
+  fillExampleMenu();
+  listenToFiles(useFile, (text) => {
+    input.resetExample();
+    input.setText(text);
   });
-  listen();
+  addListeners();
   if (isSupported()) {
-    openLink(isLoadedAgain());
+    openLink(isReload());
   } else {
-    tell(
+    showError(
       "This browser’s WebAssembly has no vectors (SIMD), which the engine needs, so nothing can be decided " +
-        "here. Tried and found to have them: Chromium 156.",
+        "here. Chromium 156 is known to have them.",
     );
-    /** @type {HTMLButtonElement} */ (part("run")).disabled = true;
+    /** @type {HTMLButtonElement} */ (byId("run")).disabled = true;
   }
 }
 

@@ -1,36 +1,36 @@
 /**
- * A machine and its verdict, as read from a line that the engine wrote.
+ * Machines and verdict lines as the engine writes them, and verdicts in words.
  *
  * @typedef {{write: number, move: 1 | -1, next: number}} Entry `next` is -1 for Z
- * @typedef {{state: number, symbol: number, entry: Entry | null}} Rule `null` where it is undefined
- * @typedef {{text: string, states: number, symbols: number, rules: Rule[]}} Machine
+ * @typedef {{state: number, symbol: number, entry: Entry | null}} Rule `entry` is null if undefined
+ * @typedef {{states: number, symbols: number, rules: Rule[]}} Machine
  * @typedef {{kind: Kind, numbers: number[], side: string, text: string}} Verdict
  * @typedef {"halt" | "cycler" | "translated" | "backward" | "undecided" | "refused"} Kind
  */
 
-/** The kinds of a verdict line, in the order in which they are shown. @type {readonly Kind[]} */
+/** The kinds of verdict lines, in display order. @type {readonly Kind[]} */
 export const KINDS = ["halt", "cycler", "translated", "backward", "undecided", "refused"];
-/** The answers to a verdict line, as they are shown. */
+/** The checker's answers, in display order. */
 export const ANSWERS = ["ok", "open", "bad", "over", "unread"];
 
-/** @type {{machine: string, verdict: Verdict}} what a line says that is no verdict line: nothing */
-export const UNREAD = { machine: "", verdict: { kind: "refused", numbers: [], side: "", text: "" } };
+/** @type {{machine: string, verdict: Verdict}} the content of a line that isn't a verdict line */
+export const UNREAD_LINE = { machine: "", verdict: { kind: "refused", numbers: [], side: "", text: "" } };
 
-/** @returns {Machine} the machine of a text that the engine took for one */
-export function machineOf(/** @type {string} */ text) {
+/** @returns {Machine} */
+export function parseMachine(/** @type {string} */ text) {
   const groups = text.split("_");
   const rules = groups.flatMap((group, state) =>
     Array.from({ length: group.length / 3 }, (_, symbol) => ({
       state,
       symbol,
-      entry: entryOf(group.slice(3 * symbol, 3 * symbol + 3)),
+      entry: parseEntry(group.slice(3 * symbol, 3 * symbol + 3)),
     })),
   );
-  return { text, states: groups.length, symbols: groups[0].length / 3, rules };
+  return { states: groups.length, symbols: groups[0].length / 3, rules };
 }
 
 /** @returns {Entry | null} */
-function entryOf(/** @type {string} */ text) {
+function parseEntry(/** @type {string} */ text) {
   if (text === "---") {
     return null;
   }
@@ -40,15 +40,11 @@ function entryOf(/** @type {string} */ text) {
 
 export const stateLetter = (/** @type {number} */ state) => state < 0 ? "Z" : String.fromCharCode(65 + state);
 
-/** An entry as machines have it. */
 export const entryText = (/** @type {Entry | null} */ entry) =>
   entry === null ? "---" : `${entry.write}${entry.move > 0 ? "R" : "L"}${stateLetter(entry.next)}`;
 
-/**
- * The machine's text of a verdict line, and what is said of it.
- * @returns {{machine: string, verdict: Verdict}}
- */
-export function readLine(/** @type {string} */ line) {
+/** @returns {{machine: string, verdict: Verdict}} */
+export function parseVerdictLine(/** @type {string} */ line) {
   const [machine, word, ...rest] = line.split(" ");
   if (machine === "refused") {
     return { machine: "", verdict: { kind: "refused", numbers: [Number(word)], side: "", text: line } };
@@ -59,48 +55,45 @@ export function readLine(/** @type {string} */ line) {
   return { machine, verdict: { kind, numbers, side, text: line.slice(machine.length + 1) } };
 }
 
-const NO_STEPS =
-  "Undecided: it doesn’t halt within the limit of steps, and no decider that is on found anything.";
-const NO_CELLS =
-  "Undecided: its head would pass the limit of cells before it halts and before the steps end, and no " +
-  "decider that is on found anything.";
-/** @type {Record<string, string>} */
-const WORDS = { L: "left", R: "right" };
-const number = new Intl.NumberFormat("en");
+const NO_STEPS = "Undecided: no halt within the limit of steps, and no enabled decider succeeded.";
+const NO_CELLS = "Undecided: the head reaches the limit of cells first, and no enabled decider succeeded.";
+const numberFormat = new Intl.NumberFormat("en");
 
-/** A number as people read it, with a word behind it. */
-export const counted = (/** @type {number} */ count, /** @type {string} */ word) =>
-  `${number.format(count)} ${word}${count === 1 ? "" : "s"}`;
+/** A count with its noun, as in `1,000 steps`. */
+export const formatCount = (/** @type {number} */ count, /** @type {string} */ noun) =>
+  `${numberFormat.format(count)} ${noun}${count === 1 ? "" : "s"}`;
 
-/** A number as people read it, below 0 with a minus. */
-export const shown = (/** @type {number | bigint} */ value) => number.format(value).replace("-", "−");
+export const formatNumber = (/** @type {number | bigint} */ value) =>
+  numberFormat.format(value).replace("-", "−");
 
-/** What a verdict says, in plain English. */
-export function sentence(/** @type {Verdict} */ { kind, numbers, side }) {
+/** A verdict in plain English. */
+export function verdictText(/** @type {Verdict} */ { kind, numbers, side }) {
   const [first, second, shift, length] = numbers;
-  const never = "It never halts: ";
+  const pair = [first, second].map((step) => formatNumber(step ?? 0));
   switch (kind) {
     case "halt":
-      return `It halts after ${counted(first, "step")}, with ${counted(second, "cell")} other than 0.`;
+      return `It halts after ${formatCount(first, "step")}, with ${formatCount(second, "nonzero cell")}.`;
     case "cycler":
-      return `${never}the configuration at step ${shown(first)} comes again at step ${shown(second)}.`;
+      return `It never halts: the configuration of step ${pair[0]} repeats at step ${pair[1]}.`;
     case "translated": {
-      const steps = `at steps ${shown(first)} and ${shown(second)}`;
-      const extent = length === undefined ? "" : ` of ${counted(length, "cell")}`;
-      const farther = shift === undefined ? "" : `, ${counted(shift, "cell")} farther out`;
+      const extent = length === undefined ? "" : ` of ${formatCount(length, "cell")}`;
+      const distance = shift === undefined ? "" : `, ${formatCount(shift, "cell")} farther out`;
+      const direction = side === "R" ? "right" : "left";
       return (
-        `${never}${steps} the head is farther ${WORDS[side]} than before, ` +
-        `with the same pattern${extent} behind it${farther}.`
+        `It never halts: at steps ${pair.join(" and ")} the head is farther ${direction} than before, ` +
+        `with the same pattern${extent} behind it${distance}.`
       );
     }
-    case "backward":
+    case "backward": {
+      const size = `${formatCount(second, "node")} in ${formatCount(first, "level")}`;
       return (
-        `${never}what could come before a halt is a tree that ends, with ${counted(second, "node")} in ` +
-        `${counted(first, "level")}, and the start fits none of them.`
+        `It never halts: the tree of configurations before a halt ends, with ${size}, ` +
+        "and the start matches none of them."
       );
+    }
     case "undecided":
       return side === "cells" ? NO_CELLS : NO_STEPS;
     default:
-      return `Refused: the line is no machine; it goes wrong at column ${shown(first)}.`;
+      return `Refused: the line is not a machine; the error is at column ${pair[0]}.`;
   }
 }

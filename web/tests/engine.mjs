@@ -12,13 +12,13 @@ const bytes = readFileSync(process.argv[2]);
 const CALLS = { decide: "decideBytes", check: "checkBytes", trace: "traceBytes" };
 
 /** @param {import("../lib/bb.mjs").Engine} engine @param {Job} job */
-function answered(engine, { call, given, plan }) {
+function runCall(engine, { call, given, plan }) {
   const list = new Uint8Array(readFileSync(given));
-  return call === "samples" ? samples(engine, list, plan) : engine[CALLS[call]](list, plan);
+  return call === "samples" ? traceAllSamples(engine, list, plan) : engine[CALLS[call]](list, plan);
 }
 
 /** All traces from each step up to one, by each interval up to another, one behind the other. */
-function samples(engine, line, { from, every, ...limits }) {
+function traceAllSamples(engine, line, { from, every, ...limits }) {
   const parts = [];
   for (let first = 0; first <= from; first += 1) {
     for (let interval = 1; interval <= every; interval += 1) {
@@ -29,26 +29,26 @@ function samples(engine, line, { from, every, ...limits }) {
 }
 
 /** What came of a job. @param {import("../lib/bb.mjs").Engine} engine @param {Job} job */
-function done(engine, job) {
+function runJob(engine, job) {
   const begun = process.cpuUsage();
   try {
-    let reply = answered(engine, job);
+    let reply = runCall(engine, job);
     for (let k = 1; k < (job.times ?? 1); k += 1) {
-      reply = answered(engine, job);
+      reply = runCall(engine, job);
     }
     const { user, system } = process.cpuUsage(begun);
     writeFileSync(job.out, reply.bytes);
-    return { clean: reply.clean, seconds: (user + system) / 1e6, held: engine.held };
+    return { clean: reply.clean, seconds: (user + system) / 1e6, held: engine.memoryBytes };
   } catch (error) {
     const { name, limit, message } = /** @type {any} */ (error);
-    return { error: name, limit, message, held: engine.held };
+    return { error: name, limit, message, held: engine.memoryBytes };
   }
 }
 
 const engine = isSupported() ? await load(bytes) : null;
-console.log(JSON.stringify(engine === null ? { unsupported: true } : { traces: engine.traces }));
+console.log(JSON.stringify(engine === null ? { unsupported: true } : { traces: engine.hasTrace }));
 for await (const line of createInterface({ input: process.stdin })) {
   const job = JSON.parse(line);
   const asked = job.memory === undefined ? engine : await load(bytes, { memory: job.memory });
-  console.log(JSON.stringify(done(asked, job)));
+  console.log(JSON.stringify(runJob(asked, job)));
 }

@@ -5,15 +5,15 @@
  */
 import { createInterface } from "node:readline";
 import { encodingOf } from "../page/input/files.mjs";
-import { formOf } from "../reader/prepare.mjs";
-import { ADVICE, readingOf } from "../reader/reading.mjs";
-import { REWRITINGS } from "../reader/texts.mjs";
+import { detectForm } from "../reader/list-reader.mjs";
+import { ADVICE, readLine } from "../reader/line-reader.mjs";
+import { REWRITINGS } from "../reader/machine-parser.mjs";
 
 function answerTo(asked) {
   if (Array.isArray(asked)) {
-    return readingOf(...asked);
+    return readLine(...asked);
   }
-  return "lines" in asked ? formOf(asked.lines) : encodingOf(Buffer.from(asked.bytes, "hex"));
+  return "lines" in asked ? detectForm(asked.lines) : encodingOf(Buffer.from(asked.bytes, "hex"));
 }
 
 console.log(JSON.stringify({ advice: ADVICE, rewritings: REWRITINGS }));

@@ -12,7 +12,7 @@ from support.browser import trace
 from support.claims import with_other_number
 from support.examples import README, Example, read_examples
 from support.machines import CHAMPION, random_machines, seldom_halting
-from support.node import CallEnd, Engine, documented
+from support.node import CallResult, Engine, documented_script
 from support.plans import FOUR, MOST, all_plans, random_plan
 from support.program import MAX_CELLS, SWITCHES, as_lines, ended, processor_time, words_of_plan
 
@@ -32,11 +32,11 @@ class Both:
     def __init__(self, program: str, engine: Engine) -> None:
         self.program, self.engine = program, engine
 
-    def written(self, name: str, plan: Plan, given: bytes) -> bytes:
+    def program_output(self, name: str, plan: Plan, given: bytes) -> bytes:
         """What the program writes."""
         return ended([self.program, name, *words_of_plan(plan)], given).output
 
-    def same(self, name: str, plan: Plan, given: bytes) -> CallEnd:
+    def require_same(self, name: str, plan: Plan, given: bytes) -> CallResult:
         """Requires that a call's reply is the program's, and gives it."""
         reply = self.engine.call(name, plan, given)
         wanted = ended([self.program, name, *words_of_plan(plan)], given)
@@ -66,17 +66,17 @@ def test_size(module: pathlib.Path) -> None:
 
 @pytest.mark.parametrize("example", LISTS, ids=[example.name for example in LISTS])
 def test_example(both: Both, example: Example) -> None:
-    both.same(example.words[0], example.plan, example.lines)
+    both.require_same(example.words[0], example.plan, example.lines)
 
 
 def test_all_plans(both: Both) -> None:
     """The first run of the README, and all plans at the rows of limits."""
-    both.same("decide", {}, README)
-    both.same("decide", {name: False for name in SWITCHES}, README)
+    both.require_same("decide", {}, README)
+    both.require_same("decide", {name: False for name in SWITCHES}, README)
     given = b"".join(example.lines for example in LISTS if example.name in ("verdicts", "small_limits"))
     plans = list(all_plans())
     for plan in plans:
-        both.same("decide", plan, given)
+        both.require_same("decide", plan, given)
     print("%d plans of %d lines" % (len(plans), given.count(b"\n")))
 
 
@@ -85,11 +85,11 @@ def test_random_machines_and_claims(both: Both, rng: random.Random, count: int) 
     """At random limits; half of the claims are forged."""
     machines = random_machines(count, rng)
     for k in range(0, count, 100):
-        reply = both.same("decide", random_plan(rng), as_lines(machines[k : k + 100])).reply
+        reply = both.require_same("decide", random_plan(rng), as_lines(machines[k : k + 100])).reply
         lines = reply.decode().splitlines()
         claims = [with_other_number(line, rng) if rng.random() < 0.5 else line for line in lines]
         limits = {name: value for name, value in random_plan(rng).items() if name not in SWITCHES}
-        both.same("check", limits, as_lines(claims))
+        both.require_same("check", limits, as_lines(claims))
     print("%d machines and claims" % count)
 
 
@@ -99,13 +99,13 @@ def test_four_states(both: Both, four_states: List[str]) -> None:
     given = as_lines(four_states)
     assert len(four_states) == 858_909
     before = processor_time()
-    wanted = both.written("decide", FOUR, given)
+    wanted = both.program_output("decide", FOUR, given)
     taken = processor_time() - before
     reply = both.engine.call("decide", FOUR, given)
     assert reply.reply == wanted
     seconds = reply.answer["seconds"]
     print("four states: %.2f s, the program %.2f s, %.2f times" % (seconds, taken, seconds / taken))
-    both.same("check", FOUR, wanted)
+    both.require_same("check", FOUR, wanted)
 
 
 @pytest.mark.slow
@@ -114,10 +114,10 @@ def test_noise(both: Both, rng: random.Random, name: str) -> None:
     """Bytes that are no list, lines without an end, and a line of 10 MB."""
     for length in (0, 1, 2, 100, 10_000, 100_000):
         noise = rng.randbytes(length)
-        both.same(name, {}, noise)
-        both.same(name, {}, noise + b"\n\n1RZ---")
+        both.require_same(name, {}, noise)
+        both.require_same(name, {}, noise + b"\n\n1RZ---")
     for line in (b"1RB1LB_" * 1_500_000, b"\xff" * 10_000_000, b"1RZ--- halt 1 1" + b" " * 10_000_000):
-        both.same(name, {}, line)
+        both.require_same(name, {}, line)
 
 
 @pytest.mark.parametrize(
@@ -151,18 +151,18 @@ def test_wrong_plan(engine: Engine, plan: Plan, error: str) -> None:
 
 @pytest.mark.parametrize("name", ["decide", "check"])
 def test_greatest_limits(both: Both, name: str) -> None:
-    reply = both.same(name, MOST, b"1RB1LB_1LA1RZ\n1RB1LB_1LA1RZ halt 6 4\n")
+    reply = both.require_same(name, MOST, b"1RB1LB_1LA1RZ\n1RB1LB_1LA1RZ halt 6 4\n")
     print("memory of %s at the greatest limits: %d MB" % (name, reply.answer["held"] // 10**6))
 
 
 def test_script_of_the_documentation(both: Both, tmp_path: pathlib.Path) -> None:
     """The script of docs/web.md decides a list and checks what it said, as it stands there."""
     (tmp_path / "web").symlink_to(TOP / "web")
-    (tmp_path / "decide.mjs").write_text(documented("A script"), encoding="utf-8")
+    (tmp_path / "decide.mjs").write_text(documented_script("A script"), encoding="utf-8")
     limits = {"steps": 100_000, "cells": 4096}
-    decided = both.written("decide", limits, README)
+    decided = both.program_output("decide", limits, README)
     found = ended(["node", "decide.mjs"], README, cwd=str(tmp_path))
-    assert found.output == decided + both.written("check", limits, decided), found.error
+    assert found.output == decided + both.program_output("check", limits, decided), found.error
 
 
 def test_memory_that_cannot_be_had(engine: Engine) -> None:

@@ -6,7 +6,7 @@ from typing import List
 
 import pytest
 from support import TOP
-from support.node import documented
+from support.node import documented_script
 from support.program import as_lines, ended
 
 pytestmark = pytest.mark.needs("node", "npm", "tsc")
@@ -59,7 +59,7 @@ def test_example_of_the_documentation(bb: str, installed: pathlib.Path) -> None:
     limits = ["--steps", "100000", "--cells", "4096"]
     verdicts = ended([bb, "decide", *limits], as_lines(MACHINES)).output
     wanted = (verdicts + ended([bb, "check", *limits], verdicts).output).decode()
-    assert run(installed, documented("From npm's package"), MACHINES) == wanted
+    assert run(installed, documented_script("From npm's package"), MACHINES) == wanted
 
 
 def test_example_of_the_readme(bb: str, installed: pathlib.Path) -> None:

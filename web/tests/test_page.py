@@ -15,7 +15,7 @@ from support.browser import ENDLESS, LONG, Page
 from support.claims import with_other_number
 from support.examples import README, Example, read_examples
 from support.machines import random_machines
-from support.node import documented
+from support.node import documented_script
 from support.plans import FOUR, all_plans, random_plan
 from support.program import SWITCHES, as_lines
 
@@ -41,26 +41,26 @@ def test_first_verdict_and_first_list(tab: Page) -> None:
     """What the page shows when it is opened, and the first run of the README."""
     assert "halts after 6 steps" in tab.text("machine-says")
     assert tab.js("return performance.getEntriesByName('first verdict').length") == 1
-    tab.same("decide", {}, README)
-    tab.same("decide", {name: False for name in SWITCHES}, README)
+    tab.require_same("decide", {}, README)
+    tab.require_same("decide", {name: False for name in SWITCHES}, README)
     assert tab.rows()[-1] == ["3", "1rB1LB", "refused 2", "\u2013"]
 
 
 def test_machines_out_of_lines(tab: Page) -> None:
     """Machines are taken out of their lines, as the recipe does, and lines without one are counted."""
     tab.answer_file(b"# a list\n\n  1RB1LB_1LA1RZ # two states\n17, 1RA1RA,x\r\n1rB\nno machine\n")
-    assert tab.saved() == tab.written("decide", {}, b"1RB1LB_1LA1RZ\n1RA1RA\n1rB\nno machine\n")
-    assert "2 decided, 0 undecided, 2 refused, 2 left out" in tab.text("status")
+    assert tab.save() == tab.program_output("decide", {}, b"1RB1LB_1LA1RZ\n1RA1RA\n1rB\nno machine\n")
+    assert "2 decided, 0 undecided, 2 refused, 2 skipped" in tab.text("status")
 
 
 @pytest.mark.parametrize("example", LISTS, ids=[example.name for example in LISTS])
 def test_example_as_file(tab: Page, example: Example) -> None:
-    assert tab.same(example.words[0], example.plan, example.lines)
+    assert tab.require_same(example.words[0], example.plan, example.lines)
 
 
 def test_example_of_the_menu(tab: Page) -> None:
     tab.choose_example("claims")
-    assert tab.saved() == (TOP / "examples" / "claims" / "expected.txt").read_bytes()
+    assert tab.save() == (TOP / "examples" / "claims" / "expected.txt").read_bytes()
 
 
 @pytest.mark.parametrize("every", [9, pytest.param(1, marks=pytest.mark.slow)])
@@ -69,7 +69,7 @@ def test_all_plans(tab: Page, every: int) -> None:
     given = b"".join(example.lines for example in LISTS if example.name in ("verdicts", "small_limits"))
     plans = list(all_plans())[::every]
     for plan in plans:
-        tab.same("decide", plan, given)
+        tab.require_same("decide", plan, given)
     print("%d plans of %d lines" % (len(plans), given.count(b"\n")))
 
 
@@ -78,11 +78,11 @@ def test_random_machines_and_claims(tab: Page, rng: random.Random, count: int = 
     """Random machines at random limits, and claims of which half are forged, told for what they are."""
     machines = random_machines(count, rng)
     for k in range(0, count, 200):
-        decided = tab.same("decide", random_plan(rng), as_lines(machines[k : k + 200]))
+        decided = tab.require_same("decide", random_plan(rng), as_lines(machines[k : k + 200]))
         lines = decided.decode().splitlines()
         claims = [with_other_number(line, rng) if rng.random() < 0.5 else line for line in lines]
         limits = {name: value for name, value in random_plan(rng).items() if name not in SWITCHES}
-        tab.same("check", limits, as_lines(claims))
+        tab.require_same("check", limits, as_lines(claims))
     tab.plan({}, "auto")
     tab.answer_file(decided)
     assert "verdict lines, checked" in tab.text("status")
@@ -113,26 +113,26 @@ def test_refused_limits(tab: Page, plan: Dict[str, Any], name: str, sentence: st
 @pytest.mark.parametrize("name", ["decide", "check"])
 def test_noise(tab: Page, rng: random.Random, name: str) -> None:
     """Bytes that are no UTF-8, lines of noise, and a line of 100 MB."""
-    tab.same(name, {}, rng.randbytes(100_000) + b"\n<img src=x onerror=alert(1)>\n1RZ---")
-    tab.same(name, {}, b"\xff<b>\n" * 1_000_000)
-    tab.same(name, {}, b"1RB1LB_" * 14_000_000 + b"\n1RZ---\n")
+    tab.require_same(name, {}, rng.randbytes(100_000) + b"\n<img src=x onerror=alert(1)>\n1RZ---")
+    tab.require_same(name, {}, b"\xff<b>\n" * 1_000_000)
+    tab.require_same(name, {}, b"1RB1LB_" * 14_000_000 + b"\n1RZ---\n")
 
 
 def test_stop_in_the_middle(tab: Page) -> None:
     """A stop in the middle of 10^12 steps; what was decided stays, and the next list is decided."""
     tab.plan(ENDLESS, "decide")
-    tab.file(b"1RB1LB_1LA1RZ\n" * 40 + LONG.encode() + b"\n")
+    tab.submit_file(b"1RB1LB_1LA1RZ\n" * 40 + LONG.encode() + b"\n")
     tab.until(lambda: tab.text("status").startswith("Running") and "40 decided" in tab.text("status"))
     tab.click("stop")
     assert tab.state() == "stopped"
-    assert tab.saved() == b"1RB1LB_1LA1RZ halt 6 4\n" * 40
-    tab.same("decide", {}, README)
+    assert tab.save() == b"1RB1LB_1LA1RZ halt 6 4\n" * 40
+    tab.require_same("decide", {}, README)
 
 
 def test_link_opens_a_machine(tab: Page) -> None:
     """A link opens a machine, its limits and switches again."""
     tab.open("#machine=1RA1RA&steps=9&cells=700&translated=off&cyclers=off&backward=off")
-    assert tab.saved() == b"1RA1RA undecided steps\n"
+    assert tab.save() == b"1RA1RA undecided steps\n"
     tab.click("link")
     wanted = "#machine=1RA1RA&steps=9&cells=700&cyclers=off&translated=off&backward=off"
     assert tab.js("return location.hash") == wanted
@@ -150,14 +150,14 @@ def test_page_of_the_documentation(browser: Page, module: pathlib.Path, tmp_path
     for path in [*(TOP / "web" / "lib").glob("*.mjs"), module]:
         shutil.copy(path, tmp_path)
     (tmp_path / "favicon.ico").touch()
-    (tmp_path / "index.html").write_text(documented("A page"), encoding="utf-8")
+    (tmp_path / "index.html").write_text(documented_script("A page"), encoding="utf-8")
     handler = functools.partial(Quiet, directory=str(tmp_path))
     with http.server.ThreadingHTTPServer(("127.0.0.1", 0), handler) as server:
         threading.Thread(target=server.serve_forever, daemon=True).start()
         browser.driver.get("http://127.0.0.1:%d/" % server.server_port)
         text = browser.until(lambda: browser.text("verdicts"))
         server.shutdown()
-    assert text + "\n" == browser.written("decide", {"steps": 1000}, README[:21]).decode()
+    assert text + "\n" == browser.program_output("decide", {"steps": 1000}, README[:21]).decode()
     assert not browser.errors()
     browser.requests()
 
@@ -173,7 +173,7 @@ def test_four_states(tab: Page, four_states: List[str]) -> None:
     tab.plan(FOUR, "decide")
     tab.answer_file(given, drop=True)
     taken, longest = time.monotonic() - begun, tab.js("return window.longest") / 1_000
-    assert tab.saved() == tab.written("decide", FOUR, given)
+    assert tab.save() == tab.program_output("decide", FOUR, given)
     beside = tab.js(UNDECIDED) / 1_000
     tab.js("window.longest = 0")
     tab.choose_option("order", "down")

@@ -162,7 +162,7 @@ def test_heads_have_halos(tab: Page, scheme: str) -> None:
     """The frame of a head is seen beside its halo on each symbol."""
     tab.media(prefers_color_scheme=scheme)
     tab.open("#machine=" + COUNTER)
-    view, rows = tab.drawn(), trace(tab.program, COUNTER, 18)
+    view, rows = tab.wait_until_drawn(), trace(tab.program, COUNTER, 18)
     assert {row.symbol(row.head) for row in rows} == set(range(10))
     assert view["high"] >= 12 and view["every"] == 1
     for row in rows:
@@ -178,12 +178,12 @@ def test_marks_have_halos(tab: Page, scheme: str) -> None:
     """A mark over cells of a pixel has a halo of the panel's colour."""
     tab.media(prefers_color_scheme=scheme)
     tab.open("#machine=%s" % LATE)
-    tab.drawn()
+    tab.wait_until_drawn()
     tab.click("fit")
-    soon(lambda: tab.drawn()["top"] == 0)
-    view, mark = tab.drawn(), tab.colour("--mark")
+    soon(lambda: tab.wait_until_drawn()["top"] == 0)
+    view, mark = tab.wait_until_drawn(), tab.colour("--mark")
     assert view["high"] <= 3
-    step = int(tab.written("decide", {}, LATE.encode()).split()[3])
+    step = int(tab.program_output("decide", {}, LATE.encode()).split()[3])
     y = int((step - view["top"]) / view["every"] * view["high"] + view["y"]) - view["y"]
     found = tab.pixels([[x, y + k] for x in range(2, 600, 3) for k in ABOVE])
     columns = [found[k : k + len(ABOVE)] for k in range(0, len(found), len(ABOVE))]
@@ -253,7 +253,7 @@ def test_page_sends_nothing(tab: Page) -> None:
     # What was tried is in the console.
     assert tab.requests() and tab.errors()
     tab.open_list("1RA1RA\n")
-    assert tab.saved() == b"1RA1RA translated R 1 2 1 1\n"
+    assert tab.save() == b"1RA1RA translated R 1 2 1 1\n"
 
 
 def test_row_fits_at_a_desk(tab: Page) -> None:
@@ -285,6 +285,6 @@ def test_narrow_page(page: pathlib.Path, bb: str, tmp_path: pathlib.Path, width:
             assert phone.js(WIDTH) <= width
         for steps in (999_999, 9_999_999, 50_000_000):
             phone.open("#machine=%s&steps=%d" % (CHAMPION, steps))
-            phone.drawn()
+            phone.wait_until_drawn()
             assert phone.js(DIGITS, "{:,}".format(steps)) >= 0
         assert not phone.errors()

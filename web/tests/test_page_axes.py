@@ -5,7 +5,7 @@ import re
 from typing import Dict, List, NamedTuple, Tuple
 
 from support.browser import HEAD, Page, Row, soon, trace
-from support.gestures import Keys, in_window, mouse
+from support.gestures import Keys, window_point, send_mouse
 from support.machines import CHAMPION, CHAMPION_OF_FOUR
 
 STEPS = 10_000
@@ -58,7 +58,7 @@ def ticks(tab: Page, view: Dict[str, float]) -> Tuple[List[Tick], List[Tick]]:
 def require_ticks(tab: Page) -> None:
     """Each number stands at the pixel where the view has it, with a mark there that is seen on the canvas,
     beside ground of the panel."""
-    view = tab.drawn()
+    view = tab.wait_until_drawn()
     steps, positions = ticks(tab, view)
     down, right = view["high"] / view["every"], view["wide"] / view["across"]
     soft, panel, accent = (tab.colour(name) for name in ("--soft", "--panel", "--accent"))
@@ -81,7 +81,7 @@ def require_ticks(tab: Page) -> None:
 
 def require_rows(tab: Page, rows: Dict[int, Row]) -> None:
     """At a step's number stands its row, with its head, each cell where the positions' numbers say."""
-    colours, view = tab.palette(), tab.drawn()
+    colours, view = tab.palette(), tab.wait_until_drawn()
     steps, positions = ticks(tab, view)
     first, last = positions[0], positions[-1]
     apart = (last.text - first.text) / (last.number - first.number)
@@ -98,12 +98,12 @@ def require_rows(tab: Page, rows: Dict[int, Row]) -> None:
 
 def require_places(tab: Page, rows: Dict[int, Row]) -> None:
     """At the pointer the program's row of that step is shown."""
-    view = tab.drawn()
+    view = tab.wait_until_drawn()
     width, height = tab.size()
     for right, down in ((0.05, 0.03), (0.5, 0.5), (0.97, 0.4), (0.3, 0.9), (0.52, 0.2)):
         x = int(view["x"] + right * (width - view["x"] - 1))
         y = int(view["y"] + down * (height - view["y"] - 1))
-        mouse(tab, "mouseMoved", in_window(tab, x, y))
+        send_mouse(tab, "mouseMoved", window_point(tab, x, y))
         step = int(view["top"] + (y - view["y"]) // view["high"] * view["every"])
         position = int(view["left"] + (x - view["x"]) // view["wide"] * view["across"])
         wanted = rows[step].place_words(position) if step in rows else None
@@ -116,16 +116,16 @@ def test_axes_and_pointer(tab: Page) -> None:
     tab.open("#machine=%s&steps=%d" % (CHAMPION, STEPS))
     tab.scroll_to_diagram()
     rows = {row.step: row for row in trace(tab.program, CHAMPION, STEPS)}
-    assert tab.drawn()["every"] > 1
+    assert tab.wait_until_drawn()["every"] > 1
     require_ticks(tab)
     require_places(tab, rows)
     for _ in range(3):
-        tab.zooming(1.3, 190, 130)
-        tab.drawn()
+        tab.time_zoom(1.3, 190, 130)
+        tab.wait_until_drawn()
         require_ticks(tab)
         require_places(tab, rows)
     tab.go_to(str(EARLY))
-    soon(lambda: tab.drawn()["every"] == 1 and tab.drawn()["top"] > EARLY / 2)
+    soon(lambda: tab.wait_until_drawn()["every"] == 1 and tab.wait_until_drawn()["top"] > EARLY / 2)
     require_ticks(tab)
     require_rows(tab, rows)
     require_places(tab, rows)
@@ -141,12 +141,12 @@ def step_shown(tab: Page) -> int:
 def test_keys_name_the_row_that_enter_shows(tab: Page) -> None:
     """Where a row stands for many steps, keys point at the step that is told: Enter shows its tape."""
     tab.open("#machine=%s&steps=50000000" % CHAMPION)
-    tab.drawn()
+    tab.wait_until_drawn()
     tab.go_to("1000000")
     assert tab.tape_is_at("1,000,000")
     tab.press("diagram", "0")
-    soon(lambda: tab.drawn()["every"] > 10_000)
-    every = tab.drawn()["every"]
+    soon(lambda: tab.wait_until_drawn()["every"] > 10_000)
+    every = tab.wait_until_drawn()["every"]
     for way in ((Keys.ARROW_DOWN,), (Keys.ARROW_DOWN, Keys.ARROW_RIGHT), (Keys.ARROW_UP,) * 3):
         tab.press("diagram", *way)
         told = step_shown(tab)
@@ -158,13 +158,13 @@ def test_keys_name_the_row_that_enter_shows(tab: Page) -> None:
 def test_keys_beyond_the_view(tab: Page) -> None:
     """Their place is told once the picture has it."""
     tab.open("#machine=%s" % CHAMPION_OF_FOUR)
-    tab.drawn()
+    tab.wait_until_drawn()
     tab.press("diagram", "+", "+")
-    top = tab.drawn()["top"]
+    top = tab.wait_until_drawn()["top"]
     for _ in range(3):
         tab.press("diagram", *[Keys.ARROW_DOWN] * 13)
         assert soon(lambda: tab.text("place-text") != "", 2)
-    assert tab.drawn()["top"] > top
+    assert tab.wait_until_drawn()["top"] > top
     told = step_shown(tab)
     tab.press("diagram", Keys.ENTER)
     assert tab.tape_is_at("{:,}:".format(told))

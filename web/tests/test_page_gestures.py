@@ -4,7 +4,7 @@ from typing import Dict, Tuple
 
 import pytest
 from support.browser import Page, soon, trace
-from support.gestures import Point, drag, in_window, pinch, swipe, tap
+from support.gestures import Point, drag, window_point, pinch, swipe, tap
 from support.machines import CHAMPION
 
 View = Dict[str, float]
@@ -28,7 +28,7 @@ delete canvas.setPointerCapture;
 
 def seen(tab: Page) -> Tuple[float, float, float, float]:
     """The first and the last step, the first and the last position in view."""
-    view = tab.drawn()
+    view = tab.wait_until_drawn()
     width, height = tab.size()
     down, right = (height - view["y"]) / view["high"], (width - view["x"]) / view["wide"]
     last, end = view["top"] + down * view["every"], view["left"] + right * view["across"]
@@ -52,16 +52,16 @@ def place_of(view: View, cell: Tuple[int, int]) -> Point:
 def open_near(tab: Page) -> View:
     """Opens a run at a step whose cells are seen one by one."""
     tab.open("#machine=%s&steps=%d" % (CHAMPION, STEPS))
-    tab.drawn()
+    tab.wait_until_drawn()
     tab.go_to(str(NEAR))
-    soon(lambda: tab.drawn()["top"] > 0)
+    soon(lambda: tab.wait_until_drawn()["top"] > 0)
     tab.scroll_to_diagram()
-    return tab.drawn()
+    return tab.wait_until_drawn()
 
 
 def require_cells(tab: Page) -> None:
     """The cells in view have the colours of the program's rows at these steps and positions."""
-    colours, view = tab.palette(), tab.drawn()
+    colours, view = tab.palette(), tab.wait_until_drawn()
     first, last = int(view["top"]), int(view["top"] + 12)
     rows = {row.step: row for row in trace(tab.program, CHAMPION, last)}
     left, columns = int(view["left"]), int((tab.size()[0] - view["x"]) / view["wide"])
@@ -82,41 +82,41 @@ def test_mouse_moves_the_picture(tab: Page) -> None:
     begin = (before["x"] + 30.5 * wide, before["y"] + 20.5 * high)
     # Neither is a multiple of a cell's size, and each move of the mouse is shorter than a cell.
     end = (begin[0] - 7.25 * wide, begin[1] - 9.25 * high)
-    drag(tab, in_window(tab, *begin), in_window(tab, *end))
-    soon(lambda: tab.drawn()["top"] == before["top"] + 9)
-    after, then = tab.drawn(), seen(tab)
+    drag(tab, window_point(tab, *begin), window_point(tab, *end))
+    soon(lambda: tab.wait_until_drawn()["top"] == before["top"] + 9)
+    after, then = tab.wait_until_drawn(), seen(tab)
     assert [b - a for a, b in zip(first, then)] == [9, 9, 7, 7]
     assert (after["high"], after["wide"]) == (high, wide)
     assert cell_at(before, begin) == cell_at(after, end)
     require_cells(tab)
     assert tab.text("tape-text").startswith("Step {:,}".format(NEAR))
-    drag(tab, in_window(tab, *end), in_window(tab, *begin))
-    soon(lambda: tab.drawn()["top"] == before["top"])
-    assert tab.drawn() == before
-    drag(tab, in_window(tab, *begin), in_window(tab, begin[0] + 1, begin[1] + 1))
+    drag(tab, window_point(tab, *end), window_point(tab, *begin))
+    soon(lambda: tab.wait_until_drawn()["top"] == before["top"])
+    assert tab.wait_until_drawn() == before
+    drag(tab, window_point(tab, *begin), window_point(tab, begin[0] + 1, begin[1] + 1))
     step = cell_at(before, begin)[0]
     assert soon(lambda: tab.text("tape-text").startswith("Step {:,}".format(step)))
-    assert tab.drawn() == before
+    assert tab.wait_until_drawn() == before
 
 
 def test_other_button_moves_nothing(tab: Page) -> None:
     """Another button than the main one moves nothing."""
     before = open_near(tab)
     tab.js(OTHER_BUTTON)
-    assert not soon(lambda: tab.drawn() != before, 0.5)
+    assert not soon(lambda: tab.wait_until_drawn() != before, 0.5)
 
 
 @pytest.mark.slow
 def test_drag_ends_at_the_edges(tab: Page) -> None:
     """A drag doesn't go before the first step, nor away from all cells."""
     tab.open("#machine=%s&steps=%d" % (CHAMPION, STEPS))
-    before = tab.drawn()
+    before = tab.wait_until_drawn()
     tab.scroll_to_diagram()
-    begin, end = in_window(tab, 150, 100), in_window(tab, 350, 300)
+    begin, end = window_point(tab, 150, 100), window_point(tab, 350, 300)
     for _ in range(4):
         drag(tab, begin, end)
-    soon(lambda: tab.drawn()["left"] < before["left"])
-    view, (_, _, left, right) = tab.drawn(), seen(tab)
+    soon(lambda: tab.wait_until_drawn()["left"] < before["left"])
+    view, (_, _, left, right) = tab.wait_until_drawn(), seen(tab)
     assert view["top"] == 0
     assert left <= trace(tab.program, CHAMPION, STEPS)[-1].low <= right
 
@@ -132,23 +132,23 @@ def require_place(view: View, cell: Tuple[int, int], middle: Point) -> None:
 def test_two_fingers_zoom(phone: Page) -> None:
     """Two fingers zoom: apart to fewer steps and positions, together to more; what is between them stays."""
     before = open_near(phone)
-    tap(phone, in_window(phone, before["x"] + 100, before["y"] + 100))
+    tap(phone, window_point(phone, before["x"] + 100, before["y"] + 100))
     soon(lambda: phone.js("return document.activeElement.id") == "diagram")
-    before = phone.drawn()
+    before = phone.wait_until_drawn()
     begun = seen(phone)
     middle = (before["x"] + 120.5, before["y"] + 150.5)
     cell = cell_at(before, middle)
-    pinch(phone, in_window(phone, *middle), 60, 90)
-    soon(lambda: phone.drawn()["high"] > before["high"])
-    near, nearer = phone.drawn(), seen(phone)
+    pinch(phone, window_point(phone, *middle), 60, 90)
+    soon(lambda: phone.wait_until_drawn()["high"] > before["high"])
+    near, nearer = phone.wait_until_drawn(), seen(phone)
     assert nearer[1] - nearer[0] < 0.6 * (begun[1] - begun[0])
     assert nearer[3] - nearer[2] < 0.6 * (begun[3] - begun[2])
     require_place(near, cell, middle)
     require_cells(phone)
     # In steps of which each zooms less than to the next size of a cell.
-    pinch(phone, in_window(phone, *middle), 160, 60)
-    soon(lambda: phone.drawn()["high"] < before["high"])
-    far, farther = phone.drawn(), seen(phone)
+    pinch(phone, window_point(phone, *middle), 160, 60)
+    soon(lambda: phone.wait_until_drawn()["high"] < before["high"])
+    far, farther = phone.wait_until_drawn(), seen(phone)
     assert farther[1] - farther[0] > 3 * (nearer[1] - nearer[0])
     require_place(far, cell, middle)
     assert phone.js("return visualViewport.scale") == 1
@@ -158,22 +158,22 @@ def test_two_fingers_zoom(phone: Page) -> None:
 def test_one_finger_scrolls_or_moves(phone: Page) -> None:
     """On a phone one finger scrolls the page; the picture is moved only after a tap into it."""
     phone.open("#machine=%s&steps=100000" % CHAMPION)
-    before = phone.drawn()
+    before = phone.wait_until_drawn()
     phone.scroll_to_diagram()
     assert "Tap into the picture first" in phone.get("diagram-keys", "innerText")
     width, height = phone.size()
-    box = in_window(phone, width / 2, height / 2)
+    box = window_point(phone, width / 2, height / 2)
     place = phone.js("return scrollY")
     swipe(phone, box, (box[0], box[1] - 120))
     assert soon(lambda: phone.js("return scrollY") != place)
-    assert phone.drawn() == before
+    assert phone.wait_until_drawn() == before
     phone.scroll_to_diagram()
-    box = in_window(phone, width / 2, height / 2)
+    box = window_point(phone, width / 2, height / 2)
     tap(phone, box)
     soon(lambda: phone.js("return document.activeElement.id") == "diagram")
     place = phone.js("return scrollY")
     swipe(phone, box, (box[0], box[1] - 120))
-    assert soon(lambda: phone.drawn()["top"] > before["top"])
-    moved = (phone.drawn()["top"] - before["top"]) / before["every"] * before["high"]
+    assert soon(lambda: phone.wait_until_drawn()["top"] > before["top"])
+    moved = (phone.wait_until_drawn()["top"] - before["top"]) / before["every"] * before["high"]
     assert phone.js("return scrollY") == place
     assert abs(moved - 120) <= before["high"]

@@ -6,7 +6,7 @@ from typing import Callable, List
 
 import pytest
 from support.browser import ENDLESS, LONG, Page, soon
-from support.gestures import mouse, write
+from support.gestures import send_mouse, type_text
 from support.machines import CHAMPION, CHAMPION_OF_FOUR
 
 SELECTED = """
@@ -35,7 +35,7 @@ def list_of(tab: Page) -> str:
 def select_by_click(tab: Page) -> object:
     """Clicks into the list by the mouse; how many characters are selected then."""
     for kind in ("mousePressed", "mouseReleased"):
-        mouse(tab, kind, tab.js(MIDDLE), button="left", clickCount=1)
+        send_mouse(tab, kind, tab.js(MIDDLE), button="left", clickCount=1)
     return tab.js(SELECTED)
 
 
@@ -49,7 +49,7 @@ def test_first_click_selects_an_example(tab: Page) -> None:
     assert select_by_click(tab) == 0
     tab.open()
     select_by_click(tab)
-    write(tab, "1RA1RA")
+    type_text(tab, "1RA1RA")
     assert list_of(tab) == "1RA1RA"
     assert select_by_click(tab) == 0
     tab.choose_example("claims")
@@ -147,7 +147,7 @@ def test_limits_as_people_write_them(tab: Page) -> None:
 def test_step_is_written_as_a_limit(tab: Page) -> None:
     """A refusal is told, and stays until another step is shown, or another machine."""
     tab.open("#machine=%s" % CHAMPION_OF_FOUR)
-    tab.drawn()
+    tab.wait_until_drawn()
     tab.go_to("1e2")
     assert soon(lambda: tab.text("tape-text").startswith("Step 100:"))
     tab.go_to("many")
@@ -173,7 +173,7 @@ def test_changed_file_is_named(tab: Page) -> None:
     time.sleep(1.1)
     path.write_bytes(b"1RB1LB_1LA1RZ\n1RA1RA\n")
     tab.run()
-    assert soon(lambda: "could not be read" in tab.text("error"))
+    assert soon(lambda: "can\u2019t be read" in tab.text("error"))
     tab.js("document.getElementById('file').click = () => {}")
     tab.click("file-choose")
     assert tab.js("return document.getElementById('file').files.length") == 0

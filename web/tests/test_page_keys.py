@@ -4,7 +4,7 @@ of the tape."""
 from typing import List
 
 from support.browser import CONTRAST, Page, soon
-from support.gestures import Keys, key, write
+from support.gestures import Keys, press_key, type_text
 from support.machines import CHAMPION, CHAMPION_OF_FOUR
 
 MACHINE = "1LB0LA_1RA---"
@@ -54,7 +54,7 @@ def is_outside(tab: Page) -> bool:
 def walk(tab: Page, names: List[str], back: bool = False) -> None:
     """Goes on by Tab, or back, over what has these names; each is seen with an outline."""
     for wanted in names:
-        key(tab, "Tab", back)
+        press_key(tab, "Tab", back)
         found, focus = name_of(tab), tab.js(CONTRAST + FOCUS)
         assert found.startswith(wanted) and not focus["is_body"]
         assert focus["is_seen"] and focus["is_outlined"] and focus["contrast"] >= 3, (wanted, focus)
@@ -65,33 +65,33 @@ def test_page_by_keys(tab: Page) -> None:
     tab.js("document.activeElement.blur(); scrollTo(0, 0)")
     walk(tab, BEFORE[:3])
     tab.js("document.getElementById('list').select()")
-    write(tab, MACHINE)
+    type_text(tab, MACHINE)
     walk(tab, BEFORE[3:4])
-    tab.await_answer(lambda: key(tab, "Enter"))
+    tab.await_answer(lambda: press_key(tab, "Enter"))
     assert soon(lambda: tab.text("machine-says").startswith("It never halts: at steps 4 and 8"))
     assert tab.text("machine-text") == MACHINE
-    tab.drawn()
+    tab.wait_until_drawn()
     assert tab.tape_is_at("4:")
     assert name_of(tab) == "Decide"
     walk(tab, BEFORE[4:] + BEHIND)
     leave_and_come_back(tab)
     walk(tab, [*reversed(BEFORE + BEHIND)], back=True)
-    key(tab, "Tab", True)
+    press_key(tab, "Tab", True)
     assert is_outside(tab) or name_of(tab) in BEHIND
 
 
 def leave_and_come_back(tab: Page) -> None:
     """Behind the table only what scrolls takes the focus; then the page is left, and come to again."""
     passed = 0
-    key(tab, "Tab")
+    press_key(tab, "Tab")
     while not is_outside(tab) and name_of(tab) != BEFORE[0] and passed < 4:
         passed += 1
-        key(tab, "Tab")
+        press_key(tab, "Tab")
     assert passed < 4
     for _ in range(passed + 1):
-        key(tab, "Tab", True)
+        press_key(tab, "Tab", True)
     assert name_of(tab) == BEHIND[-1]
-    key(tab, "Tab")
+    press_key(tab, "Tab")
 
 
 def test_keys_of_fields_and_buttons(tab: Page) -> None:
@@ -113,7 +113,7 @@ def test_keys_of_fields_and_buttons(tab: Page) -> None:
 def test_late_row_is_dropped(tab: Page) -> None:
     """Where a step is gone to while another one is asked for, the answer is too late."""
     tab.open("#machine=%s&steps=50000000" % CHAMPION)
-    tab.drawn()
+    tab.wait_until_drawn()
     assert tab.tape_is_at("0:")
     tab.press("tape", Keys.END, Keys.HOME)
     assert not soon(lambda: not tab.text("tape-text").startswith("Step 0:"), 2)

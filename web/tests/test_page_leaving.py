@@ -3,7 +3,7 @@
 import time
 
 from support.browser import ENDLESS, LONG, Page, soon
-from support.gestures import key
+from support.gestures import press_key
 from support.machines import CHAMPION, CHAMPION_OF_FOUR
 
 HALT = "1RB1LB_1LA1RZ"
@@ -45,7 +45,7 @@ def require_focus(tab: Page, name: str, wanted: str, times: int = 1) -> None:
     """A button that is pressed so often gives its focus to what is wanted."""
     tab.js("document.getElementById(arguments[0]).focus()", name)
     for _ in range(times):
-        key(tab, "Enter")
+        press_key(tab, "Enter")
     assert soon(lambda: tab.focus() == wanted)
 
 
@@ -53,21 +53,21 @@ def test_next_machine_shows_nothing_of_the_one_before(tab: Page) -> None:
     """Nothing of it plays on or stays under the next one's name."""
     tab.plan({"steps": STEPS}, "decide")
     tab.open_list("1RA1RA\n%s\n" % CHAMPION)
-    tab.drawn()
+    tab.wait_until_drawn()
     assert tab.tape_is_at("")
     tab.click("tape-play")
     assert tab.text("tape-play") == "Pause"
     play, machine, state, is_painted, cells = tab.wait_for_js(NEXT)
-    assert (play, machine, state) == ("Play", CHAMPION, "asked")
+    assert (play, machine, state) == ("Play", CHAMPION, "requested")
     assert not is_painted and cells == 0
-    tab.drawn()
+    tab.wait_until_drawn()
     assert tab.tape_is_at("")
 
 
 def test_slow_first_machine_hides_the_one_before(tab: Page) -> None:
     """The focus goes to the rows; the next list's machine is shown again."""
     tab.open_list("1RA1RA\n")
-    tab.drawn()
+    tab.wait_until_drawn()
     tab.js("document.getElementById('copy-text').focus()")
     run_endless(tab, "%s\n1RA1RA\n" % LONG)
     assert soon(lambda: tab.get("machine", "hidden"))
@@ -106,7 +106,7 @@ def test_button_keeps_the_focus(tab: Page) -> None:
     tab.driver.set_window_size(800, 900)
     tab.open_list("1RA1RA\n%s\n%s\n" % (HALT, LONG))
     require_focus(tab, "row-next", "row-next")
-    key(tab, "Enter")
+    press_key(tab, "Enter")
     assert soon(lambda: tab.text("machine-text") == LONG)
     tab.driver.set_window_size(1280, 900)
 
@@ -114,7 +114,7 @@ def test_button_keeps_the_focus(tab: Page) -> None:
 def test_hidden_button_gives_its_focus(tab: Page) -> None:
     """Where a button is hidden or disabled that has the focus, something beside it has it then."""
     tab.open("#machine=%s" % HALT)
-    tab.drawn()
+    tab.wait_until_drawn()
     assert tab.tape_is_at("0")
     require_focus(tab, "tape-on", "tape", 6)
     require_focus(tab, "tape-first", "tape")
@@ -124,7 +124,7 @@ def test_hidden_button_gives_its_focus(tab: Page) -> None:
     for name, wanted in (("again", "copy-text"), ("left", "rows")):
         tab.open_list("%s\n" % CHAMPION_OF_FOUR)
         require_focus(tab, name, wanted)
-    tab.ended()
+    tab.wait_until_done()
     tab.open_list("1RA1RA\nno machine\n")
     tab.js("document.getElementById('diagram').focus()")
     tab.click("row-next")
@@ -148,7 +148,7 @@ def test_waiting_workers_keep_nothing(tab: Page) -> None:
     added = tab.add_script(WORKERS)
     tab.open()
     tab.open_list("1RA1RA\n" * 200)
-    tab.drawn()
+    tab.wait_until_drawn()
     tab.until(lambda: "\u2026" not in tab.text("facts"))
     assert tab.js("return window.workers.length") > 1
     assert soon(lambda: tab.js(HEARING) == 0)

@@ -23,7 +23,7 @@ DISGUISES = [
 ]  # fmt: skip
 # What is put into a line, or in the place of a character.
 MORE = (*" \t_-.,;:|#*~`'\"[](){}<>!?\\/01LRABZHabr=\u200b\xa0\x1b\u00e9\u2013", "---", "1RB")
-LEFT_OUT = "3 left out (empty lines, comments, code fences, rules and headers of tables)"
+SKIPPED = "3 skipped (empty lines, comments, code fences, rules and headers of tables)"
 
 
 def read_by_page(asked: List[Any]) -> List[Any]:
@@ -34,7 +34,7 @@ def read_by_page(asked: List[Any]) -> List[Any]:
     return [json.loads(line) for line in done.output.decode().split("\n") if line]
 
 
-def wanted_of(form: Dict[str, Any]) -> Dict[str, Any]:
+def expected_reading(form: Dict[str, Any]) -> Dict[str, Any]:
     """The reading that a form must have."""
     if "nothing" in form:
         return {"kind": "nothing"}
@@ -50,7 +50,7 @@ def test_forms_have_their_readings(forms: Forms) -> None:
     lines = [[form["line"], form.get("form", "text")] for form in forms["forms"]]
     sentences, *found = read_by_page([*lines, *forms["lists"], *forms["encodings"]])
     assert sentences == {name: forms[name] for name in ("advice", "rewritings")}
-    wanted = [wanted_of(form) for form in forms["forms"]]
+    wanted = [expected_reading(form) for form in forms["forms"]]
     wanted += [entry["form"] for entry in forms["lists"]] + [
         entry["encoding"] for entry in forms["encodings"]
     ]
@@ -139,7 +139,7 @@ def test_file_of_all_forms(tab: Page, forms: Forms) -> None:
     tab.plan({"steps": 1000}, "decide", True)
     tab.choose_option("list-form", "text")
     tab.answer_file(as_lines(lines))
-    assert tab.saved() == tab.written("decide", {"steps": 1000}, as_lines(given))
+    assert tab.save() == tab.program_output("decide", {"steps": 1000}, as_lines(given))
     numbers = [number for number, form in enumerate(texts, 1) if "nothing" not in form]
     rows = tab.rows()
     assert [int(row[0]) for row in rows] == numbers[: len(rows)]
@@ -160,7 +160,7 @@ def test_form_of_a_list_is_found(tab: Page, text: str, form: str, rows: List[str
     tab.open_list(text)
     assert tab.text("status").endswith("Read as %s." % form)
     assert [row[1].partition(" \u2190")[0] for row in tab.rows()] == rows
-    assert (LEFT_OUT in tab.text("status")) == (form == "a table")
+    assert (SKIPPED in tab.text("status")) == (form == "a table")
 
 
 def test_form_of_a_list_is_chosen(tab: Page) -> None:
@@ -178,7 +178,7 @@ def test_packed_lists(tab: Page, forms: Forms) -> None:
     otherwise the page says what it is, and decides nothing."""
     lines = b"1RB1LB_1LA1RZ\n1RA1RA\n" * 40_000
     tab.answer_file(gzip.compress(lines))
-    assert tab.saved() == tab.written("decide", {}, lines)
+    assert tab.save() == tab.program_output("decide", {}, lines)
     tab.answer_file(gzip.compress(b"1RB1LB_1LA1RZ halt 6 4\n"))
     assert "checked: 1 ok" in tab.text("status")
     encodings = [entry for entry in forms["encodings"] if entry["encoding"] is not None]
@@ -187,7 +187,7 @@ def test_packed_lists(tab: Page, forms: Forms) -> None:
         tab.answer_file(content)
         assert words in tab.text("error")
     tab.answer_file("1RA1RA \u00e9\n1RA1RA \u00fc\n".encode("latin-1"))
-    assert tab.text("status").count("no UTF-8") == 1
+    assert tab.text("status").count("not UTF-8") == 1
     tab.answer_file("1RA1RA \u00e9\n".encode())
     assert "UTF-8" not in tab.text("status")
     tab.open_list("1RA1RA\n")
@@ -220,16 +220,16 @@ def test_lines_that_are_no_verdict_lines(tab: Page) -> None:
         assert tab.text("machine-text") == "Line %d is no verdict line" % (row + 1)
         assert tab.text("machine-says").startswith("Unread:") and tab.text("machine-caret") == line
     tab.open_row(5)
-    tab.drawn()
+    tab.wait_until_drawn()
     behind = tab.text("behind")
     assert "which cells agree" in behind and "0 cells" not in behind and "show it" not in behind
 
 
 def test_each_line_is_counted_once(tab: Page) -> None:
-    """As decided, undecided, refused or left out; and the kinds have the same."""
+    """As decided, undecided, refused or skipped; and the kinds have the same."""
     tab.plan({"steps": 100}, "auto", True)
     tab.open_list("1RB1LB_1LA1RZ\n1RA1RA\nno\n# c\n\n%s\n" % CHAMPION)
-    assert "2 decided, 1 undecided, 1 refused, 2 left out" in tab.text("status")
+    assert "2 decided, 1 undecided, 1 refused, 2 skipped" in tab.text("status")
     script = "return [...document.querySelectorAll('#kinds button')].map((one) => one.textContent)"
     kinds = {text.split()[0]: int(text.split()[1]) for text in tab.js(script)}
     assert (sum(kinds.values()), kinds["refused"]) == (4, 1)
@@ -243,7 +243,7 @@ def test_verdict_lines_are_told(tab: Page) -> None:
     tab.type("list", claims)
     assert tab.text("run") == "Check"
     tab.open_list(claims)
-    assert tab.saved() == b"ok\nbad\nunread\n"
+    assert tab.save() == b"ok\nbad\nunread\n"
     assert [row[0] for row in tab.rows()] == ["2", "4", "5"]
     tab.open_row(1)
     assert "refutes" in tab.text("machine-says")

@@ -29,7 +29,7 @@ navigator.clipboard.write = async ([item]) => {
 @pytest.mark.parametrize("machine", MACHINES)
 def test_facts_are_those_of_the_package(tab: Page, library: pathlib.Path, machine: str) -> None:
     """Normal form, mirror image and later steps."""
-    verdict = budlarem.parse(tab.written("decide", {}, machine.encode()).decode().rstrip())
+    verdict = budlarem.parse(tab.program_output("decide", {}, machine.encode()).decode().rstrip())
     tab.open("#machine=" + machine)
     tab.until(lambda: "\u2026" not in tab.text("facts"))
     normal = tab.text("fact-normal")
@@ -85,9 +85,9 @@ def test_growth_at_the_default_limits(tab: Page, machine: str, words: str) -> No
     "machine, completions, starts",
     [
         (HALT, "no undefined entry", ON_BLANK),
-        (LONG, "However each --- is filled", ON_BLANK),
-        ("1RB---_1LA1RA", "Where only others are filled", ON_BLANK),
-        (TREE, "No machine that fills a --- of it halts", "it halts within 11 steps"),
+        (LONG, "Any completion of its --- has the same", ON_BLANK),
+        ("1RB---_1LA1RA", "Completions of only the other ---", ON_BLANK),
+        (TREE, "No completion of its --- halts", "it halts within 11 steps"),
     ],
 )
 def test_what_a_verdict_says_of_others(tab: Page, machine: str, completions: str, starts: str) -> None:
@@ -103,7 +103,7 @@ def test_text_link_and_picture_are_copied(tab: Page) -> None:
     tab.command("Browser.grantPermissions", permissions=["clipboardReadWrite"])
     tab.js(COPY)
     tab.open_list("1RA1RA\n")
-    tab.drawn()
+    tab.wait_until_drawn()
     for name in ("copy-text", "link", "copy-png"):
         tab.click(name)
     tab.until(lambda: len(tab.js("return window.copied")) == 3)
@@ -130,7 +130,7 @@ def test_late_answers_are_dropped(tab: Page) -> None:
     tab.plan({"steps": 100}, "auto", True)
     tab.open_list("1RA1RA\n%s\n%s\n" % (HALT, CHAMPION))
     tab.js("for (let k = 0; k < 2; k += 1) document.getElementById('row-next').click()")
-    tab.until(lambda: tab.drawn() and "\u2026" not in tab.text("facts"))
+    tab.until(lambda: tab.wait_until_drawn() and "\u2026" not in tab.text("facts"))
     time.sleep(0.5)
     assert "Steps 0 to 100" in tab.text("diagram-text")
     assert tab.text("behind") == ""
@@ -142,4 +142,4 @@ def test_kinds_are_saved_by_themselves(tab: Page) -> None:
     tab.open_list("%s\n%s\n" % (HALT, CHAMPION_OF_FOUR))
     tab.click("kind-halt")
     tab.click("save-shown")
-    assert tab.taken() == b"%s undecided steps\n" % CHAMPION_OF_FOUR.encode()
+    assert tab.read_download() == b"%s undecided steps\n" % CHAMPION_OF_FOUR.encode()

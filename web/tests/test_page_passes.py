@@ -25,14 +25,14 @@ def test_first_pass_comes_before_long_machines(tab: Page) -> None:
     """Machines that run long don't keep the others waiting: these are decided first. A stop saves what the
     limits have settled, and names what it leaves out."""
     tab.plan(ENDLESS, "decide")
-    tab.file(as_lines([LONG] * 32 + [HALT] * 6_368))
+    tab.submit_file(as_lines([LONG] * 32 + [HALT] * 6_368))
     tab.until(lambda: percent(tab) == 99)
     assert "6,368 decided, 0 undecided" in tab.text("status")
-    assert "32 left for the second pass" in tab.text("status")
+    assert "32 waiting for the second pass" in tab.text("status")
     assert tab.rows()[0][2] == "undecided steps first pass"
     tab.click("stop")
-    assert "leave out 32 lines of the first pass" in tab.text("status")
-    assert tab.saved() == as_lines([HALT + " halt 6 4"] * 6_368)
+    assert "omit 32 lines of the first pass" in tab.text("status")
+    assert tab.save() == as_lines([HALT + " halt 6 4"] * 6_368)
 
 
 def test_long_machine_is_named_while_others_are_decided(tab: Page) -> None:
@@ -43,7 +43,7 @@ def test_long_machine_is_named_while_others_are_decided(tab: Page) -> None:
         return int(found[1].replace(",", "")) if found else 0
 
     tab.plan(ENDLESS, "decide")
-    tab.file(as_lines([HALT] * 700 + [LONG] + [HALT] * 700))
+    tab.submit_file(as_lines([HALT] * 700 + [LONG] + [HALT] * 700))
     tab.until(lambda: LONG in tab.text("under-way") and decided() >= 1_300)
     before = tab.text("status")
     assert re.search(r"s, \d+ % done\. ", before)
@@ -51,21 +51,21 @@ def test_long_machine_is_named_while_others_are_decided(tab: Page) -> None:
     assert tab.text("status") != before
     tab.click("stop")
     assert tab.state() == "stopped"
-    assert tab.saved().startswith(as_lines([HALT + " halt 6 4"] * 700))
+    assert tab.save().startswith(as_lines([HALT + " halt 6 4"] * 700))
 
 
 def test_second_pass_has_the_bytes_of_the_program(tab: Page) -> None:
     """Also where a verdict isn't the first pass's."""
     given = as_lines([*FOUND_LATER, CHAMPION_OF_FOUR, "no machine", "1RA1RA"] * 20)
-    first = tab.written("decide", {"steps": 1_000}, given)
-    assert first.count(b" backward ") > tab.same("decide", {}, given).count(b" backward ")
+    first = tab.program_output("decide", {"steps": 1_000}, given)
+    assert first.count(b" backward ") > tab.require_same("decide", {}, given).count(b" backward ")
     assert "second pass" not in tab.text("status") and "% done" not in tab.text("status")
     assert "first pass" not in str(tab.rows())
 
 
 @pytest.mark.parametrize("every", [2_000, pytest.param(100, marks=pytest.mark.slow)])
 def test_two_passes_over_four_states(tab: Page, four_states: List[str], every: int) -> None:
-    tab.same("decide", {"steps": 20_000}, as_lines(four_states[::every]))
+    tab.require_same("decide", {"steps": 20_000}, as_lines(four_states[::every]))
     print("%d machines" % len(four_states[::every]))
 
 
@@ -82,10 +82,10 @@ def test_four_states_are_decided_soon(tab: Page, four_states: List[str]) -> None
         return time.monotonic() - begun
 
     tab.plan({}, "decide")
-    tab.file(given)
+    tab.submit_file(given)
     page = timed(lambda: tab.until(lambda: percent(tab) == 99))
     tab.click("stop")
-    program = timed(lambda: tab.written("decide", {}, given))
+    program = timed(lambda: tab.program_output("decide", {}, given))
     print("99 %% of four states after %.1f s; the program takes %.1f s for all" % (page, program))
     assert page < program
 
@@ -106,11 +106,11 @@ def test_machine_decided_again_comes_into_its_row(tab: Page) -> None:
     tab.press("rows", "n")
     tab.click("again")
     tab.until(lambda: HALTS_LATE in tab.text("machine-says"))
-    assert "halt 107 13. Its row has it, marked" in tab.text("again-text")
+    assert "halt 107 13. Its row is updated" in tab.text("again-text")
     assert tab.rows()[1][2:] == ["halt 107 13 again, 500 steps", "ok"]
     status = tab.text("status")
     assert "2 decided, 0 undecided" in status and "1 decided again with larger limits" in status
-    assert tab.saved().endswith(b"\n%s halt 107 13\n" % CHAMPION_OF_FOUR.encode())
+    assert tab.save().endswith(b"\n%s halt 107 13\n" % CHAMPION_OF_FOUR.encode())
     tab.click("link")
     assert "steps=500&cells=262144" in tab.js("return location.hash")
 
@@ -128,7 +128,7 @@ def test_undecided_machines_are_decided_again(tab: Page) -> None:
     assert rows[2][2].startswith("translated R") and rows[0][2] == "halt 6 4 again, 50 steps"
     assert (tab.get("list", "value"), tab.get("steps", "value")) == (text, "5")
     assert "6 steps" in tab.text("machine-says")
-    assert tab.saved().endswith(b"halt 107 13\n1RA1RA translated R 1 2 1 1\n")
+    assert tab.save().endswith(b"halt 107 13\n1RA1RA translated R 1 2 1 1\n")
     assert tab.get("left", "hidden")
 
 
@@ -139,4 +139,4 @@ def test_claim_stays(tab: Page) -> None:
     tab.click("again")
     tab.until(lambda: HALTS_LATE in tab.text("machine-says"))
     assert tab.rows()[0][2] == "undecided steps"
-    assert tab.saved() == b"open\n"
+    assert tab.save() == b"open\n"

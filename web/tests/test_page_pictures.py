@@ -11,7 +11,7 @@ from typing import Any, Dict, List, Tuple
 
 import pytest
 from support import TOP
-from support.browser import HEAD, Page, Row, signed, soon, trace
+from support.browser import HEAD, Page, Row, format_number, soon, trace
 from support.gestures import Keys
 from support.machines import CHAMPION, CHAMPION_OF_FOUR, seldom_halting
 from support.node import Engine
@@ -70,7 +70,7 @@ def test_kept_rows_are_those_of_the_program(bb: str, module: object, rng: random
     machines = [seldom_halting(rng, rng.randint(2, 5), rng.randint(2, 10)) for _ in range(count)]
     asked = [(machine, questions(rng)) for machine in [CHAMPION, CHAMPION_OF_FOUR, LATE, TREE, *machines]]
     given = "".join(json.dumps({"machine": one, "cells": 512, "asked": rows}) + "\n" for one, rows in asked)
-    command = ["node", str(TOP / "web/tests/kept_rows.mjs"), str(module)]
+    command = ["node", str(TOP / "web/tests/row_cache.mjs"), str(module)]
     replies = [json.loads(line) for line in ended(command, given.encode()).output.splitlines()]
     assert len(replies) == len(asked)
     for (machine, rows), reply in zip(asked, replies):
@@ -98,7 +98,7 @@ def test_kept_rows_are_those_of_the_program(bb: str, module: object, rng: random
 def test_cells_have_their_colours(tab: Page, machine: str, upto: int, limits: str) -> None:
     """Each cell of a diagram has its symbol's colour, or the head's."""
     tab.open("#machine=%s%s" % (machine, limits))
-    view, colours = tab.drawn(), tab.palette()
+    view, colours = tab.wait_until_drawn(), tab.palette()
     wide, high, left = view["wide"], view["high"], view["left"]
     is_framed = wide >= 6 and high >= 6
     places, wanted = [], []
@@ -129,7 +129,7 @@ def sampled(module: object, tmp_path: pathlib.Path) -> Any:
 
 def require_means(tab: Page, source: random.Random, row: Row) -> None:
     """In a view of a whole run the pixels of a row have the mean colours of its cells."""
-    view, colours = tab.drawn(), tab.palette()
+    view, colours = tab.wait_until_drawn(), tab.palette()
     across = int(view["across"])
     columns = [source.randrange(1, tab.size()[0] - int(view["x"]) - 40) for _ in range(40)]
     for x, pixel in zip(columns, tab.pixels([[x + 20, row.step / view["every"]] for x in columns])):
@@ -141,7 +141,7 @@ def require_means(tab: Page, source: random.Random, row: Row) -> None:
 
 def test_means_of_four_symbols(tab: Page, sampled: Any, rng: random.Random) -> None:
     tab.open("#machine=%s&steps=3000000" % FOUR_SYMBOLS)
-    view = tab.drawn()
+    view = tab.wait_until_drawn()
     assert view["across"] > 1
     for number in (60, 200, 400):
         require_means(tab, rng, sampled(FOUR_SYMBOLS, number * int(view["every"])))
@@ -151,9 +151,9 @@ def test_means_of_four_symbols(tab: Page, sampled: Any, rng: random.Random) -> N
 def test_whole_run_of_the_champion(tab: Page, sampled: Any, rng: random.Random) -> None:
     """It is seen whole: a pixel has the mean colour of its cells."""
     tab.open("#machine=%s&steps=50000000" % CHAMPION)
-    view, shown = tab.drawn(), tab.text("diagram-text")
+    view, shown = tab.wait_until_drawn(), tab.text("diagram-text")
     every = int(view["every"])
-    assert "mean colour of %d cells" % view["across"] in shown and "all of 12,289 cells visited" in shown
+    assert "mean colour of %d cells" % view["across"] in shown and "all of 12,289 visited cells" in shown
     last = int(re.sub(r"\D", "", shown.split(" to ")[1].split(" every")[0]))
     assert last <= 47_176_870 < last + every and view["top"] == 0
     # The last row has a mark.
@@ -171,14 +171,14 @@ def test_resized_window_shows_the_whole(tab: Page) -> None:
         tab.command("Emulation.setDeviceMetricsOverride", **metrics)
         tab.until(lambda: tab.size()[0] != before)
         time.sleep(0.2)
-        return tab.drawn()
+        return tab.wait_until_drawn()
 
-    tab.drawn()
+    tab.wait_until_drawn()
     for width in (390, 1280):
         resize(width)
-        assert "all of 14 cells visited" in tab.text("diagram-text")
+        assert "all of 14 visited cells" in tab.text("diagram-text")
     tab.press("diagram", "+")
-    chosen = tab.drawn()
+    chosen = tab.wait_until_drawn()
     assert resize(1000)["high"] == chosen["high"]
     tab.command("Emulation.clearDeviceMetricsOverride")
 
@@ -187,14 +187,14 @@ def test_resized_window_shows_the_whole(tab: Page) -> None:
 def test_zoom_to_single_cells_and_back(tab: Page) -> None:
     """From a glance at 10^7 steps to 100 steps in a few gestures, at the head; and back to the whole."""
     tab.open("#machine=%s&steps=10000000" % CHAMPION)
-    whole, gestures = tab.drawn(), 0
+    whole, gestures = tab.wait_until_drawn(), 0
     assert steps_seen(tab) >= 10**7
     tab.click("fit")
     while steps_seen(tab) > 100 and gestures < 20:
         tab.press("diagram", "+")
         gestures += 1
     assert gestures <= 9
-    near = tab.drawn()
+    near = tab.wait_until_drawn()
     assert near["high"] >= 6 and near["wide"] == near["high"]
     head = trace(tab.program, CHAMPION, int(near["top"]) + 3)[-1].head
     assert 0 <= (head - near["left"]) * near["wide"] < 900
@@ -202,7 +202,7 @@ def test_zoom_to_single_cells_and_back(tab: Page) -> None:
         tab.press("diagram", "-")
     assert steps_seen(tab) >= 0.9 * 10**7
     tab.press("diagram", "0")
-    assert tab.drawn() == whole
+    assert tab.wait_until_drawn() == whole
 
 
 @pytest.mark.slow
@@ -224,14 +224,14 @@ def test_views_are_drawn_soon(tab: Page) -> None:
 def test_wheel_zooms_at_the_pointer(tab: Page) -> None:
     """After a click: the step under it stays there."""
     tab.open("#machine=%s&steps=10000000" % CHAMPION)
-    before = tab.drawn()
+    before = tab.wait_until_drawn()
     tab.js(TURN)
-    assert tab.drawn() == before
+    assert tab.wait_until_drawn() == before
     step = before["top"] + int(200 - before["y"]) // before["high"] * before["every"]
     tab.js("document.getElementById('diagram').focus()")
     tab.js(TURN)
-    tab.until(lambda: tab.drawn() != before)
-    after = tab.drawn()
+    tab.until(lambda: tab.wait_until_drawn() != before)
+    after = tab.wait_until_drawn()
     assert after["every"] < before["every"]
     y = (step - after["top"]) / after["every"] * after["high"] + after["y"]
     assert abs(y - 200) <= 2 + after["high"]
@@ -241,11 +241,11 @@ def test_wheel_zooms_at_the_pointer(tab: Page) -> None:
 def test_going_to_a_step(tab: Page, sampled: Any) -> None:
     """It shows its cells and its tape; a step beyond the last one is the last one."""
     tab.open("#machine=%s&steps=50000000" % CHAMPION)
-    tab.drawn()
+    tab.wait_until_drawn()
     tab.go_to("47,176,860")
     tab.until(lambda: "47,176,860" in tab.text("tape-text"))
-    tab.until(lambda: tab.drawn()["every"] == 1)
-    view, row = tab.drawn(), sampled(CHAMPION, 47_176_860)
+    tab.until(lambda: tab.wait_until_drawn()["every"] == 1)
+    view, row = tab.wait_until_drawn(), sampled(CHAMPION, 47_176_860)
     assert view["top"] <= 47_176_860 <= view["top"] + 400 / view["high"]
     assert tab.text("tape-text").startswith(tape_words(row))
     tab.press("tape", Keys.END)
@@ -257,7 +257,9 @@ def test_going_to_a_step(tab: Page, sampled: Any) -> None:
 def tape_words(row: Row) -> str:
     """What the page says of a step, as far as where the head is."""
     symbol = row.read(row.head)
-    return "Step {:,}: state {} reads {} at position {}".format(row.step, row.state, symbol, signed(row.head))
+    return "Step {:,}: state {} reads {} at position {}".format(
+        row.step, row.state, symbol, format_number(row.head)
+    )
 
 
 def require_tape(tab: Page, row: Row) -> None:
@@ -274,7 +276,7 @@ def require_tape(tab: Page, row: Row) -> None:
 def test_tape_goes_step_by_step(tab: Page) -> None:
     """On and back, by buttons and keys; it plays, or steps where that is wanted."""
     tab.open("#machine=%s" % CHAMPION_OF_FOUR)
-    tab.drawn()
+    tab.wait_until_drawn()
     for row in trace(tab.program, CHAMPION_OF_FOUR, 107)[:60]:
         assert tab.tape_is_at("%d:" % row.step)
         require_tape(tab, row)
@@ -303,7 +305,7 @@ def test_tape_goes_step_by_step(tab: Page) -> None:
 def test_tape_ends_where_the_cells_do(tab: Page, keys: List[str]) -> None:
     """The tape plays no farther than the limit of cells lets a run go."""
     tab.open("#machine=1RA1RA" + FEW_CELLS)
-    tab.drawn()
+    tab.wait_until_drawn()
     assert "the limit of cells ends the trace" in tab.text("diagram-text")
     tab.press("tape", *keys)
     assert tab.tape_is_at("7:") and soon(lambda: tab.get("tape-on", "disabled"))
@@ -316,7 +318,7 @@ def test_tape_ends_where_the_cells_do(tab: Page, keys: List[str]) -> None:
 def test_tape_plays_once_its_row_is_there(tab: Page) -> None:
     """Also where it is to play from a step whose row takes long."""
     tab.open("#machine=%s&steps=50000000" % CHAMPION)
-    tab.drawn()
+    tab.wait_until_drawn()
     assert tab.tape_is_at("0:")
     tab.put("tape-step", "value", "47000000")
     script = (
@@ -334,7 +336,7 @@ def test_tape_plays_once_its_row_is_there(tab: Page) -> None:
 def test_place_under_the_pointer(tab: Page) -> None:
     """What is shown there, and of what keys point at: step, state, position, symbol."""
     tab.open("#machine=%s" % CHAMPION_OF_FOUR)
-    view = tab.drawn()
+    view = tab.wait_until_drawn()
     for row in trace(tab.program, CHAMPION_OF_FOUR, 107)[::7]:
         for at in range(row.low, row.low + len(row.cells)):
             x = view["x"] + (at - view["left"] + 0.5) * view["wide"]
@@ -342,7 +344,7 @@ def test_place_under_the_pointer(tab: Page) -> None:
             tab.js(POINT, x + 1, y + 1)
             assert tab.text("place-text") == row.place_words(at)
     tab.press("diagram", "0", *["+"] * 3, Keys.ARROW_DOWN, Keys.ARROW_DOWN, Keys.ARROW_RIGHT)
-    tab.drawn()
+    tab.wait_until_drawn()
     assert "Step 2, state" in tab.text("place-text")
     tab.press("diagram", Keys.ENTER)
     assert tab.tape_is_at("2:")
@@ -351,10 +353,10 @@ def test_place_under_the_pointer(tab: Page) -> None:
 
 def test_stretch_of_a_translated_cycler(tab: Page) -> None:
     """It is outlined where its line says."""
-    line = tab.written("decide", {}, TRANSLATED.encode()).decode().split()
+    line = tab.program_output("decide", {}, TRANSLATED.encode()).decode().split()
     first, second, _, length = map(int, line[3:])
     tab.open("#machine=%s" % TRANSLATED)
-    view, mark = tab.drawn(), tab.colour("--mark")
+    view, mark = tab.wait_until_drawn(), tab.colour("--mark")
     tab.until(lambda: tab.js("return document.querySelectorAll('#behind .same').length") == 2 * length)
     tab.until(lambda: "show it" in tab.text("behind"))
     rows = trace(tab.program, TRANSLATED, second)
@@ -369,23 +371,23 @@ def test_stretch_of_a_translated_cycler(tab: Page) -> None:
 def test_late_marks_are_in_view(tab: Page) -> None:
     """Records that agree late are in view when the verdict opens, apart from each other; the whole is a key
     away."""
-    line = tab.written("decide", {}, LATE.encode()).decode().split()
+    line = tab.program_output("decide", {}, LATE.encode()).decode().split()
     first, second = int(line[3]), int(line[4])
     assert second - first < second / 40
     tab.open("#machine=%s" % LATE)
-    view = tab.drawn()
+    view = tab.wait_until_drawn()
     places = [(step - view["top"]) / view["every"] * view["high"] for step in (first, second)]
     assert all(0 <= y < tab.size()[1] - view["y"] for y in places) and places[1] - places[0] >= 8
     tab.click("fit")
-    tab.until(lambda: tab.drawn()["top"] == 0)
+    tab.until(lambda: tab.wait_until_drawn()["top"] == 0)
     tab.click("marked")
-    tab.until(lambda: tab.drawn() == view)
+    tab.until(lambda: tab.wait_until_drawn() == view)
 
 
 def test_levels_of_a_tree(tab: Page) -> None:
     """They and the nodes are those of the line, and the page says nothing of a difference."""
     tab.open("#machine=%s" % TREE)
-    levels, nodes = tab.written("decide", {}, TREE.encode()).decode().split()[2:]
+    levels, nodes = tab.program_output("decide", {}, TREE.encode()).decode().split()[2:]
     script = "return [...document.querySelectorAll('.level')].map((one) => Number(one.dataset.count))"
     counts = tab.js(script)
     assert (len(counts), sum(counts)) == (int(levels), int(nodes))
@@ -394,7 +396,7 @@ def test_levels_of_a_tree(tab: Page) -> None:
 
 def test_picture_and_sentence_of_a_halt(tab: Page) -> None:
     tab.open("#machine=1RB1LB_1LA1RZ")
-    tab.drawn()
+    tab.wait_until_drawn()
     tab.until(lambda: "The row above shows it." in tab.text("behind"))
     png = tab.js("return document.getElementById('diagram').toDataURL('image/png')").split(",")[1]
     assert base64.b64decode(png).startswith(b"\x89PNG")

@@ -1,19 +1,18 @@
 /**
- * The pixels of a diagram: one for each column and row, in the mean colour of the cells that it stands for.
+ * The pixels of a diagram, one for each column and row, in the mean colour of its cells.
  *
- * @typedef {import("./sample.mjs").Sample} Sample
- * @typedef {import("../page/diagram/scale.mjs").View} View
- * @typedef {(k: number, from: number, to: number) => number} Mean the colour of a row's cells from one to
- *   another, counted from the lowest one
- * @typedef {(row: Uint32Array, k: number, first: number, end: number, cell: number) => void} Whole paints the
- *   pixels of a row between two columns, all of whose cells were visited, from a cell on
- * @typedef {{mean: Mean, whole: Whole}} How a row is painted whose pixels have several cells
+ * @typedef {import("./packed-rows.mjs").PackedRows} PackedRows
+ * @typedef {import("../page/diagram/viewport.mjs").View} View
+ * @typedef {(k: number, from: number, to: number) => number} Mean of the cells `from` to `to` of row `k`
+ * @typedef {(pixels: Uint32Array, k: number, first: number, end: number, cell: number) => void} PaintInner
+ *   paints the columns `first` to `end` of row `k`, all visited, from a cell on
  */
-import { FRAMED, symbolOf } from "./sample.mjs";
+import { FRAMED } from "../page/diagram/viewport.mjs";
+import { symbolAtCell } from "./packed-rows.mjs";
 
 const UNVISITED = 10;
 const HEAD = 11;
-// How many bits of a byte are 1.
+// The number of 1 bits of each byte.
 const ONES = new Uint8Array(256);
 for (let byte = 1; byte < ONES.length; byte += 1) {
   ONES[byte] = ONES[byte >> 1] + (byte & 1);
@@ -23,91 +22,88 @@ const pixelOf = (/** @type {number[]} */ [red, green, blue]) =>
   new Uint32Array(Uint8Array.of(red, green, blue, 255).buffer)[0];
 
 /**
- * The pixels of all rows; what isn't visited yet stays clear.
- * @param {Sample} sample @param {View} view @param {number} columns @param {number[][]} palette
+ * The pixels of all rows, transparent if unvisited.
+ * @param {PackedRows} rows @param {View} view @param {number} columns @param {number[][]} palette
  */
-export function painted(sample, view, columns, palette) {
-  const rows = sample.steps.length;
-  const image = new Uint32Array(columns * rows);
-  const paint = painterFor(sample, view, palette);
-  for (let k = 0; k < rows; k += 1) {
+export function paintRows(rows, view, columns, palette) {
+  const image = new Uint32Array(columns * rows.steps.length);
+  const paint = createPainter(rows, view, palette);
+  for (let k = 0; k < rows.steps.length; k += 1) {
     paint(image.subarray(columns * k, columns * (k + 1)), k);
   }
   return new Uint8ClampedArray(image.buffer);
 }
 
 /**
- * What paints a row.
- * @param {Sample} sample @param {View} view @param {number[][]} palette
- * @returns {(row: Uint32Array, k: number) => void}
+ * @param {PackedRows} rows @param {View} view @param {number[][]} palette
+ * @returns {(pixels: Uint32Array, k: number) => void} paints a row
  */
-function painterFor(sample, view, palette) {
+function createPainter(rows, view, palette) {
   if (view.across === 1) {
-    const pixels = Uint32Array.from(palette, pixelOf);
-    return (row, k) => paintCells(row, sample, k, view, pixels);
+    const colours = Uint32Array.from(palette, pixelOf);
+    return (pixels, k) => paintCells(pixels, rows, k, view, colours);
   }
-  const how = (sample.bits === 1 ? howOfTwo : howOfMore)(sample, view, palette);
-  return (row, k) => paintMeans(row, sample, k, view, how);
+  const painter = (rows.bits === 1 ? twoSymbolPainter : manySymbolPainter)(rows, view, palette);
+  return (pixels, k) => paintMeans(pixels, rows, k, view, painter);
 }
 
 /**
- * A row with a pixel for each cell.
- * @param {Uint32Array} row @param {Sample} sample @param {number} k @param {View} view
- * @param {Uint32Array} pixels of the palette
+ * Paints a pixel for each cell.
+ * @param {Uint32Array} pixels @param {PackedRows} rows @param {number} k @param {View} view
+ * @param {Uint32Array} colours
  */
-function paintCells(row, sample, k, view, pixels) {
-  const { cells, bits } = sample;
-  const [begin, low, mask] = [sample.places[k], sample.lows[k] - view.left, (1 << bits) - 1];
-  const end = Math.min(row.length, low + sample.wide[k]);
+function paintCells(pixels, rows, k, view, colours) {
+  const { cells, bits } = rows;
+  const [begin, low, mask] = [rows.offsets[k], rows.lows[k] - view.left, (1 << bits) - 1];
+  const end = Math.min(pixels.length, low + rows.widths[k]);
   for (let x = Math.max(0, low); x < end; x += 1) {
     const bit = (x - low) * bits;
-    row[x] = pixels[(cells[begin + (bit >> 3)] >> (bit & 7)) & mask];
+    pixels[x] = colours[(cells[begin + (bit >> 3)] >> (bit & 7)) & mask];
   }
-  const head = sample.heads[k] - view.left;
-  if ((view.wide < FRAMED || view.high < FRAMED) && head >= 0 && head < row.length) {
-    row[head] = pixels[HEAD];
+  const head = rows.heads[k] - view.left;
+  if ((view.wide < FRAMED || view.high < FRAMED) && head >= 0 && head < pixels.length) {
+    pixels[head] = colours[HEAD];
   }
 }
 
 /**
- * A row of which a pixel stands for several cells; only the outermost ones may have some that aren't visited.
- * @param {Uint32Array} row @param {Sample} sample @param {number} k @param {View} view
- * @param {How} how
+ * Paints a pixel for several cells; only the outermost pixels may have unvisited cells.
+ * @param {Uint32Array} pixels @param {PackedRows} rows @param {number} k @param {View} view
+ * @param {{mean: Mean, paintInner: PaintInner}} painter
  */
-function paintMeans(row, sample, k, { left, across }, { mean, whole }) {
-  const low = sample.lows[k];
-  const high = low + sample.wide[k] - 1;
+function paintMeans(pixels, rows, k, { left, across }, { mean, paintInner }) {
+  const low = rows.lows[k];
+  const high = low + rows.widths[k] - 1;
   const first = Math.max(0, Math.floor((low - left) / across));
-  const last = Math.min(row.length - 1, Math.floor((high - left) / across));
+  const last = Math.min(pixels.length - 1, Math.floor((high - left) / across));
   const edges = first < last ? [first, last] : [first];
   for (const x of first <= last ? edges : []) {
     const begin = left + x * across;
-    row[x] = mean(k, Math.max(begin, low) - low, Math.min(begin + across - 1, high) - low);
+    pixels[x] = mean(k, Math.max(begin, low) - low, Math.min(begin + across - 1, high) - low);
   }
-  whole(row, k, first + 1, last, left + (first + 1) * across - low);
+  paintInner(pixels, k, first + 1, last, left + (first + 1) * across - low);
 }
 
 /**
- * How rows of two symbols are painted: the mean goes by how many of a pixel's cells are 1, how many are 0,
- * and how many aren't visited.
- * @param {Sample} sample @param {View} view @param {number[][]} palette
- * @returns {How}
+ * Looks up means by the number of 1 cells.
+ * @param {PackedRows} rows @param {View} view @param {number[][]} palette
+ * @returns {{mean: Mean, paintInner: PaintInner}}
  */
-function howOfTwo({ cells, places }, { across }, palette) {
-  const mixed = (/** @type {number} */ ones, /** @type {number} */ seen) =>
+function twoSymbolPainter({ cells, offsets }, { across }, palette) {
+  const mixed = (/** @type {number} */ ones, /** @type {number} */ visited) =>
     pixelOf(
       palette[UNVISITED].map((unvisited, part) => {
-        const known = (seen - ones) * palette[0][part] + ones * palette[1][part];
-        return Math.round((known + (across - seen) * unvisited) / across);
+        const known = (visited - ones) * palette[0][part] + ones * palette[1][part];
+        return Math.round((known + (across - visited) * unvisited) / across);
       }),
     );
   const colours = Uint32Array.from({ length: across + 1 }, (_, ones) => mixed(ones, across));
   return {
-    mean: (k, from, to) => mixed(onesBetween(cells, places[k], from, to), to - from + 1),
-    whole: (row, k, first, end, cell) => {
+    mean: (k, from, to) => mixed(countOnes(cells, offsets[k], from, to), to - from + 1),
+    paintInner: (pixels, k, first, end, cell) => {
       let from = cell;
       for (let x = first; x < end; x += 1) {
-        row[x] = colours[onesBetween(cells, places[k], from, from + across - 1)];
+        pixels[x] = colours[countOnes(cells, offsets[k], from, from + across - 1)];
         from += across;
       }
     },
@@ -115,10 +111,10 @@ function howOfTwo({ cells, places }, { across }, palette) {
 }
 
 /**
- * How many of a row's cells from one to another are 1, where a cell has a bit.
+ * Counts the 1 bits of a row's cells `from` to `to`.
  * @param {Uint8Array} cells @param {number} begin of the row @param {number} from @param {number} to
  */
-function onesBetween(cells, begin, from, to) {
+function countOnes(cells, begin, from, to) {
   const first = begin + (from >> 3);
   const last = begin + (to >> 3);
   const upper = cells[first] >> (from & 7);
@@ -134,18 +130,17 @@ function onesBetween(cells, begin, from, to) {
 }
 
 /**
- * How rows of more symbols are painted.
- * @param {Sample} sample @param {View} view @param {number[][]} palette
- * @returns {How}
+ * @param {PackedRows} rows @param {View} view @param {number[][]} palette
+ * @returns {{mean: Mean, paintInner: PaintInner}}
  */
-function howOfMore(sample, { across }, palette) {
+function manySymbolPainter(rows, { across }, palette) {
   const [reds, greens, blues] = [0, 1, 2].map((part) => Int32Array.from(palette, (colour) => colour[part]));
   /** @type {Mean} */
   const mean = (k, from, to) => {
     const outside = across - (to - from + 1);
     let [red, green, blue] = palette[UNVISITED].map((one) => one * outside);
     for (let cell = from; cell <= to; cell += 1) {
-      const symbol = symbolOf(sample, k, cell);
+      const symbol = symbolAtCell(rows, k, cell);
       red += reds[symbol];
       green += greens[symbol];
       blue += blues[symbol];
@@ -154,9 +149,9 @@ function howOfMore(sample, { across }, palette) {
   };
   return {
     mean,
-    whole: (row, k, first, end, cell) => {
+    paintInner: (pixels, k, first, end, cell) => {
       for (let x = first; x < end; x += 1) {
-        row[x] = mean(k, cell + (x - first) * across, cell + (x - first + 1) * across - 1);
+        pixels[x] = mean(k, cell + (x - first) * across, cell + (x - first + 1) * across - 1);
       }
     },
   };

@@ -1,10 +1,10 @@
 /**
- * What a reply says, line by line, read from its bytes: no text is made of them.
+ * Parses the engine's replies from their bytes, without making strings.
  *
- * @typedef {{starts: Uint32Array, kinds: Uint8Array}} Lines where each line begins and the last one ends, and
- *   the number of its kind
+ * @typedef {{starts: Uint32Array, kinds: Uint8Array}} Lines the offset of each line and the end of the last
+ *   one, and the number of each line's kind
  */
-import { newlinesIn, wordsOf } from "../lib/memory.mjs";
+import { newlineBits, wordsOf } from "../lib/memory.mjs";
 import { ANSWERS, KINDS } from "../reader/machine.mjs";
 
 const NEWLINE = 10;
@@ -13,10 +13,10 @@ const ZERO = 48;
 const NINE = 57;
 const LETTER_R = 114;
 const REFUSED = KINDS.indexOf("refused");
-// The kind by its first letter and the answer by its second one; no two have the same.
+// A kind is recognised by its first letter, an answer by its second.
 for (const letters of [KINDS.map((word) => word[0]), ANSWERS.map((word) => word[1])]) {
   if (new Set(letters).size < letters.length) {
-    throw new Error("two kinds or answers can't be known by their letters");
+    throw new Error("kinds and answers need distinct letters");
   }
 }
 const KIND_BY_LETTER = new Uint8Array(256).fill(REFUSED);
@@ -24,15 +24,14 @@ KINDS.forEach((word, kind) => (KIND_BY_LETTER[word.charCodeAt(0)] = kind));
 const ANSWER_BY_LETTER = new Uint8Array(256);
 ANSWERS.forEach((word, answer) => (ANSWER_BY_LETTER[word.charCodeAt(1)] = answer));
 const ANSWER_LENGTHS = Uint8Array.from(ANSWERS, (word) => word.length + 1);
-// How many spaces stand between a kind's first letter and the number of the steps that it names; 0 where it
-// names none.
+// The number of spaces between a kind's first letter and its steps; 0 for kinds without steps.
 const SPACES = Uint8Array.from(KINDS, (kind) => ({ halt: 1, cycler: 2, translated: 3 })[String(kind)] ?? 0);
 
 let scratch = new Uint32Array(0);
 
 /**
- * Adds where lines begin behind the newlines between two places, and gives how many lines end by then.
- * @param {number} lines that end before @param {Uint8Array} bytes @param {number} from @param {number} to
+ * Adds the line starts behind the newlines between two offsets; returns the new number of lines.
+ * @param {number} lines @param {Uint8Array} bytes @param {number} from @param {number} to
  */
 function addStarts(lines, bytes, from, to) {
   let count = lines;
@@ -46,8 +45,8 @@ function addStarts(lines, bytes, from, to) {
 }
 
 /**
- * Where each line begins and the last one ends, in a list that the next call overwrites. Newlines are looked
- * for in four bytes at once, which takes half the time of `indexOf`.
+ * The offset of each line and the end of the last one, in an array that the next call overwrites. Scans four
+ * bytes at a time, in half the time of `indexOf`.
  */
 export function startsOf(/** @type {Uint8Array} */ bytes) {
   const { length } = bytes;
@@ -55,8 +54,8 @@ export function startsOf(/** @type {Uint8Array} */ bytes) {
   const { words, first } = wordsOf(bytes);
   let lines = addStarts(0, bytes, 0, first);
   for (let at = 0; at < words.length; at += 1) {
-    // A newline's bit is taken away once its place is known.
-    for (let found = newlinesIn(words[at]); found !== 0; found &= found - 1) {
+    // Clear the lowest bit after each newline.
+    for (let found = newlineBits(words[at]); found !== 0; found &= found - 1) {
       lines += 1;
       scratch[lines] = first + 4 * at + ((31 - Math.clz32(found & -found)) >> 3) + 1;
     }
@@ -69,7 +68,7 @@ export function startsOf(/** @type {Uint8Array} */ bytes) {
   return scratch.subarray(0, lines + 1);
 }
 
-/** Where the first space or newline stands from there on; the end where there is none. */
+/** The offset of the next space or newline, or the end. */
 function wordEnd(/** @type {Uint8Array} */ bytes, /** @type {number} */ from) {
   const length = bytes.length;
   let at = from;
@@ -79,17 +78,20 @@ function wordEnd(/** @type {Uint8Array} */ bytes, /** @type {number} */ from) {
   return at;
 }
 
-/** The place behind so many further spaces of a line, or its end where it has fewer. */
-function behind(/** @type {Uint8Array} */ bytes, /** @type {number} */ from, /** @type {number} */ spaces) {
+/**
+ * The offset behind the next `count` spaces, or the end of the line.
+ * @param {Uint8Array} bytes @param {number} from @param {number} count
+ */
+function skipSpaces(bytes, from, count) {
   let at = from;
-  for (let left = spaces; left > 0 && bytes[at] !== NEWLINE; left -= 1) {
+  for (let left = count; left > 0 && bytes[at] !== NEWLINE; left -= 1) {
     at = wordEnd(bytes, at);
     at += bytes[at] === SPACE ? 1 : 0;
   }
   return at;
 }
 
-/** The number that stands there, or -1. */
+/** The decimal number at an offset, or -1. */
 export function numberAt(/** @type {Uint8Array} */ bytes, /** @type {number} */ from) {
   let at = from;
   let value = 0;
@@ -100,8 +102,8 @@ export function numberAt(/** @type {Uint8Array} */ bytes, /** @type {number} */ 
 }
 
 /**
- * What is said in verdict lines; those that are none have any kind. Each line of a reply begins with the line
- * of its machine, which isn't looked through, where it is known where these begin and the last ends.
+ * The starts and kinds of verdict lines; other lines get any kind. Known starts of the machines' lines save
+ * scanning the machines.
  * @param {Uint8Array} bytes @param {Uint32Array | null} machines @returns {Lines}
  */
 export function readLines(bytes, machines) {
@@ -116,18 +118,18 @@ export function readLines(bytes, machines) {
   return { starts, kinds };
 }
 
-/** The steps that verdict lines name, -1 for none. */
-export function stepsIn(/** @type {Uint8Array} */ bytes, /** @type {Lines} */ { starts, kinds }) {
+/** The steps of each verdict line, -1 for none. */
+export function readSteps(/** @type {Uint8Array} */ bytes, /** @type {Lines} */ { starts, kinds }) {
   const steps = new Float64Array(kinds.length).fill(-1);
   for (let k = 0; k < kinds.length; k += 1) {
     if (SPACES[kinds[k]] > 0) {
-      steps[k] = numberAt(bytes, behind(bytes, starts[k], 1 + SPACES[kinds[k]]));
+      steps[k] = numberAt(bytes, skipSpaces(bytes, starts[k], 1 + SPACES[kinds[k]]));
     }
   }
   return steps;
 }
 
-/** The numbers of the answers of a reply to `check`. */
+/** The answers in a reply to `check`, by number. */
 export function readAnswers(/** @type {Uint8Array} */ bytes, /** @type {number} */ count) {
   const answers = new Uint8Array(count);
   let at = 0;
@@ -138,8 +140,8 @@ export function readAnswers(/** @type {Uint8Array} */ bytes, /** @type {number} 
   return answers;
 }
 
-/** How often each number below `most` stands there. */
-export function tallied(/** @type {Uint8Array} */ numbers, /** @type {number} */ most) {
+/** How often each number below `most` occurs. */
+export function countValues(/** @type {Uint8Array} */ numbers, /** @type {number} */ most) {
   const counts = new Array(most).fill(0);
   for (let k = 0; k < numbers.length; k += 1) {
     counts[numbers[k]] += 1;

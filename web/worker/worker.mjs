@@ -1,95 +1,87 @@
 /**
- * What a worker of the page does: it decides or checks pieces of a list, traces a machine, and sorts.
+ * The page's worker: decides and checks chunks of a list, traces machines, sorts rows.
  *
- * @typedef {{mode: "decide" | "check", clean: boolean, form: import("../reader/prepare.mjs").Form,
- *   plan: Record<string, any>}} Asked
+ * @typedef {import("../lib/bb.mjs").Engine} Engine
+ * @typedef {{mode: "decide" | "check", clean: boolean, form: import("../reader/list-reader.mjs").Form,
+ *   plan: Record<string, any>}} ListRequest
  * @typedef {{job: number, bytes: Uint8Array, lines: Uint8Array | null, starts: Uint32Array,
  *   kinds: Uint8Array, steps?: Float64Array, answers: Uint8Array, kindCounts: number[],
  *   answerCounts: number[], first: number, numbers: Uint32Array | null, source: Uint8Array | null,
- *   places: Uint32Array | null, left: number, next: number, nextLine: number, done: boolean, taken: number,
- *   held: number, plans?: Uint8Array}} Part
- *   `steps` are those that lines name, once they are read; `first` is the number of the first line,
- *   `numbers` those of all where some between them were left out; `source` has the lines as they were given
- *   and `places` where they begin, where some aren't as the engine was given them; `left` is how many were
- *   left out; `next` and `nextLine` say which byte and line of the piece come next; `taken` are the
- *   milliseconds that it took, `held` is the memory of the engine, in bytes; `plans` are the limits of each
- *   line, by their numbers, where they aren't all those of the list
- * @typedef {{job: number, at: string, lines: number, bytes: number}} Note what is begun: the first line of a
- *   batch, and how many lines and bytes it has
- * @typedef {import("../lib/bb.mjs").Engine} Host
+ *   places: Uint32Array | null, skipped: number, next: number, nextLine: number, done: boolean,
+ *   milliseconds: number, memoryBytes: number, plans?: Uint8Array}} Part the reply to a batch of lines.
+ *   `bytes`: the output; `lines`: the verdict lines, if checked; `starts`: their offsets; `steps`: the steps
+ *   in each, once parsed; `first`: the number of the first line, and `numbers` of all if some were skipped;
+ *   `source` and `places`: the original lines and their offsets if some differ from the engine's input;
+ *   `next` and `nextLine`: the next byte and line of the chunk; `plans`: the number of each line's limits, if
+ *   they aren't all the list's
+ * @typedef {{job: number, at: string, lines: number, bytes: number}} BatchNote the beginning of a batch: its
+ *   first line, and its numbers of lines and bytes
  */
 import { load } from "../lib/bb.mjs";
+import { lineAt, prepareList, unchangedList } from "../reader/list-reader.mjs";
 import { ANSWERS, KINDS } from "../reader/machine.mjs";
-import { asGiven, lineAt, prepared } from "../reader/prepare.mjs";
-import { LONGEST_SHOWN } from "../reader/words.mjs";
-import { readAnswers, readLines, startsOf, tallied } from "./replies.mjs";
-import { growthOf, keep, pictured, takenAhead, traced } from "./traced.mjs";
+import { LONGEST_SHOWN } from "../reader/tokens.mjs";
+import { countValues, readAnswers, readLines, startsOf } from "./replies.mjs";
+import { makePicture, measureGrowth, storeRows, traceAhead, traceRows } from "./trace.mjs";
 
 const NEWLINE = 10;
-// A piece is answered in batches that take about so long, so that what was done stays where it is stopped.
+const REFUSED = KINDS.indexOf("refused");
+const UNREAD = ANSWERS.indexOf("unread");
+// A batch takes about this long, so that a stop keeps most results.
 const BATCH_MILLISECONDS = 60;
-// The first batch has one line.
-const FIRST_BYTES = 1;
-// How many times as long the next batch is: where one took a short time, and where it took less than this.
+const MOST_BYTES = 1_048_576;
+// The growth of the next batch after a short one, and after a very short one.
 const GROWTH = 2;
 const FAST_GROWTH = 8;
 const SHORT_MILLISECONDS = 4;
-const REFUSED = KINDS.indexOf("refused");
-const UNREAD = ANSWERS.indexOf("unread");
-const MOST_BYTES = 1_048_576;
-// A call costs much by itself where a line of a larger batch takes less than this part of the time.
+// Batches also grow while a line of a larger batch takes less than this share of its time before.
 const SHARED = 0.75;
-const WARM_MILLISECONDS = 60;
-const WARM_PLAN = { steps: 200, cells: 256, depth: 20, nodes: 1_000 };
-// A machine that runs long.
-const WARM_MACHINE = "1RB1LC_1RC1RB_1RD0LE_1LA1LD_1RZ0LA";
-const WARM_SAMPLE = { steps: 10_000, cells: 256, from: 0, every: 100 };
+const WARM_UP_MILLISECONDS = 60;
+const WARM_UP_PLAN = { steps: 200, cells: 256, depth: 20, nodes: 1_000 };
+// A long run.
+const WARM_UP_MACHINE = "1RB1LC_1RC1RB_1RD0LE_1LA1LD_1RZ0LA";
+const WARM_UP_TRACE = { steps: 10_000, cells: 256, from: 0, every: 100 };
 
-/** @type {Host | undefined} */
+/** @type {Engine | undefined} */
 let engine;
-/** @type {Promise<void>} ends when the engine's module is loaded, which comes before anything is asked */
-let loaded = Promise.resolve();
-let size = FIRST_BYTES;
-// Milliseconds that a line of the batch before took; infinite before the first one.
+/** @type {Promise<void>} the page sends the module first */
+let engineLoaded = Promise.resolve();
+// The least bytes of the next batch; the first has one line.
+let size = 1;
+// Milliseconds a line took in the batch before.
 let pace = Infinity;
 
-/** Lines that are no verdict lines say nothing, whatever word they have. */
-function refuseUnread(/** @type {Uint8Array} */ kinds, /** @type {Uint8Array} */ answers) {
-  for (let k = 0; k < kinds.length; k += 1) {
-    kinds[k] = answers[k] === UNREAD ? REFUSED : kinds[k];
-  }
-}
-
 /**
- * A batch answered: its lines, which begin there, what is said of each, and the answer of the checker.
- * @param {Uint8Array} given @param {Pick<Asked, "mode" | "plan">} asked
+ * Decides and checks a batch.
+ * @param {Uint8Array} input @param {Pick<ListRequest, "mode" | "plan">} request
  */
-function answered(given, { mode, plan }, starts = startsOf(given).slice()) {
+function answerBatch(input, { mode, plan }, starts = startsOf(input).slice()) {
   const { steps, cells, depth, nodes } = plan;
-  const host = /** @type {Host} */ (engine);
+  const host = /** @type {Engine} */ (engine);
   const count = starts.length - 1;
-  const verdicts = mode === "decide" ? host.decideBytes(given, plan, count).bytes : given;
+  const verdicts = mode === "decide" ? host.decideBytes(input, plan, count).bytes : input;
   const reply = host.checkBytes(verdicts, { steps, cells, depth, nodes }, count).bytes;
   const lines = readLines(verdicts, mode === "decide" ? starts : null);
   const answers = readAnswers(reply, count);
   if (mode === "check") {
-    refuseUnread(lines.kinds, answers);
+    // An unread line has no kind, whatever its words.
+    answers.forEach((answer, k) => (lines.kinds[k] = answer === UNREAD ? REFUSED : lines.kinds[k]));
   }
-  const kindCounts = tallied(lines.kinds, KINDS.length);
-  const answerCounts = tallied(answers, ANSWERS.length);
-  const written =
+  const kindCounts = countValues(lines.kinds, KINDS.length);
+  const answerCounts = countValues(answers, ANSWERS.length);
+  const output =
     mode === "decide" ? { bytes: verdicts, lines: null } : { bytes: reply, lines: verdicts.slice() };
-  return { ...written, ...lines, answers, kindCounts, answerCounts, held: host.held };
+  return { ...output, ...lines, answers, kindCounts, answerCounts, memoryBytes: host.memoryBytes };
 }
 
 /**
- * Answers a piece of a list in batches, each sent when it is done. The engine is given the piece as it stands
- * where each line is a machine; from the first batch on in which it refuses a line, and in a list of another
- * form, they are read line by line.
+ * Answers a chunk in batches, and posts each. A list of machines goes to the engine unchanged until a batch
+ * has a refused line; from there, and in lists of other forms, lines are read one by one.
  */
-function work(/** @type {any} */ { job, bytes: given, line: first, asked }) {
-  const standing = asGiven(given);
-  let list = asked.mode === "check" || asked.form !== "machines" ? prepared(given, asked) : standing;
+function answerList(/** @type {any} */ { job, bytes: chunk, line: first, request }) {
+  const unchanged = unchangedList(chunk);
+  const isBare = request.mode === "decide" && request.form === "machines";
+  let list = isBare ? unchanged : prepareList(chunk, request);
   let [from, line, done] = [0, 0, false];
   while (!done) {
     const newline = list.bytes.indexOf(NEWLINE, Math.max(from, Math.min(from + size, list.bytes.length) - 1));
@@ -99,86 +91,79 @@ function work(/** @type {any} */ { job, bytes: given, line: first, asked }) {
     const count = starts.length - 1;
     postMessage({ job, at: lineAt(batch, 0, LONGEST_SHOWN), lines: count, bytes: batch.length });
     const begun = performance.now();
-    const part = answered(batch, asked, starts);
-    if (list === standing && asked.clean && part.kindCounts[REFUSED] > 0) {
-      list = prepared(given, asked);
+    const part = answerBatch(batch, request, starts);
+    if (list === unchanged && request.clean && part.kindCounts[REFUSED] > 0) {
+      list = prepareList(chunk, request);
       continue;
     }
-    const taken = performance.now() - begun;
-    size = nextSize(taken, count);
+    const milliseconds = performance.now() - begun;
+    size = nextSize(milliseconds, count);
     done = end === list.bytes.length;
-    const origin = originOf(list, given, { from, line, count }, part.kindCounts);
-    const next = done ? given.length : list.places?.[line + count] ?? end;
+    const origin = originOf(list, chunk, { from, line, count }, part.kindCounts);
+    const next = done ? chunk.length : list.places?.[line + count] ?? end;
     const nextLine = list.numbers?.[line + count] ?? line + count;
     const place = { first: list.numbers === null ? first + line : first, next, nextLine };
-    send({ job, ...part, ...origin, ...place, left: done ? list.left : 0, done, taken });
+    sendPart({ job, ...part, ...origin, ...place, skipped: done ? list.skipped : 0, done, milliseconds });
     [from, line] = [end, line + count];
   }
 }
 
 /**
- * Which lines those of a batch are, and as what they were given; nothing where that is plain.
- * @param {import("../reader/prepare.mjs").Prepared} list @param {Uint8Array} given
+ * The numbers and original texts of a batch's lines; null if they can be derived.
+ * @param {import("../reader/list-reader.mjs").PreparedList} list @param {Uint8Array} chunk
  * @param {{from: number, line: number, count: number}} batch @param {number[]} kindCounts
  */
-function originOf({ bytes, numbers, places }, given, { from, line, count }, kindCounts) {
+function originOf({ bytes, numbers, places }, chunk, { from, line, count }, kindCounts) {
   if (count === 0 || (places === null && kindCounts[REFUSED] === 0)) {
     return { numbers: null, source: null, places: null };
   }
   const begins = places ?? startsOf(bytes.subarray(from)).subarray(0, count).map((start) => start + from);
-  const mine = places === null ? begins : places.subarray(line, line + count);
-  const last = mine[count - 1] ?? 0;
-  const newline = given.indexOf(NEWLINE, last);
-  const source = given.slice(mine[0], newline < 0 ? given.length : newline);
-  const shifted = mine.map((place) => place - mine[0]);
+  const own = places === null ? begins : places.subarray(line, line + count);
+  const newline = chunk.indexOf(NEWLINE, own[count - 1] ?? 0);
+  const source = chunk.slice(own[0], newline < 0 ? chunk.length : newline);
+  const shifted = own.map((place) => place - own[0]);
   return { numbers: numbers?.slice(line, line + count) ?? null, source, places: shifted };
 }
 
-/** The verdict on one machine and the checker's answer to it. */
-function decidedOne(/** @type {{machine: string, plan: Record<string, any>}} */ { machine, plan }) {
-  const part = answered(new TextEncoder().encode(machine), { mode: "decide", plan });
+/** The verdict on one machine and the checker's answer. */
+function decideOne(/** @type {{machine: string, plan: Record<string, any>}} */ { machine, plan }) {
+  const part = answerBatch(new TextEncoder().encode(machine), { mode: "decide", plan });
   return { line: new TextDecoder().decode(part.bytes).trimEnd(), answer: ANSWERS[part.answers[0]], part };
 }
 
-/**
- * Answers a list and traces a machine again and again for a while, so that the browser compiles well what is
- * called often.
- */
-function warm(/** @type {Uint8Array} */ list) {
+/** Decides a list and traces a machine repeatedly, so that the browser optimizes the hot code. */
+function warmUp(/** @type {Uint8Array} */ list) {
   const begun = performance.now();
-  const line = new TextEncoder().encode(WARM_MACHINE);
-  while (performance.now() - begun < WARM_MILLISECONDS) {
-    answered(list, { mode: "decide", plan: WARM_PLAN });
-    engine?.traceBytes(line, WARM_SAMPLE);
+  const line = new TextEncoder().encode(WARM_UP_MACHINE);
+  while (performance.now() - begun < WARM_UP_MILLISECONDS) {
+    answerBatch(list, { mode: "decide", plan: WARM_UP_PLAN });
+    engine?.traceBytes(line, WARM_UP_TRACE);
   }
 }
 
-/**
- * How many bytes the next batch has, at least; it ends with a line. Where a call costs much by itself, as
- * with large tapes, more lines share it.
- * @param {number} taken by the batch before, in milliseconds @param {number} lines that it had
- */
-function nextSize(taken, lines) {
+/** The least bytes of the next batch. More lines share a call's fixed cost, as with large tapes. */
+function nextSize(/** @type {number} */ milliseconds, /** @type {number} */ lines) {
   const before = pace;
-  pace = taken / Math.max(1, lines);
+  pace = milliseconds / Math.max(1, lines);
   const isCheaper = lines > 0 && pace < SHARED * before;
-  const grows = taken < BATCH_MILLISECONDS / 2 || (taken < 2 * BATCH_MILLISECONDS && isCheaper);
-  const growth = taken < SHORT_MILLISECONDS ? FAST_GROWTH : GROWTH;
-  const factor = taken > 2 * BATCH_MILLISECONDS ? 0.25 : grows ? growth : 1;
+  const grows =
+    milliseconds < BATCH_MILLISECONDS / 2 || (milliseconds < 2 * BATCH_MILLISECONDS && isCheaper);
+  const growth = milliseconds < SHORT_MILLISECONDS ? FAST_GROWTH : GROWTH;
+  const factor = milliseconds > 2 * BATCH_MILLISECONDS ? 0.25 : grows ? growth : 1;
   return Math.max(1, Math.min(MOST_BYTES, Math.floor(size * factor)));
 }
 
-function send(/** @type {Part} */ part) {
+function sendPart(/** @type {Part} */ part) {
   const { bytes, starts, kinds, answers, lines, source } = part;
-  const moved = [bytes, starts, kinds, answers, lines, source].filter((array) => array !== null);
-  postMessage(part, /** @type {any} */ (moved.map((array) => /** @type {Uint8Array} */ (array).buffer)));
+  const arrays = [bytes, starts, kinds, answers, ...(lines ? [lines] : []), ...(source ? [source] : [])];
+  postMessage(part, { transfer: arrays.map(({ buffer }) => /** @type {ArrayBuffer} */ (buffer)) });
 }
 
 /**
- * The rows in the order of their steps; rows that name none come last, and equal ones stay in order.
+ * Sorts rows by steps; equal rows stay in order, rows without steps come last.
  * @param {Uint32Array} rows @param {Float64Array} steps @param {boolean} down
  */
-function sorted(rows, steps, down) {
+function sortRows(rows, steps, down) {
   const sign = down ? -1 : 1;
   const key = (/** @type {number} */ k) => (steps[k] < 0 ? Infinity : sign * steps[k]);
   const order = Uint32Array.from(rows, (_, k) => k);
@@ -186,57 +171,61 @@ function sorted(rows, steps, down) {
   return order.map((k) => rows[k]);
 }
 
-/**
- * What is answered to each question but a list, and which bytes are handed over with it.
- * @type {Record<string, (host: Host, asked: any) => {says: any, moved?: ArrayBufferLike[]}>}
- */
-const QUESTIONS = {
-  sort: (_, { rows, steps, down }) => ({ says: { order: sorted(rows, steps, down) } }),
-  picture: (host, asked) => {
-    const picture = pictured(host, asked);
-    // The rows are kept here too.
-    return { says: { picture }, moved: [picture.image.buffer] };
-  },
-  ahead: (host, { rows }) => {
-    const kept = takenAhead(host, rows);
-    return { says: { kept }, moved: [kept.sample.cells.buffer] };
-  },
-  growth: (host, asked) => ({ says: { growth: growthOf(host, asked) } }),
-  one: (_, asked) => ({ says: decidedOne(asked) }),
-  trace: (host, asked) => ({ says: traced(host, asked) }),
-};
-
-/** Takes in the engine's module; where it can't be loaded, each question is answered with the reason. */
-function take(/** @type {WebAssembly.Module} */ module) {
-  loaded = load(module).then((made) => {
-    engine = made;
+/** Loads the engine. If it fails, every request gets the error. */
+function loadModule(/** @type {WebAssembly.Module} */ module) {
+  engineLoaded = load(module).then((loaded) => {
+    engine = loaded;
   });
-  loaded.catch(() => undefined);
+  engineLoaded.catch(() => undefined);
 }
 
-async function answer(/** @type {any} */ asked) {
-  if (asked.what === "load") {
-    take(asked.module);
+/**
+ * Handlers of the messages besides `load`. They return a reply, and the buffers to transfer.
+ * @type {Record<string, (message: any, host: Engine) => [any?, ArrayBuffer[]?]>}
+ */
+const HANDLERS = {
+  list: (message) => {
+    if (message.size !== undefined) {
+      [size, pace] = [message.size, Infinity];
+    }
+    answerList(message);
+    return [];
+  },
+  "warm-up": ({ list }) => {
+    warmUp(list);
+    return [];
+  },
+  "store-rows": (message) => {
+    storeRows(message);
+    return [];
+  },
+  sort: ({ rows, steps, down }) => [{ order: sortRows(rows, steps, down) }],
+  picture: (message, host) => {
+    const picture = makePicture(host, message);
+    // The rows stay in the cache, so they are copied.
+    return [{ picture }, [/** @type {ArrayBuffer} */ (picture.image.buffer)]];
+  },
+  "trace-ahead": ({ request }, host) => {
+    const cached = traceAhead(host, request);
+    return [{ cached }, [/** @type {ArrayBuffer} */ (cached.rows.cells.buffer)]];
+  },
+  growth: (message, host) => [{ growth: measureGrowth(host, message) }],
+  "decide-one": (message) => [decideOne(message)],
+  trace: (message, host) => [traceRows(host, message)],
+};
+
+async function onMessage(/** @type {any} */ message) {
+  if (message.type === "load") {
+    loadModule(message.module);
     return;
   }
-  await loaded;
-  if (asked.what === "list") {
-    if (asked.size !== undefined) {
-      [size, pace] = [asked.size, Infinity];
-    }
-    work(asked);
-  } else if (asked.what === "warm") {
-    warm(asked.list);
-  } else if (asked.what === "keep") {
-    keep(asked.kept);
-  } else {
-    const { says, moved = [] } = QUESTIONS[asked.what](/** @type {Host} */ (engine), asked);
-    postMessage(says, /** @type {any} */ (moved));
-  }
+  await engineLoaded;
+  const [reply, transfer = []] = HANDLERS[message.type](message, /** @type {Engine} */ (engine));
+  reply && postMessage(reply, { transfer });
 }
 
 addEventListener("message", (event) => {
-  answer(event.data).catch((/** @type {Error} */ error) =>
+  onMessage(event.data).catch((/** @type {Error} */ error) =>
     postMessage({ error: error.name, message: error.message, limit: /** @type {any} */ (error).limit }),
   );
 });

@@ -1,258 +1,246 @@
 /**
  * The space-time diagram: a row is a step, a column a position.
  *
- * @typedef {import("./scale.mjs").View} View
- * @typedef {import("./places.mjs").Place} Place
- * @typedef {import("./places.mjs").Point} Point
- * @typedef {import("./places.mjs").Scene} Scene
- * @typedef {{machine: string, cells: number, upto: number} & Omit<import("./scale.mjs").Fit, "opens">} Shown
- * @typedef {{view: View, home: View, sample: import("../../worker/sample.mjs").Sample, cut: boolean,
+ * @typedef {import("./viewport.mjs").View} View
+ * @typedef {import("./viewport.mjs").Fit} Fit
+ * @typedef {import("./viewport.mjs").Point} Point
+ * @typedef {import("./geometry.mjs").Place} Place
+ * @typedef {import("./geometry.mjs").Scene} Scene
+ * @typedef {import("../../worker/row-cache.mjs").AheadRequest} AheadRequest
+ * @typedef {{machine: string, cells: number, upto: number} & Omit<Fit, "opens">} DiagramRun
+ * @typedef {{view: View, home: View, rows: import("../../worker/packed-rows.mjs").PackedRows, cut: boolean,
  *   every: number, columns: number, image: Uint8ClampedArray, low: number, high: number,
- *   ahead: import("../../worker/samples.mjs").Ahead[]}} Picture `ahead` are rows of views that may come next
+ *   ahead: AheadRequest[]}} Picture `ahead`: requests for rows of probable next views
  */
-import { forgetColours, palette, part } from "../dom.mjs";
-import { Asker } from "../workers.mjs";
-import { Painter, sheetOf } from "./paint.mjs";
-import * as places from "./places.mjs";
-import { closeTo, isSame, zoomed } from "./scale.mjs";
+import { byId, clearColours, readPalette } from "../dom.mjs";
+import { WorkerClient } from "../worker-client.mjs";
+import * as geometry from "./geometry.mjs";
+import { Painter, createSheet } from "./paint.mjs";
+import { FRAMED, closeView, isSameView, zoomView } from "./viewport.mjs";
 
-// A picture is waited for so long before the next one is begun: what was traced for it is of use.
+// A picture may take this long before the next one interrupts it: its trace is of use.
 const PATIENCE_MILLISECONDS = 1_500;
 
 export class Diagram {
-  /** @param {(place: Place) => void} choose what happens where a step is chosen in the picture */
-  constructor(choose) {
-    this.choose = choose;
-    this.canvas = /** @type {HTMLCanvasElement} */ (part("diagram"));
-    this.asker = new Asker(PATIENCE_MILLISECONDS);
-    // What takes rows of views that may come next.
-    this.ahead = new Asker();
-    /** @type {Shown | null} */
-    this.shown = null;
+  /** @param {(place: Place) => void} onChoose called when a step is chosen in the picture */
+  constructor(onChoose) {
+    this.onChoose = onChoose;
+    this.canvas = /** @type {HTMLCanvasElement} */ (byId("diagram"));
+    this.client = new WorkerClient(PATIENCE_MILLISECONDS);
+    this.aheadClient = new WorkerClient();
+    /** @type {DiagramRun | null} */
+    this.run = null;
     /** @type {Picture | null} */
-    this.data = null;
+    this.picture = null;
     /** @type {HTMLCanvasElement | null} */
     this.sheet = null;
     /** @type {import("./paint.mjs").Mark[]} */
     this.marks = [];
-    /** @type {View | null} the view that is shown; null until the first picture says how it opens */
+    /** @type {View | null} null until the first picture */
     this.view = null;
-    this.opens = true;
-    // Whether the view is as large as fits, and nobody chose another.
+    this.isOpening = true;
+    // Whether the view follows the canvas's size.
     this.isFitted = true;
-    // The step that the tape shows, and its head.
-    this.chosen = { step: 0, position: 0 };
-    /** @type {Place | null} what the keys point at */
-    this.place = null;
+    /** The head at the tape's step. */
+    this.tapePlace = { step: 0, position: 0 };
+    /** @type {Place | null} the pointer of the keys */
+    this.pointed = null;
     this.frame = 0;
-    // How often a picture was asked for.
-    this.asked = 0;
-    this.listen();
-  }
-
-  listen() {
-    new ResizeObserver(() => this.resized()).observe(this.canvas);
+    this.requests = 0;
+    new ResizeObserver(() => this.onResize()).observe(this.canvas);
     matchMedia("(prefers-color-scheme: dark)").addEventListener("change", () => {
-      forgetColours();
-      this.fetch();
+      clearColours();
+      this.requestPicture();
     });
   }
 
   get area() {
-    return places.areaOf(this.canvas, this.shown?.last ?? 0);
+    return geometry.pictureArea(this.canvas, this.run?.last ?? 0);
   }
 
-  /** @returns {Scene | null} what the canvas shows; null until something does. */
+  /** @returns {Scene | null} */
   get scene() {
-    const { view, area, data } = this;
-    return view === null ? null : { view, area, data };
+    const { view, area, picture } = this;
+    return view === null ? null : { view, area, picture };
   }
 
-  /** Shows a machine from its start on, or what is marked. */
-  open(/** @type {Shown} */ asked, /** @type {import("./paint.mjs").Mark[]} */ marks) {
+  /** Shows a machine from its start, or its marks. */
+  open(/** @type {DiagramRun} */ run, /** @type {import("./paint.mjs").Mark[]} */ marks) {
     this.close();
-    Object.assign(this, { shown: asked, marks, opens: true, isFitted: true });
-    this.chosen = { step: 0, position: 0 };
-    this.fetch();
+    Object.assign(this, { run, marks, tapePlace: { step: 0, position: 0 } });
+    this.fit(true);
   }
 
-  /** Leaves a machine: a picture of it that comes is too late. */
+  /** Leaves a machine and drops its outstanding pictures. */
   close() {
-    Object.assign(this, { shown: null, data: null, sheet: null, view: null, marks: [], place: null });
-    this.asked += 1;
-    this.canvas.dataset.state = "asked";
-    part("diagram-text").textContent = "Drawing …";
-    this.ahead.isBusy && this.ahead.end();
+    Object.assign(this, { run: null, picture: null, sheet: null, view: null, marks: [], pointed: null });
+    this.requests += 1;
+    this.canvas.dataset.state = "requested";
+    byId("diagram-text").textContent = "Drawing …";
+    this.aheadClient.isBusy && this.aheadClient.cancel();
   }
 
-  /** Shows nothing, where no picture of the next machine has come. */
-  blank() {
-    if (this.data === null) {
-      // A new width has it empty.
+  /** Empties the canvas, unless a picture has come. */
+  clear() {
+    if (this.picture === null) {
+      // Setting the width clears a canvas.
       this.canvas.width = this.canvas.clientWidth;
     }
   }
 
-  /** Shows as much as fits now, where nobody chose another view. */
-  resized() {
-    if (this.shown !== null && this.canvas.clientWidth > 0) {
+  onResize() {
+    if (this.run !== null && this.canvas.clientWidth > 0) {
       this.view = this.isFitted ? null : this.view;
-      this.fetch();
+      this.requestPicture();
     }
   }
 
-  /** Shows the whole, or what is marked, as the picture opened. */
-  fit(opens = false) {
-    Object.assign(this, { view: null, opens, isFitted: true });
-    this.fetch();
+  /** Shows the whole, or the opening view. */
+  fit(isOpening = false) {
+    Object.assign(this, { view: null, isOpening, isFitted: true });
+    this.requestPicture();
   }
 
-  show(/** @type {View} */ view) {
+  setView(/** @type {View} */ view) {
     Object.assign(this, { view, isFitted: false });
-    this.fetch();
+    this.requestPicture();
   }
 
-  /** Asks for the picture of the view, and shows the one before until it is there. */
-  fetch() {
-    if (this.shown === null) {
+  /** Requests the view's picture; the last one stays until it comes. */
+  requestPicture() {
+    if (this.run === null) {
       return;
     }
-    const { machine, cells, upto, last, pair, end } = this.shown;
+    const { machine, cells, upto, last, pair, end } = this.run;
     const { width, height } = this.area;
-    if (this.data === null) {
-      part("diagram-text").textContent = "Drawing …";
+    if (this.picture === null) {
+      byId("diagram-text").textContent = "Drawing …";
     }
-    this.canvas.dataset.state = "asked";
-    const fit = { last, pair, opens: this.opens, end };
-    const question = { what: "picture", machine, cells, upto, view: this.view, width, height, fit };
-    this.asked += 1;
-    const { asked } = this;
-    this.asker.ask({ ...question, palette: palette() }, (answer) => this.take(answer, asked === this.asked));
-    this.drawSoon();
+    this.canvas.dataset.state = "requested";
+    this.requests += 1;
+    const { requests } = this;
+    const fit = { last, pair, opens: this.isOpening, end };
+    const run = { machine, cells, upto, view: this.view, width, height, fit };
+    this.client.request({ type: "picture", ...run, palette: readPalette() }, (reply) => {
+      this.receivePicture(reply, requests === this.requests);
+    });
+    this.scheduleDraw();
   }
 
-  /**
-   * Takes a picture; that of an older view is shown, scaled, until the last one comes. It is drawn at once,
-   * so that it stands ready for the browser's next frame.
-   */
-  take(/** @type {any} */ answer, /** @type {boolean} */ isLast) {
-    if (!isLast && (answer.error || this.view === null)) {
+  /** Draws a picture at once, in time for the next frame. One of an older view is scaled. */
+  receivePicture(/** @type {any} */ reply, /** @type {boolean} */ isLast) {
+    if (!isLast && (reply.error || this.view === null)) {
       return;
     }
-    if (answer.error) {
-      Object.assign(this, { data: null, sheet: null });
-      this.blank();
-      part("diagram-text").textContent = `No diagram: ${answer.message}.`;
+    if (reply.error) {
+      Object.assign(this, { picture: null, sheet: null });
+      this.clear();
+      byId("diagram-text").textContent = `No diagram: ${reply.message}.`;
       return;
     }
     /** @type {Picture} */
-    const data = answer.picture;
-    this.data = data;
-    this.sheet = sheetOf(data);
-    this.view ??= data.view;
-    this.canvas.dataset.state = isLast ? "taken" : "asked";
+    const picture = reply.picture;
+    this.picture = picture;
+    this.sheet = createSheet(picture);
+    this.view ??= picture.view;
+    this.canvas.dataset.state = isLast ? "received" : "requested";
     this.draw();
     if (isLast) {
-      this.takeAhead(data.ahead, this.asked);
-      this.canvas.dispatchEvent(new Event("taken"));
+      this.traceAhead(picture.ahead, this.requests);
+      this.canvas.dispatchEvent(new Event("received"));
     }
   }
 
   /**
-   * Has rows of views that may come next taken by another worker, one after another, and kept by the one that
-   * makes pictures, until another picture is asked for.
-   * @param {import("../../worker/samples.mjs").Ahead[]} ahead @param {number} asked
+   * Traces rows of probable next views in another worker, for the cache of this one, until the next request.
+   * @param {AheadRequest[]} ahead @param {number} requests
    */
-  takeAhead([rows, ...others], asked) {
-    if (rows === undefined || asked !== this.asked) {
+  traceAhead([request, ...others], requests) {
+    if (request === undefined || requests !== this.requests) {
       return;
     }
-    this.ahead.ask({ what: "ahead", rows }, ({ error, kept }) => {
-      kept && this.asker.tell({ what: "keep", kept }, [kept.sample.cells.buffer]);
-      error || this.takeAhead(others, asked);
+    const { machine, cells } = request;
+    this.aheadClient.request({ type: "trace-ahead", request }, ({ error, cached }) => {
+      cached && this.client.post({ type: "store-rows", machine, cells, cached }, [cached.rows.cells.buffer]);
+      error || this.traceAhead(others, requests);
     });
   }
 
-  /** Shows a view, or one nearby with something visited, where it isn't the one that is shown. */
-  showNear(/** @type {View} */ wanted) {
-    const { scene, shown } = this;
-    if (scene !== null && shown !== null) {
-      const view = places.kept({ ...scene, view: wanted }, shown.upto);
-      isSame(view, scene.view) || this.show(view);
+  /** Shows a view, moved to visited cells. */
+  setNearView(/** @type {View} */ wanted) {
+    const { scene, run } = this;
+    if (scene !== null && run !== null) {
+      const view = geometry.clampView({ ...scene, view: wanted }, run.upto);
+      isSameView(view, scene.view) || this.setView(view);
     }
   }
 
   /**
-   * Shows a view zoomed so many times, with what was at one point of the canvas at another.
+   * Zooms a view around a point, and moves the point to another.
    * @param {View} from @param {number} factor @param {Point} point @param {Point} goal
    */
-  stretch(from, factor, point, goal) {
-    if (this.data !== null) {
+  moveAndZoom(from, factor, point, goal) {
+    if (this.picture !== null) {
       const { x, y } = this.area;
       const at = { x: point.x - x, y: point.y - y };
-      const view = factor === 1 ? from : zoomed(from, this.data.home, factor, at);
-      this.showNear(places.moved(view, point.x - goal.x, point.y - goal.y));
+      const view = factor === 1 ? from : zoomView(from, this.picture.home, factor, at);
+      this.setNearView(geometry.moveView(view, point.x - goal.x, point.y - goal.y));
     }
   }
 
-  /**
-   * Zooms so many times at a place of the canvas; without one at what the keys point at, at the chosen step's
-   * head, or at a head.
-   * @param {number} factor @param {Point} [place]
-   */
-  zoom(factor, place) {
-    const { scene, data } = this;
-    if (scene !== null && data !== null) {
-      const { x, y } = place ?? this.middle(scene);
-      this.show(zoomed(scene.view, data.home, factor, { x: x - scene.area.x, y: y - scene.area.y }));
+  /** Zooms around a point of the canvas; the default is the pointer, the tape's step or a head. */
+  zoom(/** @type {number} */ factor, /** @type {Point | undefined} */ point) {
+    const { scene, picture } = this;
+    if (scene !== null && picture !== null) {
+      const { x, y } = point ?? this.zoomCentre(scene);
+      const at = { x: x - scene.area.x, y: y - scene.area.y };
+      this.setView(zoomView(scene.view, picture.home, factor, at));
     }
   }
 
-  /** The place in the canvas at which keys zoom. */
-  middle(/** @type {Scene} */ scene) {
-    return places.middleOf(scene, [this.place, this.chosen]);
+  zoomCentre(/** @type {Scene} */ scene) {
+    return geometry.zoomCentre(scene, [this.pointed, this.tapePlace]);
   }
 
-  /** Chooses a step whose head is there; where the view is too far away to see its cells, it comes near. */
-  goTo(/** @type {Place} */ place, /** @type {boolean} */ closes) {
-    this.chosen = place;
+  /** Marks the tape's step. If its cells are too small, `closes` zooms in on it. */
+  showStep(/** @type {Place} */ place, /** @type {boolean} */ closes) {
+    this.tapePlace = place;
     const { scene } = this;
     if (scene === null) {
       return;
     }
-    this.place = closes ? null : this.place;
-    if (closes || (!places.isSeen(scene, place) && scene.view.high >= places.LEGIBLE)) {
+    this.pointed = closes ? null : this.pointed;
+    if (closes || (!geometry.isVisible(scene, place) && scene.view.high >= FRAMED)) {
       const { width, height } = scene.area;
-      this.show(closeTo(width, height, place.step, place.position, scene.view));
+      this.setView(closeView(width, height, place.step, place.position, scene.view));
     }
-    this.drawSoon();
+    this.scheduleDraw();
   }
 
-  /** The place under a point of the canvas; null where there is none. */
+  /** @returns {Place | null} */
   placeAt(/** @type {number} */ x, /** @type {number} */ y) {
     const { scene } = this;
-    return scene === null ? null : places.placeAt(scene, { x, y });
+    return scene === null ? null : geometry.placeAt(scene, { x, y });
   }
 
-  /** Moves what the keys point at by cells that are seen, or by so much of the view. */
-  point(/** @type {number} */ right, /** @type {number} */ down, /** @type {boolean} */ far) {
-    const { scene, shown } = this;
-    if (scene === null || shown === null) {
+  /** Moves the pointer of the keys by cells or by part of the view; the view follows. */
+  movePointer(/** @type {number} */ right, /** @type {number} */ down, /** @type {boolean} */ far) {
+    const { scene, run, tapePlace } = this;
+    if (scene === null || run === null) {
       return;
     }
-    const isSeen = places.isSeen(scene, this.chosen);
-    const middle = isSeen ? null : places.placeAt(scene, this.middle(scene));
-    const from = this.place ?? middle ?? this.chosen;
-    this.place = places.nextPlace(scene, from, { right, down, far }, shown.upto);
-    // The view follows, so that the place is seen.
-    const way = places.wayTo(scene, this.place);
-    if (way.right !== 0 || way.down !== 0) {
-      this.showNear(places.moved(scene.view, way.right, way.down));
+    const isVisible = geometry.isVisible(scene, tapePlace);
+    const middle = isVisible ? null : geometry.placeAt(scene, this.zoomCentre(scene));
+    const from = this.pointed ?? middle ?? tapePlace;
+    this.pointed = geometry.nextPlace(scene, from, { right, down, far }, run.upto);
+    const offset = geometry.offsetTo(scene, this.pointed);
+    if (offset.right !== 0 || offset.down !== 0) {
+      this.setNearView(geometry.moveView(scene.view, offset.right, offset.down));
     }
-    this.drawSoon();
+    this.scheduleDraw();
   }
 
-  drawSoon() {
+  scheduleDraw() {
     if (this.frame === 0) {
       this.frame = requestAnimationFrame(() => this.draw());
     }
@@ -261,24 +249,24 @@ export class Diagram {
   draw() {
     cancelAnimationFrame(this.frame);
     this.frame = 0;
-    const { scene, data, canvas } = this;
-    if (data === null || scene === null) {
+    const { scene, picture, canvas } = this;
+    if (picture === null || scene === null) {
       return;
     }
     const painter = new Painter(canvas, scene);
-    painter.picture(data, this.sheet);
-    painter.heads(data.sample);
-    this.marks.forEach((mark) => painter.mark(mark));
-    painter.axes(this.chosen.step);
-    this.place !== null && painter.place(this.place);
-    const isNew = canvas.dataset.state === "taken" || canvas.dataset.state === "drawn";
+    painter.paintPicture(picture, this.sheet);
+    painter.paintHeads(picture);
+    this.marks.forEach((mark) => painter.paintMark(mark));
+    painter.paintAxes(this.tapePlace.step);
+    this.pointed !== null && painter.paintPlace(this.pointed);
+    const isNew = canvas.dataset.state === "received" || canvas.dataset.state === "drawn";
     Object.assign(canvas.dataset, { ...scene.view, x: scene.area.x, y: scene.area.y, ratio: painter.ratio });
-    part("diagram-text").textContent = places.pictureWords(data, scene.area.width);
-    canvas.dataset.state = isNew ? "drawn" : "asked";
+    byId("diagram-text").textContent = geometry.pictureText(picture, scene.area.width);
+    canvas.dataset.state = isNew ? "drawn" : "requested";
   }
 
-  /** @returns {Promise<Blob | null>} the picture as a file */
-  async png() {
-    return new Promise((done) => this.canvas.toBlob(done, "image/png"));
+  /** @returns {Promise<Blob | null>} */
+  async toPng() {
+    return new Promise((resolve) => this.canvas.toBlob(resolve, "image/png"));
   }
 }

@@ -1,80 +1,78 @@
-/** Moving and zooming a diagram by wheel, keys, mouse and fingers, and pointing at its cells. */
-import { part, pressKey } from "../dom.mjs";
-import { beside, placeWords } from "./places.mjs";
-import { ZOOM } from "./scale.mjs";
+/** Input to a diagram by wheel, keys, mouse and fingers. */
+import { byId, dispatchKey } from "../dom.mjs";
+import { snapToRow, placeText } from "./geometry.mjs";
+import { ZOOM } from "./viewport.mjs";
 
 const DOUBLE = 8;
-// A wheel's notch has so many pixels, and zooms twice.
+// The pixels of a wheel's notch, which zooms by 2.
 const NOTCH_PIXELS = 100;
 const LINE_PIXELS = 33;
 const MOST_NOTCHES = 3;
-// What moves less than this is a click.
+// Shorter movements are clicks.
 const CLICK_PIXELS = 4;
 
 /**
- * What is done on a diagram.
- *
- * @typedef {import("./places.mjs").Point} Point
- * @typedef {{view: import("./scale.mjs").View, middle: Point, apart: number}} Begin the view when the fingers
- *   that are there began to move it, the middle between them in the canvas, and how far they were apart
+ * @typedef {import("./geometry.mjs").Point} Point
+ * @typedef {{view: import("./viewport.mjs").View, middle: Point, apart: number}} GestureStart the view, the
+ *   middle between the fingers in the canvas, and their distance
  */
 export class Gestures {
   /**
    * @param {import("./diagram.mjs").Diagram} diagram
-   * @param {(words: string, byKeys: boolean) => void} tell what is pointed at
+   * @param {(words: string, byKeys: boolean) => void} tell shows a description of the pointed cell
    */
   constructor(diagram, tell) {
     this.diagram = diagram;
-    this.tell = tell;
-    /** @type {Map<number, Point>} where each finger is in the window; the mouse is one */
+    this.report = tell;
+    /** @type {Map<number, Point>} in the window; the mouse is a finger */
     this.fingers = new Map();
     this.moved = 0;
-    /** @type {Begin | null} */
-    this.begin = null;
-    // One finger scrolls the page until the picture has been tapped.
-    this.moves = false;
+    /** @type {GestureStart | null} */
+    this.start = null;
+    // One finger scrolls the page until the picture is tapped.
+    this.canMove = false;
     const { canvas } = diagram;
-    canvas.addEventListener("keydown", (event) => this.pressed(event));
-    canvas.addEventListener("wheel", (event) => this.wheeled(event), { passive: false });
+    canvas.addEventListener("keydown", (event) => this.onKey(event));
+    canvas.addEventListener("wheel", (event) => this.onWheel(event), { passive: false });
     canvas.addEventListener("dblclick", (event) => {
       diagram.zoom(event.shiftKey ? 1 / DOUBLE : DOUBLE, { x: event.offsetX, y: event.offsetY });
     });
     canvas.addEventListener("blur", () => {
-      diagram.place = null;
-      diagram.drawSoon();
+      diagram.pointed = null;
+      diagram.scheduleDraw();
     });
-    canvas.addEventListener("taken", () => this.taken());
-    canvas.addEventListener("pointerdown", (event) => this.down(event));
-    canvas.addEventListener("pointermove", (event) => this.move(event));
-    canvas.addEventListener("pointerup", (event) => this.up(event));
-    canvas.addEventListener("pointercancel", (event) => this.lost(event));
+    canvas.addEventListener("received", () => this.onPicture());
+    canvas.addEventListener("pointerdown", (event) => this.onDown(event));
+    canvas.addEventListener("pointermove", (event) => this.onMove(event));
+    canvas.addEventListener("pointerup", (event) => this.onUp(event));
+    canvas.addEventListener("pointercancel", (event) => this.removeFinger(event));
     canvas.addEventListener("pointerleave", () => tell("", false));
   }
 
-  /** Tells what keys point at, where the picture has a row of that very step. */
-  tellPlace() {
-    const { place, data } = this.diagram;
-    const isShown = place !== null && beside(data, place).step === place.step;
-    this.tell(isShown ? placeWords(data, place) : "", true);
+  /** Describes the pointer of the keys if the picture has its exact row. */
+  reportPlace() {
+    const { pointed, picture } = this.diagram;
+    const isShown = pointed !== null && snapToRow(picture, pointed).step === pointed.step;
+    this.report(isShown ? placeText(picture, pointed) : "", true);
   }
 
-  /** A picture has come: what keys point at may not have been in the one before. */
-  taken() {
+  /** Describes the pointer once its picture has come. */
+  onPicture() {
     const { diagram } = this;
-    if (diagram.place !== null && part("place-text").textContent === "") {
-      diagram.place = beside(diagram.data, diagram.place);
-      this.tellPlace();
+    if (diagram.pointed !== null && byId("place-text").textContent === "") {
+      diagram.pointed = snapToRow(diagram.picture, diagram.pointed);
+      this.reportPlace();
     }
   }
 
-  pressed(/** @type {KeyboardEvent} */ event) {
+  onKey(/** @type {KeyboardEvent} */ event) {
     const { diagram } = this;
     const point = (/** @type {number} */ right, /** @type {number} */ down) => () => {
-      diagram.point(right, down, event.shiftKey);
-      this.tellPlace();
+      diagram.movePointer(right, down, event.shiftKey);
+      this.reportPlace();
     };
-    const choose = () => diagram.place && diagram.choose(diagram.place);
-    pressKey(event, {
+    const choose = () => diagram.pointed && diagram.onChoose(diagram.pointed);
+    dispatchKey(event, {
       ArrowLeft: point(-1, 0),
       ArrowRight: point(1, 0),
       ArrowUp: point(0, -1),
@@ -88,7 +86,7 @@ export class Gestures {
     });
   }
 
-  wheeled(/** @type {WheelEvent} */ event) {
+  onWheel(/** @type {WheelEvent} */ event) {
     const { diagram } = this;
     if (document.activeElement === diagram.canvas || event.ctrlKey) {
       event.preventDefault();
@@ -98,33 +96,31 @@ export class Gestures {
     }
   }
 
-  down(/** @type {PointerEvent} */ event) {
+  onDown(/** @type {PointerEvent} */ event) {
     const { canvas } = this.diagram;
-    // Only the main button moves the picture.
     if (event.button !== 0) {
       return;
     }
-    this.moves = event.pointerType === "mouse" || document.activeElement === canvas;
-    if (this.moves) {
+    this.canMove = event.pointerType === "mouse" || document.activeElement === canvas;
+    if (this.canMove) {
       canvas.setPointerCapture(event.pointerId);
     }
     this.fingers.set(event.pointerId, { x: event.clientX, y: event.clientY });
     this.moved = this.fingers.size > 1 ? CLICK_PIXELS : 0;
-    this.begin = this.begun();
+    this.start = this.startGesture();
   }
 
-  lost(/** @type {PointerEvent} */ event) {
+  removeFinger(/** @type {PointerEvent} */ event) {
     this.fingers.delete(event.pointerId);
-    this.begin = this.begun();
+    this.start = this.startGesture();
   }
 
-  /** @returns {Begin | null} where the fingers begin that are there now */
-  begun() {
+  /** @returns {GestureStart | null} */
+  startGesture() {
     const { view } = this.diagram;
     return view === null || this.fingers.size === 0 ? null : { view, ...this.span() };
   }
 
-  /** The middle between the fingers, and how far they are apart. */
   span() {
     const [one, other] = [...this.fingers.values()];
     const two = other ?? one;
@@ -135,10 +131,10 @@ export class Gestures {
     return { middle, apart: Math.hypot(one.x - two.x, one.y - two.y) };
   }
 
-  move(/** @type {PointerEvent} */ event) {
+  onMove(/** @type {PointerEvent} */ event) {
     const before = this.fingers.get(event.pointerId);
     if (before === undefined) {
-      this.point(event);
+      this.reportPointer(event);
       return;
     }
     const now = { x: event.clientX, y: event.clientY };
@@ -147,36 +143,36 @@ export class Gestures {
       return;
     }
     this.moved += far;
-    if (this.moves) {
+    if (this.canMove) {
       this.fingers.set(event.pointerId, now);
-      this.follow();
+      this.applyGesture();
     }
   }
 
-  /** Moves and zooms the picture: what was between the fingers stays there. */
-  follow() {
-    const { diagram, begin } = this;
-    if (begin !== null) {
+  /** Moves and zooms the picture around the point between the fingers. */
+  applyGesture() {
+    const { diagram, start } = this;
+    if (start !== null) {
       const { middle, apart } = this.span();
-      const factor = begin.apart > 0 && apart > 0 ? (apart / begin.apart) ** 2 : 1;
-      diagram.stretch(begin.view, factor, begin.middle, middle);
+      const factor = start.apart > 0 && apart > 0 ? (apart / start.apart) ** 2 : 1;
+      diagram.moveAndZoom(start.view, factor, start.middle, middle);
     }
   }
 
-  /** Tells what is under the mouse or a finger, and gives the place. */
-  point(/** @type {PointerEvent} */ event) {
+  /** Describes the cell under the pointer, and returns its place. */
+  reportPointer(/** @type {PointerEvent} */ event) {
     const place = this.diagram.placeAt(event.offsetX, event.offsetY);
-    this.tell(place === null ? "" : placeWords(this.diagram.data, place), false);
+    this.report(place === null ? "" : placeText(this.diagram.picture, place), false);
     return place;
   }
 
-  up(/** @type {PointerEvent} */ event) {
+  onUp(/** @type {PointerEvent} */ event) {
     const { diagram, fingers } = this;
     if (fingers.has(event.pointerId) && fingers.size === 1 && this.moved < CLICK_PIXELS) {
-      const place = this.point(event);
-      place && diagram.choose(place);
+      const place = this.reportPointer(event);
+      place && diagram.onChoose(place);
       diagram.canvas.focus({ preventScroll: true });
     }
-    this.lost(event);
+    this.removeFinger(event);
   }
 }

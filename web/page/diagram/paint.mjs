@@ -1,48 +1,46 @@
 /**
- * Painting a diagram: its picture, the heads, its axes, and what is marked on it.
+ * Paints a diagram: picture, heads, axes and marks.
  *
- * @typedef {import("./scale.mjs").View} View
- * @typedef {import("../../worker/sample.mjs").Sample} Sample
+ * @typedef {import("./viewport.mjs").View} View
  * @typedef {import("./diagram.mjs").Picture} Picture
- * @typedef {import("./places.mjs").Place} Place
- * @typedef {{step: number, from: number | null, to: number | null, label: string}} Band a stretch of a row
+ * @typedef {import("./geometry.mjs").Place} Place
+ * @typedef {import("./geometry.mjs").Area} Area
+ * @typedef {{step: number, from: number | null, to: number | null, label: string}} Band cells of a row
  * @typedef {{bands: Band[], arrow: boolean}} Mark
- * @typedef {{x: number, y: number, width: number, height: number}} Area where the picture stands
  * @typedef {{x: number, y: number, wide: number, high: number}} Box
  */
-import { FRAMED, symbolAt } from "../../worker/sample.mjs";
-import { shown } from "../../reader/machine.mjs";
-import { ink } from "../dom.mjs";
-import { cellsOf, stepsOf, ticks } from "./scale.mjs";
+import { formatNumber } from "../../reader/machine.mjs";
+import { symbolAt } from "../../worker/packed-rows.mjs";
+import { colourOf } from "../dom.mjs";
+import { FRAMED, cellsPerPixel, stepsPerPixel, ticks } from "./viewport.mjs";
 
+const FONT = "system-ui, sans-serif";
 const LABEL_PIXELS = 18;
 const LEAST_BAND = 4;
 const STEPS_APART = 44;
 const POSITIONS_APART = 84;
 const LETTERED = 16;
-// A step's number ends so far from the picture, beside the arrow at the chosen step.
+// The gap between a step's number and the picture, beside the arrow at the chosen step.
 const NUMBER_PIXELS = 9;
 const ARROW_PIXELS = 6;
-// A number on an axis has a mark as long, in the pixel where its row or column has its middle.
+// The length of the mark at a number, in the middle pixel of its row or column.
 const MARK_PIXELS = 4;
 
-/** A picture's pixels, so that they can be scaled; null where there are none. */
-export function sheetOf(/** @type {Picture} */ { image, columns, sample }) {
-  const rows = sample.steps.length;
-  if (rows === 0 || columns < 1) {
+/** A picture's pixels as a canvas, for scaling; null if it has none. */
+export function createSheet(/** @type {Picture} */ { image, columns, rows: { steps: { length } } }) {
+  if (length === 0 || columns < 1) {
     return null;
   }
   const sheet = document.createElement("canvas");
-  Object.assign(sheet, { width: columns, height: rows });
-  sheet.getContext("2d")?.putImageData(new ImageData(image, columns, rows), 0, 0);
+  Object.assign(sheet, { width: columns, height: length });
+  sheet.getContext("2d")?.putImageData(new ImageData(image, columns, length), 0, 0);
   return sheet;
 }
 
-/** A canvas's pen, for a view that stands in an area of it. */
+/** Paints a view in an area of a canvas. */
 export class Painter {
   /** @param {HTMLCanvasElement} canvas @param {{view: View, area: Area}} scene */
   constructor(canvas, { view, area }) {
-    // How many pixels of the canvas one of the page has.
     this.ratio = window.devicePixelRatio || 1;
     canvas.width = Math.round(canvas.clientWidth * this.ratio);
     canvas.height = Math.round(canvas.clientHeight * this.ratio);
@@ -50,185 +48,168 @@ export class Painter {
     this.pen.scale(this.ratio, this.ratio);
     this.view = view;
     this.area = area;
+    this.right = area.x + area.width;
+    this.bottom = area.y + area.height;
   }
 
-  /** Where a step's row begins. */
-  rowAt(/** @type {number} */ step) {
-    return this.area.y + (step - this.view.top) / stepsOf(this.view);
+  /** The top of a step's row. */
+  yOf(/** @type {number} */ step) {
+    return this.area.y + (step - this.view.top) / stepsPerPixel(this.view);
   }
 
-  /** Where a position's column begins. */
-  columnAt(/** @type {number} */ position) {
-    return this.area.x + (position - this.view.left) / cellsOf(this.view);
+  /** The left edge of a position's column. */
+  xOf(/** @type {number} */ position) {
+    return this.area.x + (position - this.view.left) / cellsPerPixel(this.view);
   }
 
   /**
-   * Outlines a box, so far inside its edges, or outside where that is below 0.
-   * @param {Box} box @param {CanvasRenderingContext2D["strokeStyle"]} style @param {number} line its width
-   * @param {number} inside
+   * @param {Box} box @param {CanvasRenderingContext2D["strokeStyle"]} style @param {number} width of the line
+   * @param {number} inset from the edges; negative outside
    */
-  outline({ x, y, wide, high }, style, line, inside) {
-    Object.assign(this.pen, { strokeStyle: style, lineWidth: line });
-    this.pen.strokeRect(x + inside, y + inside, wide - 2 * inside, high - 2 * inside);
+  outline({ x, y, wide, high }, style, width, inset) {
+    Object.assign(this.pen, { strokeStyle: style, lineWidth: width });
+    this.pen.strokeRect(x + inset, y + inset, wide - 2 * inset, high - 2 * inset);
   }
 
-  /** Paints pixels, which may have been made for another view: they are then scaled. */
-  picture(/** @type {Picture} */ picture, /** @type {HTMLCanvasElement | null} */ sheet) {
-    const { view: own, every, columns, sample } = picture;
+  fillTriangle(/** @type {number[][]} */ ...corners) {
+    this.pen.beginPath();
+    corners.forEach(([x, y]) => this.pen.lineTo(x, y));
+    this.pen.fill();
+  }
+
+  /** Paints the pixels, scaled if they were made for another view. */
+  paintPicture(/** @type {Picture} */ picture, /** @type {HTMLCanvasElement | null} */ sheet) {
+    const { view: own, every, columns, rows } = picture;
     const { pen, area, view } = this;
-    pen.fillStyle = ink("--unvisited");
+    pen.fillStyle = colourOf("--unvisited");
     pen.fillRect(area.x, area.y, area.width, area.height);
     if (sheet !== null) {
-      const wide = (columns * own.across) / cellsOf(view);
-      const high = Math.max(1, (sample.steps.length * every) / stepsOf(view));
+      const width = (columns * own.across) / cellsPerPixel(view);
+      const height = Math.max(1, (rows.steps.length * every) / stepsPerPixel(view));
       pen.imageSmoothingEnabled = false;
-      pen.drawImage(sheet, this.columnAt(own.left), this.rowAt(own.top), wide, high);
+      pen.drawImage(sheet, this.xOf(own.left), this.yOf(own.top), width, height);
     }
   }
 
   /**
-   * Frames the heads, with their states where cells are large enough; the frame has a halo in the colour of
-   * letters on the cell's symbol, so that it is seen on each symbol's colour.
+   * Frames the heads, with their states in large cells. A halo in the symbol's text colour makes the frame
+   * visible on every symbol.
    */
-  heads(/** @type {Sample} */ sample) {
+  paintHeads(/** @type {Picture} */ { rows }) {
     const { pen, view: { wide, high } } = this;
     if (wide < FRAMED || high < FRAMED) {
       return;
     }
     const line = high >= 12 ? 2 : 1.5;
-    Object.assign(pen, { textAlign: "center", textBaseline: "middle" });
-    pen.font = `bold ${Math.round(high * 0.6)}px system-ui, sans-serif`;
-    sample.steps.forEach((step, k) => {
-      const [x, y] = [this.columnAt(sample.heads[k]), this.rowAt(step)];
-      const symbol = symbolAt(sample, k, sample.heads[k]);
-      pen.fillStyle = ink(symbol < 0 ? "--text" : `--on${symbol}`);
-      this.outline({ x, y, wide, high }, pen.fillStyle, 1, line + 0.5);
-      this.outline({ x, y, wide, high }, ink("--head"), line, line / 2);
+    const font = `bold ${Math.round(high * 0.6)}px ${FONT}`;
+    Object.assign(pen, { font, textAlign: "center", textBaseline: "middle" });
+    rows.steps.forEach((step, k) => {
+      const box = { x: this.xOf(rows.heads[k]), y: this.yOf(step), wide, high };
+      const symbol = symbolAt(rows, k, rows.heads[k]);
+      pen.fillStyle = colourOf(symbol < 0 ? "--text" : `--on${symbol}`);
+      this.outline(box, pen.fillStyle, 1, line + 0.5);
+      this.outline(box, colourOf("--head"), line, line / 2);
       if (high >= LETTERED && wide >= LETTERED) {
-        pen.fillText(sample.states[k], x + wide / 2, y + high / 2 + 1);
+        pen.fillText(rows.states[k], box.x + wide / 2, box.y + high / 2 + 1);
       }
     });
   }
 
-  /** The axes: steps at the left, positions on top, with the chosen step's place. */
-  axes(/** @type {number} */ chosen) {
+  /** Paints steps on the left, with an arrow at the chosen one, and positions on top. */
+  paintAxes(/** @type {number} */ chosen) {
     const { pen, area, view } = this;
-    pen.fillStyle = ink("--panel");
-    pen.fillRect(0, 0, area.x, area.y + area.height);
-    pen.fillRect(0, 0, area.x + area.width, area.y);
-    pen.fillStyle = ink("--soft");
-    pen.font = "11px system-ui, sans-serif";
-    pen.textBaseline = "middle";
-    this.steps();
-    this.positions();
-    const y = this.rowAt(chosen) + view.high / 2;
-    if (y >= area.y && y <= area.y + area.height) {
-      pen.fillStyle = ink("--accent");
-      pen.beginPath();
-      pen.moveTo(area.x, y);
-      pen.lineTo(area.x - ARROW_PIXELS, y - ARROW_PIXELS);
-      pen.lineTo(area.x - ARROW_PIXELS, y + ARROW_PIXELS);
-      pen.fill();
-    }
-  }
-
-  steps() {
-    const { pen, area, view } = this;
+    pen.fillStyle = colourOf("--panel");
+    pen.fillRect(0, 0, area.x, this.bottom);
+    pen.fillRect(0, 0, this.right, area.y);
+    Object.assign(pen, { fillStyle: colourOf("--soft"), font: `11px ${FONT}`, textBaseline: "middle" });
     pen.textAlign = "right";
-    for (const step of ticks(view.top, stepsOf(view), area.height, STEPS_APART)) {
-      const y = this.rowAt(step) + view.high / 2;
-      if (y >= area.y && y < area.y + area.height - 4) {
-        pen.fillText(shown(step), area.x - NUMBER_PIXELS, y);
+    for (const step of ticks(view.top, stepsPerPixel(view), area.height, STEPS_APART)) {
+      const y = this.yOf(step) + view.high / 2;
+      if (y >= area.y && y < this.bottom - 4) {
+        pen.fillText(formatNumber(step), area.x - NUMBER_PIXELS, y);
         pen.fillRect(area.x - MARK_PIXELS, Math.floor(y), MARK_PIXELS, 1);
       }
     }
-  }
-
-  positions() {
-    const { pen, area, view } = this;
     pen.textAlign = "center";
-    for (const position of ticks(view.left, cellsOf(view), area.width, POSITIONS_APART)) {
-      const x = this.columnAt(position) + view.wide / 2;
-      if (x > area.x + 8 && x < area.x + area.width - 14) {
-        pen.fillText(shown(position), x, area.y - 11);
+    for (const position of ticks(view.left, cellsPerPixel(view), area.width, POSITIONS_APART)) {
+      const x = this.xOf(position) + view.wide / 2;
+      if (x > area.x + 8 && x < this.right - 14) {
+        pen.fillText(formatNumber(position), x, area.y - 11);
         pen.fillRect(Math.floor(x), area.y - MARK_PIXELS, 1, MARK_PIXELS);
       }
     }
-  }
-
-  /** Outlines the place that keys point at. */
-  place(/** @type {Place} */ { step, position }) {
-    const [wide, high] = [this.view.wide, this.view.high].map((pixels) => Math.max(5, pixels));
-    const box = { x: this.columnAt(position), y: this.rowAt(step), wide, high };
-    this.outline(box, ink("--panel"), 4, -2);
-    this.outline(box, ink("--accent"), 2, -2);
-  }
-
-  /** Outlines what stands behind the verdict, with an arrow from the first band to the second where asked. */
-  mark(/** @type {Mark} */ { bands, arrow }) {
-    const { area } = this;
-    const boxes = bands.map((band) => this.boxOf(band));
-    let free = area.y + LABEL_PIXELS / 2;
-    boxes.forEach((box, k) => {
-      const wanted = Math.max(box.y + box.high / 2, free);
-      const middle = Math.min(wanted, area.y + area.height - LABEL_PIXELS / 2);
-      free = middle + LABEL_PIXELS + 2;
-      if (box.y + box.high >= area.y && box.y <= area.y + area.height) {
-        this.band(box, bands[k].label, middle);
-      }
-    });
-    if (arrow && boxes.length === 2) {
-      this.arrow(boxes[0], boxes[1]);
+    const y = this.yOf(chosen) + view.high / 2;
+    if (y >= area.y && y <= this.bottom) {
+      pen.fillStyle = colourOf("--accent");
+      const left = area.x - ARROW_PIXELS;
+      this.fillTriangle([area.x, y], [left, y - ARROW_PIXELS], [left, y + ARROW_PIXELS]);
     }
   }
 
-  /** @returns {Box} the rectangle of a band; a band without ends goes over the whole width. */
-  boxOf(/** @type {Band} */ { step, from, to }) {
-    const { area, view } = this;
-    const x = from === null ? area.x + 1 : this.columnAt(from);
-    const end = to === null ? area.x + area.width - 1 : this.columnAt(to + 1);
-    const y = Math.floor(this.rowAt(step));
-    return { x, y, wide: Math.max(LEAST_BAND, end - x), high: Math.max(LEAST_BAND, view.high) };
+  /** Outlines the pointer of the keys. */
+  paintPlace(/** @type {Place} */ { step, position }) {
+    const [wide, high] = [this.view.wide, this.view.high].map((pixels) => Math.max(5, pixels));
+    const box = { x: this.xOf(position), y: this.yOf(step), wide, high };
+    this.outline(box, colourOf("--panel"), 4, -2);
+    this.outline(box, colourOf("--accent"), 2, -2);
   }
 
-  /**
-   * Outlines a band; a halo about the outline has it seen on each symbol's colour.
-   * @param {Box} box @param {string} label @param {number} middle where the label stands
-   */
-  band(box, label, middle) {
-    const { pen, area } = this;
-    this.outline(box, ink("--panel"), 1, -2.5);
-    this.outline(box, ink("--mark"), 2, -1);
-    Object.assign(pen, { font: "600 12px system-ui, sans-serif", textAlign: "left", textBaseline: "middle" });
+  /** Outlines bands, with labels below each other, and an arrow from the first to the second on request. */
+  paintMark(/** @type {Mark} */ { bands, arrow }) {
+    const boxes = bands.map((band) => this.boxOf(band));
+    let free = this.area.y + LABEL_PIXELS / 2;
+    boxes.forEach((box, k) => {
+      const wanted = Math.max(box.y + box.high / 2, free);
+      const middle = Math.min(wanted, this.bottom - LABEL_PIXELS / 2);
+      free = middle + LABEL_PIXELS + 2;
+      if (box.y + box.high >= this.area.y && box.y <= this.bottom) {
+        this.paintBand(box, bands[k].label, middle);
+      }
+    });
+    if (arrow && boxes.length === 2) {
+      this.paintArrow(boxes[0], boxes[1]);
+    }
+  }
+
+  /** @returns {Box} a band's rectangle, over the whole width for one without ends */
+  boxOf(/** @type {Band} */ { step, from, to }) {
+    const x = from === null ? this.area.x + 1 : this.xOf(from);
+    const end = to === null ? this.right - 1 : this.xOf(to + 1);
+    const y = Math.floor(this.yOf(step));
+    return { x, y, wide: Math.max(LEAST_BAND, end - x), high: Math.max(LEAST_BAND, this.view.high) };
+  }
+
+  /** Outlines a band, with a halo, and labels it at a height. */
+  paintBand(/** @type {Box} */ box, /** @type {string} */ label, /** @type {number} */ middle) {
+    const { pen, area, right: end } = this;
+    this.outline(box, colourOf("--panel"), 1, -2.5);
+    this.outline(box, colourOf("--mark"), 2, -1);
+    Object.assign(pen, { font: `600 12px ${FONT}`, textAlign: "left", textBaseline: "middle" });
     const text = pen.measureText(label).width;
-    const end = area.x + area.width;
     const right = Math.min(box.x + box.wide, end);
     const before = Math.max(area.x + 4, Math.min(box.x, end) - text - 14);
     const left = right + text + 16 < end ? right + 6 : before;
-    pen.fillStyle = ink("--mark");
+    pen.fillStyle = colourOf("--mark");
     pen.fillRect(left, middle - LABEL_PIXELS / 2, text + 8, LABEL_PIXELS);
-    pen.fillStyle = ink("--panel");
+    pen.fillStyle = colourOf("--panel");
     pen.fillText(label, left + 4, middle + 1);
   }
 
-  arrow(/** @type {Box} */ one, /** @type {Box} */ two) {
+  paintArrow(/** @type {Box} */ one, /** @type {Box} */ two) {
     const { pen } = this;
     const [x, y] = [one.x + one.wide / 2, one.y + one.high + 1];
     const [toX, toY] = [two.x + two.wide / 2, two.y - 1];
-    const turn = Math.atan2(toY - y, toX - x);
     if (Math.hypot(toX - x, toY - y) < 8) {
       return;
     }
     const line = new Path2D();
     line.moveTo(x, y);
     line.lineTo(toX, toY);
-    Object.assign(pen, { strokeStyle: ink("--panel"), lineWidth: 4 }).stroke(line);
-    Object.assign(pen, { strokeStyle: ink("--mark"), lineWidth: 2 }).stroke(line);
-    pen.fillStyle = ink("--mark");
-    pen.beginPath();
-    pen.moveTo(toX, toY);
-    pen.lineTo(toX - 9 * Math.cos(turn - 0.45), toY - 9 * Math.sin(turn - 0.45));
-    pen.lineTo(toX - 9 * Math.cos(turn + 0.45), toY - 9 * Math.sin(turn + 0.45));
-    pen.fill();
+    Object.assign(pen, { strokeStyle: colourOf("--panel"), lineWidth: 4 }).stroke(line);
+    Object.assign(pen, { strokeStyle: colourOf("--mark"), lineWidth: 2 }).stroke(line);
+    pen.fillStyle = colourOf("--mark");
+    const turn = Math.atan2(toY - y, toX - x);
+    const corner = (/** @type {number} */ angle) => [toX - 9 * Math.cos(angle), toY - 9 * Math.sin(angle)];
+    this.fillTriangle([toX, toY], corner(turn - 0.45), corner(turn + 0.45));
   }
 }

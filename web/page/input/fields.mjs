@@ -1,101 +1,102 @@
-/** The fields of limits and switches, and the link that has them. */
+/** The fields of limits and deciders, and links with their values. */
 import { LimitsError, RANGES } from "../../lib/limits.mjs";
-import { shown } from "../../reader/machine.mjs";
-import { LONGEST_SHOWN } from "../../reader/words.mjs";
-import { made, part } from "../dom.mjs";
+import { formatNumber } from "../../reader/machine.mjs";
+import { LONGEST_SHOWN } from "../../reader/tokens.mjs";
+import { byId, create } from "../dom.mjs";
 
 /** @typedef {"steps" | "cells" | "depth" | "nodes"} Name of a limit */
 
 /** @type {Name[]} */
 const NAMES = ["steps", "cells", "depth", "nodes"];
-// What separates digits stands between groups of three.
-const GROUPS = /^\d{1,3}([,\s_])\d{3}(?:\1\d{3})*(?![\d,\s_])/;
 const SWITCHES = ["cyclers", "translated", "backward"];
-const WHAT = {
+const LABELS = {
   steps: "steps of one simulation",
   cells: "cells of one tape",
   depth: "levels of the backward tree",
   nodes: "nodes of the backward tree",
 };
+// Digits in groups of three, with one kind of separator.
+const GROUPS = /^\d{1,3}([,\s_])\d{3}(?:\1\d{3})*(?![\d,\s_])/;
 
-const field = (/** @type {string} */ name) => /** @type {HTMLInputElement} */ (part(name));
+const field = (/** @type {string} */ name) => /** @type {HTMLInputElement} */ (byId(name));
 
-export function makeFields() {
+export function createFields() {
   for (const name of NAMES) {
     const described = { "aria-describedby": `${name}-range` };
-    const input = made("input", { type: "text", id: name, inputMode: "numeric", ...described });
-    const label = made("label", { for: name }, `${name}: ${WHAT[name]}`);
-    part("fields").append(made("div", {}, label, input, made("p", { id: `${name}-range` })));
+    const input = create("input", { type: "text", id: name, inputMode: "numeric", ...described });
+    const label = create("label", { for: name }, `${name}: ${LABELS[name]}`);
+    byId("fields").append(create("div", {}, label, input, create("p", { id: `${name}-range` })));
   }
-  part("limits").addEventListener("input", tellLimits);
+  byId("limits").addEventListener("input", showChanges);
 }
 
-/** Says beside the closed fields which ones aren't the defaults. */
-export function tellLimits() {
-  const limits = NAMES.filter((name) => numberOf(field(name).value) !== RANGES[name].usual);
-  const off = SWITCHES.filter((name) => !field(name).checked);
-  const limit = (/** @type {string} */ text) => numberOf(text)?.toLocaleString("en") ?? text;
-  const named = limits.map((name) => `${name} ${limit(field(name).value)}`);
-  const words = [...named, ...off.map((name) => `no ${name}`)];
-  part("limits-text").textContent = words.join(", ");
+/** Lists the changed fields beside the closed panel. */
+function showChanges() {
+  const changed = NAMES.filter((name) => parseNumber(field(name).value) !== RANGES[name].default);
+  const limits = changed.map((name) => {
+    const { value } = field(name);
+    return `${name} ${parseNumber(value)?.toLocaleString("en") ?? value}`;
+  });
+  const off = SWITCHES.filter((name) => !field(name).checked).map((name) => `no ${name}`);
+  byId("limits-text").textContent = [...limits, ...off].join(", ");
 }
 
-/** Sets fields; those that aren't given get their defaults. */
+/** Sets all fields, missing ones to their defaults. */
 export function setPlan(/** @type {Record<string, any>} */ plan) {
-  NAMES.forEach((name) => (field(name).value = String(plan[name] ?? RANGES[name].usual)));
+  NAMES.forEach((name) => (field(name).value = String(plan[name] ?? RANGES[name].default)));
   SWITCHES.forEach((name) => (field(name).checked = plan[name] ?? true));
-  forget();
-  tellLimits();
+  clearRefusals();
+  showChanges();
 }
 
-/** @returns {Record<string, any>} what stands in the fields, as it is written */
-export function planWords() {
+/** @returns {Record<string, any>} the fields' contents, as typed */
+export function fieldTexts() {
   const switches = SWITCHES.map((name) => [name, field(name).checked]);
   return Object.fromEntries([...NAMES.map((name) => [name, field(name).value]), ...switches]);
 }
 
-/** Larger limits than these: ten times the steps, four times the cells, as far as they go. */
-export function larger(/** @type {Record<string, any>} */ plan) {
+/** A plan with ten times the steps and four times the cells, up to the greatest. */
+export function enlargePlan(/** @type {Record<string, any>} */ plan) {
   const least = (/** @type {bigint} */ one, /** @type {bigint} */ two) => (one < two ? one : two);
-  const steps = least(BigInt(plan.steps) * 10n, RANGES.steps.most);
-  const cells = least(BigInt(plan.cells) * 4n, RANGES.cells.most);
+  const steps = least(BigInt(plan.steps) * 10n, RANGES.steps.max);
+  const cells = least(BigInt(plan.cells) * 4n, RANGES.cells.max);
   return { ...plan, steps, cells };
 }
 
-/** A number's text without what separates groups of its digits. */
+/** A number's text without separators. */
 function digitsOf(/** @type {string} */ text) {
   const plain = text.trim().replace(/^\+/, "").replace(/\s*\^\s*/, "^");
   return plain.replace(GROUPS, (digits) => digits.replace(/\D/g, ""));
 }
 
 /**
- * A whole number as people write it: with separators, or as `1e6` or `10^6`; null for another text.
+ * Parses a whole number with separators, or as `1e6` or `10^6`; null for other texts.
  * @returns {bigint | null}
  */
-export function numberOf(/** @type {string} */ given) {
-  const text = digitsOf(given);
+export function parseNumber(/** @type {string} */ input) {
+  const text = digitsOf(input);
   const power = /^(\d{1,15})(?:\.(\d{1,15}))?e\+?(\d{1,2})$/i.exec(text) ?? /^(1)()0\^(\d{1,2})$/.exec(text);
   if (power === null) {
     return /^\d{1,19}$/.test(text) ? BigInt(text) : null;
   }
-  const [, whole, part = "", zeros] = power;
-  const rest = Number(zeros) - part.length;
-  return rest < 0 ? null : BigInt(whole + part) * 10n ** BigInt(rest);
+  const [, whole, fraction = "", zeros] = power;
+  const rest = Number(zeros) - fraction.length;
+  return rest < 0 ? null : BigInt(whole + fraction) * 10n ** BigInt(rest);
 }
 
 /**
- * What the fields say; throws a LimitsError of a limit that is no number or is refused.
+ * The fields' plan. Throws LimitsError for a limit out of range or a text that isn't a number.
  * @returns {Record<string, any>}
  */
-export function planOf() {
-  forget();
+export function readPlan() {
+  clearRefusals();
   /** @type {Record<string, any>} */
   const plan = Object.fromEntries(SWITCHES.map((name) => [name, field(name).checked]));
   for (const name of NAMES) {
     const text = field(name).value;
-    const number = numberOf(text);
-    const { least, most } = RANGES[name];
-    if (number === null || number < least || number > most) {
+    const number = parseNumber(text);
+    const { min, max } = RANGES[name];
+    if (number === null || number < min || number > max) {
       const isLarge = number !== null || /^\d{20,}$/.test(digitsOf(text));
       throw new LimitsError(name, isLarge ? `${name} out of range` : `${name} is no number`);
     }
@@ -107,38 +108,36 @@ export function planOf() {
   return plan;
 }
 
-/** The range of a limit, in words. */
-const rangeOf = (/** @type {Name} */ name) =>
-  `${shown(Number(RANGES[name].least))} to ${shown(Number(RANGES[name].most))}`;
+const rangeText = (/** @type {Name} */ name) =>
+  `${formatNumber(Number(RANGES[name].min))} to ${formatNumber(Number(RANGES[name].max))}`;
 
-/** Takes back what was said of fields. */
-function forget() {
+function clearRefusals() {
   for (const name of NAMES) {
     field(name).removeAttribute("aria-invalid");
-    Object.assign(part(`${name}-range`), { textContent: rangeOf(name), className: "hint" });
+    Object.assign(byId(`${name}-range`), { textContent: rangeText(name), className: "hint" });
   }
 }
 
-/** Says beside its field that a limit was refused, in the program's words, and what would do. */
-export function refuse(/** @type {string} */ limit, /** @type {string} */ message) {
-  const range = `${rangeOf(/** @type {Name} */ (limit))} would do`;
-  const does = message.includes("fit") ? "2 × depth − 1 is at most the cells" : range;
-  /** @type {HTMLDetailsElement} */ (part("limits")).open = true;
+/** Shows a refused limit beside its field: the program's message, and the valid values. */
+export function showRefusal(/** @type {string} */ limit, /** @type {string} */ message) {
+  const range = `enter ${rangeText(/** @type {Name} */ (limit))}`;
+  const advice = message.includes("fit") ? "2 × depth − 1 is at most the cells" : range;
+  /** @type {HTMLDetailsElement} */ (byId("limits")).open = true;
   field(limit).setAttribute("aria-invalid", "true");
-  Object.assign(part(`${limit}-range`), { textContent: `${message}: ${does}`, className: "error" });
+  Object.assign(byId(`${limit}-range`), { textContent: `${message}: ${advice}`, className: "error" });
   field(limit).focus();
 }
 
-/** The part of an address behind `#` that opens a machine with these limits and switches. */
+/** The fragment of a link that opens a machine with a plan. */
 export function linkOf(/** @type {string} */ machine, /** @type {Record<string, any>} */ plan) {
   const words = new URLSearchParams({ machine });
-  const limits = NAMES.filter((name) => plan[name] !== RANGES[name].usual);
+  const limits = NAMES.filter((name) => plan[name] !== RANGES[name].default);
   limits.forEach((name) => words.set(name, String(plan[name])));
   SWITCHES.filter((name) => !plan[name]).forEach((name) => words.set(name, "off"));
   return words.toString();
 }
 
-function decoded(/** @type {string} */ text) {
+function decode(/** @type {string} */ text) {
   try {
     return decodeURIComponent(text);
   } catch {
@@ -146,11 +145,11 @@ function decoded(/** @type {string} */ text) {
   }
 }
 
-/** What a link says; null where it names no machine. `#1RA1RA` alone is a machine too. */
+/** Parses a link's fragment; null without a machine. `#1RA1RA` alone names a machine. */
 export function readLink(/** @type {string} */ hash) {
   const text = hash.replace(/^#/, "");
   const isAlone = text !== "" && !text.includes("=");
-  const words = new URLSearchParams(isAlone ? { machine: decoded(text) } : text);
+  const words = new URLSearchParams(isAlone ? { machine: decode(text) } : text);
   const machine = words.get("machine");
   if (machine === null) {
     return null;

@@ -1,8 +1,7 @@
-/** Files: choosing and dropping them, what they are by their first bytes, and unpacking those of gzip. */
-import { part } from "../dom.mjs";
+/** Files: choosing, dropping, detecting the encoding, decompressing. */
+import { byId } from "../dom.mjs";
 
-// The first bytes of encodings and formats, and their names. UTF-32 comes before UTF-16, whose mark begins
-// that of UTF-32.
+// Magic numbers, and names of their encodings and formats. UTF-32 comes before UTF-16, whose mark it extends.
 const MARKS = /** @type {[number[], string][]} */ ([
   [[0xff, 0xfe, 0, 0], "UTF-32 text"],
   [[0, 0, 0xfe, 0xff], "UTF-32 text"],
@@ -16,77 +15,75 @@ const MARKS = /** @type {[number[], string][]} */ ([
   [[0x25, 0x50, 0x44, 0x46, 0x2d], "a PDF document"],
 ]);
 const GZIP = [0x1f, 0x8b];
-// So many bytes tell whether every other one is a zero.
-const LOOKED_AT = 256;
-const LEAST = 4;
+// The prefix in which zero bytes are counted.
+const EXAMINED_BYTES = 256;
+const LEAST_BYTES = 4;
 
 /**
- * Has a file, or a text that is dropped, handed over; null where the file is removed.
- * @param {(file: File | null) => void} take @param {(text: string) => void} fill
+ * Adds listeners for files and dropped texts.
+ * @param {(file: File | null) => void} onFile null removes the file @param {(text: string) => void} onText
  */
-export function listenToFiles(take, fill) {
-  const field = /** @type {HTMLInputElement} */ (part("file"));
-  field.addEventListener("change", () => take(field.files?.[0] ?? null));
-  part("file-choose").addEventListener("click", () => {
-    // So a file that is chosen again is heard of.
+export function listenToFiles(onFile, onText) {
+  const field = /** @type {HTMLInputElement} */ (byId("file"));
+  field.addEventListener("change", () => onFile(field.files?.[0] ?? null));
+  byId("file-choose").addEventListener("click", () => {
+    // Otherwise choosing the same file again fires no event.
     field.value = "";
     field.click();
   });
-  part("file-remove").addEventListener("click", () => {
+  byId("file-remove").addEventListener("click", () => {
     field.value = "";
-    take(null);
-    part("list").focus();
+    onFile(null);
+    byId("list").focus();
   });
-  // A text that is dragged from the page, or into a field, isn't the page's to take.
+  // Texts dragged from the page or into a field are left to the browser.
   let isOwn = false;
   addEventListener("dragstart", () => (isOwn = true));
   addEventListener("dragend", () => (isOwn = false));
-  const takes = (/** @type {DragEvent} */ { target, dataTransfer }) => {
+  const accepts = (/** @type {DragEvent} */ { target, dataTransfer }) => {
     const isField = target instanceof Element && target.matches("textarea, input");
     return dataTransfer?.types.includes("Files") || !(isOwn || isField);
   };
   addEventListener("dragover", (event) => {
-    if (takes(event)) {
-      event.preventDefault();
-    }
-    part("drop").hidden = !takes(event);
+    accepts(event) && event.preventDefault();
+    byId("drop").hidden = !accepts(event);
   });
   addEventListener("dragleave", (event) => {
-    part("drop").hidden = event.relatedTarget === null;
+    byId("drop").hidden = event.relatedTarget === null;
   });
   addEventListener("drop", (event) => {
-    part("drop").hidden = true;
-    if (!takes(event)) {
+    byId("drop").hidden = true;
+    if (!accepts(event)) {
       return;
     }
     event.preventDefault();
-    const dropped = event.dataTransfer?.files[0];
+    const file = event.dataTransfer?.files[0];
     const text = event.dataTransfer?.getData("text/plain");
-    dropped ? take(dropped) : text && fill(text);
+    file ? onFile(file) : text && onText(text);
   });
 }
 
-const beginsWith = (/** @type {Uint8Array} */ bytes, /** @type {number[]} */ mark) =>
+const startsWith = (/** @type {Uint8Array} */ bytes, /** @type {number[]} */ mark) =>
   bytes.length >= mark.length && mark.every((byte, at) => bytes[at] === byte);
 
 /**
- * The name of the encoding or format that begins so; null for bytes that may be UTF-8.
+ * The encoding or format of a file by its first bytes; null if they may be UTF-8.
  * @returns {string | null}
  */
-export function encodingOf(/** @type {Uint8Array} */ begin) {
-  const mark = MARKS.find(([bytes]) => beginsWith(begin, bytes));
+export function encodingOf(/** @type {Uint8Array} */ start) {
+  const mark = MARKS.find(([bytes]) => startsWith(start, bytes));
   if (mark !== undefined) {
     return mark[1];
   }
-  const first = begin.subarray(0, LOOKED_AT);
+  const first = start.subarray(0, EXAMINED_BYTES);
   const zeros = first.filter((byte) => byte === 0).length;
-  if (first.length < LEAST || 3 * zeros < first.length || zeros === first.length) {
+  if (first.length < LEAST_BYTES || 3 * zeros < first.length || zeros === first.length) {
     return null;
   }
   return 3 * zeros > 2 * first.length ? "UTF-32 text" : "UTF-16 text";
 }
 
-/** A list that can't be read, for which the message gives the reason. */
+/** The list can't be read; the message gives the reason. */
 export class ListError extends Error {
   constructor(/** @type {string} */ message) {
     super(message);
@@ -94,35 +91,33 @@ export class ListError extends Error {
   }
 }
 
-/** The bytes of a list, unpacked where they are compressed by gzip. */
-export async function unpacked(/** @type {Blob} */ blob) {
-  const begin = await beginOf(blob);
-  if (!beginsWith(begin, GZIP)) {
+/** A list's bytes, decompressed from gzip. */
+export async function decompress(/** @type {Blob} */ blob) {
+  if (!startsWith(await readFirstBytes(blob), GZIP)) {
     return blob;
   }
-  const { DecompressionStream: Unpacker } = /** @type {any} */ (globalThis);
-  if (Unpacker === undefined) {
-    throw new ListError("The list is compressed by gzip, which this browser doesn’t unpack.");
+  const { DecompressionStream: Stream } = /** @type {any} */ (globalThis);
+  if (Stream === undefined) {
+    throw new ListError("The list is compressed by gzip, which this browser doesn’t decompress.");
   }
-  const stream = blob.stream().pipeThrough(new Unpacker("gzip"));
   try {
-    return await new Response(stream).blob();
+    return await new Response(blob.stream().pipeThrough(new Stream("gzip"))).blob();
   } catch (error) {
     if (error instanceof DOMException) {
       throw error;
     }
-    throw new ListError("The list can’t be read as gzip: it is cut or damaged.");
+    throw new ListError("The list can’t be read as gzip: it is truncated or damaged.");
   }
 }
 
-/** Throws ListError where the bytes of a list are no text in UTF-8. */
+/** Throws ListError for other encodings. */
 export async function requireUtf8(/** @type {Blob} */ blob) {
-  const encoding = encodingOf(await beginOf(blob));
+  const encoding = encodingOf(await readFirstBytes(blob));
   if (encoding !== null) {
-    throw new ListError(`The list is ${encoding}, which the page doesn’t read. Give it as text in UTF-8.`);
+    throw new ListError(`The list is ${encoding}, which the page doesn’t read. Convert it to text in UTF-8.`);
   }
 }
 
-async function beginOf(/** @type {Blob} */ blob) {
-  return new Uint8Array(await blob.slice(0, LOOKED_AT).arrayBuffer());
+async function readFirstBytes(/** @type {Blob} */ blob) {
+  return new Uint8Array(await blob.slice(0, EXAMINED_BYTES).arrayBuffer());
 }

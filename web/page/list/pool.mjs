@@ -1,175 +1,164 @@
 /**
- * Workers that share a list: each has an engine of its own and takes the next piece when it is done with one.
+ * The workers of a list run.
  *
  * @typedef {import("../../worker/worker.mjs").Part} Part
- * @typedef {{bytes: Uint8Array, line: number}} Piece whole lines of a list, and the number of the first one
- * @typedef {Piece & {job: number, begin: number, done: number, nextLine: number}} Given a piece that a worker
- *   has: from which byte on it was sent, which one comes next, and the number of its line
- * @typedef {import("../../worker/worker.mjs").Note} Note
- * @typedef {{worker: Worker, pieces: Given[], note: Note | null, since: number, held: number, taken: number,
- *   size: number | undefined}} Hand a worker, its pieces, what it began and
- *   when, the memory of its engine in bytes, the milliseconds of its last batch, and how many bytes its next
- *   one has, where that is said
- * @typedef {{piece: () => Promise<Piece | null>, part: (part: Part, read: number) => void, end: () => void,
- *   fail: (error: {error: string, message: string, limit?: string}) => void}} Work
+ * @typedef {import("../../worker/worker.mjs").BatchNote} BatchNote
+ * @typedef {{bytes: Uint8Array, line: number}} Chunk whole lines, and the number of the first
+ * @typedef {Chunk & {job: number, begin: number, done: number, nextLine: number}} SentChunk its first sent
+ *   byte, its next byte, and the number of that line
+ * @typedef {{worker: Worker, chunks: SentChunk[], note: BatchNote | null, since: number, memoryBytes: number,
+ *   milliseconds: number, size: number | undefined}} PoolWorker `note` and `since`: the current batch;
+ *   `milliseconds`: of the last batch; `size`: the bytes of the next batch, if set
+ * @typedef {{error: string, message: string, limit?: string}} Failure
+ * @typedef {{nextChunk: () => Promise<Chunk | null>, part: (part: Part, read: number) => void,
+ *   end: () => void, fail: (failure: Failure) => void}} PoolTask
  */
+import { acquireWorker, errorFields, newWorker, ready, releaseWorker } from "../worker-client.mjs";
 
-import { giveBack, newWorker, ready, takeWorker, toldOf } from "../workers.mjs";
-
-// A worker has the next piece before it is done with one, so that it needn't wait while the page draws.
-const PIECES = 2;
-// A worker whose engine holds more isn't kept for the next list.
-const MOST_HELD = 16_777_216;
-// What a worker has decided is handed over after so long at the latest.
-const PATIENCE_OF_LISTS = 250;
+// With two chunks a worker needn't wait while the page draws.
+const CHUNKS_PER_WORKER = 2;
+// Workers with more memory aren't kept for the next list.
+const MOST_KEPT_BYTES = 16_777_216;
+// A batch that takes longer is split.
+const PATIENCE_MILLISECONDS = 250;
 const WATCH_MILLISECONDS = 50;
-// Lines that take longer are begun anew, so many times fewer at once.
-const FEWER = 8;
-// What a hand has before its first batch, which has one line.
-const UNUSED = { held: 0, taken: 0, size: 1 };
+const SPLIT = 8;
+// A worker before its first batch, of one line.
+const FRESH = { note: null, since: 0, memoryBytes: 0, milliseconds: 0, size: 1 };
 
-/** Workers over the pieces of one list. */
-export class Pool {
+export class WorkerPool {
   /**
-   * @param {number} size @param {import("../../worker/worker.mjs").Asked} asked @param {Work} work
+   * @param {number} size @param {import("../../worker/worker.mjs").ListRequest} request
+   * @param {PoolTask} task
    */
-  constructor(size, asked, work) {
-    this.work = work;
-    this.asked = asked;
+  constructor(size, request, task) {
+    this.task = task;
+    this.request = request;
     this.jobs = 0;
-    this.isRead = false;
-    this.ended = false;
+    this.isExhausted = false;
+    this.isOver = false;
     /** @type {Promise<any>} */
-    this.next = Promise.resolve();
-    /** @type {Hand[]} */
-    this.hands = Array.from({ length: size }, () => this.begun());
-    for (let round = 0; round < PIECES; round += 1) {
-      this.hands.forEach((hand) => this.feed(hand));
+    this.queue = Promise.resolve();
+    /** @type {PoolWorker[]} */
+    this.workers = Array.from({ length: size }, () => ({ worker: acquireWorker(), chunks: [], ...FRESH }));
+    this.workers.forEach((one) => this.listen(one));
+    for (let round = 0; round < CHUNKS_PER_WORKER; round += 1) {
+      this.workers.forEach((one) => this.queueChunk(one));
     }
-    this.watch = setInterval(() => this.hands.forEach((hand) => this.hurry(hand)), WATCH_MILLISECONDS);
+    const split = () => this.workers.forEach((one) => this.splitSlowBatch(one));
+    this.watch = setInterval(split, WATCH_MILLISECONDS);
   }
 
-  /** @returns {Hand} a worker for this list */
-  begun() {
-    /** @type {Hand} */
-    const hand = { worker: takeWorker(), pieces: [], note: null, since: 0, ...UNUSED };
-    this.listen(hand);
-    return hand;
+  listen(/** @type {PoolWorker} */ one) {
+    one.worker.onmessage = (event) => this.receive(one, event.data);
+    one.worker.onerror = (event) => this.fail({ error: "Error", message: event.message });
   }
 
-  listen(/** @type {Hand} */ hand) {
-    hand.worker.onmessage = (event) => this.heard(hand, event.data);
-    hand.worker.onerror = (event) => this.failed({ error: "Error", message: event.message });
+  /** Sends a worker the next chunk. Chunks are read one after another, in order. */
+  queueChunk(/** @type {PoolWorker} */ one) {
+    const sent = this.queue.then(() => this.sendNextChunk(one));
+    this.queue = sent.catch((error) => this.fail(errorFields(error)));
   }
 
-  /** Gives a worker the next piece; pieces are read one after another, so that they stay in order. */
-  feed(/** @type {Hand} */ hand) {
-    this.next = this.next.then(() => this.fed(hand)).catch((error) => this.failed(toldOf(error)));
-  }
-
-  async fed(/** @type {Hand} */ hand) {
+  async sendNextChunk(/** @type {PoolWorker} */ one) {
     await ready;
-    const piece = this.ended || this.isRead ? null : await this.work.piece();
-    if (piece === null) {
-      this.isRead = true;
+    const chunk = this.isOver || this.isExhausted ? null : await this.task.nextChunk();
+    if (chunk === null) {
+      this.isExhausted = true;
       this.finish();
-    } else if (!this.ended) {
-      const given = { ...piece, job: this.jobs, begin: 0, done: 0, nextLine: piece.line };
-      hand.pieces.push(given);
+    } else if (!this.isOver) {
+      const sent = { ...chunk, job: this.jobs, begin: 0, done: 0, nextLine: chunk.line };
+      one.chunks.push(sent);
       this.jobs += 1;
-      await this.send(hand, given);
+      await this.send(one, sent);
     }
   }
 
-  /** Sends a worker a piece, without what is done of it; the page keeps it until it is answered. */
-  async send(/** @type {Hand} */ hand, /** @type {Given} */ { job, bytes, line, done }) {
-    const { worker, size } = hand;
+  /** Sends the rest of a chunk, which the page keeps until it is answered. */
+  async send(/** @type {PoolWorker} */ one, /** @type {SentChunk} */ { job, bytes, line, done }) {
+    const { worker, size } = one;
     await ready;
     const rest = bytes.slice(done);
-    const message = { what: "list", job, bytes: rest, line, asked: this.asked, size };
-    worker.postMessage(message, [rest.buffer]);
-    hand.size = undefined;
+    worker.postMessage({ type: "list", job, bytes: rest, line, request: this.request, size }, [rest.buffer]);
+    one.size = undefined;
   }
 
-  /** What a worker sent: what it begins, a part of its piece, or what went wrong. */
-  heard(/** @type {Hand} */ hand, /** @type {any} */ answer) {
-    if (this.ended) {
+  receive(/** @type {PoolWorker} */ one, /** @type {any} */ reply) {
+    if (this.isOver) {
       return;
     }
-    if (answer.error) {
-      this.failed(answer);
-    } else if (answer.at !== undefined) {
-      Object.assign(hand, { note: answer, since: performance.now() });
+    if (reply.error) {
+      this.fail(reply);
+    } else if (reply.at !== undefined) {
+      Object.assign(one, { note: reply, since: performance.now() });
     } else {
-      this.take(hand, answer);
+      this.addPart(one, reply);
     }
   }
 
-  take(/** @type {Hand} */ hand, /** @type {Part} */ part) {
-    const piece = hand.pieces[0];
-    const read = part.next - (piece.done - piece.begin);
-    Object.assign(hand, { note: null, held: part.held, taken: part.taken });
-    piece.done = piece.begin + part.next;
-    piece.nextLine = piece.line + part.nextLine;
-    this.work.part(part, read);
-    if (part.done) {
-      hand.pieces.shift();
-      this.feed(hand);
+  addPart(/** @type {PoolWorker} */ one, /** @type {Part} */ part) {
+    const { memoryBytes, milliseconds, next, nextLine, done } = part;
+    const chunk = one.chunks[0];
+    const read = next - (chunk.done - chunk.begin);
+    Object.assign(one, { note: null, memoryBytes, milliseconds });
+    chunk.done = chunk.begin + next;
+    chunk.nextLine = chunk.line + nextLine;
+    this.task.part(part, read);
+    if (done) {
+      one.chunks.shift();
+      this.queueChunk(one);
     }
   }
 
-  /**
-   * Has a worker that takes long over several lines begin them anew, fewer at a time: so what is decided is
-   * known soon, also where one of them takes very long.
-   */
-  hurry(/** @type {Hand} */ hand) {
-    const { note, since, pieces, taken } = hand;
-    const patience = Math.max(PATIENCE_OF_LISTS, 3 * taken);
+  /** Restarts a slow batch in smaller ones, so that one slow line doesn't delay the others. */
+  splitSlowBatch(/** @type {PoolWorker} */ one) {
+    const { note, since, chunks, milliseconds } = one;
+    const patience = Math.max(PATIENCE_MILLISECONDS, 3 * milliseconds);
     if (note === null || note.lines < 2 || performance.now() - since < patience) {
       return;
     }
-    hand.worker.terminate();
-    const size = Math.max(1, Math.floor(note.bytes / FEWER));
-    Object.assign(hand, { worker: newWorker(), note: null, size });
-    this.listen(hand);
-    for (const piece of pieces) {
-      Object.assign(piece, { begin: piece.done, line: piece.nextLine });
-      this.send(hand, piece).catch((error) => this.failed(toldOf(error)));
+    one.worker.terminate();
+    const size = Math.max(1, Math.floor(note.bytes / SPLIT));
+    Object.assign(one, { worker: newWorker(), note: null, size });
+    this.listen(one);
+    for (const chunk of chunks) {
+      Object.assign(chunk, { begin: chunk.done, line: chunk.nextLine });
+      this.send(one, chunk).catch((error) => this.fail(errorFields(error)));
     }
   }
 
-  /** The line that is worked on for longest, and for how many milliseconds; null where there is none. */
-  underWay() {
-    const now = performance.now();
-    const slow = this.hands.filter(({ note }) => note !== null);
-    slow.sort((one, two) => one.since - two.since);
-    return slow.length === 0 ? null : { text: slow[0].note?.at ?? "", taken: now - slow[0].since };
+  /** The line in progress for longest, and its milliseconds. */
+  slowestLine() {
+    const busy = this.workers.filter(({ note }) => note !== null);
+    busy.sort((one, two) => one.since - two.since);
+    const [{ note, since }] = [...busy, FRESH];
+    return note === null ? null : { text: note.at, milliseconds: performance.now() - since };
   }
 
-  /** Ends the work where no worker has a piece; the workers wait for the next list. */
+  /** Ends the run if no worker has a chunk, and keeps the workers for the next list. */
   finish() {
-    if (this.ended || this.hands.some((hand) => hand.pieces.length > 0)) {
+    if (this.isOver || this.workers.some((one) => one.chunks.length > 0)) {
       return;
     }
-    this.ended = true;
+    this.isOver = true;
     clearInterval(this.watch);
-    for (const { worker, held } of this.hands) {
-      held > MOST_HELD ? worker.terminate() : giveBack(worker);
+    for (const { worker, memoryBytes } of this.workers) {
+      memoryBytes > MOST_KEPT_BYTES ? worker.terminate() : releaseWorker(worker);
     }
-    this.work.end();
+    this.task.end();
   }
 
-  /** Ends all workers at once, also in the middle of a machine. */
+  /** Terminates all workers at once. */
   stop() {
-    this.ended = true;
+    this.isOver = true;
     clearInterval(this.watch);
-    this.hands.forEach(({ worker }) => worker.terminate());
+    this.workers.forEach(({ worker }) => worker.terminate());
   }
 
-  failed(/** @type {{error: string, message: string, limit?: string}} */ error) {
-    if (!this.ended) {
+  fail(/** @type {Failure} */ failure) {
+    if (!this.isOver) {
       this.stop();
-      this.work.fail(error);
+      this.task.fail(failure);
     }
   }
 }

@@ -1,22 +1,22 @@
 /**
- * What was said of a list, in the order of its lines, though pieces of it may end in another order.
+ * The results of a list, in the order of its lines; chunks may finish in another order.
  *
  * @typedef {import("../../worker/worker.mjs").Part} Part
- * @typedef {{part: Part, line: number}} Place
+ * @typedef {{part: Part, line: number}} LinePlace
  */
-import { ANSWERS, KINDS, UNREAD, readLine } from "../../reader/machine.mjs";
-import { joined, lineAt } from "../../reader/prepare.mjs";
-import { BYTES_KEPT, LONGEST_SHOWN } from "../../reader/words.mjs";
-import { startsOf, stepsIn } from "../../worker/replies.mjs";
+import { ANSWERS, KINDS, UNREAD_LINE, parseVerdictLine } from "../../reader/machine.mjs";
+import { concatBytes, lineAt } from "../../reader/list-reader.mjs";
+import { BYTES_KEPT, LONGEST_SHOWN } from "../../reader/tokens.mjs";
+import { startsOf, readSteps } from "../../worker/replies.mjs";
 
-// How long work takes before the page rests.
+// Sorting pauses after this long.
 const BUSY_MILLISECONDS = 20;
 const SPACE = 32;
 const decoder = new TextDecoder();
 const [UNDECIDED, BACKWARD] = [KINDS.indexOf("undecided"), KINDS.indexOf("backward")];
-/** The number of the limits of a list's first pass. */
+/** The number of the first pass's limits. */
 export const FIRST_PASS = 1;
-/** The number of the first limits that are larger than the list's. */
+/** The number of the first larger limits. */
 export const LARGER = 2;
 const MOST_PLANS = 255;
 
@@ -25,48 +25,45 @@ export class Results {
   constructor(plan) {
     // Limits by their numbers.
     this.plans = [plan, plan];
-    // How many lines only the first pass has answered, and how many of these it left undecided.
-    this.open = 0;
+    // Lines that only the first pass has answered, and the undecided ones among them.
+    this.provisional = 0;
     this.waiting = 0;
-    // How many lines were decided again with larger limits.
-    this.again = 0;
+    // Lines decided again with larger limits.
+    this.redecided = 0;
     /** @type {Part[][]} */
     this.jobs = [];
     this.counts = KINDS.map(() => 0);
     this.answers = ANSWERS.map(() => 0);
-    this.left = 0;
+    this.skipped = 0;
     this.read = 0;
     this.lines = 0;
     /** @type {Part[] | null} */
     this.flat = null;
-    this.begins = new Float64Array(1);
-    // The numbers from 0 on.
-    this.numbers = new Uint32Array(0);
+    this.firstRows = new Float64Array(1);
+    // The numbers from 0.
+    this.rowNumbers = new Uint32Array(0);
   }
 
   add(/** @type {Part} */ part, /** @type {number} */ read) {
     (this.jobs[part.job] ??= []).push(part);
     this.flat = null;
     this.lines += part.kinds.length;
-    this.left += part.left;
+    this.skipped += part.skipped;
     this.read += read;
     part.kindCounts.forEach((count, kind) => (this.counts[kind] += count));
     part.answerCounts.forEach((count, answer) => (this.answers[answer] += count));
   }
 
-  /**
-   * Takes in a part of the first pass: of what it left undecided, and of backward reasoning, which comes
-   * last, the limits of the list may find another verdict.
-   */
-  addFirst(/** @type {Part} */ part, /** @type {number} */ read) {
+  /** Adds a part of the first pass. Its undecided and backward verdicts are provisional. */
+  addFirstPass(/** @type {Part} */ part, /** @type {number} */ read) {
     const { kinds } = part;
     part.plans = kinds.map((kind) => (kind === UNDECIDED || kind === BACKWARD ? FIRST_PASS : 0));
-    this.open += part.kindCounts[UNDECIDED] + part.kindCounts[BACKWARD];
+    this.provisional += part.kindCounts[UNDECIDED] + part.kindCounts[BACKWARD];
     this.waiting += part.kindCounts[UNDECIDED];
     this.add(part, read);
   }
 
-  /** The number of limits; those that are new get one. */
+  /** The number of a plan, new or known. */
   planNumber(/** @type {Record<string, any>} */ plan) {
     const { plans } = this;
     const isSame = (/** @type {any} */ one) => one.steps === plan.steps && one.cells === plan.cells;
@@ -75,82 +72,81 @@ export class Results {
   }
 
   /**
-   * Puts the lines of a part in the place of rows, of which it has the machines in this order.
-   * @param {Uint32Array} rows in order @param {Part} by @param {number} plan the number of its limits
+   * Replaces rows by the lines of a part, in the same order.
+   * @param {Uint32Array} rows in order @param {Part} by @param {number} plan its number
    */
   replace(rows, by, plan) {
     for (let first = 0; first < rows.length; ) {
-      const { part, line } = this.place(rows[first]);
+      const { part, line } = this.placeOf(rows[first]);
       const begin = rows[first] - line;
       const beyond = rows.findIndex((row) => row >= begin + part.kinds.length);
       const end = beyond < 0 ? rows.length : beyond;
       const lines = rows.subarray(first, end).map((row) => row - begin);
-      lines.forEach((one) => this.count(part, one, -1));
+      lines.forEach((one) => this.adjustCounts(part, one, -1));
       replaceLines(part, lines, by, first, plan);
-      lines.forEach((one) => this.count(part, one, 1));
+      lines.forEach((one) => this.adjustCounts(part, one, 1));
       first = end;
     }
   }
 
-  /** Counts a line, or takes it out of the counts. */
-  count(/** @type {Part} */ { kinds, answers, plans }, /** @type {number} */ line, /** @type {1 | -1} */ by) {
+  adjustCounts(/** @type {Part} */ part, /** @type {number} */ line, /** @type {1 | -1} */ by) {
+    const { kinds, answers, plans } = part;
     const plan = plans?.[line] ?? 0;
     this.counts[kinds[line]] += by;
     this.answers[answers[line]] += by;
-    this.open += plan === FIRST_PASS ? by : 0;
+    this.provisional += plan === FIRST_PASS ? by : 0;
     this.waiting += plan === FIRST_PASS && kinds[line] === UNDECIDED ? by : 0;
-    this.again += plan >= LARGER ? by : 0;
+    this.redecided += plan >= LARGER ? by : 0;
   }
 
   machineAt(/** @type {number} */ row) {
-    const { part, line } = this.place(row);
+    const { part, line } = this.placeOf(row);
     const from = part.starts[line];
     return decoder.decode(part.bytes.subarray(from, part.bytes.indexOf(SPACE, from)));
   }
 
-  /** The parts in order, with the number of the first line of each in `begins`. */
-  parts() {
+  /** The parts in order; `firstRows` has the row of each one's first line. */
+  partsInOrder() {
     if (this.flat === null) {
       this.flat = this.jobs.filter(Boolean).flat();
-      this.begins = new Float64Array(this.flat.length + 1);
+      this.firstRows = new Float64Array(this.flat.length + 1);
       this.flat.forEach((part, k) => {
-        this.begins[k + 1] = this.begins[k] + part.kinds.length;
+        this.firstRows[k + 1] = this.firstRows[k] + part.kinds.length;
       });
     }
     return this.flat;
   }
 
-  /** @returns {Place} where a line stands */
-  place(/** @type {number} */ row) {
-    const parts = this.parts();
+  /** @returns {LinePlace} */
+  placeOf(/** @type {number} */ row) {
+    const parts = this.partsInOrder();
     let [low, high] = [0, parts.length];
     while (high - low > 1) {
       const middle = (low + high) >> 1;
-      [low, high] = this.begins[middle] <= row ? [middle, high] : [low, middle];
+      [low, high] = this.firstRows[middle] <= row ? [middle, high] : [low, middle];
     }
-    return { part: parts[low], line: row - this.begins[low] };
+    return { part: parts[low], line: row - this.firstRows[low] };
   }
 
-  /** The row of a line; -1 where it has none. */
-  rowOf(/** @type {Place} */ { part, line }) {
-    const at = this.parts().indexOf(part);
-    return at < 0 ? -1 : this.begins[at] + line;
+  /** The row of a line, or -1. */
+  rowOf(/** @type {LinePlace} */ { part, line }) {
+    const at = this.partsInOrder().indexOf(part);
+    return at < 0 ? -1 : this.firstRows[at] + line;
   }
 
-  /** Whether a row is undecided. */
   isUndecided(/** @type {number} */ row) {
-    const { part, line } = this.place(row);
+    const { part, line } = this.placeOf(row);
     return part.kinds[line] === UNDECIDED;
   }
 
-  /** Whether a row is undecided by the first pass, and waits for the second one. */
+  /** Whether an undecided row waits for the second pass. */
   isWaiting(/** @type {number} */ row) {
-    const { part, line } = this.place(row);
+    const { part, line } = this.placeOf(row);
     return part.plans?.[line] === FIRST_PASS && this.isUndecided(row);
   }
 
-  /** Whether the first line of the list has come: no piece before it has one that comes later. */
-  get hasFirst() {
+  /** Whether the first line is answered; earlier chunks may have none. */
+  get hasFirstLine() {
     for (const parts of this.jobs) {
       if (parts?.some(({ kinds }) => kinds.length > 0)) {
         return true;
@@ -162,14 +158,14 @@ export class Results {
     return false;
   }
 
-  /** A row as it is shown: its number in the list, its verdict line, and as what it was given. */
-  row(/** @type {number} */ row) {
-    const { part, line } = this.place(row);
+  /** A row's number, verdict line, original line and limits. */
+  rowAt(/** @type {number} */ row) {
+    const { part, line } = this.placeOf(row);
     const text = part.lines ?? part.bytes;
     const end = Math.min(part.starts[line + 1], part.starts[line] + LONGEST_SHOWN);
     const answer = ANSWERS[part.answers[line]];
     const written = decoder.decode(text.subarray(part.starts[line], end)).replace(/[\r\n]+$/, "");
-    const read = answer === "unread" ? UNREAD : readLine(written);
+    const read = answer === "unread" ? UNREAD_LINE : parseVerdictLine(written);
     const number = part.first + (part.numbers === null ? line : part.numbers[line]);
     const { source, places } = part;
     const given = source === null || places === null ? null : lineAt(source, places[line], BYTES_KEPT);
@@ -177,39 +173,34 @@ export class Results {
     return { ...read, answer, kind: KINDS[part.kinds[line]], number, given, pass, plan: this.plans[pass] };
   }
 
-  /**
-   * The lines of these kinds, as the program would write them; the page rests between parts that aren't taken
-   * whole. Lines that only the first pass has answered are left out.
-   */
+  /** The program's output for these kinds, without provisional lines. Pauses between incomplete parts. */
   async blobOf(kinds = new Set(KINDS.keys())) {
     const parts = [];
-    for (const part of this.parts()) {
+    for (const part of this.partsInOrder()) {
       const isWhole = part.plans === undefined && kinds.size === KINDS.length;
       parts.push(...(isWhole ? [part.bytes] : linesOf(part, kinds)));
-      isWhole || (await rest());
+      isWhole || (await pause());
     }
     return new Blob(parts, { type: "text/plain" });
   }
 
-  /** All rows, in order, in a list that is kept. */
+  /** All rows, in a cached array. */
   allRows() {
-    if (this.numbers.length < this.lines) {
-      this.numbers = new Uint32Array(Math.max(this.lines, 2 * this.numbers.length)).map((_, k) => k);
+    if (this.rowNumbers.length < this.lines) {
+      this.rowNumbers = new Uint32Array(Math.max(this.lines, 2 * this.rowNumbers.length)).map((_, k) => k);
     }
-    return this.numbers.subarray(0, this.lines);
+    return this.rowNumbers.subarray(0, this.lines);
   }
 
-  /** The rows of these kinds, in order. */
-  rows(/** @type {Set<number>} */ kinds) {
+  rowsOfKinds(/** @type {Set<number>} */ kinds) {
     const isAll = this.counts.every((count, kind) => count === 0 || kinds.has(kind));
-    return isAll ? this.allRows() : this.rowsBy(({ kinds: own }, line) => kinds.has(own[line]));
+    return isAll ? this.allRows() : this.filterRows(({ kinds: own }, line) => kinds.has(own[line]));
   }
 
-  /** The rows that are so, in order. */
-  rowsBy(/** @type {(part: Part, line: number) => boolean} */ isIn) {
+  filterRows(/** @type {(part: Part, line: number) => boolean} */ isIn) {
     const rows = new Uint32Array(this.lines);
     let [count, row] = [0, 0];
-    this.parts().forEach((part) =>
+    this.partsInOrder().forEach((part) =>
       part.kinds.forEach((_, line) => {
         rows[count] = row;
         row += 1;
@@ -219,21 +210,18 @@ export class Results {
     return rows.subarray(0, count);
   }
 
-  /**
-   * The steps that these rows name, -1 for none; the page rests while they are read for the first time. Where
-   * they aren't wanted any more, they are left.
-   */
+  /** The steps of rows, -1 for none. Pauses while they are parsed, and stops once they aren't wanted. */
   async stepsOf(/** @type {Uint32Array} */ rows, /** @type {() => boolean} */ isWanted) {
     const all = new Float64Array(this.lines);
     let begun = performance.now();
-    for (const [k, part] of this.parts().entries()) {
+    for (const [k, part] of this.partsInOrder().entries()) {
       if (!isWanted()) {
         break;
       }
-      part.steps ??= stepsIn(part.lines ?? part.bytes, part);
-      all.set(part.steps, this.begins[k]);
+      part.steps ??= readSteps(part.lines ?? part.bytes, part);
+      all.set(part.steps, this.firstRows[k]);
       if (performance.now() - begun > BUSY_MILLISECONDS) {
-        await rest();
+        await pause();
         begun = performance.now();
       }
     }
@@ -243,9 +231,9 @@ export class Results {
   }
 }
 
-const rest = () => new Promise((done) => setTimeout(done));
+const pause = () => new Promise((done) => setTimeout(done));
 
-/** The lines of a part whose kinds are among these, as bytes; those that stand together are one. */
+/** A part's lines of these kinds, as bytes; adjacent lines are joined. */
 function linesOf(/** @type {Part} */ part, /** @type {Set<number>} */ kinds) {
   const { plans } = part;
   const starts = part.lines === null ? part.starts : startsOf(part.bytes).slice();
@@ -262,13 +250,11 @@ function linesOf(/** @type {Part} */ part, /** @type {Set<number>} */ kinds) {
 }
 
 /**
- * Replaces lines of a part by the first lines of another one from `first` on. The part stays the same object,
- * and its bytes become another one.
- * @param {Part} part of machines that were decided
- * @param {ArrayLike<number>} lines the numbers of the lines in the part, in order
- * @param {Part} by @param {number} first @param {number} plan the number of the limits of the new lines
+ * Replaces lines of a part by another one's, from line `first`. The part stays the same object.
+ * @param {Part} part @param {ArrayLike<number>} lines in order
+ * @param {Part} by @param {number} first @param {number} plan its number
  */
-export function replaceLines(part, lines, by, first, plan) {
+function replaceLines(part, lines, by, first, plan) {
   const { bytes, starts } = part;
   const plans = (part.plans ??= new Uint8Array(part.kinds.length));
   const pieces = [];
@@ -282,7 +268,7 @@ export function replaceLines(part, lines, by, first, plan) {
     part.answers[line] = by.answers[other];
     plans[line] = plan;
   }
-  part.bytes = joined([...pieces, bytes.subarray(from)]);
+  part.bytes = concatBytes([...pieces, bytes.subarray(from)]);
   part.starts = startsOf(part.bytes).slice();
   part.steps = undefined;
 }

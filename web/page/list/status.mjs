@@ -1,74 +1,67 @@
 /**
- * How far a list is, in words.
+ * The status of a list run, in words.
  *
- * @typedef {import("../../reader/prepare.mjs").Form} Form
+ * @typedef {import("../../reader/list-reader.mjs").Form} Form
  * @typedef {{mode: "decide" | "check", plan: Record<string, any>, form: Form | null, isText: boolean,
- *   size: number, begun: number, taken: number}} Run a list that is worked on: the form by
- *   which its lines are read, null where they aren't; whether it begins as text in UTF-8; its bytes, the
- *   milliseconds at which the work began, and those that it took; 0 while it is under way
+ *   size: number, begun: number, taken: number}} RunInfo the form of its lines, null if they aren't
+ *   rewritten; whether it begins as UTF-8; its bytes; its start and duration in milliseconds, 0 while it runs
  */
-import { ANSWERS, KINDS, counted, shown } from "../../reader/machine.mjs";
-import { LONGEST_QUOTED } from "../../reader/words.mjs";
+import { ANSWERS, KINDS, formatCount, formatNumber } from "../../reader/machine.mjs";
+import { LONGEST_QUOTED } from "../../reader/tokens.mjs";
 
 const [UNDECIDED, REFUSED] = [KINDS.indexOf("undecided"), KINDS.indexOf("refused")];
 const [BAD, OVER] = [ANSWERS.indexOf("bad"), ANSWERS.indexOf("over")];
-const LEFT_OUT = "empty lines, comments, code fences, rules and headers of tables";
-/** The forms of lists, as they are printed. */
-const FORMS = {
-  machines: "a list of machines",
-  verdicts: "verdict lines",
-  table: "a table",
-  text: "text",
-};
-// What takes longer is named.
-const NAMED_MILLISECONDS = 500;
+const SKIPPED = "empty lines, comments, code fences, rules and headers of tables";
+const FORMS = { machines: "a list of machines", verdicts: "verdict lines", table: "a table", text: "text" };
+// Slower lines are named.
+const SLOW_MILLISECONDS = 500;
 
 /**
- * How far a list is, and what the checker says of it. Each line of the list is counted once.
- * @param {string} how it stands: running, done, stopped or ended
+ * Progress, counts and the checker's answers. Each line is counted once.
+ * @param {string} outcome Running, Done, Stopped or Ended
  * @param {number} share of the list that is done, 0 to 1
- * @param {Run} run @param {import("./results.mjs").Results} results
+ * @param {RunInfo} info @param {import("./results.mjs").Results} results
  */
-export function statusOf(how, share, run, results) {
-  const seconds = (run.taken || performance.now() - run.begun) / 1000;
-  const { counts, lines, left, waiting, open, again } = results;
-  const parts = [`${how}, ${seconds.toFixed(1)} s`];
-  if (how !== "Done") {
-    parts[0] += `, ${Math.floor(100 * share)} % done`;
-  }
-  const doubted = results.answers[BAD] + results.answers[OVER];
-  const decided = lines - counts[UNDECIDED] - counts[REFUSED] - doubted;
+export function statusText(outcome, share, info, results) {
+  const seconds = (info.taken || performance.now() - info.begun) / 1000;
+  const { counts, answers, lines, skipped, waiting, provisional, redecided } = results;
+  const progress = outcome === "Done" ? "" : `, ${Math.floor(100 * share)} % done`;
+  const parts = [`${outcome}, ${seconds.toFixed(1)} s${progress}`];
+  const unconfirmed = answers[BAD] + answers[OVER];
+  const decided = lines - counts[UNDECIDED] - counts[REFUSED] - unconfirmed;
   const numbers = [
-    `${shown(decided)} decided`,
-    `${shown(counts[UNDECIDED] - waiting)} undecided`,
-    `${shown(counts[REFUSED])} refused`,
-    ...(left > 0 ? [`${shown(left)} left out (${LEFT_OUT})`] : []),
-    ...(doubted > 0 ? [`${shown(doubted)} not confirmed`] : []),
-    ...(waiting > 0 ? [`${shown(waiting)} left for the second pass`] : []),
-    ...(again > 0 ? [`${shown(again)} decided again with larger limits`] : []),
+    `${formatNumber(decided)} decided`,
+    `${formatNumber(counts[UNDECIDED] - waiting)} undecided`,
+    `${formatNumber(counts[REFUSED])} refused`,
+    ...(skipped > 0 ? [`${formatNumber(skipped)} skipped (${SKIPPED})`] : []),
+    ...(unconfirmed > 0 ? [`${formatNumber(unconfirmed)} not confirmed`] : []),
+    ...(waiting > 0 ? [`${formatNumber(waiting)} waiting for the second pass`] : []),
+    ...(redecided > 0 ? [`${formatNumber(redecided)} decided again with larger limits`] : []),
   ];
   parts.push(numbers.join(", "));
-  if (open > 0 && (how === "Stopped" || how === "Ended")) {
-    parts.push(`Save and Copy leave out ${counted(open, "line")} of the first pass`);
+  if (provisional > 0 && (outcome === "Stopped" || outcome === "Ended")) {
+    parts.push(`Save and Copy omit ${formatCount(provisional, "line")} of the first pass`);
   }
-  const answers = ANSWERS.map((answer, k) => `${shown(results.answers[k])} ${answer}`);
-  const answered = answers.filter((_, k) => results.answers[k] > 0 && ANSWERS[k] !== "open").join(", ");
-  const what = run.mode === "check" ? `These are ${counted(lines, "verdict line")}, checked` : "The checker";
-  parts.push(`${what}: ${answered || "nothing to confirm"}`);
-  if (run.form !== null && run.mode === "decide") {
-    parts.push(`Read as ${FORMS[run.form]}`);
+  const checked = ANSWERS.flatMap((answer, k) =>
+    answers[k] > 0 && answer !== "open" ? [`${formatNumber(answers[k])} ${answer}`] : [],
+  );
+  const claims = `These are ${formatCount(lines, "verdict line")}, checked`;
+  const subject = info.mode === "check" ? claims : "The checker";
+  parts.push(`${subject}: ${checked.join(", ") || "nothing to confirm"}`);
+  if (info.form !== null && info.mode === "decide") {
+    parts.push(`Read as ${FORMS[info.form]}`);
   }
-  if (!run.isText) {
-    parts.push("Some bytes are no UTF-8; convert the list");
+  if (!info.isText) {
+    parts.push("Some bytes are not UTF-8; convert the list");
   }
   return `${parts.join(". ")}.`;
 }
 
-/** The machine that is worked on, where it takes long; nothing else. */
-export function underWayWords(/** @type {{text: string, taken: number} | null} */ under) {
-  if (under === null || under.taken < NAMED_MILLISECONDS) {
+/** Names a slow line; empty for others. */
+export function slowLineText(/** @type {{text: string, milliseconds: number} | null} */ line) {
+  if (line === null || line.milliseconds < SLOW_MILLISECONDS) {
     return "";
   }
-  const text = under.text.length > LONGEST_QUOTED ? `${under.text.slice(0, LONGEST_QUOTED)}…` : under.text;
-  return `At work on ${text} for ${(under.taken / 1000).toFixed(1)} s.`;
+  const text = line.text.length > LONGEST_QUOTED ? `${line.text.slice(0, LONGEST_QUOTED)}…` : line.text;
+  return `Deciding ${text} for ${(line.milliseconds / 1000).toFixed(1)} s.`;
 }

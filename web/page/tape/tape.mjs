@@ -1,76 +1,76 @@
-/** The tape at one step: its cells about the head, the entry that is used next, and moving on by one step. */
-import { shown } from "../../reader/machine.mjs";
-import { onClick, part, pressKey, setAside, tellLive } from "../dom.mjs";
-import { numberOf } from "../input/fields.mjs";
-import { Asker } from "../workers.mjs";
-import { cellOf, entryAt, markEntry, wordsOf } from "./taperow.mjs";
+/** The tape at one step: the cells around the head, the next entry, and stepping. */
+import { formatNumber } from "../../reader/machine.mjs";
+import { onClick, byId, dispatchKey, setInactive, announce } from "../dom.mjs";
+import { parseNumber } from "../input/fields.mjs";
+import { WorkerClient } from "../worker-client.mjs";
+import { createCell, nextEntry, highlightEntry, stepText } from "./tape-row.mjs";
 
 /**
- * @typedef {import("../../worker/traced.mjs").Row} Row
- * @typedef {import("../diagram/places.mjs").Place} Place
- * @typedef {{machine: string, cells: number, last: number}} About `last` is the last step that may be shown
+ * @typedef {import("../../worker/trace.mjs").Row} Row
+ * @typedef {import("../diagram/geometry.mjs").Place} Place
+ * @typedef {{machine: string, cells: number, last: number}} About `last`: the last step
  */
 
-// Rows are asked for in stretches: as many as have about so many cells.
+// The cells of the rows in one request.
 const STRETCH_CELLS = 2_000_000;
 const [FEWEST, MOST] = [16, 512];
 const CELL_PIXELS = 26;
 const PACE_MILLISECONDS = 250;
 
 export class Tape {
-  /** @param {(place: Place, closes: boolean) => void} went follows a step's change */
+  /** @param {(place: Place, closes: boolean) => void} went called after each step */
   constructor(went) {
-    this.went = went;
-    this.asker = new Asker();
+    this.onStep = went;
+    this.client = new WorkerClient();
     /** @type {About | null} */
     this.about = null;
     this.step = 0;
     /** @type {Row[]} */
     this.rows = [];
     this.closes = false;
-    // How often a step was gone to: an answer to what was asked for before is too late.
-    this.gone = 0;
+    // Counts steps, so that outdated replies are dropped.
+    this.requests = 0;
     this.timer = 0;
-    this.calm = matchMedia("(prefers-reduced-motion: reduce)");
-    this.box = part("tape");
-    this.listen();
+    this.reducedMotion = matchMedia("(prefers-reduced-motion: reduce)");
+    this.box = byId("tape");
+    this.addListeners();
   }
 
-  listen() {
+  addListeners() {
     onClick({
-      "tape-first": () => this.go(0),
-      "tape-back": () => this.go(this.step - 1),
-      "tape-on": () => this.go(this.step + 1),
-      "tape-play": () => this.play(),
+      "tape-first": () => this.goTo(0),
+      "tape-back": () => this.goTo(this.step - 1),
+      "tape-on": () => this.goTo(this.step + 1),
+      "tape-play": () => this.togglePlay(),
     });
-    part("tape-form").addEventListener("submit", (event) => {
+    byId("tape-form").addEventListener("submit", (event) => {
       event.preventDefault();
-      this.goToAsked();
+      this.goToField();
     });
-    this.box.addEventListener("keydown", (event) => this.pressed(event));
+    this.box.addEventListener("keydown", (event) => this.onKey(event));
     new ResizeObserver(() => this.draw()).observe(this.box);
-    this.calm.addEventListener("change", () => this.pause());
+    this.reducedMotion.addEventListener("change", () => this.pause());
   }
 
   open(/** @type {About} */ about, step = 0) {
     this.pause();
     Object.assign(this, { about, rows: [] });
-    this.forgive();
-    this.go(step);
+    this.clearRefusal();
+    this.goTo(step);
   }
 
-  /** Leaves a machine: nothing of it plays on. */
+  /** Leaves a machine and stops playback. */
   close() {
     this.pause();
-    this.gone += 1;
+    this.requests += 1;
     Object.assign(this, { about: null, rows: [] });
-    part("tape-text").textContent = "…";
+    byId("tape-text").textContent = "…";
   }
 
-  /** Shows nothing, where no row of the next machine has come. */
-  blank() {
+  /** Empties the tape, unless a row has come. */
+  clear() {
     if (this.row === undefined) {
-      part("tape-cells").replaceChildren();
+      byId("tape-cells").replaceChildren();
     }
   }
 
@@ -78,132 +78,127 @@ export class Tape {
     return this.rows.find((row) => row.step === this.step);
   }
 
-  goToAsked() {
-    const field = /** @type {HTMLInputElement} */ (part("tape-step"));
-    const number = numberOf(field.value);
+  goToField() {
+    const field = /** @type {HTMLInputElement} */ (byId("tape-step"));
+    const number = parseNumber(field.value);
     this.pause();
     if (number !== null) {
-      this.forgive();
-      this.go(Number(number), true);
+      this.clearRefusal();
+      this.goTo(Number(number), true);
       return;
     }
-    const words = `A step is a whole number, 0 to ${shown(this.about?.last ?? 0)}.`;
+    const words = `A step is a whole number, 0 to ${formatNumber(this.about?.last ?? 0)}.`;
     field.setAttribute("aria-invalid", "true");
-    part("tape-refused").textContent = words;
-    tellLive(words);
+    byId("tape-refused").textContent = words;
+    announce(words);
   }
 
-  /** Takes back that what is in the field was refused. */
-  forgive() {
-    part("tape-step").removeAttribute("aria-invalid");
-    part("tape-refused").textContent = "";
+  clearRefusal() {
+    byId("tape-step").removeAttribute("aria-invalid");
+    byId("tape-refused").textContent = "";
   }
 
-  /** Goes to a step; where the run ends before, to its last one. */
-  go(/** @type {number} */ step, closes = false) {
+  /** Goes to a step, or to the last one. */
+  goTo(/** @type {number} */ step, closes = false) {
     if (this.about === null) {
       return;
     }
     const from = this.step;
-    this.gone += 1;
+    this.requests += 1;
     this.step = Math.max(0, Math.min(step, this.about.last));
     this.closes = closes;
     if (this.row !== undefined) {
-      this.arrive();
+      this.showStep();
       return;
     }
-    this.ask(from);
+    this.requestRows(from);
   }
 
-  /** Asks for the rows about a step: those that follow in the direction of the way. */
-  ask(/** @type {number} */ from) {
+  /** Requests rows around a step, mostly in the direction of travel. */
+  requestRows(/** @type {number} */ from) {
     const { machine, cells } = /** @type {About} */ (this.about);
     const wide = this.rows[0]?.cells.length ?? this.step;
     const many = Math.round(Math.max(FEWEST, Math.min(MOST, STRETCH_CELLS / Math.max(1, wide))));
     const back = this.step < from ? many - 4 : Math.min(4, many / 4);
     const begin = Math.max(0, this.step - Math.floor(back));
     const upto = begin + many;
-    const { gone } = this;
-    this.asker.ask({ what: "trace", machine, cells, from: begin, every: 1, upto }, (answer) => {
-      // Where somebody went elsewhere since, the answer is too late.
-      if (gone === this.gone) {
-        answer.error ? this.fail(answer.message) : this.take(answer.rows, answer.last, upto);
+    const { requests } = this;
+    this.client.request({ type: "trace", machine, cells, from: begin, every: 1, upto }, (answer) => {
+      if (requests === this.requests) {
+        answer.error ? this.showFailure(answer.message) : this.setRows(answer.rows, answer.last, upto);
       }
     });
   }
 
-  fail(/** @type {string} */ message) {
+  showFailure(/** @type {string} */ message) {
     this.pause();
-    part("tape-text").textContent = `The tape can’t be shown: ${message}.`;
+    byId("tape-text").textContent = `The tape can’t be shown: ${message}.`;
   }
 
-  /**
-   * Takes rows; where they end before the last step that was asked for, the run has no more.
-   * @param {Row[]} rows @param {number} last the step of the last one, or of the run @param {number} upto
-   */
-  take(rows, last, upto) {
+  /** @param {Row[]} rows @param {number} last step of the rows or the run @param {number} upto */
+  setRows(rows, last, upto) {
     this.rows = rows;
-    // Of very wide rows only some come.
+    // Very wide rows are sampled.
     if (last < upto && (rows.length === 0 || last - rows[0].step === rows.length - 1)) {
-      this.endAt(last);
+      this.limitTo(last);
     }
     if (this.row === undefined && rows.length === 0) {
-      this.go(this.step, this.closes);
+      this.goTo(this.step, this.closes);
       return;
     }
     if (this.row === undefined) {
       this.pause();
       this.step = rows[rows.length - 1].step;
     }
-    this.arrive();
+    this.showStep();
   }
 
-  /** Knows that the run goes no farther than a step. */
-  endAt(/** @type {number} */ step) {
+  /** Ends the run at a step. */
+  limitTo(/** @type {number} */ step) {
     const about = /** @type {About} */ (this.about);
     this.about = { ...about, last: Math.min(about.last, step) };
     this.step = Math.min(this.step, step);
   }
 
-  arrive() {
+  showStep() {
     this.draw();
     const { row } = this;
     if (row !== undefined) {
-      this.fill(row.step);
-      this.went({ step: row.step, position: row.head }, this.closes);
+      this.updateField(row.step);
+      this.onStep({ step: row.step, position: row.head }, this.closes);
     }
     this.closes = false;
   }
 
-  /** Puts the step that is shown into the field, but while somebody writes there. */
-  fill(/** @type {number} */ step) {
-    const field = /** @type {HTMLInputElement} */ (part("tape-step"));
+  /** Shows the step in the field, unless it has the focus. */
+  updateField(/** @type {number} */ step) {
+    const field = /** @type {HTMLInputElement} */ (byId("tape-step"));
     if (document.activeElement !== field) {
       field.value = String(step);
-      this.forgive();
+      this.clearRefusal();
     }
   }
 
-  get goesOn() {
+  get hasNext() {
     const { row, about } = this;
     const isKnown = row !== undefined && about !== null;
-    return isKnown && this.step < about.last && entryAt(row, about.machine) !== null;
+    return isKnown && this.step < about.last && nextEntry(row, about.machine) !== null;
   }
 
-  play() {
-    if (this.timer !== 0 || this.calm.matches) {
-      this.timer === 0 ? this.go(this.step + 1) : this.pause();
+  togglePlay() {
+    if (this.timer !== 0 || this.reducedMotion.matches) {
+      this.timer === 0 ? this.goTo(this.step + 1) : this.pause();
       return;
     }
     this.timer = setInterval(() => this.tick(), PACE_MILLISECONDS);
-    this.showPlay();
+    this.labelPlay();
   }
 
-  /** Plays on by a step, once the row before has come. */
+  /** Plays the next step, once the current row has come. */
   tick() {
-    if (this.goesOn) {
-      this.go(this.step + 1);
-    } else if (this.row !== undefined || !this.asker.isBusy) {
+    if (this.hasNext) {
+      this.goTo(this.step + 1);
+    } else if (this.row !== undefined || !this.client.isBusy) {
       this.pause();
       this.draw();
     }
@@ -212,25 +207,25 @@ export class Tape {
   pause() {
     clearInterval(this.timer);
     this.timer = 0;
-    this.showPlay();
+    this.labelPlay();
   }
 
-  showPlay() {
-    const words = this.calm.matches ? "Step" : this.timer === 0 ? "Play" : "Pause";
-    part("tape-play").textContent = words;
+  labelPlay() {
+    const words = this.reducedMotion.matches ? "Step" : this.timer === 0 ? "Play" : "Pause";
+    byId("tape-play").textContent = words;
   }
 
-  /** Does what a key asks, but for those of a field and of a button that has the focus. */
-  pressed(/** @type {KeyboardEvent} */ event) {
+  /** Handles keys, except in the field, and Space on a button. */
+  onKey(/** @type {KeyboardEvent} */ event) {
     const keeps = event.key === " " ? "input, button" : "input";
     const far = event.shiftKey ? 10 : 1;
     if (!(/** @type {HTMLElement} */ (event.target).matches(keeps))) {
-      pressKey(event, {
-        ArrowLeft: () => this.go(this.step - far),
-        ArrowRight: () => this.go(this.step + far),
-        Home: () => this.go(0),
-        End: () => this.go(this.about?.last ?? 0),
-        " ": () => this.play(),
+      dispatchKey(event, {
+        ArrowLeft: () => this.goTo(this.step - far),
+        ArrowRight: () => this.goTo(this.step + far),
+        Home: () => this.goTo(0),
+        End: () => this.goTo(this.about?.last ?? 0),
+        " ": () => this.togglePlay(),
       });
     }
   }
@@ -243,17 +238,17 @@ export class Tape {
     const around = Math.max(2, Math.floor((this.box.clientWidth / CELL_PIXELS - 1) / 2));
     const cells = [];
     for (let at = row.head - around; at <= row.head + around; at += 1) {
-      cells.push(cellOf(row, at));
+      cells.push(createCell(row, at));
     }
-    part("tape-cells").replaceChildren(...cells);
-    const words = wordsOf(row, about.machine);
-    part("tape-text").textContent = words;
+    byId("tape-cells").replaceChildren(...cells);
+    const words = stepText(row, about.machine);
+    byId("tape-text").textContent = words;
     this.box.setAttribute("aria-label", `Tape. ${words}`);
-    // The focus goes from a button that does nothing here to the tape, whose keys do the same.
-    setAside("tape-first", "disabled", row.step === 0, "tape");
-    setAside("tape-back", "disabled", row.step === 0, "tape");
-    setAside("tape-on", "disabled", !this.goesOn, "tape");
-    setAside("tape-play", "disabled", !this.goesOn && this.timer === 0, "tape");
-    markEntry(row);
+    // The focus moves from a disabled button to the tape, which has the same keys.
+    setInactive("tape-first", "disabled", row.step === 0, "tape");
+    setInactive("tape-back", "disabled", row.step === 0, "tape");
+    setInactive("tape-on", "disabled", !this.hasNext, "tape");
+    setInactive("tape-play", "disabled", !this.hasNext && this.timer === 0, "tape");
+    highlightEntry(row);
   }
 }

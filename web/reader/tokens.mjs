@@ -1,72 +1,62 @@
 /**
- * A line cut into what may be a machine: words of entries, rows of dashes or dots, addresses. Also how much
- * of a line is looked through, kept and shown, and the names of characters that don't show.
+ * Splits a line into candidates for machines: words of entries, rows of dashes or dots, addresses. Also the
+ * limits on line lengths, and names of invisible characters.
  *
- * @typedef {{begin: number, text: string}} Word characters that stand together, and how many come before them
+ * @typedef {{begin: number, text: string}} Word with its offset in the line
  * @typedef {{words: Word[], begin: number, end: number, isAddress: boolean, isLast: boolean,
- *   arrays: Word[][]}} Text words that are one text, since only spaces stand between them; where it stands in
- *   the line, with the address that it is a part of, whether it is that address's last part, and the entries
- *   of each group where they are written as arrays
- * @typedef {{texts: Text[], rows: Word[]}} Parts what of a line may be a machine, and its rows of dashes or
- *   dots
+ *   arrays: Word[][]}} Text words with only spaces between them. `begin` and `end` enclose the whole address;
+ *   `isLast` marks its last part. `arrays` has the entries of each group written as an array.
+ * @typedef {{texts: Text[], rows: Word[]}} Tokens
  */
 
-/**
- * A line with more characters isn't looked through: the longest machine has 774, and nobody writes as much
- * beside one. It is given to the engine as it is, and refused.
- */
+/** Longer lines go to the engine unread, and are refused. The longest machine has 774 characters. */
 export const LONGEST_LINE = 16_384;
-/**
- * So many bytes of a line are kept: a character has four at most, so a line that is too long is seen to be
- * so, and the engine says the same of these bytes as of all.
- */
+/** Kept bytes of a line: with four bytes a character, enough to see that it is too long. */
 export const BYTES_KEPT = 4 * LONGEST_LINE;
-/** So much of a line is shown or named: more than the verdict line of the longest machine has. */
+/** Displayed characters of a line: more than the longest verdict line. */
 export const LONGEST_SHOWN = 1_023;
-/** So much of a text is quoted in a sentence, so that this stays one line or two. */
+/** Characters of a text quoted in a message. */
 export const LONGEST_QUOTED = 60;
 
 const QUOTES = "`\"'\u2018\u2019\u201a\u201c\u201d\u201e\u00ab\u00bb";
-// What ends an address; and a word, too.
+// Ends of addresses and words.
 const ENDS = `\\s,;|()\\[\\]{}<>*${QUOTES}`;
 const BEGIN = "(?:[A-Za-z][A-Za-z0-9+.-]*://|[A-Za-z][A-Za-z0-9-]*(?:\\.[A-Za-z0-9-]+)+/)";
 const TOKEN = new RegExp(`(?<address>${BEGIN}(?:(?!~~)[^${ENDS}])*)|[^${ENDS}:=#~]+`, "g");
 const ENTRIES = /^(?:[0-9][LRlr][A-Za-z]|---|\.\.\.|_)*(?:[0-9][LRlr][A-Za-z]|---|\.\.\.)_*$/;
 const ROW = /^[-.]+$/;
-// A number of a list right before an entry.
+// A list number right before an entry.
 const NUMBER = /^[0-9]+\.(?=[0-9-])/;
-// Groups as arrays of quoted entries, as JSON and Python write them.
+// Groups as arrays of quoted entries, as in JSON and Python.
 const ENTRY = "[\"'](?:[0-9][LRlr][A-Za-z]|---|\\.\\.\\.)[\"']";
 const GROUP = `\\[\\s*${ENTRY}(?:\\s*,\\s*${ENTRY})*\\s*\\]`;
 const ARRAYS = new RegExp(`\\[\\s*${GROUP}(?:\\s*,\\s*${GROUP})*\\s*\\]`, "g");
-// What nothing but a machine has in it, whole or not.
-const PIECES = /[0-9][LR](?:[A-Z_.-]|$)|[0-9][lr][a-z](?=[0-9_])|(?<=[a-z_])[0-9][lr][a-z]/;
+// Substrings of machines, whole or damaged, and of nothing else.
+const FRAGMENTS = /[0-9][LR](?:[A-Z_.-]|$)|[0-9][lr][a-z](?=[0-9_])|(?<=[a-z_])[0-9][lr][a-z]/;
 // A word that looks like an entry.
 const ORDINAL = "3rd";
 const PART = /[^/?#&=]+/g;
-// What may stand between the words of a text.
-const TOGETHER = /^[ \u00a0]*$/;
+const SPACES = /^[ \u00a0]*$/;
 
 export const endOf = (/** @type {Word} */ { begin, text }) => begin + text.length;
 
-/** The words of a text, with a space between them. */
-export const written = (/** @type {Text} */ { words }) => words.map(({ text }) => text).join(" ");
+export const joinWords = (/** @type {Text} */ { words }) => words.map(({ text }) => text).join(" ");
 
 export const isLoneEntry = (/** @type {Text} */ { words }) =>
   words.length === 1 && words[0].text.length === 3;
 
-/** @returns {Text} these words as one text */
+/** @returns {Text} */
 export function textOf(/** @type {Word[]} */ words) {
   const end = endOf(words[words.length - 1]);
   return { words, begin: words[0].begin, end, isAddress: false, isLast: true, arrays: [] };
 }
 
-export const isOfEntries = (/** @type {Text} */ { words }) =>
+export const hasOnlyEntries = (/** @type {Text} */ { words }) =>
   words.length > 1 && words.every(({ text }) => text.length === 3);
 
-/** @returns {Parts} what of a line may be a machine */
-export function partsOf(/** @type {string} */ given) {
-  const texts = arraysOf(given);
+/** @returns {Tokens} */
+export function tokenize(/** @type {string} */ given) {
+  const texts = findArrays(given);
   const line = texts.reduce(
     (before, { begin, end }) => before.slice(0, begin) + "|".repeat(end - begin) + before.slice(end),
     given,
@@ -78,23 +68,23 @@ export function partsOf(/** @type {string} */ given) {
   for (const match of line.matchAll(TOKEN)) {
     const token = { begin: match.index ?? 0, text: match[0] };
     if (match.groups?.address !== undefined) {
-      texts.push(...textsIn(token));
-      rows.push(...rowsIn(token));
+      texts.push(...findAddressTexts(token));
+      rows.push(...findAddressRows(token));
     } else if (ROW.test(token.text)) {
       rows.push(token);
-    } else if (hasEntries(withoutStop(token).text)) {
-      words.push(withoutStop(token));
+    } else if (hasEntries(trimPunctuation(token).text)) {
+      words.push(trimPunctuation(token));
     }
   }
-  const plain = together(line, words, rows);
+  const plain = groupWords(line, words, rows);
   const inside = new Set(plain.flatMap((text) => text.words.map(({ begin }) => begin)));
   texts.push(...plain);
   texts.sort((one, two) => one.words[0].begin - two.words[0].begin);
   return { texts, rows: rows.filter(({ begin }) => !inside.has(begin)) };
 }
 
-/** @returns {Text[]} the machines of a line that are written as arrays of entries */
-function arraysOf(/** @type {string} */ line) {
+/** @returns {Text[]} machines written as arrays of entries */
+function findArrays(/** @type {string} */ line) {
   const found = line.includes("[") ? [...line.matchAll(ARRAYS)] : [];
   return found.map((match) => {
     const begin = match.index ?? 0;
@@ -110,8 +100,8 @@ function arraysOf(/** @type {string} */ line) {
   });
 }
 
-/** A word without a list's number before it, and without the full stop or the marks at its end. */
-function withoutStop(/** @type {Word} */ word) {
+/** A word without a list number before it and punctuation behind it. */
+function trimPunctuation(/** @type {Word} */ word) {
   let { begin, text } = word;
   const number = NUMBER.exec(text)?.[0] ?? "";
   if (number !== "" && ENTRIES.test(text.slice(number.length).replace(/[.!?]+$/, ""))) {
@@ -123,50 +113,46 @@ function withoutStop(/** @type {Word} */ word) {
   return { begin, text: isStopped ? text.slice(0, -1) : text };
 }
 
-/** @returns {Text[]} what of an address may be a machine */
-function textsIn(/** @type {Word} */ address) {
+/** @returns {Text[]} */
+function findAddressTexts(/** @type {Word} */ address) {
   const last = address.text.replace(/\/+$/, "").lastIndexOf("/") + 1;
   return [...address.text.matchAll(PART)].flatMap((match) => {
     const at = match.index ?? 0;
-    const part = withoutStop({ begin: address.begin + at, text: match[0] });
+    const part = trimPunctuation({ begin: address.begin + at, text: match[0] });
     const whole = { begin: address.begin, end: endOf(address), isAddress: true, arrays: [] };
     return hasEntries(part.text) ? [{ words: [part], ...whole, isLast: at >= last }] : [];
   });
 }
 
-function rowsIn(/** @type {Word} */ { begin, text }) {
+function findAddressRows(/** @type {Word} */ { begin, text }) {
   const at = text.lastIndexOf("/") + 1;
   return ROW.test(text.slice(at)) ? [{ begin: begin + at, text: text.slice(at) }] : [];
 }
 
-/** Whether a word has entries, or pieces of them. */
 const hasEntries = (/** @type {string} */ text) =>
-  text !== ORDINAL && !ROW.test(text) && (ENTRIES.test(text) || PIECES.test(text));
+  text !== ORDINAL && !ROW.test(text) && (ENTRIES.test(text) || FRAGMENTS.test(text));
 
-/**
- * The texts that these words make: those between which there are only spaces are one. Between entries that
- * stand alone, `---` is an entry.
- */
-function together(/** @type {string} */ line, /** @type {Word[]} */ words, /** @type {Word[]} */ rows) {
+/** Joins words with only spaces between them into texts. Between lone entries, `---` is an entry. */
+function groupWords(/** @type {string} */ line, /** @type {Word[]} */ words, /** @type {Word[]} */ rows) {
   const isDashes = (/** @type {Word} */ { text }) => text === "---";
   const all = [...words, ...rows.filter(isDashes)].sort((one, two) => one.begin - two.begin);
-  return runsOf(line, all).flatMap((run) => {
+  return adjacentRuns(line, all).flatMap((run) => {
     const plain = run.filter((word) => !isDashes(word));
     const inner = run.slice(run.indexOf(plain[0]), run.indexOf(plain[plain.length - 1]) + 1);
     if (plain.length > 0 && inner.every(({ text }) => text.length === 3)) {
       return [textOf(inner)];
     }
-    return runsOf(line, plain).map(textOf);
+    return adjacentRuns(line, plain).map(textOf);
   });
 }
 
-/** The words between which there are only spaces, together. */
-function runsOf(/** @type {string} */ line, /** @type {Word[]} */ words) {
+/** Words split into runs with only spaces between them. */
+function adjacentRuns(/** @type {string} */ line, /** @type {Word[]} */ words) {
   /** @type {Word[][]} */
   const runs = [];
   for (const word of words) {
     const before = runs[runs.length - 1];
-    if (before !== undefined && TOGETHER.test(line.slice(endOf(before[before.length - 1]), word.begin))) {
+    if (before !== undefined && SPACES.test(line.slice(endOf(before[before.length - 1]), word.begin))) {
       before.push(word);
     } else {
       runs.push([word]);
@@ -176,10 +162,10 @@ function runsOf(/** @type {string} */ line, /** @type {Word[]} */ words) {
 }
 
 /**
- * The row beside a text, with only spaces between them, that is as long as a word of it, and so may be a
- * group.
+ * The row next to a text, as long as its word, which may be a group of the machine.
+ * @param {string} line @param {Text} text @param {Word[]} rows
  */
-export function rowBeside(/** @type {string} */ line, /** @type {Text} */ text, /** @type {Word[]} */ rows) {
+export function findAdjacentRow(line, text, rows) {
   const before = line.slice(0, text.begin).replace(/[ \u00a0]+$/, "").length;
   const behind = line.length - line.slice(text.end).replace(/^[ \u00a0]+/, "").length;
   return rows.find((row) => {
@@ -189,16 +175,15 @@ export function rowBeside(/** @type {string} */ line, /** @type {Text} */ text, 
   });
 }
 
-// A plain space counts as shown. The first are controls; the last are of other kinds, and drawn as nothing or
-// as a space.
 const CONTROL = /\p{Cc}/u;
+// Characters drawn as nothing or as a space, except the plain space.
 const HIDDEN = /(?! )[\p{C}\p{Z}\u034f\u115f\u1160\u2800\u3164\uffa0\ufe00-\ufe0f]/u;
 const UNASSIGNED = /[\p{Co}\p{Cn}\p{Cs}]/u;
 
 const isHidden = (/** @type {string} */ character) => HIDDEN.test(character) && !UNASSIGNED.test(character);
 
-/** Where the first character stands that doesn't show; -1 where all show. */
-export function firstHidden(/** @type {string} */ text) {
+/** The offset of the first invisible character, or -1. */
+export function findHidden(/** @type {string} */ text) {
   let at = 0;
   for (const character of text) {
     if (isHidden(character)) {
@@ -210,19 +195,21 @@ export function firstHidden(/** @type {string} */ text) {
 }
 
 /** The code point of a character, as `U+200B`. */
-export function nameOf(/** @type {string} */ character) {
+export function codePointName(/** @type {string} */ character) {
   const code = (character.codePointAt(0) ?? 0).toString(16).toUpperCase();
   return `U+${code.padStart(4, "0")}`;
 }
 
-/** The text with the characters that don't show by name: controls as `\\x1b`, others as `U+200B`. */
-export const nameHidden = (/** @type {string} */ text) =>
-  /^[ -~]*$/.test(text) ? text : [...text].map(named).join("");
+/** A text for a message: truncated, with invisible controls as `\\x1b` and others as `U+200B`. */
+export function abbreviate(/** @type {string} */ given) {
+  const text = /^[ -~]*$/.test(given) ? given : [...given].map(escapeCharacter).join("");
+  return text.length <= LONGEST_QUOTED ? text : `${text.slice(0, LONGEST_QUOTED - 2)}..`;
+}
 
-function named(/** @type {string} */ character) {
+function escapeCharacter(/** @type {string} */ character) {
   if (!isHidden(character)) {
     return character;
   }
   const code = character.charCodeAt(0).toString(16).padStart(2, "0");
-  return CONTROL.test(character) && !"\t\n".includes(character) ? `\\x${code}` : nameOf(character);
+  return CONTROL.test(character) && !"\t\n".includes(character) ? `\\x${code}` : codePointName(character);
 }

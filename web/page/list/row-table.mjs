@@ -1,48 +1,48 @@
 /**
- * The table of lines: only the rows that are seen stand in the page, so a list of millions scrolls.
+ * The table of lines. Only visible rows are in the document, so that millions of lines scroll.
  *
  * @typedef {import("./results.mjs").Results} Results
  * @typedef {import("../../worker/worker.mjs").Part} Part
- * @typedef {{element: HTMLElement, of: Part, line: number, bytes: Uint8Array, isChosen: boolean}} Drawn a row
- *   that stands in the page, and of which line of which part it is, with the bytes that the part had
+ * @typedef {{element: HTMLElement, of: Part, line: number, bytes: Uint8Array, isChosen: boolean}} DrawnRow
+ *   `of`, `line` and `bytes`: its part, its line there, and the part's bytes when it was drawn
  */
-import { shown } from "../../reader/machine.mjs";
-import { readingOf } from "../../reader/reading.mjs";
-import { LONGEST_SHOWN } from "../../reader/words.mjs";
-import { made, part } from "../dom.mjs";
+import { formatNumber } from "../../reader/machine.mjs";
+import { readLine } from "../../reader/line-reader.mjs";
+import { LONGEST_SHOWN } from "../../reader/tokens.mjs";
+import { create, byId } from "../dom.mjs";
 import { FIRST_PASS, LARGER } from "./results.mjs";
 
-// A row's height; on a phone it has two lines.
+// Row heights; on a phone rows have two lines.
 const ROW_PIXELS = 28;
 const PHONE_ROW_PIXELS = 48;
 const PHONE = "(max-width: 600px)";
-// Browsers have no higher elements; in longer lists a pixel of the bar stands for more than one.
+// Browsers limit an element's height; longer lists scale the scroll bar.
 const MOST_PIXELS = 8_000_000;
 
-export class Rows {
-  /** @param {(row: number) => void} open what happens where a row is chosen */
+export class RowTable {
+  /** @param {(row: number) => void} open called when a row is opened */
   constructor(open) {
     this.open = open;
     /** @type {Results | null} */
     this.results = null;
     this.rows = new Uint32Array(0);
-    /** @type {Map<number, Drawn>} the rows that stand in the page, by their places */
+    /** @type {Map<number, DrawnRow>} by place */
     this.drawn = new Map();
     this.top = 0;
-    // The place of the chosen line; -1 where it isn't among those that are shown.
+    // The place of the chosen line, or -1 if it is filtered out.
     this.chosen = -1;
-    // Where the chosen line would stand, between the places before and from it on.
+    // The place of the chosen line, or the next one if it is filtered out.
     this.gap = 0;
-    /** @type {import("./results.mjs").Place | null} */
+    /** @type {import("./results.mjs").LinePlace | null} */
     this.line = null;
     this.phone = matchMedia(PHONE);
-    this.phone.addEventListener("change", () => this.resized());
-    this.box = part("rows");
-    this.box.addEventListener("scroll", () => this.scrolled());
-    this.box.addEventListener("keydown", (event) => this.pressed(event));
-    this.box.addEventListener("wheel", (event) => this.wheeled(event), { passive: false });
-    part("shown").addEventListener("click", (event) => this.clicked(event));
-    // How high the box is inside. To ask for it costs the browser a layout.
+    this.phone.addEventListener("change", () => this.onResize());
+    this.box = byId("rows");
+    this.box.addEventListener("scroll", () => this.onScroll());
+    this.box.addEventListener("keydown", (event) => this.onKey(event));
+    this.box.addEventListener("wheel", (event) => this.onWheel(event), { passive: false });
+    byId("shown").addEventListener("click", (event) => this.onClick(event));
+    // The box's inner height; reading it costs a layout.
     this.inner = 0;
     new ResizeObserver(() => {
       this.measure();
@@ -54,7 +54,7 @@ export class Rows {
     return this.phone.matches ? PHONE_ROW_PIXELS : ROW_PIXELS;
   }
 
-  get seen() {
+  get visibleCount() {
     return Math.max(1, Math.floor((this.inner - this.pixels - 1) / this.pixels));
   }
 
@@ -66,27 +66,27 @@ export class Rows {
     return this.rows.length * this.pixels > MOST_PIXELS;
   }
 
-  /** Begins with other results, of which no line is chosen. */
-  begin() {
+  /** Forgets the chosen line. */
+  reset() {
     Object.assign(this, { chosen: -1, gap: 0, line: null, top: 0 });
   }
 
   /**
-   * Shows these rows of results; the chosen line stays chosen, wherever it stands then.
-   * @param {Results} results @param {Uint32Array} rows @param {boolean} isInOrder of the list
+   * Shows rows; the chosen line stays chosen.
+   * @param {Results} results @param {Uint32Array} rows @param {boolean} isInOrder whether rows ascend
    */
-  show(results, rows, isInOrder) {
+  showRows(results, rows, isInOrder) {
     const fewer = Math.min(rows.length, this.rows.length);
     this.results = results;
     this.rows = rows;
-    this.find(results, rows, isInOrder);
-    part("spacer").style.height = `${this.height}px`;
-    // Where there are more rows than it has room for, before and now, it is as high as it was.
+    this.locateChosen(results, rows, isInOrder);
+    byId("spacer").style.height = `${this.height}px`;
+    // A full box keeps its height.
     if (fewer * this.pixels <= this.inner) {
       this.measure();
     }
     this.box.setAttribute("aria-rowcount", String(rows.length + 1));
-    this.top = Math.min(this.top, Math.max(0, rows.length - this.seen));
+    this.top = Math.min(this.top, Math.max(0, rows.length - this.visibleCount));
     this.draw();
   }
 
@@ -94,8 +94,8 @@ export class Rows {
     this.inner = this.box.clientHeight;
   }
 
-  /** Finds where the chosen line stands now. */
-  find(/** @type {Results} */ results, /** @type {Uint32Array} */ rows, /** @type {boolean} */ isInOrder) {
+  /** @param {Results} results @param {Uint32Array} rows @param {boolean} isInOrder */
+  locateChosen(results, rows, isInOrder) {
     const row = this.line === null ? -1 : results.rowOf(this.line);
     this.chosen = row < 0 ? -1 : rows.indexOf(row);
     if (this.chosen >= 0) {
@@ -107,47 +107,47 @@ export class Rows {
     this.gap = Math.min(this.gap, rows.length);
   }
 
-  /** The place that is so many from the chosen line. */
-  placeBeside(/** @type {number} */ by) {
+  /** The place at an offset from the chosen line. */
+  placeAtOffset(/** @type {number} */ by) {
     return this.gap + (this.chosen < 0 && by > 0 ? by - 1 : by);
   }
 
-  resized() {
-    part("spacer").style.height = `${this.height}px`;
-    this.go(this.top);
+  onResize() {
+    byId("spacer").style.height = `${this.height}px`;
+    this.scrollTo(this.top);
   }
 
-  scrolled() {
+  onScroll() {
     const most = Math.max(1, this.box.scrollHeight - this.box.clientHeight);
-    const scaled = (this.box.scrollTop / most) * Math.max(0, this.rows.length - this.seen);
+    const scaled = (this.box.scrollTop / most) * Math.max(0, this.rows.length - this.visibleCount);
     this.top = this.isScaled ? Math.round(scaled) : Math.floor(this.box.scrollTop / this.pixels);
     this.draw();
   }
 
-  wheeled(/** @type {WheelEvent} */ event) {
+  onWheel(/** @type {WheelEvent} */ event) {
     if (this.isScaled) {
       event.preventDefault();
-      this.go(this.top + Math.round(event.deltaY / this.pixels) || this.top + Math.sign(event.deltaY));
+      this.scrollTo(this.top + Math.round(event.deltaY / this.pixels) || this.top + Math.sign(event.deltaY));
     }
   }
 
-  go(/** @type {number} */ top) {
-    this.top = Math.max(0, Math.min(top, this.rows.length - this.seen));
-    const share = this.top / Math.max(1, this.rows.length - this.seen);
+  scrollTo(/** @type {number} */ top) {
+    this.top = Math.max(0, Math.min(top, this.rows.length - this.visibleCount));
+    const share = this.top / Math.max(1, this.rows.length - this.visibleCount);
     const most = this.box.scrollHeight - this.box.clientHeight;
     this.box.scrollTop = this.isScaled ? share * most : this.top * this.pixels;
     this.draw();
   }
 
   draw() {
-    const end = Math.min(this.rows.length, this.top + this.seen + 2);
-    const box = part("shown");
+    const end = Math.min(this.rows.length, this.top + this.visibleCount + 2);
+    const box = byId("shown");
     const at = this.isScaled ? this.box.scrollTop : this.top * this.pixels;
     box.style.transform = `translateY(${Math.max(0, at)}px)`;
-    /** @type {Map<number, Drawn>} */
+    /** @type {Map<number, DrawnRow>} */
     const drawn = new Map();
     for (let place = this.top; place < end; place += 1) {
-      drawn.set(place, this.drawnAt(place));
+      drawn.set(place, this.drawnRowAt(place));
     }
     this.drawn = drawn;
     const rows = Array.from(drawn.values(), ({ element }) => element);
@@ -160,12 +160,9 @@ export class Rows {
       : this.box.removeAttribute("aria-activedescendant");
   }
 
-  /**
-   * The row of a place: the one that stands there, where it is of the same line and chosen or not as before.
-   * @param {number} place @returns {Drawn}
-   */
-  drawnAt(place) {
-    const { part: of, line } = /** @type {Results} */ (this.results).place(this.rows[place]);
+  /** @param {number} place @returns {DrawnRow} the row at a place, drawn anew only after a change */
+  drawnRowAt(place) {
+    const { part: of, line } = /** @type {Results} */ (this.results).placeOf(this.rows[place]);
     const isChosen = place === this.chosen;
     const { bytes } = of;
     const before = this.drawn.get(place);
@@ -173,66 +170,66 @@ export class Rows {
     if (before !== undefined && isSame && before.isChosen === isChosen) {
       return before;
     }
-    return { element: this.row(place), of, line, bytes, isChosen };
+    return { element: this.createRow(place), of, line, bytes, isChosen };
   }
 
-  row(/** @type {number} */ place) {
+  createRow(/** @type {number} */ place) {
     const results = /** @type {Results} */ (this.results);
-    const { machine, verdict, answer, kind, number, given, pass, plan } = results.row(this.rows[place]);
+    const { machine, verdict, answer, kind, number, given, pass, plan } = results.rowAt(this.rows[place]);
     const cell = (/** @type {string} */ text, name = "") =>
-      made("span", { role: "gridcell", class: name, title: text }, text);
+      create("span", { role: "gridcell", class: name, title: text }, text);
     const isRefused = kind === "refused";
-    // A refused machine has no claim that could be checked.
+    // A refused machine has no claim to check.
     const hasNone = isRefused && answer !== "unread";
     const text = isRefused ? cell((given ?? "").slice(0, LONGEST_SHOWN)) : cell(machine);
-    const reading = given === null || isRefused ? null : readingOf(given);
+    const reading = given === null || isRefused ? null : readLine(given);
     if (reading?.kind === "machine" && reading.rewritten.length > 0) {
-      text.append(made("span", { class: "from" }, ` ← ${given?.trim()}`));
+      text.append(create("span", { class: "from" }, ` ← ${given?.trim()}`));
       text.title = `${machine} ← ${given?.trim()}`;
     }
     const says = cell(verdict.text);
-    const steps = shown(Number(plan.steps));
+    const steps = formatNumber(Number(plan.steps));
     const mark = pass === FIRST_PASS ? "first pass" : pass >= LARGER ? `again, ${steps} steps` : "";
     if (mark !== "") {
-      says.append(made("span", { class: "from" }, ` ${mark}`));
+      says.append(create("span", { class: "from" }, ` ${mark}`));
       says.title = `${verdict.text} (${mark})`;
     }
     const cells = [text, says, hasNone ? cell("–", "none") : cell(answer, answer)];
-    const line = cell(shown(number + 1), "number");
+    const line = cell(formatNumber(number + 1), "number");
     const about = { role: "row", class: "row", id: `row-${place}`, "aria-rowindex": place + 2 };
     const chosen = { "aria-selected": place === this.chosen, "data-place": place };
-    return made("div", { ...about, ...chosen }, line, ...cells);
+    return create("div", { ...about, ...chosen }, line, ...cells);
   }
 
-  clicked(/** @type {MouseEvent} */ event) {
+  onClick(/** @type {MouseEvent} */ event) {
     const row = /** @type {HTMLElement} */ (event.target).closest("[data-place]");
     if (row instanceof HTMLElement) {
       this.choose(Number(row.dataset.place), true);
     }
   }
 
-  pressed(/** @type {KeyboardEvent} */ event) {
-    const [page, far] = [this.seen - 1, Infinity];
+  onKey(/** @type {KeyboardEvent} */ event) {
+    const [page, far] = [this.visibleCount - 1, Infinity];
     /** @type {Record<string, number>} */
     const moves = { ArrowDown: 1, ArrowUp: -1, PageDown: page, PageUp: -page, Home: -far, End: far };
     if (event.key in moves && this.rows.length > 0) {
       event.preventDefault();
-      this.choose(this.placeBeside(moves[event.key]), false);
+      this.choose(this.placeAtOffset(moves[event.key]), false);
     } else if (event.key === "Enter" && this.chosen >= 0) {
       this.choose(this.chosen, true);
     }
   }
 
-  /** Chooses a row, and opens its machine where that is asked for. */
+  /** Chooses a row, and opens its machine on request. */
   choose(/** @type {number} */ place, /** @type {boolean} */ opens) {
     if (this.rows.length === 0) {
       return;
     }
     this.chosen = Math.max(0, Math.min(place, this.rows.length - 1));
     this.gap = this.chosen;
-    this.line = this.results?.place(this.rows[this.chosen]) ?? null;
-    if (this.chosen < this.top || this.chosen >= this.top + this.seen) {
-      this.go(this.chosen < this.top ? this.chosen : this.chosen - this.seen + 1);
+    this.line = this.results?.placeOf(this.rows[this.chosen]) ?? null;
+    if (this.chosen < this.top || this.chosen >= this.top + this.visibleCount) {
+      this.scrollTo(this.chosen < this.top ? this.chosen : this.chosen - this.visibleCount + 1);
     }
     this.draw();
     if (opens) {

@@ -1,22 +1,21 @@
 /**
- * A text of entries read as a machine: in one way, or with the reason why there is none.
+ * Parses a text of entries as a machine, or explains why it is none.
  *
- * @typedef {import("./words.mjs").Word} Word
- * @typedef {{machine: string, rewritten: string[]}} Found a machine as the engine reads it, and what was
- *   rewritten
- * @typedef {{refusal: string, reason: string, place: number}} Reason why there is none: its kind, in words,
- *   and the character of the line where it is, from 1
- * @typedef {[number, string][]} Group entries, each with how many characters come before it
+ * @typedef {import("./tokens.mjs").Word} Word
+ * @typedef {{machine: string, rewritten: string[]}} ParsedMachine in the engine's format, and the rewritings
+ * @typedef {{refusal: string, reason: string, place: number}} Reason its kind, a sentence, and the column,
+ *   from 1
+ * @typedef {[number, string][]} Group entries with their offsets in the line
  */
-import { LONGEST_QUOTED, firstHidden, nameHidden, nameOf } from "./words.mjs";
+import { codePointName, findHidden } from "./tokens.mjs";
 
 const STATES = "ABCDEFGHIJKLMNOPQRSTUVWXY";
 const MOST_SYMBOLS = 10;
-// Of so many states at most H is none, so it may be meant for the halting state.
+// Machines with at most this many states have no state H, so H may mean the halting state.
 const MOST_BEFORE_H = STATES.indexOf("H");
 const ENTRY = /^(?:[0-9][LRlr][A-Za-z]|---|\.\.\.)$/;
 const LOST = /^[0-9][LRlr][-_]$/;
-/** What is rewritten, in the order in which it is named, in words. */
+/** Descriptions of rewritings, in display order. */
 export const REWRITINGS = {
   "small-letters": "small letters read as capital ones",
   "halting-state": "H read as Z, the halting state",
@@ -34,16 +33,10 @@ export const REWRITINGS = {
  */
 export const reasonOf = (refusal, reason, place) => ({ refusal, reason, place });
 
-/** A text as a sentence has it: characters that don't show by name, cut where it is long. */
-export function cut(/** @type {string} */ given) {
-  const text = nameHidden(given);
-  return text.length <= LONGEST_QUOTED ? text : `${text.slice(0, LONGEST_QUOTED - 2)}..`;
-}
-
-/** @type {Map<number, RegExp>} the machines of so many states and symbols */
+/** @type {Map<number, RegExp>} by the numbers of states and symbols */
 const PATTERNS = new Map();
 
-/** Whether the engine reads a text as a machine. */
+/** Whether the engine accepts a text as a machine. */
 export function isMachine(/** @type {string} */ text) {
   const size = `${text}_`.indexOf("_");
   const [symbols, states] = [size / 3, (text.length + 1) / (size + 1)];
@@ -63,48 +56,45 @@ function patternOf(/** @type {number} */ states, /** @type {number} */ symbols) 
 }
 
 /**
- * The machine whose groups are set apart by `_` in one word, or are these words; or that of one word without
- * `_`, where there is one division into groups that makes one.
- * @returns {Found | Reason}
+ * Several words are the groups. One word is split at `_`, or into groups if only one division is a machine.
+ * @returns {ParsedMachine | Reason}
  */
-export function readWords(/** @type {Word[]} */ words) {
+export function parseWords(/** @type {Word[]} */ words) {
   if (words.length === 1 && words[0].text.includes("_") && isMachine(words[0].text)) {
     return { machine: words[0].text, rewritten: [] };
   }
-  const groups = words.length > 1 ? words : split(words[0]);
-  const entries = entriesOfGroups(groups);
+  const groups = words.length > 1 ? words : splitGroups(words[0]);
+  const entries = parseGroups(groups);
   if (!Array.isArray(entries)) {
     return entries;
   }
-  const rewritten = rewrittenIn(groups);
+  const rewritten = letterRewritings(groups);
   if (groups.length === 1) {
-    return divided(entries[0], rewritten);
+    return divideEntries(entries[0], rewritten);
   }
-  return machineOf(entries, words.length > 1 ? [...rewritten, "spaces"] : rewritten);
+  return buildMachine(entries, words.length > 1 ? [...rewritten, "spaces"] : rewritten);
 }
 
-/**
- * The machine whose entries are these words, where one division into groups makes one.
- * @returns {Found | Reason}
- */
-export function readEntries(/** @type {Word[]} */ words) {
-  const entries = entriesOfGroups(words);
-  return Array.isArray(entries) ? divided(entries.flat(), [...rewrittenIn(words), "entries"]) : entries;
+/** @returns {ParsedMachine | Reason} the machine with these words as entries */
+export function parseEntries(/** @type {Word[]} */ words) {
+  const entries = parseGroups(words);
+  const rewritten = [...letterRewritings(words), "entries"];
+  return Array.isArray(entries) ? divideEntries(entries.flat(), rewritten) : entries;
 }
 
-/** The machine whose groups are arrays of these entries. */
-export function readArrays(/** @type {Word[][]} */ groups) {
+/** The machine with these arrays as groups. */
+export function parseArrays(/** @type {Word[][]} */ groups) {
   const entries = groups.map((group) => /** @type {Group} */ (group.map(({ begin, text }) => [begin, text])));
-  return machineOf(entries, [...rewrittenIn(groups.flat()), "arrays"]);
+  return buildMachine(entries, [...letterRewritings(groups.flat()), "arrays"]);
 }
 
-/** @returns {Group[] | Reason} the entries of each group, or why one of them has others */
-function entriesOfGroups(/** @type {Word[]} */ groups) {
+/** @returns {Group[] | Reason} */
+function parseGroups(/** @type {Word[]} */ groups) {
   /** @type {Group[]} */
   const entries = [];
   for (const [place, group] of groups.entries()) {
     const before = entries.reduce((count, one) => count + one.length, 0);
-    const found = entriesOf(group, before, place, place + 1 < groups.length);
+    const found = parseGroup(group, before, place, place + 1 < groups.length);
     if (!Array.isArray(found)) {
       return found;
     }
@@ -113,8 +103,7 @@ function entriesOfGroups(/** @type {Word[]} */ groups) {
   return entries;
 }
 
-/** What `_` sets apart in a word. */
-function split(/** @type {Word} */ word) {
+function splitGroups(/** @type {Word} */ word) {
   let { begin } = word;
   return word.text.split("_").map((text) => {
     const part = { begin, text };
@@ -124,12 +113,11 @@ function split(/** @type {Word} */ word) {
 }
 
 /**
- * The entries of a group, before which there are so many entries and groups.
- * @param {Word} group @param {number} before @param {number} place
- * @param {boolean} isFollowed whether a `_` or a space stands behind it
+ * @param {Word} group @param {number} before entries of earlier groups @param {number} place from 0
+ * @param {boolean} isFollowed whether another group follows
  * @returns {Group | Reason}
  */
-function entriesOf(group, before, place, isFollowed) {
+function parseGroup(group, before, place, isFollowed) {
   if (group.text === "") {
     return reasonOf("empty-group", `group ${place + 1} is empty`, group.begin + 1);
   }
@@ -139,7 +127,7 @@ function entriesOf(group, before, place, isFollowed) {
     const entry = group.text.slice(at, at + 3);
     if (!ENTRY.test(entry)) {
       const characters = [...group.text.slice(at, at + 6)].slice(0, 3).join("");
-      return noEntry(characters, before + entries.length + 1, group.begin + at + 1, isFollowed);
+      return explainEntry(characters, before + entries.length + 1, group.begin + at + 1, isFollowed);
     }
     entries.push([group.begin + at, entry]);
   }
@@ -147,35 +135,31 @@ function entriesOf(group, before, place, isFollowed) {
 }
 
 /**
- * Why a text of up to three characters is no entry.
+ * Explains why a text of up to three characters is not an entry.
  * @param {string} text @param {number} number @param {number} place @param {boolean} isFollowed
  */
-function noEntry(text, number, place, isFollowed) {
+function explainEntry(text, number, place, isFollowed) {
   const whole = text.length === 2 && isFollowed ? `${text}_` : text;
   if (LOST.test(whole)) {
     const sentence = `entry ${number} is ${whole}: the ${whole[0]} that it writes would be lost`;
     return reasonOf("lost", sentence, place);
   }
-  const hidden = firstHidden(text);
+  const hidden = findHidden(text);
   if (hidden >= 0) {
-    const name = nameOf(String.fromCodePoint(text.codePointAt(hidden) ?? 0));
+    const name = codePointName(String.fromCodePoint(text.codePointAt(hidden) ?? 0));
     return reasonOf("hidden", `entry ${number} has ${name}, a character that doesn't show`, place + hidden);
   }
   return reasonOf("entry", `entry ${number} is no entry: ${text}`, place);
 }
 
-/** What is rewritten in the letters of these groups. */
-function rewrittenIn(/** @type {Word[]} */ groups) {
+function letterRewritings(/** @type {Word[]} */ groups) {
   const text = groups.map((group) => group.text).join("");
   const kinds = text === text.toUpperCase() ? [] : ["small-letters"];
   return text.includes("...") ? [...kinds, "undefined-entries"] : kinds;
 }
 
-/**
- * The machine that a text without `_` is, where there is one division into groups that makes one.
- * @returns {Found | Reason}
- */
-function divided(/** @type {Group} */ entries, /** @type {string[]} */ rewritten) {
+/** @returns {ParsedMachine | Reason} the machine if exactly one division into groups makes one */
+function divideEntries(/** @type {Group} */ entries, /** @type {string[]} */ rewritten) {
   const count = entries.length;
   const place = entries[0][0] + 1;
   const all = count === 1 ? "1 entry" : `${count} entries`;
@@ -189,7 +173,7 @@ function divided(/** @type {Group} */ entries, /** @type {string[]} */ rewritten
   const outcomes = states.map((number) => {
     const size = count / number;
     const groups = Array.from({ length: number }, (_, k) => entries.slice(k * size, (k + 1) * size));
-    return machineOf(groups, number > 1 ? [...rewritten, "underscores"] : rewritten);
+    return buildMachine(groups, number > 1 ? [...rewritten, "underscores"] : rewritten);
   });
   const found = outcomes.filter((outcome) => "machine" in outcome);
   if (found.length === 1 || outcomes.length === 1) {
@@ -200,17 +184,17 @@ function divided(/** @type {Group} */ entries, /** @type {string[]} */ rewritten
     : reasonOf("divisions", `${found.length} ways to divide ${all} into groups make a machine`, place);
 }
 
-/** @returns {Found | Reason} the machine that has these groups */
-function machineOf(/** @type {Group[]} */ groups, /** @type {string[]} */ rewritten) {
-  const wrong = wrongSize(groups);
+/** @returns {ParsedMachine | Reason} */
+function buildMachine(/** @type {Group[]} */ groups, /** @type {string[]} */ rewritten) {
+  const wrong = checkSizes(groups);
   if (wrong !== null) {
     return wrong;
   }
   const letters = groups.flat().map(([, entry]) => entry[2].toUpperCase());
   const haltsByH = letters.includes("H") && !letters.includes("Z") && groups.length <= MOST_BEFORE_H;
-  const entries = groups.flat().map(([begin, entry]) => ({ begin, entry: capital(entry, haltsByH) }));
+  const entries = groups.flat().map(([begin, entry]) => ({ begin, entry: normalizeEntry(entry, haltsByH) }));
   for (const [k, { begin, entry }] of entries.entries()) {
-    const reason = wrongEntry(entry, k + 1, begin, groups.length, groups[0].length);
+    const reason = checkEntry(entry, k + 1, begin, groups.length, groups[0].length);
     if (reason !== null) {
       return reason;
     }
@@ -223,13 +207,13 @@ function machineOf(/** @type {Group[]} */ groups, /** @type {string[]} */ rewrit
   return { machine: texts.join("_"), rewritten: inOrder };
 }
 
-function capital(/** @type {string} */ text, /** @type {boolean} */ haltsByH) {
+function normalizeEntry(/** @type {string} */ text, /** @type {boolean} */ haltsByH) {
   const entry = text.toUpperCase().replace("...", "---");
   return haltsByH && entry[2] === "H" ? `${entry.slice(0, 2)}Z` : entry;
 }
 
-/** Why no machine has groups of these lengths; null where one may. */
-function wrongSize(/** @type {Group[]} */ groups) {
+/** Explains why groups of these lengths make no machine; null if they can. */
+function checkSizes(/** @type {Group[]} */ groups) {
   const lengths = [...new Set(groups.map((group) => group.length))];
   const place = groups[0][0][0] + 1;
   if (lengths.length > 1) {
@@ -250,11 +234,11 @@ function wrongSize(/** @type {Group[]} */ groups) {
 }
 
 /**
- * Why no machine of so many states and symbols has this entry; null where one may.
+ * Explains why a machine of this size can't have an entry; null if it can.
  * @param {string} entry @param {number} number @param {number} begin @param {number} states
  * @param {number} symbols
  */
-function wrongEntry(entry, number, begin, states, symbols) {
+function checkEntry(entry, number, begin, states, symbols) {
   if (entry === "---") {
     return null;
   }

@@ -1,13 +1,13 @@
-/** The tree of what could come before a halt, from its definition. */
+/** The tree of configurations before a halt, from its definition. */
 
 /**
  * @typedef {import("../../reader/machine.mjs").Machine} Machine
- * @typedef {{state: number, known: Map<number, number>}} Node A state, and symbols by distance from the head.
- * @typedef {{levels: Node[][], count: number, ended: boolean}} Tree `ended`: no level is left out
+ * @typedef {{state: number, known: Map<number, number>}} Node symbols by distance from the head
+ * @typedef {{levels: Node[][], count: number, ended: boolean}} Tree `ended`: it has all levels
  */
 
-/** The nodes of the halting entries: those undefined or into Z. */
-function halting(/** @type {Machine} */ machine) {
+/** The nodes of undefined entries and of those into Z. */
+function haltingNodes(/** @type {Machine} */ machine) {
   /** @type {Node[]} */
   const nodes = [];
   for (const { state, symbol, entry } of machine.rules) {
@@ -18,11 +18,8 @@ function halting(/** @type {Machine} */ machine) {
   return nodes;
 }
 
-/**
- * What could come before a node: by each entry that leads to its state, unless the cell that the head left is
- * known to have another symbol than was written.
- */
-function before(/** @type {Machine} */ machine, /** @type {Node} */ node) {
+/** One node for each entry into the node's state, unless the cell behind the head has another symbol. */
+function predecessors(/** @type {Machine} */ machine, /** @type {Node} */ node) {
   /** @type {Node[]} */
   const nodes = [];
   for (const { state, symbol, entry } of machine.rules) {
@@ -39,20 +36,20 @@ function before(/** @type {Machine} */ machine, /** @type {Node} */ node) {
   return nodes;
 }
 
-/** @returns {Tree} the levels of the tree until one is empty, or until more nodes than `most` stand in it */
-export function treeOf(/** @type {Machine} */ machine, /** @type {number} */ most) {
+/** @returns {Tree} the levels until one is empty, or until the tree exceeds `most` nodes */
+export function buildTree(/** @type {Machine} */ machine, /** @type {number} */ most) {
   const levels = [];
   let count = 0;
-  let level = halting(machine);
+  let level = haltingNodes(machine);
   while (level.length > 0 && count + level.length <= most) {
     levels.push(level);
     count += level.length;
-    level = level.flatMap((node) => before(machine, node));
+    level = level.flatMap((node) => predecessors(machine, node));
   }
   return { levels, count, ended: level.length === 0 };
 }
 
-/** A node as text: the known cells from left to right, `.` where nothing is known, the head's in brackets. */
+/** The cells from left to right, unknown ones as `.`, the head's in brackets. */
 export function nodeText(/** @type {Node} */ node) {
   const distances = [...node.known.keys()];
   const parts = [];

@@ -1,0 +1,222 @@
+/** A run over a list: dispatches it to workers, collects results, and shows the progress. */
+import { KINDS, formatCount } from "../../reader/machine.mjs";
+import { announce, byId, setInactive, showText } from "../dom.mjs";
+import { enlargePlan, showRefusal } from "../input/fields.mjs";
+import { prestartWorkers } from "../worker-client.mjs";
+import { ChunkReader, Holdouts } from "./chunks.mjs";
+import { WorkerPool } from "./pool.mjs";
+import { FIRST_PASS, Results } from "./results.mjs";
+import { slowLineText, statusText } from "./status.mjs";
+
+/**
+ * @typedef {import("../../worker/worker.mjs").ListRequest} ListRequest
+ * @typedef {import("../../worker/worker.mjs").Part} Part
+ */
+
+const MOST_WORKERS = 8;
+const REFRESH_MILLISECONDS = 250;
+const ANNOUNCE_MILLISECONDS = 10_000;
+// The least bytes for each worker. A machine to decide again counts as many.
+const LEAST_BYTES = 256;
+const UNDECIDED = KINDS.indexOf("undecided");
+// The steps of the first pass.
+const FIRST_STEPS = 1_000n;
+const NO_MEMORY = "Out of memory. Results so far are kept. Try fewer cells, or a browser with more memory.";
+const NO_FILE = "The file can’t be read: it is a folder, or has changed. Choose it again.";
+/** @type {Record<string, string>} */
+const FAILURES = {
+  MemoryError: NO_MEMORY,
+  RangeError: NO_MEMORY,
+  NotReadableError: NO_FILE,
+  NotFoundError: NO_FILE,
+};
+
+/** A failure, with advice. */
+export const failureText = (/** @type {{error: string, message: string}} */ { error, message }) =>
+  error === "ListError" ? message : FAILURES[error] ?? `The engine failed: ${message}`;
+
+/** Shows a message above the results. */
+export const showError = (/** @type {string} */ message) => showText("error", message);
+
+const maxWorkers = () => Math.min(MOST_WORKERS, navigator.hardwareConcurrency || 1);
+
+const workerCount = (/** @type {number} */ size) =>
+  Math.max(1, Math.min(maxWorkers(), Math.ceil(size / LEAST_BYTES)));
+
+export class ListRun {
+  /** @param {() => void} onShow called when results are shown */
+  constructor(onShow) {
+    this.onShow = onShow;
+    /** @type {WorkerPool | null} */
+    this.pool = null;
+    this.results = new Results({});
+    /** @type {import("./status.mjs").RunInfo} */
+    this.info = { mode: "decide", plan: {}, form: null, isText: true, size: 0, begun: 0, taken: 0 };
+    // The latest limits.
+    this.plan = {};
+    this.outcome = "Done";
+    this.isShown = false;
+    this.refreshTimer = 0;
+    this.clock = 0;
+    this.announcedAt = 0;
+  }
+
+  get isRunning() {
+    return this.pool !== null;
+  }
+
+  /**
+   * @param {Blob} blob @param {ArrayBuffer} first its first read @param {ListRequest} request
+   * @param {boolean} isText
+   */
+  start(blob, first, request, isText) {
+    const { mode, plan, clean } = request;
+    const form = clean ? request.form : null;
+    this.info = { mode, plan, form, isText, size: blob.size, begun: performance.now(), taken: 0 };
+    this.announcedAt = this.info.begun;
+    this.plan = plan;
+    const results = new Results(plan);
+    this.results = results;
+    this.isShown = false;
+    byId("results").hidden = false;
+    const workers = workerCount(blob.size);
+    const chunks = new ChunkReader(blob, first, workers);
+    const isFirst = mode === "decide" && plan.steps > FIRST_STEPS;
+    const firstPass = { ...request, plan: { ...plan, steps: FIRST_STEPS } };
+    /** @type {(part: Part, line: number) => boolean} */
+    const isProvisional = ({ plans }, line) => plans?.[line] === FIRST_PASS;
+    this.startPool(workers, isFirst ? firstPass : request, {
+      nextChunk: () => chunks.next(),
+      part: (part, read) => (isFirst ? results.addFirstPass(part, read) : results.add(part, read)),
+      end: () => this.decideRows(results.filterRows(isProvisional), plan, 0),
+    });
+    this.startClock();
+  }
+
+  /** Decides the undecided rows again, with larger limits. */
+  redecideUndecided() {
+    this.plan = enlargePlan(this.plan);
+    Object.assign(this.info, { begun: performance.now(), taken: 0 });
+    const rows = this.results.rowsOfKinds(new Set([UNDECIDED])).slice();
+    this.decideRows(rows, this.plan, this.results.planNumber(this.plan));
+    this.startClock();
+  }
+
+  /** @param {Uint32Array} rows @param {Record<string, any>} plan @param {number} number of the plan */
+  decideRows(rows, plan, number) {
+    const { results } = this;
+    if (rows.length === 0) {
+      this.finish("Done");
+      return;
+    }
+    const workers = workerCount(rows.length * LEAST_BYTES);
+    const holdouts = new Holdouts(results, rows, workers);
+    this.startPool(workers, { mode: "decide", form: "machines", clean: false, plan }, {
+      nextChunk: () => holdouts.next(),
+      part: (part) => results.replace(holdouts.rowsOf(part), part, number),
+      end: () => this.finish("Done"),
+    });
+  }
+
+  startClock() {
+    clearInterval(this.clock);
+    this.clock = setInterval(() => this.tick(), REFRESH_MILLISECONDS);
+    this.scheduleShow();
+  }
+
+  /**
+   * @param {number} workers @param {ListRequest} request
+   * @param {Omit<import("./pool.mjs").PoolTask, "fail">} task
+   */
+  startPool(workers, request, task) {
+    /** @type {HTMLButtonElement} */ (byId("stop")).disabled = false;
+    this.pool = new WorkerPool(workers, request, {
+      ...task,
+      part: (part, read) => {
+        task.part(part, read);
+        this.scheduleShow();
+      },
+      fail: (failure) => this.fail(failure),
+    });
+  }
+
+  finish(/** @type {string} */ outcome) {
+    clearInterval(this.clock);
+    this.info.taken = performance.now() - this.info.begun;
+    this.pool = null;
+    this.outcome = outcome;
+    setInactive("stop", "disabled", true, "run");
+    byId("results").dataset.state = outcome.toLowerCase();
+    this.show(outcome);
+    announce(byId("status").textContent ?? "");
+    prestartWorkers(maxWorkers(), () => this.isRunning);
+  }
+
+  fail(/** @type {import("./pool.mjs").Failure} */ failure) {
+    this.finish("Ended");
+    const { error, message, limit } = failure;
+    if (error === "LimitsError" && limit !== undefined) {
+      showRefusal(limit, message);
+    } else {
+      showError(failureText(failure));
+    }
+  }
+
+  stop() {
+    if (this.pool !== null) {
+      this.pool.stop();
+      this.finish("Stopped");
+    }
+  }
+
+  scheduleShow() {
+    byId("results").dataset.state = "running";
+    if (this.refreshTimer === 0) {
+      this.refreshTimer = setTimeout(() => this.show("Running"), this.isShown ? REFRESH_MILLISECONDS : 0);
+    }
+  }
+
+  tick() {
+    if (this.pool === null) {
+      return;
+    }
+    if (this.refreshTimer === 0) {
+      this.showProgress("Running");
+    }
+    if (performance.now() - this.announcedAt > ANNOUNCE_MILLISECONDS) {
+      this.announcedAt = performance.now();
+      announce(byId("status").textContent ?? "");
+    }
+  }
+
+  showProgress(/** @type {string} */ outcome) {
+    const { info, results } = this;
+    const { lines, waiting } = results;
+    const read = outcome === "Done" || info.size === 0 ? 1 : results.read / info.size;
+    const share = lines === 0 ? read : read * (1 - waiting / lines);
+    /** @type {HTMLProgressElement} */ (byId("progress")).value = share;
+    byId("status").textContent = statusText(outcome, share, info, results);
+    showText("under-way", slowLineText(this.pool?.slowestLine() ?? null));
+  }
+
+  /** Shows results after a change. */
+  refresh() {
+    this.show(this.pool === null ? this.outcome : "Running");
+  }
+
+  show(/** @type {string} */ outcome) {
+    clearTimeout(this.refreshTimer);
+    this.refreshTimer = 0;
+    if (outcome === "Running" && this.pool === null) {
+      return;
+    }
+    const { info, results: { counts, lines } } = this;
+    this.showProgress(outcome);
+    const canRedecide = outcome !== "Running" && info.mode !== "check" && counts[UNDECIDED] > 0;
+    const undecided = formatCount(counts[UNDECIDED], "undecided machine");
+    byId("left").textContent = `Decide ${undecided} again, with larger limits`;
+    setInactive("left", "hidden", !canRedecide, "rows");
+    this.isShown = lines > 0;
+    this.onShow();
+  }
+}

@@ -1,0 +1,172 @@
+/** The view of a list: its kinds, order, rows and open line. */
+import { KINDS, formatNumber } from "../../reader/machine.mjs";
+import { create, onClick, byId, setInactive, announce } from "../dom.mjs";
+import { WorkerClient } from "../worker-client.mjs";
+import { RowTable } from "./row-table.mjs";
+
+// The performance mark of the first verdict.
+const FIRST_VERDICT = "first verdict";
+
+/** @typedef {import("./results.mjs").Results} Results */
+
+export class ListView {
+  /**
+   * @param {import("../machine/machine-view.mjs").MachineView} view
+   * @param {import("./list-run.mjs").ListRun} work
+   */
+  constructor(view, work) {
+    this.view = view;
+    view.replaceRow = (by, plan) => {
+      const isIn = this.replaceOpenRow(by, plan);
+      isIn && work.refresh();
+      return isIn;
+    };
+    this.work = work;
+    this.rows = new RowTable((row) => this.openRow(row, true));
+    this.sorter = new WorkerClient();
+    this.kindsShown = new Set(KINDS.keys());
+    this.kindButtons = KINDS.map((_, k) => this.createKindButton(k));
+    byId("kinds").append(...this.kindButtons);
+    this.order = /** @type {HTMLSelectElement} */ (byId("order"));
+    this.wasOpened = false;
+    /** @type {import("./results.mjs").LinePlace | null} */
+    this.openLine = null;
+    this.openText = "";
+    // Counts displays, so that outdated sorts are dropped.
+    this.turn = 0;
+    this.order.addEventListener("change", () => this.showRows());
+    onClick({
+      "row-before": () => this.openNeighbour(-1, false),
+      "row-next": () => this.openNeighbour(1, false),
+      "open-before": () => this.openNeighbour(-1, true),
+      "open-next": () => this.openNeighbour(1, true),
+    });
+  }
+
+  /** Prepares for a new list. The machine is hidden unless the first line comes soon. */
+  reset() {
+    this.rows.reset();
+    this.wasOpened = false;
+    this.openLine = null;
+    this.view.scheduleClose();
+  }
+
+  /** Shows the results, and opens the first line once it is answered. */
+  show() {
+    this.showKinds();
+    this.showRows();
+    const { results, isRunning } = this.work;
+    this.refreshOpen(results);
+    if (!this.wasOpened && results.lines > 0 && (results.hasFirstLine ? !results.isWaiting(0) : !isRunning)) {
+      this.rows.choose(0, false);
+      this.openRow(this.rows.rows[0] ?? 0, false);
+      if (performance.getEntriesByName(FIRST_VERDICT).length === 0) {
+        performance.mark(FIRST_VERDICT);
+      }
+    }
+  }
+
+  /**
+   * Replaces the open row after a new decision; returns whether it could. Checked claims stay.
+   * @param {import("../../worker/worker.mjs").Part} by @param {Record<string, any>} plan
+   */
+  replaceOpenRow(by, plan) {
+    const { openLine } = this;
+    const { results } = this.work;
+    const row = openLine?.part.lines === null ? results.rowOf(openLine) : -1;
+    if (row >= 0) {
+      results.replace(Uint32Array.of(row), by, results.planNumber(plan));
+      this.openText = results.rowAt(row).verdict.text;
+    }
+    return row >= 0;
+  }
+
+  /** Updates the open line if the second pass has changed its verdict. */
+  refreshOpen(/** @type {Results} */ results) {
+    const row = this.openLine === null ? -1 : results.rowOf(this.openLine);
+    if (row >= 0 && !results.isWaiting(row) && this.openText !== results.rowAt(row).verdict.text) {
+      this.openRow(row, false);
+    }
+  }
+
+  /** Updates the kinds' buttons, which stay in place for clicks. */
+  showKinds() {
+    const { counts } = this.work.results;
+    this.kindButtons.forEach((button, k) => {
+      button.textContent = `${KINDS[k]} ${formatNumber(counts[k])}`;
+      button.setAttribute("aria-pressed", String(this.kindsShown.has(k)));
+      setInactive(button.id, "hidden", counts[k] === 0, "rows");
+    });
+    const isAll = KINDS.every((_, k) => this.kindsShown.has(k) || counts[k] === 0);
+    setInactive("save-shown", "hidden", isAll, "save");
+  }
+
+  createKindButton(/** @type {number} */ k) {
+    const { kindsShown } = this;
+    const button = create("button", { type: "button", id: `kind-${KINDS[k]}`, hidden: true });
+    button.addEventListener("click", () => {
+      kindsShown.has(k) ? kindsShown.delete(k) : kindsShown.add(k);
+      this.showKinds();
+      this.showRows();
+    });
+    return button;
+  }
+
+  /** Shows the rows of the chosen kinds in the chosen order. */
+  showRows() {
+    const { results, isRunning } = this.work;
+    const order = this.order.value;
+    const rows = results.rowsOfKinds(this.kindsShown);
+    const isSorted = order !== "list" && !isRunning;
+    this.turn += 1;
+    // The first line to open is the list's first.
+    if (!isSorted || !this.wasOpened) {
+      this.rows.showRows(results, rows, true);
+    }
+    if (isSorted) {
+      this.showSorted(results, rows.slice(), order === "down");
+    }
+  }
+
+  /**
+   * Sorts rows by steps in a worker, and shows them unless others are shown meanwhile.
+   * @param {Results} results @param {Uint32Array} rows @param {boolean} down
+   */
+  async showSorted(results, rows, down) {
+    const { turn } = this;
+    const isLast = () => turn === this.turn && results === this.work.results;
+    const steps = await results.stepsOf(rows, isLast);
+    if (isLast()) {
+      this.sorter.request({ type: "sort", rows, steps, down }, ({ order }) => {
+        order !== undefined && isLast() && this.rows.showRows(results, order, false);
+      });
+    }
+  }
+
+  openRow(/** @type {number} */ row, /** @type {boolean} */ moves) {
+    const { results, info } = this.work;
+    const { machine, verdict, answer, given, number, plan } = results.rowAt(row);
+    const isWaiting = results.isWaiting(row);
+    this.wasOpened = true;
+    this.openLine = results.placeOf(row);
+    this.openText = isWaiting ? "" : verdict.text;
+    const form = info.mode === "decide" ? info.form : null;
+    this.view.open({ machine, verdict, answer, plan, isWaiting }, moves, { text: given, number, form });
+  }
+
+  /** Opens the next or previous row, or undecided row. */
+  openNeighbour(/** @type {number} */ by, /** @type {boolean} */ isUndecided) {
+    const { rows } = this.rows;
+    const { results } = this.work;
+    let place = this.rows.placeAtOffset(by);
+    const fits = () => !isUndecided || results.isUndecided(rows[place]);
+    while (place >= 0 && place < rows.length && !fits()) {
+      place += by;
+    }
+    if (place >= 0 && place < rows.length) {
+      this.rows.choose(place, true);
+    } else {
+      announce(`There is no other ${isUndecided ? "undecided line" : "line"} that way.`);
+    }
+  }
+}

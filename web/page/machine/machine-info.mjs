@@ -1,0 +1,177 @@
+/**
+ * Facts about a machine: other forms, consequences of its verdict for other machines, starts and later steps,
+ * and the growth of its cells.
+ *
+ * @typedef {import("../../reader/machine.mjs").Verdict} Verdict
+ * @typedef {{machine: string, cells: number, steps: number, verdict: Verdict, isConfirmed: boolean}} About
+ * @typedef {{growth: string, steps: number, visited: number[]}} Growth
+ */
+import { formatCount, entryText, parseMachine, formatNumber } from "../../reader/machine.mjs";
+import { create, byId } from "../dom.mjs";
+import { WorkerClient } from "../worker-client.mjs";
+
+const NORMAL_STEPS = 10_000;
+const MOST_GROWTH_STEPS = 1_000_000;
+const FEWEST_GROWTH_STEPS = 100;
+const LATER = 10n ** 15n;
+const SAME_VERDICT = "Any completion of its --- has the same verdict.";
+/** @type {Record<string, string>} */
+const GROWTHS = {
+  stays: "They stay",
+  logarithm: "They grow as a logarithm",
+  root: "They grow as a root",
+  line: "They grow as a line",
+  halts: "The run ends",
+};
+const client = new WorkerClient();
+const growthClient = new WorkerClient();
+/** @type {About | null} replies for another machine are dropped */
+let current = null;
+
+export const mirrorImage = (/** @type {string} */ text) =>
+  text.replace(/[LR]/g, (move) => (move === "L" ? "R" : "L"));
+
+/** The states in the order of their first use. */
+function firstUses(/** @type {import("../../reader/machine.mjs").Machine} */ { symbols, rules }) {
+  const cells = new Uint8Array(2 * NORMAL_STEPS + 1);
+  const found = new Set([0]);
+  let [state, at] = [0, NORMAL_STEPS];
+  for (let step = 0; step < NORMAL_STEPS; step += 1) {
+    const { entry } = rules[state * symbols + cells[at]];
+    if (entry === null || entry.next < 0) {
+      break;
+    }
+    cells[at] = entry.write;
+    at += entry.move;
+    state = entry.next;
+    found.add(state);
+  }
+  return [...found];
+}
+
+/** The machine with states in the order of their first use, and the first move to the right. */
+export function normalForm(/** @type {string} */ text) {
+  const machine = parseMachine(text);
+  const { states, symbols, rules } = machine;
+  const used = firstUses(machine);
+  const order = [...used, ...Array.from({ length: states }, (_, k) => k).filter((k) => !used.includes(k))];
+  const groups = order.map((state) =>
+    rules.slice(state * symbols, (state + 1) * symbols).map(({ entry }) => {
+      return entryText(entry && { ...entry, next: entry.next < 0 ? -1 : order.indexOf(entry.next) });
+    }),
+  );
+  const form = groups.map((entries) => entries.join("")).join("_");
+  return text[1] === "L" ? mirrorImage(form) : form;
+}
+
+/** A verdict's consequences for completions of undefined entries. */
+function completionsText(/** @type {About} */ { machine, verdict }, /** @type {string} */ lastState) {
+  if (!machine.includes("---")) {
+    return "It has no undefined entry.";
+  }
+  switch (verdict.kind) {
+    case "cycler":
+    case "translated":
+      return SAME_VERDICT;
+    case "halt":
+      return lastState === "Z"
+        ? SAME_VERDICT
+        : "It halts on a ---. Completions of only the other --- have the same verdict; nothing is known of " +
+            "completions of that one.";
+    case "backward":
+      return "No completion of its --- halts; the tree may differ.";
+    default:
+      return "Nothing is known: the machine is undecided.";
+  }
+}
+
+/** A verdict's consequences for other starts than A on the blank tape. */
+function startsText(/** @type {Verdict} */ { kind, numbers: [levels] }) {
+  return kind === "backward"
+    ? "From every state, at any position of any tape, it halts within " +
+        `${formatCount(levels, "step")} or never.`
+    : "The verdict is about the start in A on the blank tape alone.";
+}
+
+/** The early step equivalent to the late one, by the verdict's pair, and the distance between their heads. */
+function laterStep(/** @type {Verdict} */ { kind, numbers: [first, second, shift], side }) {
+  const apart = BigInt(second - first);
+  const times = (LATER - BigInt(first)) / apart;
+  const early = first + Number((LATER - BigInt(first)) % apart);
+  const moved = kind === "translated" ? BigInt(side === "R" ? shift ?? 0 : -(shift ?? 0)) : 0n;
+  return { early, farther: times * moved };
+}
+
+/** Shows the facts; those that need a run appear later. */
+export function showMachineInfo(/** @type {About} */ about) {
+  const { machine, verdict, isConfirmed } = about;
+  current = about;
+  const normal = normalForm(machine);
+  const mirror = mirrorImage(machine);
+  const code = (/** @type {string} */ text) => create("code", {}, text);
+  /** @type {[string, string, Node | string][]} */
+  const facts = [
+    ["normal", "Normal form", normal === machine ? "It is in normal form." : code(normal)],
+    ["mirror", "Mirror image", code(mirror)],
+    ["growth", "Cells visited", "…"],
+    ["completions", "Undefined entries", isConfirmed ? "…" : "The verdict isn’t confirmed by the checker."],
+    ["starts", "Every start", isConfirmed ? startsText(verdict) : "–"],
+    ["later", "Step 10¹⁵", isConfirmed ? "…" : "–"],
+  ];
+  const parts = facts.flatMap(([id, name, words]) => {
+    return [create("dt", {}, name), create("dd", { id: `fact-${id}` }, words)];
+  });
+  byId("facts").replaceChildren(...parts);
+  requestGrowth(about);
+  if (isConfirmed) {
+    requestLaterRow(about);
+  }
+}
+
+/** Requests the row for the late step, or for the halting entry. */
+function requestLaterRow(/** @type {About} */ about) {
+  const { machine, cells, verdict } = about;
+  const { kind, numbers } = verdict;
+  const isPair = kind === "cycler" || kind === "translated";
+  if (!isPair && kind !== "halt") {
+    byId("fact-completions").textContent = completionsText(about, "");
+    byId("fact-later").textContent = "The verdict doesn’t say.";
+    return;
+  }
+  const { early, farther } = isPair ? laterStep(verdict) : { early: numbers[0], farther: 0n };
+  client.request({ type: "trace", machine, cells, from: early, every: 1, upto: early }, (answer) => {
+    const row = answer.rows?.[0];
+    if (row === undefined || current !== about) {
+      return;
+    }
+    byId("fact-completions").textContent = completionsText(about, row.state);
+    const isWithout = kind === "translated" && numbers[2] === undefined;
+    const place = `state ${row.state}, head at ${formatNumber(BigInt(row.head) + farther)}`;
+    const later = kind === "halt" ? "It has halted." : isWithout ? "The line has no shift." : `${place}.`;
+    byId("fact-later").textContent = later;
+  });
+}
+
+function requestGrowth(/** @type {About} */ about) {
+  const { machine, cells, steps } = about;
+  const upto = Math.min(steps, MOST_GROWTH_STEPS);
+  if (upto < FEWEST_GROWTH_STEPS) {
+    byId("fact-growth").textContent = "Too few steps.";
+    return;
+  }
+  growthClient.request({ type: "growth", machine, cells, upto }, (answer) => {
+    if (current !== about) {
+      return;
+    }
+    if (answer.growth === undefined) {
+      byId("fact-growth").textContent = `Unknown: ${answer.message}.`;
+      return;
+    }
+    const { growth, steps: last, visited } = /** @type {Growth} */ (answer.growth);
+    const many = visited.map(formatNumber).join(", ");
+    const all = formatCount(last, "step");
+    const looks = `${many} after a hundredth, a tenth and all of ${all}; a guess from these`;
+    const rest = growth === "halts" ? `, with ${formatCount(visited[2], "cell")}` : `: ${looks}`;
+    byId("fact-growth").textContent = `${GROWTHS[growth]}${rest}.`;
+  });
+}

@@ -1,0 +1,203 @@
+/** The view of one machine: verdict, diagram, tape, table, evidence and facts. */
+import { entryText, parseMachine, verdictText, stateLetter } from "../../reader/machine.mjs";
+import { Diagram } from "../diagram/diagram.mjs";
+import { Gestures } from "../diagram/gestures.mjs";
+import { ZOOM } from "../diagram/viewport.mjs";
+import { copyText, copyPicture, create, onClick, byId, saveFile, announce } from "../dom.mjs";
+import { linkOf } from "../input/fields.mjs";
+import { showInputNotes } from "../input/input-notes.mjs";
+import { Tape } from "../tape/tape.mjs";
+import { Redecider } from "./redecide.mjs";
+import { clearEvidence, showEvidence, diagramSteps } from "./evidence.mjs";
+import { showMachineInfo } from "./machine-info.mjs";
+
+const NARROW = "(max-width: 900px)";
+// The previous machine's pictures are cleared after this long, and the view is closed for a slow list.
+const BLANK_MILLISECONDS = 100;
+const CLOSE_MILLISECONDS = 250;
+const ELSEWHERE = "https://bbchallenge.org/";
+/** @type {Record<string, string>} */
+const DOUBTS = {
+  bad: "The checker refutes it.",
+  over: "The checker needs larger limits.",
+  unread: "The checker can’t read the line.",
+};
+
+/**
+ * @typedef {import("../../reader/machine.mjs").Verdict} Verdict
+ * @typedef {{machine: string, verdict: Verdict, answer: string, plan: Record<string, any>,
+ *   isWaiting?: boolean}} About `answer`: the checker's; `isWaiting`: for the second pass
+ */
+
+export class MachineView {
+  constructor() {
+    this.diagram = new Diagram((place) => this.tape.goTo(place.step));
+    this.tape = new Tape((place, closes) => this.diagram.showStep(place, closes));
+    this.redecider = new Redecider((about, by) => this.showRedecided(about, by));
+    /**
+     * Replaces the open machine's row after a new decision; returns whether it could.
+     * @type {(by: import("../../worker/worker.mjs").Part, plan: Record<string, any>) => boolean}
+     */
+    this.replaceRow = () => false;
+    /** @type {About | null} */
+    this.about = null;
+    this.blankTimer = 0;
+    this.closeTimer = 0;
+    new Gestures(this.diagram, (words, byKeys) => {
+      byId("place-text").textContent = words;
+      byKeys && announce(words);
+    });
+    const { diagram } = this;
+    onClick({
+      "zoom-in": () => diagram.zoom(ZOOM),
+      "zoom-out": () => diagram.zoom(1 / ZOOM),
+      fit: () => diagram.fit(),
+      marked: () => diagram.fit(true),
+      png: async () => saveFile(/** @type {Blob} */ (await diagram.toPng()), `${this.about?.machine}.png`),
+      "copy-png": () => copyPicture(diagram.toPng(), byId("copy-png")),
+      "copy-text": () => copyText(this.about?.machine ?? "", byId("copy-text")),
+      link: () => this.copyLink(),
+      back: () => byId("rows").focus(),
+    });
+  }
+
+  /**
+   * Shows a machine with its verdict.
+   * @param {About} about @param {boolean} moves whether a narrow page scrolls to it
+   * @param {import("../input/input-notes.mjs").InputLine} given
+   */
+  open(about, moves, given) {
+    const { machine, verdict } = about;
+    const isMachine = verdict.kind !== "refused";
+    this.about = about;
+    clearTimeout(this.closeTimer);
+    this.leave();
+    byId("machine").hidden = false;
+    byId("machine-text").textContent = machine;
+    byId("machine-says").textContent = `${doubtText(about)}${verdictText(verdict)}`;
+    showInputNotes(given, verdict);
+    document.querySelectorAll(".picture, .columns, #tape, #about, #machine-links").forEach((box) => {
+      /** @type {HTMLElement} */ (box).hidden = !isMachine;
+    });
+    this.redecider.reset(about);
+    if (isMachine) {
+      this.show(about);
+    }
+    if (moves) {
+      announce(byId("machine-says").textContent ?? "");
+    }
+    if (moves && matchMedia(NARROW).matches) {
+      byId("machine").scrollIntoView({ block: "start" });
+      byId("machine").contains(document.activeElement) || byId("back").focus({ preventScroll: true });
+    }
+    const focused = document.activeElement;
+    const isHidden = focused instanceof HTMLElement && focused.offsetParent === null;
+    if (isHidden && byId("machine").contains(focused)) {
+      byId("row-next").focus({ preventScroll: true });
+    }
+  }
+
+  /** Hides the view; its focus moves to the rows. */
+  close() {
+    const hasFocus = byId("machine").contains(document.activeElement);
+    this.about = null;
+    clearTimeout(this.closeTimer);
+    this.leave();
+    byId("machine").hidden = true;
+    hasFocus && byId("rows").focus({ preventScroll: true });
+  }
+
+  /** Hides the view soon, unless a machine is opened. */
+  scheduleClose() {
+    clearTimeout(this.closeTimer);
+    this.closeTimer = setTimeout(() => this.close(), CLOSE_MILLISECONDS);
+  }
+
+  /** Stops playback and drops outstanding replies. */
+  leave() {
+    this.redecider.stop();
+    clearEvidence();
+    this.diagram.close();
+    this.tape.close();
+    byId("place-text").textContent = "";
+    clearTimeout(this.blankTimer);
+    this.blankTimer = setTimeout(() => {
+      this.diagram.clear();
+      this.tape.clear();
+    }, BLANK_MILLISECONDS);
+  }
+
+  /** Shows a machine's pictures, table and facts. */
+  show(/** @type {About} */ { machine: text, verdict, answer, plan }) {
+    const machine = parseMachine(text);
+    const cells = Number(plan.cells);
+    const steps = Number(plan.steps);
+    byId("machine-table").replaceChildren(createTable(machine));
+    byId("legend").replaceChildren(...createLegend(machine));
+    byId("diagram").setAttribute("aria-label", `Space-time diagram of ${text}. ${verdictText(verdict)}`);
+    /** @type {HTMLAnchorElement} */ (byId("elsewhere")).href = ELSEWHERE + text;
+    byId("marked").hidden = verdict.kind !== "cycler" && verdict.kind !== "translated";
+    const { last, upto } = diagramSteps(verdict, steps);
+    const about = { machine: text, cells };
+    showEvidence({ ...about, verdict }, (marks, pair, end) => {
+      this.diagram.open({ ...about, last, upto, pair, end }, marks);
+      this.tape.open({ ...about, last: upto }, pair?.first ?? 0);
+    });
+    const isConfirmed = answer === "ok" || verdict.kind === "undecided";
+    showMachineInfo({ ...about, steps, verdict, isConfirmed });
+  }
+
+  /**
+   * Shows a new decision, and replaces the row; returns whether it could.
+   * @param {About} about @param {import("../../worker/worker.mjs").Part} by
+   */
+  showRedecided(about, by) {
+    this.about = about;
+    const isIn = this.replaceRow(by, about.plan);
+    byId("machine-says").textContent = `${doubtText(about)}${verdictText(about.verdict)}`;
+    announce(byId("machine-says").textContent ?? "");
+    this.show(about);
+    return isIn;
+  }
+
+  /** Sets the address to the machine's link, and copies it. */
+  copyLink() {
+    if (this.about !== null) {
+      history.replaceState(null, "", `#${linkOf(this.about.machine, this.about.plan)}`);
+      copyText(location.href, byId("link"));
+    }
+  }
+}
+
+/** A warning before an unconfirmed verdict; empty for others. */
+function doubtText(/** @type {About} */ { verdict, answer, isWaiting }) {
+  if (isWaiting) {
+    return "Waiting for the second pass, with the list’s limits. First pass: ";
+  }
+  const isSure = answer === "ok" || verdict.kind === "undecided" || verdict.kind === "refused";
+  return isSure ? "" : `${DOUBTS[answer] ?? DOUBTS.unread} The line claims: `;
+}
+
+/** A table with a row for each state and a column for each symbol. */
+function createTable(/** @type {import("../../reader/machine.mjs").Machine} */ machine) {
+  const column = (/** @type {number} */ symbol) => create("th", { scope: "col" }, String(symbol));
+  const symbols = Array.from({ length: machine.symbols }, (_, symbol) => column(symbol));
+  const head = create("tr", {}, create("td", { "aria-label": "state and symbol" }), ...symbols);
+  const rows = Array.from({ length: machine.states }, (_, state) => {
+    const entries = machine.rules.slice(state * machine.symbols, (state + 1) * machine.symbols);
+    const cells = entries.map(({ symbol, entry }) =>
+      create("td", { "data-entry": `${stateLetter(state)}${symbol}` }, entryText(entry)),
+    );
+    return create("tr", {}, create("th", { scope: "row" }, stateLetter(state)), ...cells);
+  });
+  return create("table", {}, head, ...rows);
+}
+
+function createLegend(/** @type {import("../../reader/machine.mjs").Machine} */ { symbols }) {
+  const names = Array.from({ length: symbols }, (_, symbol) => [`s${symbol}`, String(symbol)]);
+  return [...names, ["head", "head"], ["unvisited", "not visited yet"]].map(([colour, name]) => {
+    const swatch = create("i", { "aria-hidden": true });
+    swatch.style.background = `var(--${colour})`;
+    return create("span", {}, swatch, name);
+  });
+}
