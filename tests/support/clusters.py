@@ -12,7 +12,7 @@ import sys
 from typing import Dict, Iterator, List, Optional, Tuple
 
 from . import TOP
-from .runs import Process, seen
+from .runs import Process, wait_until
 
 
 class Cluster:
@@ -43,7 +43,7 @@ class Cluster:
         asked = ["--host", self.address.rpartition(":")[0], "--port", str(self.port)]
         asked += ["--dashboard-address", "127.0.0.1:0"]
         self.scheduler = self._start("scheduler", asked, {})
-        seen(self.scheduler, self._listens)
+        wait_until(self.scheduler, self._listens)
 
     def _listens(self) -> bool:
         with socket.socket() as asked:

@@ -28,8 +28,8 @@ SMALL, MIDDLE = Limits(30, 16, 3, 5), Limits(1_000, 128, 20, 100)
 PASSES = (SMALL, MIDDLE)
 
 
-class ExecutorPlace:
-    """Any executor, with so many workers. Each has a piece, and as many pieces wait."""
+class PoolBackend:
+    """Any executor, with so many workers. Each has a chunk, and as many chunks wait."""
 
     def __init__(self, executor: Executor, workers: int) -> None:
         self._executor, self._workers = executor, workers
@@ -40,14 +40,14 @@ class ExecutorPlace:
     def submit(self, task: chunks.Task, lines: bytes, limits: chunks.Numbers) -> Future[Any]:
         return self._executor.submit(task, lines, limits)
 
-    def tend(self) -> None:
+    def maintain(self) -> None:
         pass
 
     def status(self) -> str:
         return ""
 
 
-def expected(given: bytes, limits: Sequence[Limits] = PASSES) -> bytes:
+def expected_verdicts(given: bytes, limits: Sequence[Limits] = PASSES) -> bytes:
     """The verdict lines of a list, by one call for each pass."""
     lines = b"".join(budlarem.decide_bytes(given, limits[0])).splitlines(keepends=True)
     for limit in limits[1:]:
@@ -59,7 +59,7 @@ def expected(given: bytes, limits: Sequence[Limits] = PASSES) -> bytes:
     return b"".join(lines)
 
 
-def resealed(reply: chunks.PieceReply, written: bytes) -> chunks.PieceReply:
+def reseal(reply: chunks.ChunkReply, written: bytes) -> chunks.ChunkReply:
     """A reply with other bytes, and the digest of these."""
     return (written, *reply[1:7], chunks.digest_of(written))
 
@@ -68,7 +68,7 @@ class Answering(Executor):
     """An executor whose answer to a task a function changes; it is given the reply and how many came
     before."""
 
-    def __init__(self, change: Callable[[chunks.PieceReply, int], Any]) -> None:
+    def __init__(self, change: Callable[[chunks.ChunkReply, int], Any]) -> None:
         self.change, self.count = change, 0
 
     def submit(self, function: Any, /, *given: Any, **named: Any) -> Any:
@@ -123,15 +123,15 @@ class RunCase(contextlib.ExitStack):
         check: bool = False,
         path: str = "",
         here: bool = False,
-        keep: chunks.Keep = chunks.Keep(),
+        keep: chunks.Retention = chunks.Retention(),
     ) -> list_run.Outcome:
         """A run, by an executor or by two threads."""
-        place: passes.Workplace = passes.Threads(2)
+        place: passes.Backend = passes.ThreadBackend(2)
         if executor is not None:
-            place = ExecutorPlace(executor, 2)
+            place = PoolBackend(executor, 2)
         with contextlib.closing(input.ListFile(path or str(self.list))) as listed:
             with contextlib.closing(folder.Folder(str(self.out))) as opened:
-                manner = passes.Manner(
+                options = passes.RunOptions(
                     place,
                     chunks.identity(),
                     self.progress,
@@ -140,25 +140,27 @@ class RunCase(contextlib.ExitStack):
                     check,
                     here,
                     keep,
-                    listed.hold_unchanged,
+                    listed.require_unchanged,
                     self.seen.append,
                 )
-                return list_run.run(opened, listed, limits, manner)
+                return list_run.run(opened, listed, limits, options)
 
     def verdicts(self) -> bytes:
         return (self.out / "verdicts.txt").read_bytes()
 
-    def opened(self, limits: Sequence[Limits], keep: chunks.Keep = chunks.Keep()) -> journal.PassFolder:
+    def open_last_pass(
+        self, limits: Sequence[Limits], keep: chunks.Retention = chunks.Retention()
+    ) -> journal.PassFolder:
         """The last of these passes, which is whole."""
         with contextlib.closing(folder.Folder(str(self.out))) as top:
             found = top.open_pass(limits, keep, chunks.identity())
         self.callback(found.close)
-        found.pieces = found.journal.length
+        found.chunks = found.journal.length
         return found
 
     def records(self, limits: Sequence[Limits]) -> List[journal.Record]:
         """What the journal of the last of these passes has."""
-        found = self.opened(limits).journal
+        found = self.open_last_pass(limits).journal
         records = map(found.read, range(found.length))
         return [record for record in records if record is not None]
 

@@ -18,19 +18,19 @@ from typing import Any, BinaryIO, Dict, Iterator, List, Optional, Tuple
 from ._files import Checksum, FileTarget
 from .counts import VerdictCounts
 from .limits import Limits, words_of
-from .reading.files import Blocks
+from .reading.files import BlockReader
 from .runner.chunks import Identity, identity
-from .runner.input import Lines, ListFile
+from .runner.input import StreamLines, ListFile
 
 _FILES = {
     "README.txt": "this page",
     "list.txt": "the machines, in the order of the verdicts",
     "verdicts.txt": "the verdicts, one a line",
     "about.json": "counts, limits, versions and sha256 of what was given",
-    "again.py": "a checker of verdicts, in 150 lines of Python",
+    "recheck.py": "a checker of verdicts, in 150 lines of Python",
     "SHA256SUMS": "the sha256 of each other file",
 }
-README, LIST, VERDICTS, ABOUT, AGAIN, SUMS = _FILES
+README, LIST, VERDICTS, ABOUT, RECHECK, SUMS = _FILES
 FORMAT = 1
 KINDS = ("halt", "cycler", "translated", "backward", "undecided", "refused")
 # The time of each file in an archive.
@@ -49,7 +49,7 @@ class PublishError(ValueError):
     """What was given can't be published. The text says which file, which line, and what would do."""
 
 
-class Input:
+class ArchivedFile:
     """A file that goes into the archive, as it is or out of its gzip; and what it was seen to have: how many
     bytes, their sha256 and their checksum."""
 
@@ -65,7 +65,7 @@ class Input:
             if not source.is_regular:
                 raise PublishError("%s is read more than once, so it has to be a file" % source.name)
             for block in source.blocks():
-                checksum = checksum.followed_by(block)
+                checksum = checksum.add_bytes(block)
                 digest.update(block)
                 yield block
         if self.sha256 not in ("", digest.hexdigest()):
@@ -74,7 +74,7 @@ class Input:
 
     def batches(self) -> Iterator[bytes]:
         """Its lines, some together, each with its newline."""
-        lines = Lines(self.blocks())
+        lines = StreamLines(self.blocks())
         batch = lines.take(LINES, _BYTES)
         while batch:
             yield batch
@@ -87,7 +87,7 @@ class Input:
 
 
 @dataclasses.dataclass(frozen=True)
-class Decided:
+class Provenance:
     """How verdicts were decided, as far as that is known: the limits of each pass, and by which package."""
 
     passes: Tuple[Limits, ...] = ()
@@ -99,44 +99,44 @@ class Contents:
     """What an archive is made of. `machines` is the list, where it is there; the checker confirmed
     `confirmed` lines."""
 
-    machines: Optional[Input]
-    verdicts: Input
-    seen: VerdictCounts
-    decided: Decided
+    machines: Optional[ArchivedFile]
+    verdicts: ArchivedFile
+    counts: VerdictCounts
+    provenance: Provenance
     confirmed: int
 
-    def _inputs(self) -> List[Input]:
+    def _inputs(self) -> List[ArchivedFile]:
         return [given for given in (self.machines, self.verdicts) if given is not None]
 
     def _counts(self) -> Dict[str, int]:
         """How many lines there are of each kind."""
-        kinds = {**self.seen.kinds, "undecided": self.seen.left()}
+        kinds = {**self.counts.kinds, "undecided": self.counts.undecided()}
         return {kind: kinds.get(kind, 0) for kind in KINDS}
 
     def _greatest(self) -> Tuple[int, int, int]:
         """The greatest steps, levels and nodes that claims name."""
-        most = self.seen.most
+        most = self.counts.most
         steps = most("halt steps", "cycler second", "translated second")
         return steps, most("backward levels"), most("backward nodes")
 
     def about(self) -> bytes:
         """The file of counts, limits and versions."""
-        decided = self.decided.identity
+        provenance = self.provenance.identity
         fields: Dict[str, Any] = {
             "format": FORMAT,
-            "lines": sum(self.seen.kinds.values()),
+            "lines": sum(self.counts.kinds.values()),
             "counts": self._counts(),
             "greatest": dict(zip(("steps", "levels", "nodes"), self._greatest())),
-            "passes": [words_of(limits) for limits in self.decided.passes],
-            "decided_by": None if decided is None else dataclasses.asdict(decided),
+            "passes": [words_of(limits) for limits in self.provenance.passes],
+            "decided_by": None if provenance is None else dataclasses.asdict(provenance),
             "checked_by": dataclasses.asdict(identity()),
             "sha256": {given.name: given.sha256 for given in self._inputs()},
         }
         return (json.dumps(fields, indent=2) + "\n").encode()
 
-    def _checked(self) -> str:
+    def _check_statement(self) -> str:
         """What was checked, in sentences."""
-        total = sum(self.seen.kinds.values())
+        total = sum(self.counts.kinds.values())
         sentences = [
             "When this archive was made, Budlarem's checker confirmed each line that claims something: {:,}"
             " of {:,}.".format(self.confirmed, total),
@@ -144,18 +144,18 @@ class Contents:
         ]
         if self.machines is not None:
             sentences.append("Each line of list.txt has its verdict on the same line of verdicts.txt.")
-        if self.decided.passes:
+        if self.provenance.passes:
             sentences.append("What is undecided was tried with these limits, one pass after another:")
-        elif self.seen.left():
+        elif self.counts.undecided():
             sentences.append("With which limits what is undecided was tried isn't known.")
         lines = [line for text in sentences for line in textwrap.wrap(text, _WIDE - 2)]
-        lines += ["    " + words_of(limits) for limits in self.decided.passes]
+        lines += ["    " + words_of(limits) for limits in self.provenance.passes]
         return "\n".join("  " + line for line in lines)
 
     def readme(self) -> bytes:
         """The page that says what the files are."""
-        seen, own = self.seen, identity()
-        title = "Verdicts on {:,} machines".format(sum(seen.kinds.values()) - seen.kinds["refused"])
+        own, kinds = identity(), self.counts.kinds
+        title = "Verdicts on {:,} machines".format(sum(kinds.values()) - kinds["refused"])
         names = [name for name in _FILES if name != LIST or self.machines is not None]
         steps, levels, nodes = self._greatest()
         counts = ["{:,} {}".format(count, kind) for kind, count in self._counts().items() if count]
@@ -166,17 +166,17 @@ class Contents:
             "version": own.version,
             "commit": own.commit,
             "files": "\n".join("  %-13s %s" % (name, _FILES[name]) for name in names),
-            "checked": self._checked(),
+            "checked": self._check_statement(),
             "bb_limits": "--steps %d --cells %d --depth %d --nodes %d"
             % (steps, Limits.RANGES["cells"][1], levels, nodes),
-            "again_limits": "--steps %d --nodes %d" % (steps, nodes),
+            "recheck_limits": "--steps %d --nodes %d" % (steps, nodes),
         }
         page = (_HERE / "archive.txt").read_text(encoding="utf-8")
         return string.Template(page).substitute(fields).encode()
 
     def write(self, file: BinaryIO) -> None:
         """Writes the archive. Raises PublishError where a file isn't as it was seen, RunError, OSError."""
-        small = {README: self.readme(), ABOUT: self.about(), AGAIN: (_HERE / AGAIN).read_bytes()}
+        small = {README: self.readme(), ABOUT: self.about(), RECHECK: (_HERE / RECHECK).read_bytes()}
         inputs = {given.name: given for given in self._inputs()}
         sums = {name: hashlib.sha256(data).hexdigest() for name, data in small.items()}
         sums.update({name: given.sha256 for name, given in inputs.items()})
@@ -188,16 +188,16 @@ class Contents:
                 size = inputs[name].checksum.size if name in inputs else len(small[name])
                 member = _member("%s/%s" % (folder, name), size)
                 blocks = inputs[name].blocks() if name in inputs else iter([small[name]])
-                reader = io.BufferedReader(_file_of(blocks), _BYTES)
+                reader = io.BufferedReader(_reader_of(blocks), _BYTES)
                 archive.addfile(member, reader)
                 # It goes to the end, where what was read is held against what was seen.
                 if reader.read(1):
                     raise PublishError(_CHANGED % name)
 
 
-def _file_of(blocks: Iterator[bytes]) -> Blocks:
+def _reader_of(blocks: Iterator[bytes]) -> BlockReader:
     """Blocks of bytes, as a file that is read."""
-    return Blocks(lambda size: next(blocks, b""))
+    return BlockReader(lambda size: next(blocks, b""))
 
 
 def _member(name: str, size: int) -> tarfile.TarInfo:

@@ -13,7 +13,7 @@ from typing import Any, Callable, Deque, Generic, Iterable, Iterator, List, Opti
 from typing import Union, runtime_checkable
 
 from ._fork import forbid_fork
-from ._library import Reply, Room
+from ._library import Reply, ReplyBuffer
 from ._text import LONGEST_GIVEN, LONGEST_VALUE
 
 Given = TypeVar("Given")
@@ -29,7 +29,7 @@ class BatchPace:
         self.now, self._most = most if is_steady else 1, most
         self._is_steady = is_steady
 
-    def took(self, seconds: float) -> None:
+    def update(self, seconds: float) -> None:
         """Takes in how long a batch took."""
         if self._is_steady:
             return
@@ -39,70 +39,70 @@ class BatchPace:
             self.now = max(self.now // 2, 1)
 
 
-class Crew(Generic[Given]):
+class WorkerPool(Generic[Given]):
     """Daemon threads that make calls. A call that was begun can't be stopped: when the crew is left, its
     thread ends after that call, or with the process."""
 
-    def __init__(self, work: Callable[[Room, Given], None], threads: int, pace: BatchPace) -> None:
+    def __init__(self, work: Callable[[ReplyBuffer, Given], None], threads: int, pace: BatchPace) -> None:
         self._work, self._most, self._pace = work, threads, pace
-        self._tasks: queue.SimpleQueue[Optional[Tuple[Given, Future[Room]]]] = queue.SimpleQueue()
+        self._tasks: queue.SimpleQueue[Optional[Tuple[Given, Future[ReplyBuffer]]]] = queue.SimpleQueue()
         self._threads: List[threading.Thread] = []
-        self._left = threading.Event()
+        self._is_closed = threading.Event()
         # Rooms whose replies were taken.
-        self._rooms: List[Room] = []
+        self._buffers: List[ReplyBuffer] = []
 
-    def submit(self, given: Given) -> Future[Room]:
+    def submit(self, given: Given) -> Future[ReplyBuffer]:
         """Hands over one call; the room with its reply, or its error, is in the future."""
         forbid_fork()
-        future: Future[Room] = Future()
+        future: Future[ReplyBuffer] = Future()
         if len(self._threads) < self._most:
-            thread = threading.Thread(target=self._serve, name="budlarem", daemon=True)
+            thread = threading.Thread(target=self._run_worker, name="budlarem", daemon=True)
             thread.start()
             self._threads.append(thread)
         self._tasks.put((given, future))
         return future
 
-    def taken(self, future: Future[Room]) -> Reply:
+    def take_reply(self, future: Future[ReplyBuffer]) -> Reply:
         """The reply in a future. It is copied by the thread that asks for it, while others make calls."""
-        room = future.result()
-        reply = room.reply()
-        self._rooms.append(room)
+        buffer = future.result()
+        reply = buffer.reply()
+        self._buffers.append(buffer)
         return reply
 
-    def leave(self, wait: bool) -> None:
+    def close(self, wait: bool) -> None:
         """Ends the threads; those that are in a call end after it. `wait` waits for them."""
-        self._left.set()
+        self._is_closed.set()
         for _ in self._threads:
             self._tasks.put(None)
         for thread in self._threads if wait else ():
             thread.join()
 
-    def _room(self) -> Room:
+    def _take_buffer(self) -> ReplyBuffer:
         try:
-            return self._rooms.pop()
+            return self._buffers.pop()
         except IndexError:
-            return Room()
+            return ReplyBuffer()
 
-    def _serve(self) -> None:
+    def _run_worker(self) -> None:
         while True:
             task = self._tasks.get()
-            if task is None or self._left.is_set():
+            if task is None or self._is_closed.is_set():
                 return
             given, future = task
             began = time.monotonic()
             try:
-                room = self._room()
-                self._work(room, given)
+                buffer = self._take_buffer()
+                self._work(buffer, given)
             except BaseException as error:
                 future.set_exception(error)
             else:
-                self._pace.took(time.monotonic() - began)
-                future.set_result(room)
-                del room
+                self._pace.update(time.monotonic() - began)
+                future.set_result(buffer)
+                del buffer
             del task, given, future
 
 
-def _until_it_fails(items: Iterable[Given], failed: List[Exception]) -> Iterator[Given]:
+def _catch_error(items: Iterable[Given], failed: List[Exception]) -> Iterator[Given]:
     """The items up to an error, which is put into `failed`."""
     try:
         yield from items
@@ -110,27 +110,27 @@ def _until_it_fails(items: Iterable[Given], failed: List[Exception]) -> Iterator
         failed.append(error)
 
 
-def in_order(
-    work: Callable[[Room, Given], None], batches: Iterable[Given], threads: int, pace: BatchPace
+def map_in_order(
+    work: Callable[[ReplyBuffer, Given], None], batches: Iterable[Given], threads: int, pace: BatchPace
 ) -> Iterator[Tuple[Given, Reply]]:
     """Each batch and the reply to the call that `work` makes for it, in the order of the batches. At most one
     more batch than threads is under way. An error of the batches is raised after those before it."""
-    crew = Crew(work, threads, pace)
-    waiting: Deque[Tuple[Given, Future[Room]]] = collections.deque()
+    pool = WorkerPool(work, threads, pace)
+    waiting: Deque[Tuple[Given, Future[ReplyBuffer]]] = collections.deque()
     failed: List[Exception] = []
     is_whole = False
     try:
-        for batch in _until_it_fails(batches, failed):
-            waiting.append((batch, crew.submit(batch)))
+        for batch in _catch_error(batches, failed):
+            waiting.append((batch, pool.submit(batch)))
             while len(waiting) > threads or (waiting and waiting[0][1].done()):
                 given, future = waiting.popleft()
-                yield given, crew.taken(future)
+                yield given, pool.take_reply(future)
         while waiting:
             given, future = waiting.popleft()
-            yield given, crew.taken(future)
+            yield given, pool.take_reply(future)
         is_whole = True
     finally:
-        crew.leave(wait=is_whole)
+        pool.close(wait=is_whole)
     if failed:
         raise failed[0]
 
@@ -160,7 +160,7 @@ class Batch:
     lines: bytes
 
 
-def _wrong(name: str, place: int, text: Any) -> Exception:
+def _item_error(name: str, place: int, text: Any) -> Exception:
     """The error that says what is wrong with an item."""
     if isinstance(text, str):
         return ValueError("%s[%d] has a newline in it: %.*r" % (name, place, LONGEST_VALUE, text))
@@ -174,18 +174,18 @@ def _batch(name: str, before: int, texts: List[str]) -> Batch:
     cut = [text if len(text) <= LONGEST_GIVEN else text[:LONGEST_GIVEN] for text in texts]
     lines = ("\n".join(cut) + "\n").encode("utf-8", "surrogatepass")
     if lines.count(b"\n") != len(texts):
-        _look(name, before, texts)
+        _require_texts(name, before, texts)
     return Batch(before, texts, lines)
 
 
-def _look(name: str, before: int, texts: List[Any]) -> None:
+def _require_texts(name: str, before: int, texts: List[Any]) -> None:
     """Raises for the first item that is no text, or has a newline."""
     for place, text in enumerate(texts, before):
         if not isinstance(text, str) or "\n" in text:
-            raise _wrong(name, place, text)
+            raise _item_error(name, place, text)
 
 
-def of_texts(texts: Iterable[str], name: str, pace: BatchPace) -> Iterator[Batch]:
+def batch_texts(texts: Iterable[str], name: str, pace: BatchPace) -> Iterator[Batch]:
     """The texts in batches. Raises TypeError or ValueError, which say which item is wrong, after those
     batches that come before it."""
     before, size = 0, 0
@@ -194,7 +194,7 @@ def of_texts(texts: Iterable[str], name: str, pace: BatchPace) -> Iterator[Batch
         if not isinstance(text, str) or (len(text) > LONGEST_GIVEN and "\n" in text):
             if held:
                 yield _batch(name, before, held)
-            raise _wrong(name, before + len(held), text)
+            raise _item_error(name, before + len(held), text)
         held.append(text)
         size += len(text)
         if len(held) >= pace.now or size >= MOST_BYTES:
@@ -212,7 +212,7 @@ def _read(file: BinaryReader) -> Iterator[bytes]:
         block = file.read(MOST_BYTES)
 
 
-def _windows(held: Union[bytes, bytearray, memoryview]) -> Iterator[bytes]:
+def _slices(held: Union[bytes, bytearray, memoryview]) -> Iterator[bytes]:
     """Bytes that are held as a whole, cut between lines where that can be seen."""
     view = memoryview(held).cast("B")
     begin = 0
@@ -224,10 +224,10 @@ def _windows(held: Union[bytes, bytearray, memoryview]) -> Iterator[bytes]:
         begin = end
 
 
-def _pieces(blocks: Blocks) -> Iterator[bytes]:
+def _iter_blocks(blocks: Blocks) -> Iterator[bytes]:
     """The bytes, cut anywhere."""
     if isinstance(blocks, (bytes, bytearray, memoryview)):
-        yield from _windows(blocks)
+        yield from _slices(blocks)
         return
     if isinstance(blocks, str):
         raise TypeError("bytes, a file of bytes or blocks of bytes, not a str")
@@ -238,33 +238,33 @@ def _pieces(blocks: Blocks) -> Iterator[bytes]:
         yield bytes(block)
 
 
-def of_bytes(blocks: Blocks, pace: BatchPace) -> Iterator[bytes]:
+def batch_bytes(blocks: Blocks, pace: BatchPace) -> Iterator[bytes]:
     """The bytes in batches of whole lines; of a line longer than LONGEST_GIVEN its beginning is left."""
     rest, is_cut = b"", False
-    for piece in _pieces(blocks):
+    for block in _iter_blocks(blocks):
         if is_cut:
-            end = piece.find(b"\n")
+            end = block.find(b"\n")
             if end < 0:
                 continue
-            piece, is_cut = piece[end:], False
-        whole = piece.rfind(b"\n") + 1
+            block, is_cut = block[end:], False
+        whole = block.rfind(b"\n") + 1
         if whole:
-            yield from _sliced(rest, piece, whole, pace)
+            yield from _slice(rest, block, whole, pace)
             rest = b""
-        rest += piece[whole:]
+        rest += block[whole:]
         if len(rest) > LONGEST_GIVEN:
             rest, is_cut = rest[:LONGEST_GIVEN], True
     if rest:
         yield rest
 
 
-def _sliced(rest: bytes, piece: bytes, whole: int, pace: BatchPace) -> Iterator[bytes]:
+def _slice(rest: bytes, block: bytes, whole: int, pace: BatchPace) -> Iterator[bytes]:
     """The begin of a line and the piece that it goes on in, up to `whole`, where a line ends: in batches of
     bounded bytes, the last of which may have half as many more."""
     begin = 0
     while begin < whole:
         end = whole
         if whole - begin > 1.5 * pace.now:
-            end = piece.find(b"\n", begin + pace.now - 1) + 1
-        yield rest + piece[begin:end]
+            end = block.find(b"\n", begin + pace.now - 1) + 1
+        yield rest + block[begin:end]
         begin, rest = end, b""

@@ -19,7 +19,7 @@ from .runner.errors import MovedError
 
 
 @contextlib.contextmanager
-def naming(path: Union[str, "os.PathLike[str]"]) -> Iterator[None]:
+def name_errors(path: Union[str, "os.PathLike[str]"]) -> Iterator[None]:
     """Gives an error of a file that is written or read here its name: that of a full disk has none."""
     try:
         yield
@@ -54,7 +54,7 @@ def kind_of(status: os.stat_result) -> str:
 
 
 @contextlib.contextmanager
-def _errors_at(path: str) -> Iterator[None]:
+def _name_path(path: str) -> Iterator[None]:
     """Gives errors the whole path: through a handle they have the last name alone, or none."""
     try:
         yield
@@ -84,7 +84,7 @@ def write_blocks(number: int, blocks: Iterable[bytes]) -> None:
             left = left[os.write(number, left) :]
 
 
-def write_to(number: int, data: bytes, place: int) -> None:
+def write_all(number: int, data: bytes, place: int) -> None:
     """Writes all bytes to a place of an open file. Raises OSError."""
     left = memoryview(data)
     while left:
@@ -113,7 +113,7 @@ class Directory:
 
     def names(self) -> List[str]:
         """The names in it, sorted."""
-        with _errors_at(self.path):
+        with _name_path(self.path):
             return sorted(os.listdir(self.handle))
 
     def is_named(self) -> bool:
@@ -134,7 +134,7 @@ class Directory:
 
     def status(self, name: str) -> Optional[os.stat_result]:
         """The status of a name itself; None where it isn't there."""
-        with _errors_at(self.at(name)):
+        with _name_path(self.at(name)):
             try:
                 return os.stat(name, dir_fd=self.handle, follow_symlinks=False)
             except FileNotFoundError:
@@ -147,13 +147,13 @@ class Directory:
 
     def pin(self, name: str) -> Optional[Pin]:
         """The file that has a name; None where it isn't there."""
-        with _errors_at(self.at(name)), contextlib.suppress(FileNotFoundError):
+        with _name_path(self.at(name)), contextlib.suppress(FileNotFoundError):
             return Pin(os.open(name, os.O_PATH | os.O_NOFOLLOW | os.O_CLOEXEC, dir_fd=self.handle))
         return None
 
     def open_file(self, name: str, flags: int) -> int:
         """Opens a file that is there. Raises FileNotFoundError where it isn't."""
-        with _errors_at(self.at(name)):
+        with _name_path(self.at(name)):
             try:
                 number = os.open(name, flags | _OPEN, dir_fd=self.handle)
             except OSError:
@@ -176,7 +176,7 @@ class Directory:
 
     def create_file(self, name: str) -> int:
         """Makes a file, open for reading and writing. Raises FileExistsError where the name is taken."""
-        with _errors_at(self.at(name)):
+        with _name_path(self.at(name)):
             return os.open(name, os.O_RDWR | os.O_CREAT | os.O_EXCL | _OPEN, 0o666, dir_fd=self.handle)
 
     def open_or_create(self, name: str) -> int:
@@ -199,7 +199,7 @@ class Directory:
 
     def subdirectory(self, name: str) -> Directory:
         """A directory in it, made where it isn't there. Raises KindError for a link to one."""
-        with _errors_at(self.at(name)):
+        with _name_path(self.at(name)):
             with contextlib.suppress(FileExistsError):
                 os.mkdir(name, dir_fd=self.handle)
             try:
@@ -211,7 +211,7 @@ class Directory:
 
     def remove(self, name: str) -> None:
         """Removes a name; one that isn't there is gone already."""
-        with _errors_at(self.at(name)), contextlib.suppress(FileNotFoundError):
+        with _name_path(self.at(name)), contextlib.suppress(FileNotFoundError):
             os.unlink(name, dir_fd=self.handle)
 
     def install(
@@ -221,7 +221,7 @@ class Directory:
         the disk then. Only the file `over` gives way. Raises FileExistsError where another has that name."""
         of = self if source is None else source
         found = self.id_at(name)
-        with _errors_at(self.at(name)):
+        with _name_path(self.at(name)):
             if found is not None and found == of.id_at(part):
                 of.remove(part)
             elif found is not None and found == over:
@@ -248,18 +248,20 @@ class Directory:
 
     def sync(self) -> None:
         """Returns when the names in it are on the disk."""
-        with _errors_at(self.path):
+        with _name_path(self.path):
             os.fsync(self.handle)
 
 
-def write_at(directory: Directory, name: str, fill: Callable[[int], None], over: Optional[Pin]) -> Pin:
+def write_atomically(
+    directory: Directory, name: str, fill: Callable[[int], None], over: Optional[Pin]
+) -> Pin:
     """Writes a file whole or not at all, whatever ends the process: `fill` writes to the open file. Only the
     file `over` gives way. Gives the file that was written. Raises FileExistsError where another has the name,
     what `fill` does, OSError; nothing is left then."""
     number, part = directory.create_part(name)
     written = Pin(number)
     try:
-        with naming(directory.at(name)):
+        with name_errors(directory.at(name)):
             fill(number)
             os.fsync(number)
         directory.install(part, name, None if over is None else over.id)
@@ -278,7 +280,7 @@ class FileTarget:
     def __init__(self, path: str) -> None:
         self._path = path
         folder, self._name = os.path.split(path)
-        with _errors_at(path):
+        with _name_path(path):
             self._directory = Directory.open(folder or os.curdir)
         self.over: Optional[Pin] = None
         try:
@@ -304,7 +306,7 @@ class FileTarget:
                 why = "its folder was moved, removed or replaced meanwhile"
                 raise OSError(errno.ENOENT, why, self._path)
 
-        write_at(self._directory, self._name, fill_here, self.over).close()
+        write_atomically(self._directory, self._name, fill_here, self.over).close()
 
 
 def write_whole(path: str, blocks: Iterable[bytes]) -> None:
@@ -336,7 +338,7 @@ while len(_POWERS) < 64:
     _POWERS.append(_product(_POWERS[-1], _POWERS[-1]))
 
 
-def _shifted(crc32: int, size: int) -> int:
+def _shift(crc32: int, size: int) -> int:
     """The share of bytes with this CRC-32 in that of the same bytes and `size` more."""
     for bit in range(size.bit_length()):
         if size >> bit & 1:
@@ -360,15 +362,15 @@ class Checksum:
         """The fields of a summary."""
         return {"bytes": self.size, "crc32": "%08x" % self.crc32}
 
-    def followed_by(self, data: bytes) -> Checksum:
+    def add_bytes(self, data: bytes) -> Checksum:
         """That of these bytes and then others."""
         return Checksum(self.size + len(data), zlib.crc32(data, self.crc32))
 
-    def joined_with(self, other: Checksum) -> Checksum:
+    def add(self, other: Checksum) -> Checksum:
         """That of these bytes and then those of another checksum.
 
         >>> begin, end = Checksum().followed_by(b"1RB1LB"), Checksum().followed_by(b"_1LA1RZ")
         >>> begin.joined_with(end) == Checksum().followed_by(b"1RB1LB_1LA1RZ")
         True
         """
-        return Checksum(self.size + other.size, _shifted(self.crc32, other.size) ^ other.crc32)
+        return Checksum(self.size + other.size, _shift(self.crc32, other.size) ^ other.crc32)

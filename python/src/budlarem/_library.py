@@ -39,7 +39,7 @@ class LibraryError(OSError):
     looked for."""
 
 
-def places() -> List[pathlib.Path]:
+def candidate_paths() -> List[pathlib.Path]:
     """Where the library is looked for: where the variable BB_LIBRARY says, and nowhere else; if it isn't
     set, beside this package, then where `make library` of the repository puts it."""
     named = os.environ.get(VARIABLE)
@@ -52,14 +52,14 @@ def places() -> List[pathlib.Path]:
 
 
 @functools.lru_cache(maxsize=None)
-def loaded() -> ctypes.CDLL:
+def load_library() -> ctypes.CDLL:
     """The library, loaded at the first call. Raises LibraryError."""
-    looked = places()
-    path = next((place for place in looked if place.is_file()), None)
+    candidates = candidate_paths()
+    path = next((place for place in candidates if place.is_file()), None)
     if path is None:
         raise LibraryError(
             "libbb.so isn't at %s; a wheel has it, `make library` builds it, and the "
-            "variable %s says where it is" % (" nor at ".join(map(str, looked)), VARIABLE)
+            "variable %s says where it is" % (" nor at ".join(map(str, candidates)), VARIABLE)
         )
     require_whole(path)
     try:
@@ -112,10 +112,10 @@ def _least_size(file: BinaryIO) -> int:
 
 
 @functools.lru_cache(maxsize=None)
-def call_named(name: str) -> Callable[..., int]:
+def bind_call(name: str) -> Callable[..., int]:
     """A call of the library. Raises LibraryError."""
     try:
-        call = getattr(loaded(), name)
+        call = getattr(load_library(), name)
     except AttributeError:
         raise LibraryError("the library has no call %s; it is older than this package" % name) from None
     call.argtypes, call.restype = _CALLS[name], ctypes.c_uint32
@@ -126,10 +126,10 @@ def call_named(name: str) -> Callable[..., int]:
 @functools.lru_cache(maxsize=None)
 def has_call(name: str) -> bool:
     """Whether the library has a call: an older one may not. Raises LibraryError."""
-    return hasattr(loaded(), name)
+    return hasattr(load_library(), name)
 
 
-class Looked(NamedTuple):
+class ReplyCheck(NamedTuple):
     """What a look at the replies to some lines came to: whether they are those to all lines, else how many
     are before the first that isn't; and then how many there are of each kind."""
 
@@ -138,12 +138,12 @@ class Looked(NamedTuple):
     counts: Tuple[int, ...]
 
 
-def look(lines: bytes, replies: bytes) -> Looked:
+def validate_replies(lines: bytes, replies: bytes) -> ReplyCheck:
     """Looks at the replies to some lines. Raises LibraryError where the library has no such call."""
     counts, count = (_NUMBER * _KINDS)(), _NUMBER()
-    call = call_named("bb_look")
+    call = bind_call("bb_look")
     status = call(lines, len(lines), replies, len(replies), ctypes.byref(counts), ctypes.byref(count))
-    return Looked(status == CLEAN, count.value, tuple(counts))
+    return ReplyCheck(status == CLEAN, count.value, tuple(counts))
 
 
 class Reply(NamedTuple):
@@ -155,7 +155,7 @@ class Reply(NamedTuple):
     text: bytes
 
 
-class Room:
+class ReplyBuffer:
     """A buffer for the reply to one call after another. What of it was never written to takes no memory, so
     that it may be much larger than the replies."""
 
@@ -189,7 +189,7 @@ class Room:
     def call_once(self, name: str, asked: Sequence[int], given: bytes, room: int) -> None:
         """Makes a call, whose status is SHORT where the reply has more than `room` bytes. Raises
         LibraryError, MemoryError."""
-        call = call_named(name)
+        call = bind_call(name)
         if room > len(self._bytes):
             self._make(1 << (room - 1).bit_length())
         count = _SIZE()

@@ -64,27 +64,27 @@ def first_hidden(text: str) -> Optional[int]:
     return next((place for place, character in enumerate(text) if is_hidden(character)), None)
 
 
-def name_of(character: str) -> str:
+def code_point(character: str) -> str:
     """The code point of a character, as `U+200B`."""
     return "U+%04X" % ord(character)
 
 
-def _named(character: str) -> str:
+def _name_hidden_character(character: str) -> str:
     escaped = escape_controls(character)
-    return name_of(character) if escaped == character and is_hidden(character) else escaped
+    return code_point(character) if escaped == character and is_hidden(character) else escaped
 
 
 def name_hidden(text: str) -> str:
     r"""The text with the characters that don't show by name: controls as `\x1b`, others as `U+200B`."""
-    return text if text.isascii() and text.isprintable() else "".join(map(_named, text))
+    return text if text.isascii() and text.isprintable() else "".join(map(_name_hidden_character, text))
 
 
-def shown(text: str) -> str:
+def quote(text: str) -> str:
     """A text as a sentence has it: characters that don't show by name, cut where it is long."""
     text = name_hidden(text)
     return text if len(text) <= LONGEST_QUOTED else text[: LONGEST_QUOTED - 2] + ".."
 
 
-def counted(count: int, word: str, words: str) -> str:
+def pluralize(count: int, word: str, words: str) -> str:
     """A count with its word."""
     return "%d %s" % (count, word if count == 1 else words)

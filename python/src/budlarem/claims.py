@@ -8,16 +8,16 @@ import dataclasses
 import re
 from typing import Counter, Dict, Iterable, Iterator, List, Optional, Tuple
 
-from ._text import Words, shown
+from ._text import Words, quote
 from .numbers import number_of, numbers_in
-from .reading import Form, ListForm, Passed, Reading
+from .reading import Form, ListForm, Skipped, Reading
 from .reading.files import Numbered
-from .reading.forms import passed_kind, reading_of
+from .reading.forms import skip_kind, reading_of
 from .reading.tables import Layout
-from .reading.words import SPACES
+from .reading.tokens import SPACES
 from .verdicts import Halt, Refused, Undecided, Verdict, parse, verdict_of, whole_number
 
-__all__ = ["Said", "Sayings", "WORDS", "Word", "said_by"]
+__all__ = ["Claim", "Claims", "WORDS", "Word", "claim_in"]
 
 
 class Word(Words):
@@ -51,13 +51,13 @@ _MARKS = SPACES + ",;:|()[]`*\"'\u2013\u2014-"
 
 
 @dataclasses.dataclass(frozen=True)
-class Said:
+class Claim:
     """A line and its claim: a verdict in `claim`, or the `word` of a record with the numbers beside it, or
     neither. `trouble` is the reason why nothing is judged, `unjudged` the cells of numbers that mean nothing
     beside the word. A refusal has its verdict, and no machine."""
 
     reading: Reading
-    claim: Optional[Verdict] = None
+    verdict: Optional[Verdict] = None
     word: Optional[Word] = None
     trouble: Optional[str] = None
     steps: Optional[int] = None
@@ -65,55 +65,55 @@ class Said:
     unjudged: Tuple[str, ...] = ()
 
 
-class Sayings(Iterator[Said]):
+class Claims(Iterator[Claim]):
     """The claims of the lines of a list. `passed` counts the lines that are passed over, by their kinds.
     `words` is the translation of the words of a table."""
 
     def __init__(
         self, lines: Iterator[Numbered], form: ListForm, words: Optional[Dict[str, Word]] = None
     ) -> None:
-        self.passed: Counter[Passed] = collections.Counter()
+        self.skipped: Counter[Skipped] = collections.Counter()
         self._words = WORDS if words is None else words
-        self._sayings = self._said(lines, form)
+        self._claims = self._read_claims(lines, form)
 
-    def __iter__(self) -> Iterator[Said]:
-        return self._sayings
+    def __iter__(self) -> Iterator[Claim]:
+        return self._claims
 
-    def __next__(self) -> Said:
-        return next(self._sayings)
+    def __next__(self) -> Claim:
+        return next(self._claims)
 
-    def _said(self, lines: Iterator[Numbered], form: ListForm) -> Iterator[Said]:
+    def _read_claims(self, lines: Iterator[Numbered], form: ListForm) -> Iterator[Claim]:
         for number, line in lines:
-            said = _said_of(number, line, form, self._words)
-            if said is not None:
-                yield said
+            claim = _claim_of(number, line, form, self._words)
+            if claim is not None:
+                yield claim
             else:
-                self.passed[passed_kind(line)] += 1
+                self.skipped[skip_kind(line)] += 1
 
 
-def said_by(number: int, line: str) -> Optional[Said]:
+def claim_in(number: int, line: str) -> Optional[Claim]:
     """The claim of a line of a text; None for a line that is passed over."""
-    return _said_of(number, line, ListForm(Form.TEXT), WORDS)
+    return _claim_of(number, line, ListForm(Form.TEXT), WORDS)
 
 
-def _said_of(number: int, line: str, form: ListForm, words: Dict[str, Word]) -> Optional[Said]:
+def _claim_of(number: int, line: str, form: ListForm, words: Dict[str, Word]) -> Optional[Claim]:
     """The claim of a line; None for a line that is passed over."""
     if form.form in (Form.VERDICTS, Form.TEXT):
-        said = _of_verdict_line(number, line)
+        claim = _of_verdict_line(number, line)
         is_rule = form.form is Form.TEXT and not line.partition(" ")[0].strip("-")
-        if said is not None and not is_rule:
-            return said
+        if claim is not None and not is_rule:
+            return claim
     reading = reading_of(number, line, form)
     if reading is None or reading.machine is None:
-        return None if reading is None else Said(reading)
+        return None if reading is None else Claim(reading)
     if form.layout is not None:
         return _of_row(reading, form.layout, words)
     if form.form is Form.MACHINES:
-        return Said(reading, trouble="a list of machines claims nothing")
+        return Claim(reading, trouble="a list of machines claims nothing")
     return _of_text(reading)
 
 
-def _of_verdict_line(number: int, line: str) -> Optional[Said]:
+def _of_verdict_line(number: int, line: str) -> Optional[Claim]:
     """The claim of a verdict line, which may have fields behind a tab; None for another line."""
     bare, _, fields = line.rstrip("\r").partition("\t")
     try:
@@ -121,40 +121,40 @@ def _of_verdict_line(number: int, line: str) -> Optional[Said]:
     except ValueError:
         return None
     if isinstance(verdict, Refused):
-        return Said(Reading(number, line, None), verdict)
+        return Claim(Reading(number, line, None), verdict)
     behind = bare[len(verdict.machine) + 1 :] + ("\t" + fields if fields else "")
     reading = Reading(number, line, verdict.machine, (), "", behind)
     for field in fields.split("\t") if fields else ():
         word = WORDS.get(plain_word(field), Word.DECIDED)
         if word not in (Word.DECIDED, _word_of(verdict)):
-            return Said(reading, trouble=_both(bare[len(verdict.machine) + 1 :], field))
-    return Said(reading, verdict)
+            return Claim(reading, trouble=_two_statements(bare[len(verdict.machine) + 1 :], field))
+    return Claim(reading, verdict)
 
 
-def _both(first: str, second: str) -> str:
-    return "the line says two things: %s, and %s" % (shown(first), shown(second))
+def _two_statements(first: str, second: str) -> str:
+    return "the line says two things: %s, and %s" % (quote(first), quote(second))
 
 
-def _word_of(claim: Verdict) -> Word:
-    if isinstance(claim, Undecided):
+def _word_of(verdict: Verdict) -> Word:
+    if isinstance(verdict, Undecided):
         return Word.UNDECIDED
-    return Word.HALTS if isinstance(claim, Halt) else Word.NEVER_HALTS
+    return Word.HALTS if isinstance(verdict, Halt) else Word.NEVER_HALTS
 
 
-def _of_text(reading: Reading) -> Said:
+def _of_text(reading: Reading) -> Claim:
     """The claim of a line of a text: the rest of the line, if that is one verdict."""
     assert reading.machine is not None
     parts = [part.strip(_MARKS) for part in (reading.before, reading.behind)]
     rest = [part for part in parts if part]
     if not rest:
-        return Said(reading, trouble="nothing is said of the machine")
+        return Claim(reading, trouble="nothing is said of the machine")
     text = " ".join(rest)
     try:
         if len(rest) == 1:
-            return Said(reading, _verdict_in(reading.machine, text))
+            return Claim(reading, _verdict_in(reading.machine, text))
     except ValueError:
         pass
-    return Said(reading, trouble="the rest of the line is no verdict of ours: %s" % shown(text))
+    return Claim(reading, trouble="the rest of the line is no verdict of ours: %s" % quote(text))
 
 
 def _verdict_in(machine: str, text: str) -> Verdict:
@@ -171,44 +171,46 @@ def _verdict_in(machine: str, text: str) -> Verdict:
     return verdict_of(machine, " ".join([kind, *side, *numbers]), whole_number)
 
 
-def _of_row(reading: Reading, layout: Layout, words: Dict[str, Word]) -> Said:
+def _of_row(reading: Reading, layout: Layout, words: Dict[str, Word]) -> Claim:
     """The claim of a record of a table."""
     assert reading.machine is not None and reading.row is not None
     cells = {role: reading.row[place] for role, place in layout.columns.items()}
     cell = cells.get("verdict", "")
     if not cell:
-        return Said(reading, trouble="no word says whether it halts")
+        return Claim(reading, trouble="no word says whether it halts")
     word = words.get(plain_word(cell))
     try:
-        claim = None if word is not None else _verdict_in(reading.machine, cell)
+        verdict = None if word is not None else _verdict_in(reading.machine, cell)
     except ValueError:
-        claim = None
-    if claim is not None and not isinstance(claim, Halt):
-        return Said(reading, claim)
+        verdict = None
+    if verdict is not None and not isinstance(verdict, Halt):
+        return Claim(reading, verdict)
     numbers = tuple(cells[role] for role in ("steps", "score") if cells.get(role))
     if word is Word.NEVER_HALTS:
-        return Said(reading, word=word, unjudged=numbers)
-    if claim is None and word is not Word.HALTS:
-        return Said(reading, word=word, trouble=None if word is not None else "%s says neither" % shown(cell))
+        return Claim(reading, word=word, unjudged=numbers)
+    if verdict is None and word is not Word.HALTS:
+        return Claim(
+            reading, word=word, trouble=None if word is not None else "%s says neither" % quote(cell)
+        )
     try:
         steps, score = (number_of(cells[role]) if cells.get(role) else None for role in ("steps", "score"))
-        return _of_halt(reading, claim, steps, score)
+        return _of_halt(reading, verdict, steps, score)
     except ValueError as error:
-        return Said(reading, trouble=str(error))
+        return Claim(reading, trouble=str(error))
 
 
-def _of_halt(reading: Reading, claim: Optional[Halt], steps: Optional[int], score: Optional[int]) -> Said:
+def _of_halt(reading: Reading, verdict: Optional[Halt], steps: Optional[int], score: Optional[int]) -> Claim:
     """The claim of a record with these numbers beside a word for halting, or beside a halt. Raises
     ValueError."""
     assert reading.machine is not None
-    if claim is None and steps is not None and score is not None:
-        return Said(reading, verdict_of(reading.machine, "halt %d %d" % (steps, score), whole_number))
-    if claim is None:
-        return Said(reading, word=Word.HALTS, steps=steps, score=score)
-    for number, own in ((steps, claim.steps), (score, claim.score)):
+    if verdict is None and steps is not None and score is not None:
+        return Claim(reading, verdict_of(reading.machine, "halt %d %d" % (steps, score), whole_number))
+    if verdict is None:
+        return Claim(reading, word=Word.HALTS, steps=steps, score=score)
+    for number, own in ((steps, verdict.steps), (score, verdict.score)):
         if number not in (None, own):
-            return Said(reading, trouble=_both(str(claim).partition(" ")[2], str(number)))
-    return Said(reading, claim)
+            return Claim(reading, trouble=_two_statements(str(verdict).partition(" ")[2], str(number)))
+    return Claim(reading, verdict)
 
 
 def plain_word(text: str) -> str:
@@ -246,7 +248,7 @@ def read_words(path: str) -> Dict[str, Word]:
             for text in texts.split(","):
                 word = plain_word(text)
                 if given.setdefault(word, meaning) != meaning:
-                    raise ValueError("%s:%d: %s has two meanings" % (path, number, shown(text.strip())))
+                    raise ValueError("%s:%d: %s has two meanings" % (path, number, quote(text.strip())))
                 if word:
                     words[word] = MEANINGS[meaning]
     return words
@@ -259,7 +261,7 @@ class Translation:
     counts: Dict[str, Counter[str]]
 
     def __str__(self) -> str:
-        return "\n".join("%s: %s" % (name, _counted(self.counts[name])) for name in MEANINGS)
+        return "\n".join("%s: %s" % (name, _format_counts(self.counts[name])) for name in MEANINGS)
 
     @property
     def lines(self) -> List[str]:
@@ -267,33 +269,33 @@ class Translation:
         return str(self).split("\n")
 
 
-def _counted(counts: Counter[str]) -> str:
+def _format_counts(counts: Counter[str]) -> str:
     """The words of a meaning, the most frequent first."""
     if not counts:
         return "no word"
-    parts = ["%s %d" % (shown(word), count) for word, count in counts.most_common(_MOST_PRINTED)]
+    parts = ["%s %d" % (quote(word), count) for word, count in counts.most_common(_MOST_PRINTED)]
     more = len(counts) - len(parts)
     return ", ".join(parts) + (", and %d more words" % more if more > 0 else "")
 
 
-def translation_of(sayings: Iterable[Said], layout: Layout, words: Dict[str, Word]) -> Translation:
+def translation_of(claims: Iterable[Claim], layout: Layout, words: Dict[str, Word]) -> Translation:
     """The translation of the words in a table's column of verdicts. Verdicts that stand whole in the column
     are no words."""
     counts: Dict[str, Counter[str]] = {name: collections.Counter() for name in MEANINGS}
-    for text, meaning in _translated(sayings, layout.columns["verdict"], words):
+    for text, meaning in _translate(claims, layout.columns["verdict"], words):
         if text in counts[meaning] or len(counts[meaning]) < _MOST_COUNTED:
             counts[meaning][text] += 1
     return Translation(counts)
 
 
-def _translated(sayings: Iterable[Said], column: int, words: Dict[str, Word]) -> Iterator[Tuple[str, str]]:
+def _translate(claims: Iterable[Claim], column: int, words: Dict[str, Word]) -> Iterator[Tuple[str, str]]:
     """Each word of the column, with the name of its meaning."""
-    for said in sayings:
-        row = said.reading.row
-        if row is None or said.reading.machine is None or not row[column]:
+    for claim in claims:
+        row = claim.reading.row
+        if row is None or claim.reading.machine is None or not row[column]:
             continue
         word = words.get(plain_word(row[column]))
-        if word is None and said.claim is not None:
+        if word is None and claim.verdict is not None:
             continue
         if word is Word.HALTS:
             yield row[column], "halting"

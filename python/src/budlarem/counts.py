@@ -62,7 +62,7 @@ class VerdictCounts:
             self.kinds[machine] += 1
             return ""
         self.kinds["%s %s" % (kind, words[0]) if kind == "undecided" else kind] += 1
-        self._take(kind, numbers_of(kind, words), line)
+        self._add_numbers(kind, numbers_of(kind, words), line)
         return machine
 
     def add_numbers(self, lines: bytes) -> None:
@@ -75,39 +75,39 @@ class VerdictCounts:
             if kind in _NUMBERS:
                 end = lines.index(verdict + b"\n") + len(verdict)
                 line = lines[lines.rfind(b"\n", 0, end) + 1 : end]
-                self._take(kind, numbers_of(kind, words), line.decode())
+                self._add_numbers(kind, numbers_of(kind, words), line.decode())
 
     def join(self, other: VerdictCounts) -> None:
         """Takes in the counts of the lines that come behind."""
         self.kinds.update(other.kinds)
         for name, (number, line) in other.greatest.items():
-            self._raise(name, number, line)
+            self._raise_greatest(name, number, line)
         for kind, runs in other.longest.items():
             for steps, line in runs:
-                self._keep_long(kind, steps, line)
+                self._add_long(kind, steps, line)
 
     def most(self, *names: str) -> int:
         """The greatest of the numbers with these names; 0 where no line has one."""
         return max((self.greatest[name][0] for name in names if name in self.greatest), default=0)
 
-    def left(self) -> int:
+    def undecided(self) -> int:
         """How many lines are undecided."""
         return sum(self.kinds[kind] for kind in UNDECIDED)
 
-    def _take(self, kind: str, numbers: Dict[str, int], line: str) -> None:
+    def _add_numbers(self, kind: str, numbers: Dict[str, int], line: str) -> None:
         """Takes the numbers of a line."""
         for name in _GREATEST.get(kind, ()):
             if name in numbers:
-                self._raise("%s %s" % (kind, name), numbers[name], line)
+                self._raise_greatest("%s %s" % (kind, name), numbers[name], line)
         steps = numbers.get("steps", numbers.get("second"))
         if steps is not None:
-            self._keep_long(kind, steps, line)
+            self._add_long(kind, steps, line)
 
-    def _raise(self, name: str, number: int, line: str) -> None:
+    def _raise_greatest(self, name: str, number: int, line: str) -> None:
         if number > self.greatest.get(name, (-1, ""))[0]:
             self.greatest[name] = (number, line)
 
-    def _keep_long(self, kind: str, steps: int, line: str) -> None:
+    def _add_long(self, kind: str, steps: int, line: str) -> None:
         """Keeps a line, where it is one of the longest of its kind, the most steps first."""
         runs = self.longest.setdefault(kind, [])
         if len(runs) == LONGEST and steps <= runs[-1][0]:

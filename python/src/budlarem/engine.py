@@ -5,19 +5,19 @@ from __future__ import annotations
 import dataclasses
 from typing import Callable, Iterable, Iterator, List, Optional, Sequence, Tuple, Union
 
-from ._calls import MOST_BYTES, MOST_LINES, Batch, BatchPace, BinaryReader, Blocks, in_order, of_bytes
-from ._calls import of_texts
+from ._calls import MOST_BYTES, MOST_LINES, Batch, BatchPace, BinaryReader, Blocks, map_in_order, batch_bytes
+from ._calls import batch_texts
 from ._fork import forbid_fork
-from ._library import NOT_CLEAN, SHORT, Reply, Room, loaded
+from ._library import NOT_CLEAN, SHORT, Reply, ReplyBuffer, load_library
 from ._text import LONGEST_GIVEN, LONGEST_SHOWN, LONGEST_VALUE
 from .limits import Limits, Plan, in_range, whole
-from .verdicts import VERDICTS, Answer, Refused, Verdict, hold_fields, verdict_of
+from .verdicts import VERDICTS, Answer, Refused, Verdict, require_field_types, verdict_of
 
 # How many bytes a block has at most that is checked with large tapes; and from how many cells on a call costs
 # the tapes, so that batches are no smaller where claims are checked.
 _LARGE, _LARGE_TAPES = 1 << 22, 1 << 20
 # It makes a call over lines, and leaves the reply in the room.
-Call = Callable[[Room, bytes], None]
+Call = Callable[[ReplyBuffer, bytes], None]
 _ANSWERS = {str(answer): answer for answer in Answer}
 # How many bytes a reply to one line has beyond the line itself, at most, and how many an answer has.
 _BEYOND, _ANSWER = 98, 7
@@ -45,27 +45,27 @@ class MachineError(ValueError):
         return "%s: %s" % (self.place, sentence) if self.place else sentence
 
 
-def deciding(limits: Limits, plan: Plan) -> Call:
+def decide_call(limits: Limits, plan: Plan) -> Call:
     """The call that decides the lines of some bytes."""
     asked = (*limits.numbers(), *plan.switches())
 
-    def call(room: Room, lines: bytes) -> None:
+    def call(room: ReplyBuffer, lines: bytes) -> None:
         room.call("bb_decide", asked, lines, _FOLD * len(lines) + _BEYOND)
 
     return call
 
 
-def checking(limits: Limits) -> Call:
+def check_call(limits: Limits) -> Call:
     """The call that checks the lines of some bytes."""
     asked = limits.numbers()
 
-    def call(room: Room, lines: bytes) -> None:
+    def call(room: ReplyBuffer, lines: bytes) -> None:
         room.call("bb_check", asked, lines, len(lines) // _FOR_EACH + _ANSWER)
 
     return call
 
 
-def _made_ready(limits: Limits, plan: Plan, threads: int) -> int:
+def _prepare(limits: Limits, plan: Plan, threads: int) -> int:
     """Raises what is wrong before anything is read; gives the number of threads."""
     if not isinstance(limits, Limits):
         raise TypeError("limits is of type %s, not Limits" % type(limits).__name__)
@@ -75,26 +75,26 @@ def _made_ready(limits: Limits, plan: Plan, threads: int) -> int:
     if number < 1:
         raise ValueError("threads is %d, but must be 1 or more" % number)
     forbid_fork()
-    loaded()
+    load_library()
     return number
 
 
-def _listed(name: str, texts: Iterable[object]) -> None:
+def _require_list(name: str, texts: Iterable[object]) -> None:
     """Raises TypeError for a text or bytes where a list of texts is asked for."""
     if isinstance(texts, (str, bytes, bytearray)):
         raise TypeError("%s is one %s; a list of texts is asked for" % (name, type(texts).__name__))
     iter(texts)
 
 
-def _answered(
+def _reply_lines(
     batches: Iterator[Batch], call: Call, threads: int, pace: BatchPace
 ) -> Iterator[Tuple[str, str]]:
     """Each text and the line that the library writes for it."""
 
-    def work(room: Room, batch: Batch) -> None:
+    def work(room: ReplyBuffer, batch: Batch) -> None:
         call(room, batch.lines)
 
-    for batch, reply in in_order(work, batches, threads, pace):
+    for batch, reply in map_in_order(work, batches, threads, pace):
         yield from zip(batch.texts, reply.text.decode().split("\n"))
 
 
@@ -126,10 +126,10 @@ def decide(
     >>> list(decide(["1rB1LB"]))
     [Refused(column=2, machine='1rB1LB')]
     """
-    threads = _made_ready(limits, plan, threads)
-    _listed("machines", machines)
+    threads = _prepare(limits, plan, threads)
+    _require_list("machines", machines)
     pace = BatchPace(MOST_LINES)
-    answered = _answered(of_texts(machines, "machines", pace), deciding(limits, plan), threads, pace)
+    answered = _reply_lines(batch_texts(machines, "machines", pace), decide_call(limits, plan), threads, pace)
     return (_verdict(machine, line) for machine, line in answered)
 
 
@@ -137,9 +137,9 @@ def column_of(text: str) -> Optional[int]:
     """The column with which the library refuses a text; None where it is a machine. Nothing is run. Raises
     LibraryError, RuntimeError, MemoryError."""
     forbid_fork()
-    room = Room()
+    room = ReplyBuffer()
     line = text.encode("utf-8", "surrogateescape")[:LONGEST_GIVEN]
-    deciding(Limits(0, 1, 0, 0), Plan(False, False, False))(room, line)
+    decide_call(Limits(0, 1, 0, 0), Plan(False, False, False))(room, line)
     reply = room.reply().text
     return int(reply.split()[1]) if reply.startswith(b"refused ") else None
 
@@ -149,7 +149,7 @@ def _lines_of(items: Iterable[Union[str, Verdict]]) -> Iterator[str]:
     for a verdict that has a field of another type."""
     for place, item in enumerate(items):
         if isinstance(item, VERDICTS):
-            hold_fields("lines[%d]" % place, item)
+            require_field_types("lines[%d]" % place, item)
             yield str(item)
         else:
             yield item
@@ -165,10 +165,10 @@ def check(
     >>> [answer.name for answer in check(["1RB1LB_1LA1RZ halt 6 4", "1RB1LB_1LA1RZ halt 6 5", "x"])]
     ['OK', 'BAD', 'UNREAD']
     """
-    threads = _made_ready(limits, Plan(), threads)
-    _listed("lines", lines)
+    threads = _prepare(limits, Plan(), threads)
+    _require_list("lines", lines)
     pace = _checking_pace(MOST_LINES, limits)
-    answered = _answered(of_texts(_lines_of(lines), "lines", pace), checking(limits), threads, pace)
+    answered = _reply_lines(batch_texts(_lines_of(lines), "lines", pace), check_call(limits), threads, pace)
     return (_ANSWERS[answer] for _, answer in answered)
 
 
@@ -178,7 +178,7 @@ def _checking_pace(most: int, limits: Limits) -> BatchPace:
 
 
 def _replies(blocks: Blocks, call: Call, threads: int, pace: BatchPace) -> Iterator[bytes]:
-    return (reply.text for _, reply in in_order(call, of_bytes(blocks, pace), threads, pace))
+    return (reply.text for _, reply in map_in_order(call, batch_bytes(blocks, pace), threads, pace))
 
 
 def decide_bytes(
@@ -192,8 +192,8 @@ def decide_bytes(
     >>> b"".join(decide_bytes(b"1RB1LB_1LA1RZ\\n"))
     b'1RB1LB_1LA1RZ halt 6 4\\n'
     """
-    threads = _made_ready(limits, plan, threads)
-    return _replies(blocks, deciding(limits, plan), threads, BatchPace(MOST_BYTES))
+    threads = _prepare(limits, plan, threads)
+    return _replies(blocks, decide_call(limits, plan), threads, BatchPace(MOST_BYTES))
 
 
 def check_bytes(blocks: Blocks, limits: Limits = Limits(), *, threads: int = 1) -> Iterator[bytes]:
@@ -203,18 +203,18 @@ def check_bytes(blocks: Blocks, limits: Limits = Limits(), *, threads: int = 1) 
     >>> b"".join(check_bytes(b"1RB1LB_1LA1RZ halt 6 4\\n"))
     b'ok\\n'
     """
-    threads = _made_ready(limits, Plan(), threads)
-    return _replies(blocks, checking(limits), threads, _checking_pace(MOST_BYTES, limits))
+    threads = _prepare(limits, Plan(), threads)
+    return _replies(blocks, check_call(limits), threads, _checking_pace(MOST_BYTES, limits))
 
 
-def checked(file: BinaryReader, limits: Limits, *, threads: int = 1) -> Iterator[Tuple[bytes, bytes]]:
+def check_file(file: BinaryReader, limits: Limits, *, threads: int = 1) -> Iterator[Tuple[bytes, bytes]]:
     """Lines of a file, and the bytes that `bb check` writes for them, in large blocks: with large tapes what
     a call costs is the tapes. A line of more than LONGEST_GIVEN bytes is cut. Raises what `decide` does."""
-    threads = _made_ready(limits, Plan(), threads)
+    threads = _prepare(limits, Plan(), threads)
     most = _LARGE if threads == 1 else _LARGE // 4
     pace = BatchPace(most, is_steady=True)
     blocks = iter(lambda: file.read(most), b"")
-    replies = in_order(checking(limits), of_bytes(blocks, pace), threads, pace)
+    replies = map_in_order(check_call(limits), batch_bytes(blocks, pace), threads, pace)
     return ((lines, reply.text) for lines, reply in replies)
 
 
@@ -272,12 +272,12 @@ class Trace(Iterator[Configuration]):
         while count > 1 and count * self._longest(count) > _TRACED_AT_WORST:
             count //= 2
         room = min(count * self._longest(count), _TRACED) + _LONGEST_REFUSAL
-        status, length, reply = self._asked(count, left, room)
+        status, length, reply = self._call_trace(count, left, room)
         while status == SHORT:
             if count == 1:
                 room = length
             count = max(count * room // length, 1)
-            status, length, reply = self._asked(count, left, room)
+            status, length, reply = self._call_trace(count, left, room)
         if reply.startswith(b"refused "):
             raise MachineError(self._machine, int(reply.split()[1]))
         lines = reply.split(b"\n")[:-1]
@@ -288,25 +288,25 @@ class Trace(Iterator[Configuration]):
             self._visited = len(lines[-1].rpartition(b" ")[2])
         return lines
 
-    def _asked(self, count: int, left: int, room: int) -> Reply:
+    def _call_trace(self, count: int, left: int, room: int) -> Reply:
         """What a call returns for the next `count` lines; where they are all that are `left`, of the last
         step too."""
         last = self._upto if count == left else self._next + self._every * (count - 1)
-        return _apart(self._machine, (last, self._cells, self._next, self._every), room)
+        return _trace_call(self._machine, (last, self._cells, self._next, self._every), room)
 
 
-def _apart(machine: str, asked: Sequence[int], room: int) -> Reply:
+def _trace_call(machine: str, asked: Sequence[int], room: int) -> Reply:
     """What one call that traces returns. It is made beside the caller's thread unless it is short."""
     line = machine.encode("utf-8", "surrogatepass")[:LONGEST_GIVEN]
 
-    def work(buffer: Room, line: bytes) -> None:
+    def work(buffer: ReplyBuffer, line: bytes) -> None:
         buffer.call_once("bb_trace", asked, line, room)
 
     if asked[0] <= _SHORT_RUN:
-        buffer = Room()
+        buffer = ReplyBuffer()
         work(buffer, line)
         return buffer.reply()
-    ((_, reply),) = in_order(work, [line], 1, BatchPace(1))
+    ((_, reply),) = map_in_order(work, [line], 1, BatchPace(1))
     return reply
 
 
@@ -331,5 +331,5 @@ def trace(machine: str, upto: int, cells: int = 65_536, start: int = 0, every: i
     start = in_range("start", start, 0, 2**64 - 1)
     every = in_range("every", every, 1, 2**64 - 1)
     forbid_fork()
-    loaded()
+    load_library()
     return Trace(machine, upto, cells, start, every)

@@ -25,7 +25,7 @@ class Growth(Words):
 
 
 @dataclasses.dataclass(frozen=True)
-class Grown:
+class GrowthSamples:
     """How many cells a run has visited after a hundredth of `steps`, a tenth, and all, and how that grows.
     `steps` are fewer than asked for where the cells ended the run, or the machine halted."""
 
@@ -34,7 +34,7 @@ class Grown:
     growth: Growth
 
 
-def growth(visited: Tuple[int, int, int]) -> Growth:
+def classify_growth(visited: Tuple[int, int, int]) -> Growth:
     """How these counts grow, each at ten times the steps of the one before."""
     first, second, third = visited
     if second == third:
@@ -45,7 +45,7 @@ def growth(visited: Tuple[int, int, int]) -> Growth:
     return Growth.ROOT if power < _ROOT[1] else Growth.LINE
 
 
-def _hundredths(machine: str, steps: int, cells: int) -> Tuple[Optional[bool], List[int]]:
+def _visited_by_hundredths(machine: str, steps: int, cells: int) -> Tuple[Optional[bool], List[int]]:
     """The cells visited after each hundredth of the steps, up to all of them; and whether the cells ended the
     run before, None where it made all steps and went on."""
     apart = max(steps // 100, 1)
@@ -65,7 +65,7 @@ def _last_step(machine: str, steps: int, cells: int) -> int:
         apart = max(apart // 100, 1)
 
 
-def grown(machine: str, steps: int, cells: int = 65_536) -> Grown:
+def measure_growth(machine: str, steps: int, cells: int = 65_536) -> GrowthSamples:
     """How the cells that a machine visits grow, looked at after `steps` / 100, / 10, and all of them.
 
     Staying: a tenth of the steps and all have the same cells. Else by the power of the steps with which they
@@ -78,17 +78,17 @@ def grown(machine: str, steps: int, cells: int = 65_536) -> Grown:
     <Growth.LINE: 'line'>
     """
     in_range("steps", steps, 100, Limits.RANGES["steps"][1])
-    is_cut, counts = _hundredths(machine, steps, cells)
+    is_cut, counts = _visited_by_hundredths(machine, steps, cells)
     if is_cut is not None:
         steps = _last_step(machine, steps, cells)
     if is_cut is False:
         looks = (next(trace(machine, at, cells, at)) for at in (steps // 100, steps // 10, steps))
         first, second, last = (len(now.cells) for now in looks)
-        return Grown(steps, (first, second, last), Growth.HALTS)
+        return GrowthSamples(steps, (first, second, last), Growth.HALTS)
     if is_cut:
-        counts = _hundredths(machine, steps, cells)[1]
+        counts = _visited_by_hundredths(machine, steps, cells)[1]
     if len(counts) < 100:
         last = counts[-1] if counts else 0
-        return Grown(steps, (last, last, last), Growth.LINE)
+        return GrowthSamples(steps, (last, last, last), Growth.LINE)
     visited = (counts[len(counts) // 100 - 1], counts[len(counts) // 10 - 1], counts[-1])
-    return Grown(steps, visited, growth(visited))
+    return GrowthSamples(steps, visited, classify_growth(visited))

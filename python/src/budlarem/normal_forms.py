@@ -17,7 +17,7 @@ from typing import Dict, Iterable, Iterator, List, NamedTuple, Optional, Tuple
 from .engine import MachineError, trace
 from .verdicts import STATES, Translated, Verdict, is_machine
 
-_TURNED = {"L": "R", "R": "L"}
+_OTHER_SIDE = {"L": "R", "R": "L"}
 
 
 @dataclasses.dataclass(frozen=True)
@@ -64,7 +64,7 @@ def normal(machine: str, *, steps: int = 10_000, cells: int = 65_536) -> Normal:
     mirrored = machine[1] == "L"
     names = {old: new for new, old in zip(STATES, order)}
     names["Z"] = "Z"
-    moves = _TURNED if mirrored else {"L": "L", "R": "R"}
+    moves = _OTHER_SIDE if mirrored else {"L": "L", "R": "R"}
 
     def entry(text: str) -> str:
         return text if text == "---" else text[0] + moves[text[1]] + names[text[2]]
@@ -97,7 +97,7 @@ def distinct(
         yield form, before
 
 
-class Form(NamedTuple):
+class CanonicalForm(NamedTuple):
     """A text that a machine has in common with all that are the same, and whether left and right are
     exchanged in it."""
 
@@ -105,7 +105,7 @@ class Form(NamedTuple):
     mirrored: bool
 
 
-def form_of(machine: str) -> Form:
+def canonical_form(machine: str) -> CanonicalForm:
     """The form of a machine: states and symbols are named in the order in which they are met on the way from
     A and 0 through the entries, and the first entry goes to the right. What isn't met comes behind.
 
@@ -119,16 +119,18 @@ def form_of(machine: str) -> Form:
     """
     groups = machine.split("_")
     if groups[0].startswith("---"):
-        return min(Form(_Walk(groups, False).text(), False), Form(_Walk(groups, True).text(), True))
+        return min(
+            CanonicalForm(_Walk(groups, False).text(), False), CanonicalForm(_Walk(groups, True).text(), True)
+        )
     mirrored = groups[0][1] == "L"
-    return Form(_Walk(groups, mirrored).text(), mirrored)
+    return CanonicalForm(_Walk(groups, mirrored).text(), mirrored)
 
 
-def turned(verdict: Verdict, is_turned: bool) -> Verdict:
+def mirror_verdict(verdict: Verdict, is_mirrored: bool) -> Verdict:
     """The verdict on a machine whose left and right are exchanged, where that is so."""
-    if not is_turned or not isinstance(verdict, Translated):
+    if not is_mirrored or not isinstance(verdict, Translated):
         return verdict
-    return dataclasses.replace(verdict, side=_TURNED[verdict.side])
+    return dataclasses.replace(verdict, side=_OTHER_SIDE[verdict.side])
 
 
 class _Walk:
@@ -136,7 +138,7 @@ class _Walk:
 
     def __init__(self, groups: List[str], mirrored: bool) -> None:
         self._rows = dict(zip(STATES, groups))
-        self._sides = _TURNED if mirrored else {"L": "L", "R": "R"}
+        self._sides = _OTHER_SIDE if mirrored else {"L": "L", "R": "R"}
         self._states: Dict[str, str] = {"A": "A", "Z": "Z"}
         self._symbols: Dict[str, str] = {"0": "0"}
         self._count = len(groups[0]) // 3
@@ -189,14 +191,14 @@ class _Walk:
         colours = dict.fromkeys(states + symbols, 0)
         count = 1
         while True:
-            seen: Dict[str, List[str]] = {one: self._seen(one, colours) for one in colours}
+            seen: Dict[str, List[str]] = {one: self._signature(one, colours) for one in colours}
             ranks = {entries: rank for rank, entries in enumerate(sorted(map(str, seen.values())))}
             colours = {one: ranks[str(entries)] for one, entries in seen.items()}
             if len(set(colours.values())) <= count:
                 return colours
             count = len(set(colours.values()))
 
-    def _seen(self, one: str, colours: Dict[str, int]) -> List[str]:
+    def _signature(self, one: str, colours: Dict[str, int]) -> List[str]:
         """What tells a state or a symbol apart: where it stands in the entries, with the numbers of what has
         no name."""
         found = []
@@ -213,7 +215,7 @@ class _Walk:
         name = self._states.get(one) or self._symbols.get(one)
         return name or "(%d)" % colours.get(one, -1)
 
-    def _named(self, state: str, symbol: str) -> str:
+    def _rename_entry(self, state: str, symbol: str) -> str:
         """An entry in new names."""
         entry = self._entry(state, symbol)
         if entry == "---":
@@ -224,4 +226,6 @@ class _Walk:
         """The machine in new names."""
         states = sorted((new, old) for old, new in self._states.items() if old != "Z")
         symbols = [old for old, _ in sorted(self._symbols.items(), key=lambda pair: pair[1])]
-        return "_".join("".join([self._named(state, symbol) for symbol in symbols]) for _, state in states)
+        return "_".join(
+            "".join([self._rename_entry(state, symbol) for symbol in symbols]) for _, state in states
+        )

@@ -5,7 +5,7 @@ from __future__ import annotations
 import re
 from typing import Iterator, List, Sequence
 
-from ._text import shown
+from ._text import quote
 
 # One separator between all groups of a number: a comma, an apostrophe, a low line or a space of any width.
 _NUMBER = re.compile(
@@ -24,7 +24,7 @@ def number_of(text: str) -> int:
     47176870
     """
     if _NUMBER.fullmatch(text) is None:
-        raise ValueError("%s is no number" % shown(text))
+        raise ValueError("%s is no number" % quote(text))
     return int(re.sub("[^0-9]", "", text))
 
 
@@ -42,11 +42,11 @@ def whole_number(text: str) -> int:
     if power is not None:
         whole, part, zeros = power[1] or "1", power[2] or "", int(power[3])
         if zeros < len(part):
-            raise ValueError("%s is no whole number" % shown(text))
+            raise ValueError("%s is no whole number" % quote(text))
         scaled: int = int(whole + part) * 10 ** (zeros - len(part))
         return sign * scaled
     if _DIGITS.fullmatch(digits) is None and _NUMBER.fullmatch(digits) is None:
-        raise ValueError("%s is no whole number" % shown(text))
+        raise ValueError("%s is no whole number" % quote(text))
     return sign * int(re.sub("[^0-9]", "", digits))
 
 
@@ -66,7 +66,7 @@ def numbers_in(words: Sequence[str], counts: Sequence[int]) -> List[int]:
     words of one number may be its groups. Raises ValueError where there isn't one way to read them."""
     ways = [way for way in _ways(list(words), max(counts)) if len(way) in counts]
     if len(ways) != 1:
-        text = shown(" ".join(words))
+        text = quote(" ".join(words))
         raise ValueError("%s can be read as numbers in %d ways" % (text, len(ways)))
     return [number_of(text) for text in ways[0]]
 

@@ -11,7 +11,7 @@ import struct
 import zlib
 from typing import Iterable, List, Optional, Sequence, Tuple, Union
 
-from ._files import naming
+from ._files import name_errors
 from .engine import Configuration, trace
 from .limits import in_range, whole
 
@@ -57,14 +57,14 @@ class Picture:
         if ending.lower() not in ("", ".png"):
             named = os.fspath(path)
             raise PictureError("%s: a picture is a PNG file, so not a name that ends in %s" % (named, ending))
-        with naming(path), open(path, "wb") as file:
+        with name_errors(path), open(path, "wb") as file:
             file.write(self.png)
 
     def _repr_png_(self) -> bytes:
         return self.png
 
 
-def _spaced(last: int, most: int) -> int:
+def _spacing(last: int, most: int) -> int:
     """The least power of two of which at most so many multiples are up to `last`."""
     every = 1
     while last // every + 1 > most:
@@ -72,12 +72,12 @@ def _spaced(last: int, most: int) -> int:
     return every
 
 
-def spread(machine: str, upto: int, cells: int, most: int) -> Tuple[List[Configuration], int]:
+def sample_rows(machine: str, upto: int, cells: int, most: int) -> Tuple[List[Configuration], int]:
     """At most so many of all steps of a run, evenly spaced, and how far apart they are: a power of two. Only
     some are traced for it."""
-    every = _spaced(upto, most)
+    every = _spacing(upto, most)
     chosen = list(trace(machine, upto, cells, every=every))
-    closer = _spaced(min(upto, chosen[-1].step + every - 1), most)
+    closer = _spacing(min(upto, chosen[-1].step + every - 1), most)
     if closer < every:
         chosen, every = list(trace(machine, upto, cells, every=closer)), closer
     while every > 1 and 2 * len(chosen) - 1 <= most:
@@ -88,7 +88,7 @@ def spread(machine: str, upto: int, cells: int, most: int) -> Tuple[List[Configu
     return chosen, every
 
 
-def stretch(
+def visible_range(
     chosen: Sequence[Configuration], columns: Optional[int], first: Optional[int], last: Optional[int]
 ) -> Tuple[int, int, bool]:
     """The first and the last position shown, and whether those aren't just the ones visited: those that were
@@ -119,7 +119,7 @@ def places(row: Configuration, left: int, right: int, has_head: bool = True) -> 
     return bytes(shown)
 
 
-def means(places: bytes, across: int, is_rounded: bool = True) -> bytes:
+def mean_colours(places: bytes, across: int, is_rounded: bool = True) -> bytes:
     """The mean colours of so many places each, three bytes a pixel: red, green, blue; rounded, or cut off."""
     parts = (places[begin : begin + across] for begin in range(0, len(places), across))
     return b"".join(_mean(part, len(part) // 2 if is_rounded else 0) for part in parts)
@@ -174,7 +174,7 @@ def _refuse_large(rows: int, columns: int, scale: int) -> None:
     raise PictureError("%s; lower rows or columns" % size)
 
 
-def _drawn(
+def _draw(
     chosen: Sequence[Configuration],
     every: int,
     is_cut: bool,
@@ -186,7 +186,7 @@ def _drawn(
     pixels."""
     if not chosen:
         raise PictureError("no step to show")
-    first, last, is_part = stretch(chosen, columns, *sides)
+    first, last, is_part = visible_range(chosen, columns, *sides)
     if last < first:
         raise PictureError("no position to show")
     across = 1 if columns is not None else -(-(last - first + 1) // MOST_WIDE)
@@ -196,11 +196,11 @@ def _drawn(
     if across == 1:
         data = png(list(shown), scale)
     else:
-        data = _scaled((means(row, across) for row in shown), wide, len(chosen), scale)
+        data = _scale((mean_colours(row, across) for row in shown), wide, len(chosen), scale)
     return Picture(data, every, chosen[-1].step, first, last, is_cut, is_part, across)
 
 
-def _scaled(rows: Iterable[bytes], wide: int, high: int, scale: int) -> bytes:
+def _scale(rows: Iterable[bytes], wide: int, high: int, scale: int) -> bytes:
     """A PNG file of rows of colours, each pixel so many times as wide and high."""
     wider = (b"".join(row[k : k + 3] * scale for k in range(0, len(row), 3)) for row in rows)
     return png_of_colours(wide * scale, high * scale, (row for row in wider for _ in range(scale)))
@@ -237,11 +237,11 @@ def picture(
             in_range(name, asked, 1, 2**64 - 1)
     sides = [side if side is None else whole(name, side) for name, side in (("left", left), ("right", right))]
     if every is None:
-        chosen, apart = spread(machine, upto, cells, rows)
+        chosen, apart = sample_rows(machine, upto, cells, rows)
         is_cut = False
     else:
         apart = in_range("every", every, 1, 2**64 - 1)
         chosen = list(itertools.islice(trace(machine, upto, cells, every=apart), rows + 1))
         is_cut = len(chosen) > rows
         del chosen[rows:]
-    return _drawn(chosen, apart, is_cut, scale, columns, *sides)
+    return _draw(chosen, apart, is_cut, scale, columns, *sides)

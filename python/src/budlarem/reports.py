@@ -20,9 +20,9 @@ from typing import Any, Counter, Dict, Iterable, Iterator, List, Optional, Seque
 from ._files import FileTarget, write_blocks
 from .counts import KINDS, VerdictCounts
 from .engine import Configuration
-from .growth import Grown, Growth, grown
+from .growth import GrowthSamples, Growth, measure_growth
 from .limits import Limits, in_range
-from .pictures import means, places, png, png_of_colours, spread
+from .pictures import mean_colours, places, png, png_of_colours, sample_rows
 from .verdicts import Verdict, size_of, verdicts_of
 
 # The plots, and the numbers that each has.
@@ -53,14 +53,14 @@ class Report:
 
     def _repr_html_(self) -> str:
         # In a frame, so that neither the page's styles nor the notebook's reach the other.
-        shown = html.escape(self.title), html.escape(self.html)
+        trace_machine = html.escape(self.title), html.escape(self.html)
         return (
             '<iframe title="%s" srcdoc="%s" style="width:100%%;height:40rem;border:1px solid #8886"></iframe>'
-            % shown
+            % trace_machine
         )
 
 
-class Gathered(VerdictCounts):
+class Statistics(VerdictCounts):
     """The counts of a list, distributions of its numbers, and the smallest undecided machines."""
 
     def __init__(self, most: int) -> None:
@@ -69,8 +69,8 @@ class Gathered(VerdictCounts):
         self.smallest: List[Tuple[int, str]] = []
         self._most = most
 
-    def _take(self, kind: str, numbers: Dict[str, int], line: str) -> None:
-        super()._take(kind, numbers, line)
+    def _add_numbers(self, kind: str, numbers: Dict[str, int], line: str) -> None:
+        super()._add_numbers(kind, numbers, line)
         for name, number in numbers.items():
             plot = _PLOTTED.get("%s %s" % (kind, name))
             if plot is not None:
@@ -92,15 +92,15 @@ def begin_of(place: int) -> float:
     return place - 0.5 if place <= 10 else 10 ** (place / 10)
 
 
-def gathered(verdicts: Iterable[Union[str, Verdict]], most: int) -> Gathered:
+def gather_statistics(verdicts: Iterable[Union[str, Verdict]], most: int) -> Statistics:
     """What a list has. Raises ValueError, with its place, for a text that is no verdict line."""
-    found = Gathered(most)
+    found = Statistics(most)
     for verdict in verdicts_of(verdicts, "verdicts"):
         found.add(str(verdict))
     return found
 
 
-def _modules() -> Tuple[Any, Any, Any]:
+def _import_matplotlib() -> Tuple[Any, Any, Any]:
     """What is needed of matplotlib. Raises ReportError."""
     try:
         from matplotlib import rc_context
@@ -116,7 +116,7 @@ def _modules() -> Tuple[Any, Any, Any]:
 
 def plot(counts: Counter[int], name: str) -> str:
     """A distribution as an SVG image."""
-    rc_context, figure_of, locator_of = _modules()
+    rc_context, figure_of, locator_of = _import_matplotlib()
     with rc_context({"svg.hashsalt": name, "svg.fonttype": "none", "font.size": 9, "text.color": _INK}):
         figure = figure_of(figsize=(4.6, 2.4), layout="constrained")
         axes = figure.subplots()
@@ -164,29 +164,29 @@ def diagram(rows: Sequence[Configuration]) -> bytes:
     lines = [places(row, low, low + wide * together - 1, together == 1) for row in rows]
     if together == 1:
         return png(lines, 1)
-    return png_of_colours(wide, len(rows), (means(line, together, False) for line in lines))
+    return png_of_colours(wide, len(rows), (mean_colours(line, together, False) for line in lines))
 
 
 @dataclasses.dataclass(frozen=True)
-class Shown:
+class MachineDiagram:
     """An undecided machine as the report shows it."""
 
     machine: str
-    grown: Grown
+    growth: GrowthSamples
     png: bytes
 
 
-def shown(machine: str, steps: int, cells: int) -> Shown:
+def trace_machine(machine: str, steps: int, cells: int) -> MachineDiagram:
     """Traces a machine for the report."""
-    rows, _ = spread(machine, steps, cells, SIZE)
-    return Shown(machine, grown(machine, steps, cells), diagram(rows))
+    rows, _ = sample_rows(machine, steps, cells, SIZE)
+    return MachineDiagram(machine, measure_growth(machine, steps, cells), diagram(rows))
 
 
-def all_shown(machines: Sequence[str], steps: int, cells: int, threads: int) -> List[Shown]:
+def trace_all(machines: Sequence[str], steps: int, cells: int, threads: int) -> List[MachineDiagram]:
     """The same of all, on so many threads, in order."""
     pool = concurrent.futures.ThreadPoolExecutor(threads)
     try:
-        return list(pool.map(lambda machine: shown(machine, steps, cells), machines))
+        return list(pool.map(lambda machine: trace_machine(machine, steps, cells), machines))
     finally:
         pool.shutdown(wait=False, cancel_futures=True)
 
@@ -195,7 +195,7 @@ def _number(number: float) -> str:
     return "{:,}".format(number)
 
 
-def _counts(found: Gathered) -> Iterator[str]:
+def _counts(found: Statistics) -> Iterator[str]:
     total = sum(found.kinds.values())
     for name in KINDS:
         count = found.kinds[name]
@@ -208,13 +208,13 @@ def _counts(found: Gathered) -> Iterator[str]:
     yield '<tr class="all"><th scope="row">all</th><td>%s</td><td></td><td></td></tr>' % _number(total)
 
 
-def _plots(found: Gathered) -> Iterator[str]:
+def _plots(found: Statistics) -> Iterator[str]:
     for name in _PLOTS:
         if found.bins[name]:
             yield "<figure>%s</figure>" % plot(found.bins[name], name)
 
 
-def _longest(found: Gathered) -> Iterator[str]:
+def _longest(found: Statistics) -> Iterator[str]:
     for kind in ("halt", "cycler", "translated"):
         runs = sorted(found.longest.get(kind, []), key=lambda run: (-run[0], run[1]))
         if runs:
@@ -222,10 +222,10 @@ def _longest(found: Gathered) -> Iterator[str]:
             yield "<h3>%s</h3><pre>%s</pre>" % (kind, lines)
 
 
-def _card(one: Shown) -> str:
+def _card(one: MachineDiagram) -> str:
     """A diagram with what stands beside it."""
     image = base64.b64encode(one.png).decode()
-    said = "%s cells, last step %s" % (_number(one.grown.visited[-1]), _number(one.grown.steps))
+    said = "%s cells, last step %s" % (_number(one.growth.visited[-1]), _number(one.growth.steps))
     machine = html.escape(one.machine)
     return (
         '<figure class="card"><img loading="lazy" alt="Space-time diagram of %s" '
@@ -234,11 +234,11 @@ def _card(one: Shown) -> str:
     )
 
 
-def _groups(machines: Sequence[Shown]) -> Iterator[str]:
+def _groups(machines: Sequence[MachineDiagram]) -> Iterator[str]:
     """The diagrams by how the cells grow; in each group small machines first, then those of few cells."""
     for kind in Growth:
-        group = [one for one in machines if one.grown.growth is kind]
-        group.sort(key=lambda one: (math.prod(size_of(one.machine)), one.grown.visited[-1], one.machine))
+        group = [one for one in machines if one.growth.growth is kind]
+        group.sort(key=lambda one: (math.prod(size_of(one.machine)), one.growth.visited[-1], one.machine))
         if group:
             cards = "".join(map(_card, group))
             yield '<h3>%s: %s</h3><div class="cards">%s</div>' % (_GROWTHS[kind], _number(len(group)), cards)
@@ -258,7 +258,7 @@ _GROWTHS = {
 }
 
 
-def _left(count: int, left: int) -> str:
+def _undecided_sentence(count: int, left: int) -> str:
     """What is said of so many diagrams of so many machines that are left."""
     if not left:
         return "No machine is left undecided."
@@ -266,13 +266,13 @@ def _left(count: int, left: int) -> str:
     return "%s %s" % (sentence, _DIAGRAMS) if count else sentence
 
 
-def _page(found: Gathered, machines: Sequence[Shown], title: str) -> str:
+def _page(found: Statistics, machines: Sequence[MachineDiagram], title: str) -> str:
     parts = {
         "title": html.escape(title),
         "counts": "".join(_counts(found)),
         "plots": "".join(_plots(found)) or "<p>No verdict has numbers.</p>",
         "longest": "".join(_longest(found)) or "<p>No run is known.</p>",
-        "left": _left(len(machines), found.left()),
+        "left": _undecided_sentence(len(machines), found.undecided()),
         "diagrams": "".join(_groups(machines)),
     }
     return string.Template(_PAGE.read_text(encoding="utf-8")).substitute(parts)
@@ -303,11 +303,11 @@ def report(
     in_range("diagrams", diagrams, 0, 1_000_000)
     in_range("steps", steps, 100, Limits.RANGES["steps"][1])
     in_range("cells", cells, *Limits.RANGES["cells"])
-    _modules()
+    _import_matplotlib()
     with contextlib.closing(FileTarget(os.fspath(path))) as target:
-        found = gathered(verdicts, diagrams)
+        found = gather_statistics(verdicts, diagrams)
         machines = [machine for _, machine in found.smallest]
-        pictured = all_shown(machines, steps, cells, threads or os.cpu_count() or 1)
+        pictured = trace_all(machines, steps, cells, threads or os.cpu_count() or 1)
         page = _page(found, pictured, title)
         target.write(lambda number: write_blocks(number, [page.encode("utf-8")]))
     return Report(os.fspath(path), title, page)

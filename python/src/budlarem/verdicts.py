@@ -124,8 +124,8 @@ class Refused:
 
 
 # What is said of a machine that a line has.
-OfMachine = Union[Halt, Cycler, Translated, Backward, Undecided]
-Verdict = Union[OfMachine, Refused]
+MachineVerdict = Union[Halt, Cycler, Translated, Backward, Undecided]
+Verdict = Union[MachineVerdict, Refused]
 VERDICTS = (Halt, Cycler, Translated, Backward, Undecided, Refused)
 _OF_TWO_NUMBERS: Dict[str, Callable[[str, int, int], Verdict]] = {
     "halt": Halt,
@@ -134,7 +134,7 @@ _OF_TWO_NUMBERS: Dict[str, Callable[[str, int, int], Verdict]] = {
 }
 
 
-def hold_fields(name: str, verdict: Union[Verdict, Extent]) -> None:
+def require_field_types(name: str, verdict: Union[Verdict, Extent]) -> None:
     """Raises TypeError where a field of a verdict, which is called so, has another type than it must have:
     its line would say something else."""
     for field in dataclasses.fields(verdict):
@@ -147,7 +147,7 @@ def hold_fields(name: str, verdict: Union[Verdict, Extent]) -> None:
     if isinstance(verdict, Translated) and verdict.extent is not None:
         if not isinstance(verdict.extent, Extent):
             raise TypeError("%s.extent is of type %s, not Extent" % (name, type(verdict.extent).__name__))
-        hold_fields(name + ".extent", verdict.extent)
+        require_field_types(name + ".extent", verdict.extent)
 
 
 @functools.lru_cache(maxsize=None)
@@ -189,7 +189,7 @@ def whole_number(word: str) -> int:
 Reader = Callable[[str], int]
 
 
-def _translated(machine: str, words: List[str], number: Reader) -> Verdict:
+def _parse_translated(machine: str, words: List[str], number: Reader) -> Verdict:
     side, first, second, *extent = words
     if side not in ("L", "R") or len(extent) not in (0, 2):
         raise ValueError
@@ -202,7 +202,7 @@ def verdict_of(machine: str, words: str, number: Reader = int) -> Verdict:
     Raises ValueError."""
     kind, *others = words.split(" ")
     if kind == "translated":
-        return _translated(machine, others, number)
+        return _parse_translated(machine, others, number)
     if kind in _OF_TWO_NUMBERS:
         first, second = others
         return _OF_TWO_NUMBERS[kind](machine, number(first), number(second))
@@ -211,7 +211,7 @@ def verdict_of(machine: str, words: str, number: Reader = int) -> Verdict:
     return Undecided(machine, others[0])
 
 
-def _refused(words: List[str]) -> Refused:
+def _parse_refused(words: List[str]) -> Refused:
     (column,) = words
     number = whole_number(column)
     if not 1 <= number <= LONGEST + 1:
@@ -237,7 +237,7 @@ def parse(line: str) -> Verdict:
     machine, _, words = line.partition(" ")
     try:
         if machine == "refused":
-            return _refused(words.split(" "))
+            return _parse_refused(words.split(" "))
         if not is_machine(machine):
             raise ValueError
         return verdict_of(machine, words, whole_number)

@@ -36,7 +36,7 @@ complete_here "$@"
 """
 
 
-def helped(command: Sequence[str]) -> str:
+def help_of(command: Sequence[str]) -> str:
     """The help of a program or a command."""
     variables = {**os.environ, "COLUMNS": "200"}
     return subprocess.run([*command, "--help"], stdout=subprocess.PIPE, text=True, env=variables).stdout
@@ -44,13 +44,13 @@ def helped(command: Sequence[str]) -> str:
 
 def commands_of(program: str, command: Sequence[str]) -> Set[str]:
     """The commands that a program's help names."""
-    page = helped(command).partition("Commands:" if program == "bb" else "COMMAND\n")[2].partition("\n\n")[0]
+    page = help_of(command).partition("Commands:" if program == "bb" else "COMMAND\n")[2].partition("\n\n")[0]
     return {*re.findall(r"^ {2,4}([a-z]+) ", page, re.MULTILINE), "help"}
 
 
 def options_of(command: Sequence[str]) -> Set[str]:
     """The long options that a command's help begins a line with."""
-    return set(re.findall(r"^ +(?:-\w(?: [\w=,]+)?, +)?(--[a-z-]+)", helped(command), re.MULTILINE))
+    return set(re.findall(r"^ +(?:-\w(?: [\w=,]+)?, +)?(--[a-z-]+)", help_of(command), re.MULTILINE))
 
 
 class Shell:

@@ -20,7 +20,7 @@ import pytest
 from support import restore_signals
 from support.machines import mixed
 from support.program import as_lines, ended, options
-from support.runs import Case, is_at_work, seen
+from support.runs import Case, is_at_work, wait_until
 
 FIRST = (300, 64, 10, 100)
 PASS = "steps=300,cells=64,depth=10,nodes=100"
@@ -58,7 +58,7 @@ class Place:
         return sorted(set(os.listdir(self.top)) - {"list.txt", "verdicts.txt"})
 
 
-def unpacked(path: pathlib.Path, into: pathlib.Path) -> pathlib.Path:
+def unpack(path: pathlib.Path, into: pathlib.Path) -> pathlib.Path:
     """The folder that an archive has, unpacked."""
     subprocess.run(["tar", "-x", "-f", str(path), "-C", str(into)], check=True)
     (made,) = into.iterdir()
@@ -142,7 +142,7 @@ def archive_of(bb: str, top: pathlib.Path) -> Tuple[Place, Ways]:
     assert done.stdout == "%s  %s\n" % (hashlib.sha256(place.out.read_bytes()).hexdigest(), place.out)
     assert place.left() == ["out.tar"]
     (top / "unpacked").mkdir()
-    return place, Ways(bb, unpacked(place.out, top / "unpacked"), top / "programs")
+    return place, Ways(bb, unpack(place.out, top / "unpacked"), top / "programs")
 
 
 @pytest.mark.parametrize("count", [100, pytest.param(1_000, marks=pytest.mark.slow)])
@@ -150,7 +150,7 @@ def test_archive(bb: str, tmp_path: pathlib.Path, rng: random.Random, count: int
     """What an archive has, and how it can be checked."""
     place, ways = archive_of(bb, tmp_path)
     made = ways.folder
-    names = {"README.txt", "list.txt", "verdicts.txt", "about.json", "again.py", "SHA256SUMS"}
+    names = {"README.txt", "list.txt", "verdicts.txt", "about.json", "recheck.py", "SHA256SUMS"}
     assert set(os.listdir(made)) == names
     for path in (place.list, place.verdicts):
         assert (made / path.name).read_bytes() == path.read_bytes()
@@ -296,7 +296,7 @@ def test_full_disk(bb: str, tmp_path: pathlib.Path) -> None:
         subprocess.run(["umount", str(disk)], check=True)
 
 
-def ended_by(
+def interrupt_publish(
     place: Place, number: int, ready: Callable[["subprocess.Popen[bytes]"], object]
 ) -> "tuple[int, str]":
     """The status and standard error of a process that is sent a signal once it is ready."""
@@ -319,7 +319,9 @@ def test_signals(bb: str, tmp_path: pathlib.Path, rng: random.Random, tries: int
     place.verdicts.write_bytes(verdicts + ENDLESS)
     place.list.write_bytes(machines + ENDLESS.split(b" ")[0] + b"\n")
     for number, status in ((signal.SIGINT, 130), (signal.SIGTERM, 143), (signal.SIGHUP, 129)):
-        began, error = ended_by(place, number, lambda process: seen(process, lambda: is_at_work(process.pid)))
+        began, error = interrupt_publish(
+            place, number, lambda process: wait_until(process, lambda: is_at_work(process.pid))
+        )
         assert began == status
         assert not place.left(), (number.name, place.left())
         assert "no archive is written" in error
@@ -331,10 +333,10 @@ def test_signals(bb: str, tmp_path: pathlib.Path, rng: random.Random, tries: int
         delay = rng.random() * 0.02
 
         def ready(process: "subprocess.Popen[bytes]") -> None:
-            seen(process, part.exists)
+            wait_until(process, part.exists)
             time.sleep(delay)
 
-        status, error = ended_by(place, (signal.SIGINT, signal.SIGTERM, signal.SIGHUP)[k % 3], ready)
+        status, error = interrupt_publish(place, (signal.SIGINT, signal.SIGTERM, signal.SIGHUP)[k % 3], ready)
         half += status != 0
         is_whole = place.left() in ([], ["out.tar"])
         assert is_whole, (status, place.left(), error)

@@ -16,7 +16,7 @@ from typing import Dict, List, Mapping, Optional, Tuple
 import pytest
 from support import TOP
 from support.program import ended
-from support.runs import expected, words_of
+from support.runs import expected_verdicts, words_of
 
 PACKAGE = TOP / "python"
 WHEEL = re.compile(
@@ -118,7 +118,9 @@ def test_types_and_layout() -> None:
 def test_examples_of_docstrings() -> None:
     names = sorted((PACKAGE / "src" / "budlarem").rglob("[a-z]*.py"))
     modules = [".".join(path.relative_to(PACKAGE / "src").with_suffix("").parts) for path in names]
-    found = [doctest.testmod(importlib.import_module(name)) for name in modules if not name.endswith("again")]
+    found = [
+        doctest.testmod(importlib.import_module(name)) for name in modules if not name.endswith("recheck")
+    ]
     assert sum(one.failed for one in found) == 0
     assert sum(one.attempted for one in found) > 15
 
@@ -185,7 +187,7 @@ def require_runner(bb: str, command: str, folder: pathlib.Path) -> None:
         words += ["--pass", words_of(RUN_PASSES[count - 1])]
         assert run(words, cwd=folder)[0] == 1
         found = (folder / "out" / "verdicts.txt").read_bytes()
-        assert found == expected(bb, RUN_LIST, RUN_PASSES[:count])
+        assert found == expected_verdicts(bb, RUN_LIST, RUN_PASSES[:count])
         assert found.count(b" undecided ") == left
 
 

@@ -13,10 +13,10 @@ from typing import Any, Dict, Iterator, List, Set
 import budlarem
 import hypothesis
 import pytest
-from budlarem import Columns, EncodingError, Form, Passed, Reading, Rewriting
+from budlarem import Columns, EncodingError, Form, Skipped, Reading, Rewriting
 from budlarem._text import LONGEST_LINE
 from budlarem.reading.files import find_encoding
-from budlarem.reading.values import ADVICE
+from budlarem.reading.readings import ADVICE
 from hypothesis import strategies as st
 from support import TOP
 
@@ -181,15 +181,15 @@ def test_lines_that_are_passed_over_are_counted() -> None:
     lines = ["", "\r", "# c", "#17 1RA1RA", "```", "1RA1RA", "```", "|-", "| Machine | x |", "  "]
     readings = budlarem.read(lines)
     assert [reading.number for reading in readings] == [4, 6]
-    right = {Passed.EMPTY: 3, Passed.COMMENT: 1, Passed.FENCE: 2, Passed.RULE: 1, Passed.HEADER: 1}
-    assert dict(readings.passed) == right
+    right = {Skipped.EMPTY: 3, Skipped.COMMENT: 1, Skipped.FENCE: 2, Skipped.RULE: 1, Skipped.HEADER: 1}
+    assert dict(readings.skipped) == right
 
 
 def test_empty_lines_have_their_numbers() -> None:
     content = b"\n" * 2_000_000 + b"1RA1RA\n\r\n\n1RA1RA"
     readings = budlarem.read(io.BytesIO(content))
     assert [reading.number for reading in readings] == [2_000_001, 2_000_004]
-    assert readings.passed[Passed.EMPTY] == 2_000_002
+    assert readings.skipped[Skipped.EMPTY] == 2_000_002
 
 
 def test_bytes_that_are_no_utf_8_are_counted() -> None:

@@ -17,13 +17,13 @@ from typing import List, NoReturn, Optional
 from .._text import escape_controls
 from .._version import VERSION
 from ..reports import ReportError
-from .checking import add_check, add_publish
-from .claims import add_claims, add_judge
+from .check_publish import add_check, add_publish
+from .lists import add_claims, add_judge
 from .machines import add_machines, add_runs
 from .run import add_command as add_run
 
 
-def words() -> argparse.ArgumentParser:
+def build_parser() -> argparse.ArgumentParser:
     """The reader of the command line."""
     parser = argparse.ArgumentParser(prog="budlarem", description="What people do with lists of machines.")
     parser.add_argument("--version", action="version", version="budlarem " + VERSION)
@@ -49,7 +49,7 @@ def do_help(parser: argparse.ArgumentParser, command: Optional[str]) -> int:
 
 def main(arguments: Optional[List[str]] = None) -> int:
     """Does what the words ask for; gives the status."""
-    asked = words().parse_args(arguments)
+    asked = build_parser().parse_args(arguments)
     if isinstance(sys.stdout, io.TextIOWrapper):
         sys.stdout.reconfigure(encoding="utf-8", errors="surrogateescape", newline="\n")
     try:

@@ -7,7 +7,7 @@ import sys
 
 from ..engine import MachineError, trace
 from ..limits import Limits, Plan
-from ..lists import carried
+from ..decide_list import decide_readings
 from ..normal_forms import distinct
 from ..numbers import option_number
 from ..pictures import picture
@@ -65,7 +65,7 @@ def do_decide(asked: argparse.Namespace) -> int:
     """Decides the machine of each line, and carries along what else stands there."""
     plan = Plan(not asked.no_cyclers, not asked.no_translated, not asked.no_backward)
     reader = reader_of(asked)
-    for found in carried(reader.readings(), limits_of(asked), plan, threads=asked.threads):
+    for found in decide_readings(reader.readings(), limits_of(asked), plan, threads=asked.threads):
         sys.stdout.write("%s\n" % found)
     return reader.status
 

@@ -18,16 +18,24 @@ from typing import List, Optional
 from .._text import escape_controls
 from ..limits import Limits, limits_of
 from ..numbers import option_number
-from ..runner.chunks import identity, keep_of
-from ..runner.errors import CheckError, FolderError, ListError, MovedError, RunError, WordsError, sentence_of
-from ..runner.folder import Folder, hold_apart
-from ..runner.input import ListFile, hold_form
+from ..runner.chunks import identity, parse_retention
+from ..runner.errors import (
+    CheckError,
+    FolderError,
+    ListError,
+    MovedError,
+    RunError,
+    UsageError,
+    describe_error,
+)
+from ..runner.folder import Folder, require_separate_list
+from ..runner.input import ListFile, require_form
 from ..runner.journal import VERDICTS
 from ..runner.list_run import run
-from ..runner.passes import HERE, SENT, Manner, Threads, Workplace
+from ..runner.passes import HERE, SENT, RunOptions, ThreadBackend, Backend
 from ..runner.progress import Progress
 
-_HELP = """Decides a list of any length in pieces, on all cores of this computer or by dask's workers. FOLDER
+_HELP = """Decides a list of any length in chunks, on all cores of this computer or by dask's workers. FOLDER
 gets verdicts.txt, with a line for each line of LIST in its order, and summary.json. Whatever ended it, the
 same command goes on after what stands. More passes may be added at the end of the command later: they decide
 what is left. Lines are read as they are, for speed: where more than half of the first thousand would be
@@ -45,7 +53,7 @@ _SECURITY = {"tls-ca-file": "tls_ca_file", "tls-cert": "tls_client_cert", "tls-k
 
 def add_command(commands: "argparse._SubParsersAction[argparse.ArgumentParser]") -> None:
     """Adds the command to a reader of command lines."""
-    parser = commands.add_parser("run", help="decide a list of any length in pieces", description=_HELP)
+    parser = commands.add_parser("run", help="decide a list of any length in chunks", description=_HELP)
     parser.set_defaults(do=do_run)
     parser.add_argument("list", metavar="LIST", help="a file, also compressed by gzip; - is standard input")
     parser.add_argument("--out", required=True, metavar="FOLDER", help="where verdicts are written")
@@ -58,7 +66,7 @@ def add_command(commands: "argparse._SubParsersAction[argparse.ArgumentParser]")
         " (default: one pass, at the defaults of bb)",
     )
     parser.add_argument("--threads", type=option_number, metavar="N", help="cores used (default: all)")
-    parser.add_argument("--scheduler", metavar="ADDRESS", help="of dask, whose workers decide the pieces")
+    parser.add_argument("--scheduler", metavar="ADDRESS", help="of dask, whose workers decide the chunks")
     for name, what in TLS.items():
         parser.add_argument("--" + name, metavar="FILE", help="dask's option: %s" % what)
     parser.add_argument("--check", action="store_true", help="have the checker confirm each verdict")
@@ -76,11 +84,11 @@ def add_command(commands: "argparse._SubParsersAction[argparse.ArgumentParser]")
         "--piece",
         type=option_number,
         metavar="LINES",
-        help="lines of a piece at most (default: {:,}, over dask {:,})".format(HERE.lines, SENT.lines),
+        help="lines of a chunk at most (default: {:,}, over dask {:,})".format(HERE.lines, SENT.lines),
     )
 
 
-def end_at_interruption(progress: Progress, folder: str) -> None:
+def install_signal_handlers(progress: Progress, folder: str) -> None:
     """Has SIGINT, SIGTERM and SIGHUP end the process at once, with a sentence: what stands is on the disk."""
     text = "%sbudlarem: %s; the same command goes on after what stands in %s\n"
     words = {
@@ -90,7 +98,7 @@ def end_at_interruption(progress: Progress, folder: str) -> None:
     }
 
     def end(number: int, frame: Optional[FrameType]) -> None:
-        line = text % (progress.cleared(), words[signal.Signals(number)], escape_controls(folder))
+        line = text % (progress.erase_sequence(), words[signal.Signals(number)], escape_controls(folder))
         with contextlib.suppress(OSError):
             os.write(2, line.encode("utf-8", "replace"))
         os._exit(128 + number)
@@ -100,35 +108,35 @@ def end_at_interruption(progress: Progress, folder: str) -> None:
             signal.signal(number, end)
 
 
-def _hold_readable(option: str, path: str) -> None:
+def _require_readable(option: str, path: str) -> None:
     """Raises WordsError where the file that an option names can't be read."""
     try:
         with open(path, "rb"):
             pass
     except OSError as error:
-        raise WordsError("--%s %s can't be read: %s" % (option, path, error.strerror)) from None
+        raise UsageError("--%s %s can't be read: %s" % (option, path, error.strerror)) from None
 
 
-def _workplace(asked: argparse.Namespace, progress: Progress) -> Workplace:
-    """Where the pieces are decided. Raises WordsError, RunError."""
+def _make_backend(asked: argparse.Namespace, progress: Progress) -> Backend:
+    """Where the chunks are decided. Raises WordsError, RunError."""
     named = ((name, getattr(asked, name.replace("-", "_"))) for name in TLS)
     files = {name: path for name, path in named if path is not None}
     if asked.scheduler is not None:
         if asked.threads is not None:
-            raise WordsError("--threads is for this computer, --scheduler for others; give one of them")
+            raise UsageError("--threads is for this computer, --scheduler for others; give one of them")
         for name, path in files.items():
-            _hold_readable(name, path)
+            _require_readable(name, path)
         # Its imports take a while.
-        from ..runner.dask import ClusterPlace
+        from ..runner.dask import DaskBackend
 
         security = {_SECURITY[name]: path for name, path in files.items()}
-        return ClusterPlace(asked.scheduler, security, progress.print_line)
+        return DaskBackend(asked.scheduler, security, progress.print_line)
     if files:
-        raise WordsError("--tls-ca-file, --tls-cert and --tls-key are for --scheduler, which isn't given")
+        raise UsageError("--tls-ca-file, --tls-cert and --tls-key are for --scheduler, which isn't given")
     count = len(os.sched_getaffinity(0)) if asked.threads is None else asked.threads
     if count < 1:
-        raise WordsError("--threads is %d, but must be 1 or more" % count)
-    return Threads(count)
+        raise UsageError("--threads is %d, but must be 1 or more" % count)
+    return ThreadBackend(count)
 
 
 def passes_of(words: Optional[List[str]]) -> List[Limits]:
@@ -136,7 +144,7 @@ def passes_of(words: Optional[List[str]]) -> List[Limits]:
     return [limits_of(word) for word in words] if words else [Limits()]
 
 
-def _opened(path: str) -> ListFile:
+def _open_list(path: str) -> ListFile:
     """The list. Raises ListError."""
     try:
         return ListFile(path)
@@ -153,14 +161,14 @@ def fill_closed(is_input_read: bool) -> None:
         except OSError as error:
             if number == 0 and is_input_read:
                 raise OSError(error.errno, "standard input is closed") from None
-            _open_nothing(number)
+            _open_null(number)
     # What Python says where they were closed when it began.
     for name in ("stdout", "stderr"):
         if getattr(sys, name) is None:
             setattr(sys, name, open(os.devnull, "w"))
 
 
-def _open_nothing(number: int) -> None:
+def _open_null(number: int) -> None:
     """Opens a file of nothing under a number."""
     opened = os.open(os.devnull, os.O_RDWR | os.O_CLOEXEC)
     if opened != number:
@@ -174,11 +182,11 @@ def do_run(asked: argparse.Namespace) -> int:
     progress = Progress()
     passes = passes_of(asked.passes)
     if asked.piece is not None and asked.piece < 1:
-        raise WordsError("--piece is %d, but must be 1 or more" % asked.piece)
-    end_at_interruption(progress, asked.out)
+        raise UsageError("--piece is %d, but must be 1 or more" % asked.piece)
+    install_signal_handlers(progress, asked.out)
     try:
-        return _decided(asked, passes, progress)
-    except (FolderError, WordsError) as error:
+        return _decide_list(asked, passes, progress)
+    except (FolderError, UsageError) as error:
         progress.print_line(str(error))
         return 2
     except CheckError as error:
@@ -195,21 +203,21 @@ def do_run(asked: argparse.Namespace) -> int:
     except Exception as error:
         # Whatever it is, it is no status that a list comes to.
         progress.print_line(
-            "%s; the same command goes on after what stands, once that is mended" % sentence_of(error)
+            "%s; the same command goes on after what stands, once that is mended" % describe_error(error)
         )
     return 3
 
 
-def _decided(asked: argparse.Namespace, passes: List[Limits], progress: Progress) -> int:
+def _decide_list(asked: argparse.Namespace, passes: List[Limits], progress: Progress) -> int:
     """Decides a list; gives the status where it is 0 or 1. Raises what else there is."""
-    place = _workplace(asked, progress)
+    place = _make_backend(asked, progress)
     with contextlib.ExitStack() as opened:
-        source = opened.enter_context(contextlib.closing(_opened(asked.list)))
-        list_place = source.place if source.is_regular else None
-        hold_apart(asked.out, list_place)
-        hold_form(source)
-        folder = opened.enter_context(contextlib.closing(Folder(asked.out, list_place)))
-        manner = Manner(
+        source = opened.enter_context(contextlib.closing(_open_list(asked.list)))
+        list_id = source.id if source.is_regular else None
+        require_separate_list(asked.out, list_id)
+        require_form(source)
+        folder = opened.enter_context(contextlib.closing(Folder(asked.out, list_id)))
+        options = RunOptions(
             place,
             identity(),
             progress,
@@ -217,9 +225,9 @@ def _decided(asked: argparse.Namespace, passes: List[Limits], progress: Progress
             asked.piece,
             asked.check or asked.check_here,
             asked.check_here,
-            keep_of(asked.keep),
-            source.hold_unchanged,
+            parse_retention(asked.keep),
+            source.require_unchanged,
         )
-        outcome = run(folder, source, passes, manner)
+        outcome = run(folder, source, passes, options)
     progress.print_line("%s; %s" % (outcome, os.path.join(asked.out, VERDICTS)))
     return 1 if outcome.counts["refused"] else 0

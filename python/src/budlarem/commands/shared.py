@@ -7,10 +7,10 @@ import sys
 import textwrap
 from typing import BinaryIO, Callable, Iterable, Iterator, Mapping, Optional, Sequence, Tuple, Union
 
-from .._text import counted, escape_controls
+from .._text import pluralize, escape_controls
 from ..limits import Limits
 from ..numbers import option_number
-from ..reading import Columns, Form, ListForm, Passed, Reading, Readings
+from ..reading import Columns, Form, ListForm, Skipped, Reading, Readings
 from ..runner.progress import TerminalLine
 
 # So wide are the lines of a help.
@@ -66,7 +66,7 @@ class ListReader:
             self.refuse(reading.number, str(reading))
         else:
             self.taken += 1
-            self.tell_rewritten(reading)
+            self.print_rewritten(reading)
 
     def machines(self) -> Iterator[str]:
         """The machines alone."""
@@ -89,33 +89,33 @@ class ListReader:
         if words is not None and form.layout is None:
             self.print_line("--words is for tables; nothing is translated in the form %s" % form.form)
 
-    def print_passed(self, passed: Mapping[Passed, int], undecoded: int) -> None:
+    def print_skipped(self, skipped: Mapping[Skipped, int], undecoded: int) -> None:
         """Prints how many lines were passed over, and how many have bytes that are no UTF-8, where there are
         some."""
-        counts = ", ".join("%s %d" % (kind, passed[kind]) for kind in Passed if passed.get(kind))
+        counts = ", ".join("%s %d" % (kind, skipped[kind]) for kind in Skipped if skipped.get(kind))
         if counts:
-            total = counted(sum(passed.values()), "line", "lines")
+            total = pluralize(sum(skipped.values()), "line", "lines")
             self.print_line("%s passed over: %s" % (total, counts))
         if undecoded:
-            total = counted(undecoded, "line", "lines")
+            total = pluralize(undecoded, "line", "lines")
             self.print_line("%s with bytes that are no UTF-8; iconv converts a list" % total)
 
-    def tell(self, number: int, text: str) -> None:
+    def print_at(self, number: int, text: str) -> None:
         """Says something of a line."""
         if self._progress is not None:
             self._progress.clear()
         print("%s:%d: %s" % (self.name, number, escape_controls(text)), file=sys.stderr)
 
-    def tell_rewritten(self, reading: Reading) -> None:
+    def print_rewritten(self, reading: Reading) -> None:
         """Says what of a line was rewritten, where something was."""
         if reading.rewritten:
             self.rewritten += 1
-            self.tell(reading.number, str(reading))
+            self.print_at(reading.number, str(reading))
 
     def refuse(self, number: int, text: str) -> None:
         """Says why a line was refused."""
         self.refused += 1
-        self.tell(number, text)
+        self.print_at(number, text)
 
     @property
     def status(self) -> int:
@@ -136,7 +136,7 @@ class _PrintedReadings(Readings):
         for reading in super().__iter__():
             self._reader.print_reading(reading)
             yield reading
-        self._reader.print_passed(self.passed, self.undecoded)
+        self._reader.print_skipped(self.skipped, self.undecoded)
 
 
 def form_of(asked: argparse.Namespace) -> Optional[Form]:
@@ -218,13 +218,13 @@ def add_command(
 ) -> argparse.ArgumentParser:
     """Adds a command: what is called for it, a line of help, what it does, the columns of what it writes, and
     what is between them."""
-    shape, text = argparse.RawDescriptionHelpFormatter, described(what, list(columns), between)
+    shape, text = argparse.RawDescriptionHelpFormatter, help_text(what, list(columns), between)
     parser = commands.add_parser(name, help=help, description=text, formatter_class=shape)
     parser.set_defaults(do=do)
     return parser
 
 
-def described(what: str, columns: Sequence[Tuple[str, str]], between: str) -> str:
+def help_text(what: str, columns: Sequence[Tuple[str, str]], between: str) -> str:
     """What a command does, and a line for each column that it writes, for a terminal of 80 characters."""
     texts = [textwrap.fill(" ".join(part.split()), WIDTH) for part in what.split("\n\n")]
     if columns:

@@ -12,7 +12,7 @@ from typing import Optional
 from .files import EncodingError, EndlessLineError, Source
 from .forms import ListForm, Readings
 from .tables import Columns, Layout
-from .values import Form, Passed, Reading, Reason, Rewriting
+from .readings import Form, Skipped, Reading, Reason, Rewriting
 
 __all__ = [
     "Columns",
@@ -21,7 +21,7 @@ __all__ = [
     "Form",
     "Layout",
     "ListForm",
-    "Passed",
+    "Skipped",
     "Reading",
     "Readings",
     "Reason",

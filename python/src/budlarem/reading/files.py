@@ -84,7 +84,7 @@ Numbered = Tuple[int, str]
 Source = Union[str, "os.PathLike[str]", BinaryIO, Iterable[str], Iterable[bytes]]
 
 
-class Blocks(io.RawIOBase):
+class BlockReader(io.RawIOBase):
     """Bytes as a file that can be buffered: `more` gives the next ones, about as many as it is asked for, and
     none at the end. `held` are those that are to be read yet."""
 
@@ -155,17 +155,17 @@ class Lines(Iterator[Numbered]):
     def _of_file(self, file: BytesFile) -> Iterator[Numbered]:
         """The lines of a file. Raises OSError, EncodingError."""
         with contextlib.closing(file):
-            for number, line in self._cut(file):
-                yield number, self._decoded(line)
+            for number, line in self._split_lines(file):
+                yield number, self._decode(line)
 
-    def _decoded(self, line: bytes) -> str:
+    def _decode(self, line: bytes) -> str:
         """The text of a line; bytes that are no UTF-8 stay, and are counted."""
         text = line.decode("utf-8", "surrogateescape")
         if not text.isascii() and any("\udc80" <= character <= "\udcff" for character in text):
             self.undecoded += 1
         return text
 
-    def _cut(self, file: BytesFile) -> Iterator[Tuple[int, bytes]]:
+    def _split_lines(self, file: BytesFile) -> Iterator[Tuple[int, bytes]]:
         """The lines of a file, none longer than BYTES_KEPT bytes. Raises EndlessLineError."""
         number, rest, unended = 1, b"", 0
         block = file.begin(4)
@@ -205,7 +205,9 @@ class BytesFile:
         self._is_ours = isinstance(source, (str, os.PathLike))
         self.name = os.fspath(source) if self._is_ours else _name_of(source)
         raw: Any = (
-            io.FileIO(self.name) if self._is_ours else Blocks(getattr(source, "read1", None) or source.read)
+            io.FileIO(self.name)
+            if self._is_ours
+            else BlockReader(getattr(source, "read1", None) or source.read)
         )
         self._file: Any = io.BufferedReader(raw, BLOCK)
         self._opened: Any = None
@@ -223,7 +225,7 @@ class BytesFile:
 
     def read(self, size: int = -1) -> bytes:
         """The next bytes: so many, but for the end. Raises EndlessLineError."""
-        block = self._tried(lambda: self._reader().read(size))
+        block = self._wrap_errors(lambda: self._reader().read(size))
         last = block.rfind(b"\n")
         self._newlines += block.count(b"\n")
         self._unended = self._unended + len(block) if last < 0 else len(block) - last - 1
@@ -233,7 +235,7 @@ class BytesFile:
 
     def read1(self, size: int) -> bytes:
         """The next bytes, at most so many, as soon as there are some; none at the end."""
-        return self._tried(lambda: self._read1(size))
+        return self._wrap_errors(lambda: self._read1(size))
 
     def begin(self, size: int) -> bytes:
         """The first bytes: so many or more, but for the end."""
@@ -251,9 +253,9 @@ class BytesFile:
 
     def readline(self, size: int = -1) -> bytes:
         """The next line with its newline, or so many bytes of it."""
-        return self._tried(lambda: self._reader().readline(size))
+        return self._wrap_errors(lambda: self._reader().readline(size))
 
-    def _tried(self, call: Callable[[], bytes]) -> bytes:
+    def _wrap_errors(self, call: Callable[[], bytes]) -> bytes:
         try:
             return call()
         except (EOFError, zlib.error, gzip.BadGzipFile) as error:

@@ -11,8 +11,8 @@ from ..verdicts import is_machine
 from .files import Lines, Numbered, Source
 from .lines import OF_MACHINES, read_line, verdict_in
 from .tables import Columns, Layout, find_header, find_layout, read_row
-from .values import Form, Passed, Reading
-from .words import SPACES, passed_over
+from .readings import Form, Skipped, Reading
+from .tokens import SPACES, skip_reason
 
 # So many lines that aren't passed over settle the form of a list.
 FIRST_LINES = 100
@@ -40,7 +40,7 @@ def find_form(lines: Iterator[Numbered], ahead: List[Numbered]) -> Optional[Form
         bare = line.lstrip("\ufeff").strip(SPACES)
         if not alone and not verdicts and find_header(bare) is not None:
             return Form.TABLE
-        if passed_over(bare) is not None:
+        if skip_reason(bare) is not None:
             continue
         if _is_alone(number, bare):
             alone.append(bare)
@@ -111,7 +111,7 @@ class Readings(Iterator[Reading]):
         self._given = form, columns
         self._form: Optional[ListForm] = None
         self._ahead: List[Numbered] = []
-        self._passed: Counter[Passed] = collections.Counter()
+        self._skipped: Counter[Skipped] = collections.Counter()
         self._readings = self._read()
 
     @property
@@ -122,10 +122,10 @@ class Readings(Iterator[Reading]):
         return self._form
 
     @property
-    def passed(self) -> Counter[Passed]:
+    def skipped(self) -> Counter[Skipped]:
         """How many lines were passed over so far, by their kinds."""
         empty = self._source.empty
-        return self._passed + collections.Counter({Passed.EMPTY: empty} if empty else {})
+        return self._skipped + collections.Counter({Skipped.EMPTY: empty} if empty else {})
 
     @property
     def undecoded(self) -> int:
@@ -145,9 +145,9 @@ class Readings(Iterator[Reading]):
             if reading is not None:
                 yield reading
             else:
-                self._passed[passed_kind(line)] += 1
+                self._skipped[skip_kind(line)] += 1
 
 
-def passed_kind(line: str) -> Passed:
+def skip_kind(line: str) -> Skipped:
     """The kind of a line that was passed over."""
-    return passed_over(line.lstrip("\ufeff").strip(SPACES)) or Passed.HEADER
+    return skip_reason(line.lstrip("\ufeff").strip(SPACES)) or Skipped.HEADER

@@ -6,11 +6,11 @@ import re
 import string
 from typing import List, Optional, Sequence, Tuple
 
-from .._text import LONGEST_LINE, is_hidden, name_of, shown
+from .._text import LONGEST_LINE, is_hidden, code_point, quote
 from ..verdicts import Refused, Verdict, is_machine, parse
-from .texts import Found, Outcome, Word, read_arrays, read_entries, read_words
-from .values import Form, Reading, Reason, Rewriting
-from .words import SPACES, Parts, Text, is_comment_of_machine, parts_of, passed_over, row_beside
+from .entries import Found, Outcome, Word, read_arrays, read_entries, read_words
+from .readings import Form, Reading, Reason, Rewriting
+from .tokens import SPACES, Parts, Text, is_comment_of_machine, parts_of, skip_reason, row_beside
 
 _PAIRS = (
     "``", '""', "''", "()", "[]", "{}", "<>", "**", "~~", "\u201c\u201d", "\u2018\u2019", "\u00ab\u00bb"
@@ -45,10 +45,10 @@ def read_line(number: int, line: str, form: Form = Form.TEXT) -> Optional[Readin
     verdict = verdict_in(bare) if form is Form.TEXT and bare.count(" ") > 1 else None
     if verdict is not None and verdict.machine is not None and "_" in verdict.machine:
         return Reading(number, line, verdict.machine, behind=bare[len(verdict.machine) + 1 :])
-    if passed_over(bare) is not None:
+    if skip_reason(bare) is not None:
         return None
     reading = _read_plain(number, line)
-    return _alone(reading, bare) if form is Form.MACHINES else reading
+    return _require_alone(reading, bare) if form is Form.MACHINES else reading
 
 
 def _is_rule(text: str, form: Form) -> bool:
@@ -67,7 +67,7 @@ def verdict_in(bare: str) -> Optional[Verdict]:
 def _of_verdict(number: int, line: str, bare: str) -> Optional[Reading]:
     """The reading of a line of the form of verdicts."""
     verdict = verdict_in(bare)
-    if verdict is None and passed_over(bare) is not None:
+    if verdict is None and skip_reason(bare) is not None:
         return None
     place = len(line) - len(line.lstrip(SPACES)) + 1
     if verdict is None:
@@ -77,11 +77,11 @@ def _of_verdict(number: int, line: str, bare: str) -> Optional[Reading]:
     return Reading(number, line, verdict.machine, behind=bare[len(verdict.machine) + 1 :])
 
 
-def _alone(reading: Reading, bare: str) -> Reading:
+def _require_alone(reading: Reading, bare: str) -> Reading:
     """The reading of a line whose machine has to stand alone."""
     if reading.machine is None or not (reading.before or reading.behind or _has_more(bare)):
         return reading
-    reason = Reason("beside", "the line has more than the machine %s" % shown(reading.machine), 1)
+    reason = Reason("beside", "the line has more than the machine %s" % quote(reading.machine), 1)
     return Reading(reading.number, reading.line, None, reason=reason)
 
 
@@ -92,7 +92,7 @@ def _has_more(bare: str) -> bool:
 
 def _read_plain(number: int, line: str) -> Reading:
     """The reading of a line that isn't passed over."""
-    plain, places = _unescaped(line)
+    plain, places = _unescape(line)
     read = _read(plain, parts_of(plain))
     if isinstance(read, Reason):
         reason = Reason(read.kind, read.text, places[read.place - 1] + 1)
@@ -108,7 +108,7 @@ def _read_plain(number: int, line: str) -> Reading:
     return Reading(number, line, found.machine, kinds, before, behind)
 
 
-def _unescaped(line: str) -> Tuple[str, Sequence[int]]:
+def _unescape(line: str) -> Tuple[str, Sequence[int]]:
     r"""The line with `_` for `\_`, and for each place of it, its end too, the place in the line."""
     if "\\_" not in line:
         return line, range(len(line) + 1)
@@ -136,9 +136,9 @@ def _read(line: str, parts: Parts) -> "List[Read] | Reason":
         row = row_beside(line, text, parts.rows) if isinstance(outcome, Found) else None
         if row is not None and "_" not in text.written:
             return Reason(
-                "rule-or-group", "%s may be a rule or a group of the machine" % shown(row.text), row.begin + 1
+                "rule-or-group", "%s may be a rule or a group of the machine" % quote(row.text), row.begin + 1
             )
-    return _one(found)
+    return _single_machine(found)
 
 
 def _of_state(line: str, text: Text) -> Optional[Reason]:
@@ -152,7 +152,7 @@ def _of_state(line: str, text: Text) -> Optional[Reason]:
     if group == 2 and text.written == text.written.upper():
         return None
     sentence = "%s before %s: a machine of a state a line isn't read"
-    words = (letter.group(group), shown(text.written))
+    words = (letter.group(group), quote(text.written))
     return Reason("state-line", sentence % words, letter.start(group) + 1)
 
 
@@ -165,7 +165,7 @@ def _no_text(line: str, parts: Parts) -> Reason:
     bare = line.strip(SPACES)
     place = line.index(bare) + 1
     if all(map(is_hidden, bare)):
-        return Reason("hidden", "%s in this line, a character that doesn't show" % name_of(bare[0]), place)
+        return Reason("hidden", "%s in this line, a character that doesn't show" % code_point(bare[0]), place)
     return Reason("none", "no machine in this line", place)
 
 
@@ -176,7 +176,7 @@ def _read_text(text: Text) -> "List[Read] | Reason":
     if text.arrays:
         return [(text, read_arrays(text.arrays))]
     if len(text.words) == 1:
-        return _dotted(text.words[0]) or [(text, read_words(text.words))]
+        return _ambiguous_dots(text.words[0]) or [(text, read_words(text.words))]
     if text.is_of_entries:
         return [(text, read_entries(text.words))]
     alone = [(word, read_words(word.words)) for word in text.apart()]
@@ -188,11 +188,11 @@ def _read_text(text: Text) -> "List[Read] | Reason":
         return alone if is_each else mixed
     together = read_words(text.words)
     if is_each and isinstance(together, Found):
-        return _each(len(alone), second)
+        return _several_machines(len(alone), second)
     return alone if is_each and len(machines) > 1 else [(text, together)]
 
 
-def _dotted(word: Word) -> Optional[Reason]:
+def _ambiguous_dots(word: Word) -> Optional[Reason]:
     """Why a word is no machine that is one with the dots at an end, and without them too."""
     for begin, end in ((0, len(word.text) - 3), (3, len(word.text))):
         dots = word.begin + (end if begin == 0 else 0)
@@ -204,12 +204,12 @@ def _dotted(word: Word) -> Optional[Reason]:
     return None
 
 
-def _each(count: int, place: int) -> Reason:
+def _several_machines(count: int, place: int) -> Reason:
     sentence = "each of %d words is a machine by itself, and they may be one together" % count
     return Reason("words", sentence, place)
 
 
-def _one(found: List[Read]) -> "List[Read] | Reason":
+def _single_machine(found: List[Read]) -> "List[Read] | Reason":
     """The texts that are one machine, or why they aren't."""
     read = [(text, outcome) for text, outcome in found if isinstance(outcome, Found)]
     is_set_apart = all("_" in text.written for text, _ in read)
@@ -225,22 +225,22 @@ def _one(found: List[Read]) -> "List[Read] | Reason":
     machine = read[0][1].machine
     if others:
         other = others[0][0]
-        sentence = "%s beside the machine %s may be a part of it" % (shown(other.written), shown(machine))
+        sentence = "%s beside the machine %s may be a part of it" % (quote(other.written), quote(machine))
         return Reason("part", sentence, other.words[0].begin + 1)
     for text, outcome in read:
         if outcome.machine != machine:
-            sentence = "two different machines: %s and %s" % (shown(machine), shown(outcome.machine))
+            sentence = "two different machines: %s and %s" % (quote(machine), quote(outcome.machine))
             return Reason("two", sentence, text.words[0].begin + 1)
     plain = [text for text, _ in read if not text.is_address and "_" not in text.written]
     if len(plain) > 1:
-        return _each(len(plain), plain[1].begin + 1)
+        return _several_machines(len(plain), plain[1].begin + 1)
     return [(text, outcome) for text, outcome in read]
 
 
 def _span(line: str, read: List[Read]) -> Tuple[int, int]:
     """Where the machine stands in a line, with what encloses it, and with the address of a link whose text it
     is."""
-    begin, end = _enclosed(line, read[0][0].begin, read[0][0].end)
+    begin, end = _widen(line, read[0][0].begin, read[0][0].end)
     if len(read) > 1 and read[1][0].is_address and line[begin : begin + 1] == "[":
         address = read[1][0]
         if line[end : address.begin] == "(" and line[address.end : address.end + 1] == ")":
@@ -248,7 +248,7 @@ def _span(line: str, read: List[Read]) -> Tuple[int, int]:
     return begin, end
 
 
-def _enclosed(line: str, begin: int, end: int) -> Tuple[int, int]:
+def _widen(line: str, begin: int, end: int) -> Tuple[int, int]:
     """A stretch of a line with the pairs of characters right around it."""
     while begin > 0 and end < len(line) and line[begin - 1] + line[end] in _PAIRS:
         begin, end = begin - 1, end + 1

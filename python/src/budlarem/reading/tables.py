@@ -8,11 +8,11 @@ import dataclasses
 import re
 from typing import Dict, FrozenSet, List, Optional, Sequence, Tuple
 
-from .._text import counted, shown
+from .._text import pluralize, quote
 from ..verdicts import is_machine
 from .lines import read_line
-from .values import Passed, Reading, Reason
-from .words import MACHINE_NAMES, SPACES, passed_over, plain_name
+from .readings import Skipped, Reading, Reason
+from .tokens import MACHINE_NAMES, SPACES, skip_reason, plain_name
 
 # The separators of cells; a space only where nothing else separates.
 SEPARATORS = ("\t", ",", ";", "|")
@@ -54,7 +54,7 @@ class Layout:
     def __str__(self) -> str:
         parts = ["separator %s" % _SEPARATOR_NAMES[self.separator]]
         for role, place in self.columns.items():
-            name = " (%s)" % shown(self.names[place]) if self.names else ""
+            name = " (%s)" % quote(self.names[place]) if self.names else ""
             parts.append("%s in column %d%s" % (role, place + 1, name))
         return ", ".join(parts)
 
@@ -90,7 +90,7 @@ def find_header(bare: str) -> Optional[str]:
 def find_layout(lines: Sequence[Numbered], columns: Columns) -> Layout:
     """The layout of the table that begins with these lines. Raises ValueError where it isn't known."""
     records = [(number, line.strip(SPACES)) for number, line in lines]
-    while records and passed_over(records[0][1]) is not None and find_header(records[0][1]) is None:
+    while records and skip_reason(records[0][1]) is not None and find_header(records[0][1]) is None:
         del records[0]
     if not records:
         return Layout(",", 0, (), {"machine": 0})
@@ -161,7 +161,7 @@ def _with_header(header: Numbered, separator: str, columns: Columns) -> Layout:
         if len(places) == 1:
             found[role] = places[0]
         elif places:
-            both = " and ".join(shown(names[place]) for place in places)
+            both = " and ".join(quote(names[place]) for place in places)
             doubts.append("the columns %s may each be that of the %s" % (both, role))
     return Layout(separator, len(names), names, found, number, tuple(doubts))
 
@@ -176,11 +176,11 @@ def _place_of(given: str, row: Sequence[str]) -> int:
     places = [place for place, name in enumerate(row) if plain_name(name) == plain_name(given)]
     if len(places) == 1:
         return places[0]
-    raise ValueError("%s columns have the name %s" % (len(places) or "no", shown(given)))
+    raise ValueError("%s columns have the name %s" % (len(places) or "no", quote(given)))
 
 
 def _cells(count: int) -> str:
-    return counted(count, "cell", "cells")
+    return pluralize(count, "cell", "cells")
 
 
 def _machine_in(number: int, cell: str) -> Reading:
@@ -197,7 +197,7 @@ def read_row(number: int, line: str, layout: Layout) -> Optional[Reading]:
     """The reading of a record; None where the line is passed over."""
     line = line.lstrip("\ufeff").rstrip("\r")
     bare = line.strip(SPACES if layout.separator != "\t" else SPACES.replace("\t", ""))
-    if number == layout.header or passed_over(bare.strip(SPACES)) not in (None, Passed.HEADER):
+    if number == layout.header or skip_reason(bare.strip(SPACES)) not in (None, Skipped.HEADER):
         return None
     place = len(line) - len(line.lstrip(SPACES)) + 1
     if bare.startswith("#"):

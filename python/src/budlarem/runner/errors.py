@@ -15,7 +15,7 @@ class ListError(Exception):
     """The list can't be opened, so nothing was begun. Status 3."""
 
 
-class WordsError(ValueError):
+class UsageError(ValueError):
     """The words of the command don't go together. Status 2."""
 
 
@@ -40,7 +40,7 @@ class ReplyError(Exception):
         self.line = line
 
 
-class DeadlyError(Exception):
+class FatalLineError(Exception):
     """A line ended each process that decided it. `line` is the line of the chunk."""
 
     def __init__(self, line: int) -> None:
@@ -51,7 +51,7 @@ class DeadlyError(Exception):
         return "it ended the workers that decided it, as often as it was tried"
 
 
-def sentence_of(error: BaseException) -> str:
+def describe_error(error: BaseException) -> str:
     """An error as a sentence has it."""
     if isinstance(error, ReplyError):
         return str(error)

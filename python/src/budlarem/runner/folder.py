@@ -15,13 +15,13 @@ import stat
 import string
 from typing import Any, Callable, Dict, Iterable, Iterator, List, Optional, Sequence
 
-from .._files import Checksum, Directory, FileId, Pin, id_of, kind_of, write_at, write_blocks
+from .._files import Checksum, Directory, FileId, Pin, id_of, kind_of, write_atomically, write_blocks
 from .._text import escape_controls
 from ..limits import Limits, limits_of, words_of
-from .chunks import Identity, Keep, hash_of, keep_of
+from .chunks import Identity, Retention, hash_of, parse_retention
 from .errors import FolderError, RunError
 from .input import STANDARD_INPUT
-from .journal import JOURNAL, KEPT, VERDICTS, PassFolder, has_records, joined
+from .journal import JOURNAL, KEPT, VERDICTS, PassFolder, has_records, merge_passes
 
 LOCK, RUN, README, SUMMARY = "lock", "run.json", "README.txt", "summary.json"
 # The first lines of these files, in each version that writes this format.
@@ -30,8 +30,8 @@ FILES = (RUN, README, VERDICTS, SUMMARY)
 _PASS_BEGIN = "pass-"
 PASS = re.compile(_PASS_BEGIN + "[0-9]+")
 _PART = re.compile("(%s)(?:[.][0-9]+)?[.]part" % "|".join((*FILES, KEPT)))
-# A piece as earlier versions of this package wrote it.
-_OLD_PIECE = "000000001.txt"
+# A chunk as earlier versions of this package wrote it.
+_OLD_CHUNK = "000000001.txt"
 # So many bytes of a file are looked at: more than a verdict line has.
 _LOOKED_AT = 1_024
 _LINE = re.compile(
@@ -94,7 +94,7 @@ def require_regular(directory: Directory, names: Sequence[str]) -> None:
 
 
 @contextlib.contextmanager
-def _opened_pass(top: Directory, name: str) -> Iterator[Directory]:
+def _open_pass(top: Directory, name: str) -> Iterator[Directory]:
     """The folder of a pass. Raises FolderError where it is a link, or no folder."""
     _require(top, name, stat.S_IFDIR)
     with contextlib.closing(top.subdirectory(name)) as inside:
@@ -108,7 +108,7 @@ def require_own(top: Directory, known_passes: Optional[int]) -> None:
     names = top.names()
     passes = [name for name in names if PASS.fullmatch(name)]
     if known_passes is None:
-        foreign = next(_foreign(top, names, bool(passes)), None)
+        foreign = next(_foreign_names(top, names, bool(passes)), None)
         if foreign is not None:
             raise FolderError("%s has other files in it, as %s; give an empty folder" % (top.path, foreign))
     require_regular(top, (*FILES, LOCK))
@@ -116,11 +116,11 @@ def require_own(top: Directory, known_passes: Optional[int]) -> None:
         if known_passes is None:
             require_own_pass(top, name)
         elif int(name[len(_PASS_BEGIN) :]) <= known_passes:
-            with _opened_pass(top, name) as inside:
+            with _open_pass(top, name) as inside:
                 require_regular(inside, (KEPT, JOURNAL))
 
 
-def _foreign(top: Directory, names: Sequence[str], has_passes: bool) -> Iterator[str]:
+def _foreign_names(top: Directory, names: Sequence[str], has_passes: bool) -> Iterator[str]:
     """The names of files that no run left here."""
     for name in names:
         if PASS.fullmatch(name) or _is_leftover(top, name):
@@ -135,17 +135,17 @@ def _foreign(top: Directory, names: Sequence[str], has_passes: bool) -> Iterator
 
 def require_own_pass(top: Directory, name: str) -> None:
     """Raises FolderError where the folder of a pass has anything that no run left there."""
-    with _opened_pass(top, name) as inside:
+    with _open_pass(top, name) as inside:
         names = inside.names()
-        if _OLD_PIECE in names:
+        if _OLD_CHUNK in names:
             raise FolderError(
-                "%s has pieces that another version of this package wrote; give another folder" % top.path
+                "%s has chunks that another version of this package wrote; give another folder" % top.path
             )
         require_regular(inside, (KEPT, JOURNAL))
-        _require_own_pieces(inside, names)
+        _require_own_chunks(inside, names)
 
 
-def _require_own_pieces(inside: Directory, names: Sequence[str]) -> None:
+def _require_own_chunks(inside: Directory, names: Sequence[str]) -> None:
     """Raises FolderError where one of these names in the folder of a pass isn't a run's."""
     foreign = [name for name in names if name not in (KEPT, JOURNAL) and not _is_leftover(inside, name)]
     if JOURNAL in names and not has_records(inside):
@@ -157,7 +157,7 @@ def _require_own_pieces(inside: Directory, names: Sequence[str]) -> None:
 
 
 def _is_journaled(inside: Directory) -> bool:
-    """Whether the pieces of a pass are empty, or have a journal beside them."""
+    """Whether the chunks of a pass are empty, or have a journal beside them."""
     status = inside.status(KEPT)
     return status is None or not status.st_size or has_records(inside)
 
@@ -170,7 +170,7 @@ def require_other_list(top: Directory, listed: Optional[FileId]) -> None:
         if name in (*FILES, LOCK) or _PART.fullmatch(name):
             _require_other(top, name, listed)
         elif PASS.fullmatch(name) and _is_folder(top, name):
-            with _opened_pass(top, name) as inside:
+            with _open_pass(top, name) as inside:
                 for inner in inside.names():
                     _require_other(inside, inner, listed)
 
@@ -213,7 +213,7 @@ _PAGE = string.Template(
   summary.json  counts, limits and times, from then on
   run.json      what the run was begun with, and a seal over it
   pass-1, ..    of each pass `pieces`, the verdict lines so far, and `journal`,
-                which says where each piece of them stands. Of one pass alone
+                which says where each chunk of them stands. Of one pass alone
                 `pieces` becomes verdicts.txt at the end. These folders may be
                 removed when no pass will be added
   README.txt    this page
@@ -228,18 +228,18 @@ $again
 )
 
 
-def as_word(path: str) -> str:
+def as_argument(path: str) -> str:
     """A path as a command line takes it: one that begins with `-` is no option there."""
     return os.path.join(os.curdir, path) if path.startswith("-") else path
 
 
 @dataclasses.dataclass
-class Begun:
+class RunConfig:
     """What a folder was begun with. Of the list is known how many bytes its file has, where it is an
     uncompressed one, and when the first pass has seen its end how many lines it has."""
 
     passes: List[Limits]
-    keep: Keep
+    keep: Retention
     identity: Identity
     list_name: str
     list_bytes: Optional[int] = None
@@ -258,49 +258,49 @@ class Begun:
         text = '%s%0*d",%s' % (_HEAD, _SIZE, size, body)
         return text + _SEALED % hash_of(text.encode())
 
-    def page(self, folder: str) -> str:
+    def readme(self, folder: str) -> str:
         """What the files of the folder are, and with which commands it goes on."""
         is_piped = self.list_name == STANDARD_INPUT
-        listed = "-" if is_piped else as_word(self.list_name)
-        words = ["budlarem", "run", listed, "--out", as_word(folder)]
+        listed = "-" if is_piped else as_argument(self.list_name)
+        words = ["budlarem", "run", listed, "--out", as_argument(folder)]
         for limits in self.passes:
             words += ["--pass", words_of(limits)]
-        if self.keep.only_left:
+        if self.keep.only_holdouts:
             words += ["--keep", str(self.keep)]
         fields = {
             "list": escape_controls(self.list_name),
             "same": ", with the same list on standard input" if is_piped else "",
             "verdicts": "a verdict for each line of the list, in its order",
             "go_on": shlex.join(words),
-            "again": self._again(as_word(folder), [] if is_piped else ["--list", listed]),
+            "again": self._check_commands(as_argument(folder), [] if is_piped else ["--list", listed]),
             "version": self.identity.version,
             "commit": self.identity.commit,
         }
-        if self.keep.only_left:
+        if self.keep.only_holdouts:
             fields["verdicts"] = "the verdicts that are kept (%s), in order" % self.keep
         return _PAGE.substitute(fields)
 
-    def _again(self, folder: str, listed: Sequence[str]) -> str:
+    def _check_commands(self, folder: str, listed: Sequence[str]) -> str:
         """With which commands the verdicts are checked again, and published where all are kept."""
         check = "    " + shlex.join(["budlarem", "check", os.path.join(folder, VERDICTS)])
-        if self.keep.only_left:
+        if self.keep.only_holdouts:
             return "The verdicts that are kept are checked again by\n\n%s" % check
-        archive = as_word(os.path.basename(os.path.abspath(folder)) + ".tar")
+        archive = as_argument(os.path.basename(os.path.abspath(folder)) + ".tar")
         publish = shlex.join(["budlarem", "publish", archive, "--verdicts", folder, *listed])
         return "The verdicts are checked again, and published, by\n\n%s\n    %s" % (check, publish)
 
     @classmethod
-    def read(cls, text: str) -> Optional[Begun]:
+    def read(cls, text: str) -> Optional[RunConfig]:
         """What a text says; None where it is the begin of one that was cut. Raises FolderError where it is
         anything else than what `text` gives."""
-        if _is_cut(text):
+        if _is_truncated(text):
             return None
         fields: Any = None
         try:
             fields = json.loads(text)
-            begun = cls._of(fields)
-            if begun.text() == text:
-                return begun
+            config = cls._of(fields)
+            if config.text() == text:
+                return config
         except (ValueError, TypeError, KeyError, AttributeError, RecursionError):
             pass
         other = fields.get("format", FORMAT) if isinstance(fields, dict) else FORMAT
@@ -309,15 +309,15 @@ class Begun:
         raise FolderError("it was changed: its seal doesn't fit; put it back as it was, or remove it")
 
     @classmethod
-    def _of(cls, fields: Dict[str, Any]) -> Begun:
+    def _of(cls, fields: Dict[str, Any]) -> RunConfig:
         passes = [limits_of(words) for words in fields["passes"]]
         identity = Identity(*(str(fields[name]) for name in ("version", "commit", "library")))
         listed = fields["list"]
-        keep = keep_of([fields["keep"]])
+        keep = parse_retention([fields["keep"]])
         return cls(passes, keep, identity, str(listed["name"]), listed["bytes"], listed["lines"])
 
 
-def _is_cut(text: str) -> bool:
+def _is_truncated(text: str) -> bool:
     """Whether a text is the begin of what a folder was begun with, and no more."""
     if len(text) < len(_HEAD) + _SIZE:
         begin, digits = text[: len(_HEAD)], text[len(_HEAD) :]
@@ -327,18 +327,18 @@ def _is_cut(text: str) -> bool:
     return is_short and not text.endswith('"\n}\n')
 
 
-def key_of(passes: Sequence[Limits], keep: Keep, library: str) -> str:
+def key_of(passes: Sequence[Limits], keep: Retention, library: str) -> str:
     """What the journal of the last of these passes is sealed with."""
     key = "%d %s %s %s" % (FORMAT, " ".join(map(words_of, passes)), keep, library)
     return hash_of(key.encode())
 
 
-def hold_apart(path: str, list_place: Optional[FileId]) -> None:
+def require_separate_list(path: str, list_id: Optional[FileId]) -> None:
     """Raises FolderError where a file that a run in this folder writes is the list itself, where that is a
     file."""
     if os.path.isdir(path):
         with contextlib.closing(Directory.open(path)) as top:
-            require_other_list(top, list_place)
+            require_other_list(top, list_id)
 
 
 class Folder:
@@ -347,7 +347,7 @@ class Folder:
     works in it, where it holds something else, or where the list is one of the files that are written;
     OSError."""
 
-    def __init__(self, path: str, list_place: Optional[FileId] = None) -> None:
+    def __init__(self, path: str, list_id: Optional[FileId] = None) -> None:
         self.path = path
         if os.path.exists(path) and not os.path.isdir(path):
             raise FolderError("%s is a file; give a folder, which may be one that isn't there yet" % path)
@@ -355,14 +355,14 @@ class Folder:
         self._top = Directory.open(path)
         self._locked: List[int] = []
         # Files that give way to what is written.
-        self._own: Dict[str, Pin] = {}
+        self._pins: Dict[str, Pin] = {}
         try:
             self._lock()
-            require_other_list(self._top, list_place)
-            begun = self.begun()
-            require_own(self._top, None if begun is None else len(begun.passes))
+            require_other_list(self._top, list_id)
+            config = self.read_config()
+            require_own(self._top, None if config is None else len(config.passes))
             found = {name: self._top.pin(name) for name in FILES}
-            self._own = {name: pin for name, pin in found.items() if pin is not None}
+            self._pins = {name: pin for name, pin in found.items() if pin is not None}
         except BaseException:
             self.close()
             raise
@@ -373,7 +373,7 @@ class Folder:
         try:
             fcntl.flock(self._top.handle, fcntl.LOCK_EX | fcntl.LOCK_NB)
         except BlockingIOError:
-            raise self._is_locked() from None
+            raise self._lock_error() from None
         except OSError as error:
             if error.errno not in _NO_LOCKS:
                 raise
@@ -381,9 +381,9 @@ class Folder:
             try:
                 fcntl.flock(self._locked[0], fcntl.LOCK_EX | fcntl.LOCK_NB)
             except BlockingIOError:
-                raise self._is_locked() from None
+                raise self._lock_error() from None
 
-    def _is_locked(self) -> FolderError:
+    def _lock_error(self) -> FolderError:
         return FolderError("another run works in %s; wait for its end, or end it" % self.path)
 
     def require_named(self) -> None:
@@ -396,7 +396,7 @@ class Folder:
         """The path of a file in it, for sentences."""
         return self._top.at(name)
 
-    def begun(self) -> Optional[Begun]:
+    def read_config(self) -> Optional[RunConfig]:
         """What it was begun with; None where it is new, or what says so was cut. Raises FolderError where
         that was changed, is no file, or another version of this package wrote it."""
         require_regular(self._top, (RUN,))
@@ -406,7 +406,7 @@ class Folder:
             return None
         with open(number, encoding="latin-1", newline="") as file:
             try:
-                return Begun.read(file.read())
+                return RunConfig.read(file.read())
             except FolderError as error:
                 raise FolderError("%s: %s" % (self.at(RUN), error)) from None
 
@@ -416,23 +416,23 @@ class Folder:
             if self._top.status(name) is not None:
                 require_own_pass(self._top, name)
 
-    def begin(self, begun: Begun) -> None:
+    def write_config(self, config: RunConfig) -> None:
         """Writes down what it is begun with."""
-        self.write(RUN, begun.text())
+        self.write(RUN, config.text())
 
     def write(self, name: str, text: str) -> None:
         """Writes one of its files whole."""
         remove_leftovers(self._top)
-        self._put(name, lambda number: write_blocks(number, [text.encode("utf-8", "surrogateescape")]))
+        self._write_file(name, lambda number: write_blocks(number, [text.encode("utf-8", "surrogateescape")]))
 
-    def _put(self, name: str, fill: Callable[[int], None]) -> None:
+    def _write_file(self, name: str, fill: Callable[[int], None]) -> None:
         """Writes a file whole or not at all. Raises RunError where another made one of that name meanwhile,
         what `fill` does, OSError."""
         with self._error_for_others(name):
-            written = write_at(self._top, name, fill, self._own.get(name))
-        if name in self._own:
-            self._own[name].close()
-        self._own[name] = written
+            written = write_atomically(self._top, name, fill, self._pins.get(name))
+        if name in self._pins:
+            self._pins[name].close()
+        self._pins[name] = written
 
     @contextlib.contextmanager
     def _error_for_others(self, name: str) -> Iterator[None]:
@@ -449,25 +449,25 @@ class Folder:
         """Writes the verdicts of a run of one pass. Raises RunError, OSError."""
         if only.is_in_order() and only.has_name():
             with self._error_for_others(VERDICTS):
-                only.rename_to_verdicts(self._own.get(VERDICTS))
+                only.rename_to_verdicts(self._pins.get(VERDICTS))
         else:
-            self._put(VERDICTS, only.copy_whole)
+            self._write_file(VERDICTS, only.copy_all)
 
-    def join_verdicts(self, passes: Sequence[PassFolder]) -> Checksum:
+    def merge_verdicts(self, passes: Sequence[PassFolder]) -> Checksum:
         """Writes the verdicts of several passes, and gives their checksum. Raises RunError, OSError."""
         total = Checksum()
 
         def fill(number: int) -> None:
             nonlocal total
-            for block in joined(passes):
+            for block in merge_passes(passes):
                 write_blocks(number, [block])
-                total = total.followed_by(block)
-            passes[0].take_back()
+                total = total.add_bytes(block)
+            passes[0].restore()
 
-        self._put(VERDICTS, fill)
+        self._write_file(VERDICTS, fill)
         return total
 
-    def open_pass(self, passes: Sequence[Limits], keep: Keep, identity: Identity) -> PassFolder:
+    def open_pass(self, passes: Sequence[Limits], keep: Retention, identity: Identity) -> PassFolder:
         """The folder of the last of these passes."""
         number, key = len(passes), key_of(passes, keep, identity.library)
         inside = self._top.subdirectory(pass_name(number))
@@ -476,7 +476,7 @@ class Folder:
         return PassFolder(self._top, inside, number, key)
 
     def close(self) -> None:
-        for pin in self._own.values():
+        for pin in self._pins.values():
             pin.close()
         for number in self._locked:
             os.close(number)

@@ -17,7 +17,7 @@ from typing import Callable, Iterator, List, Optional, Protocol, Tuple, Union
 from .._text import LONGEST_GIVEN, LONGEST_SHOWN, LONGEST_UNENDED, LONGEST_VALUE
 from ..engine import column_of
 from ..reading import Reading
-from ..reading.files import BLOCK, GZIP, Blocks
+from ..reading.files import BLOCK, GZIP, BlockReader
 from ..reading.lines import read_line
 from ..verdicts import is_machine
 from .errors import FolderError, RunError
@@ -29,27 +29,27 @@ _PAUSE = 1.0
 _FEW = 16
 
 
-class Cuttable(Protocol):
+class LineSource(Protocol):
     """Lines that are taken some at a time. A line of more than LONGEST_GIVEN bytes is cut to so many, which
     changes no reply; a last line without a newline gets one. How many bytes and lines were taken is counted.
     """
 
-    taken: int
-    taken_lines: int
+    bytes_taken: int
+    lines_taken: int
 
     def take(self, lines: int, size: int) -> bytes:
         """The next lines: so many at most, of so many bytes together, but one at least; no bytes at the
         end."""
 
 
-class Lines:
+class StreamLines:
     """The lines of a stream."""
 
     def __init__(self, blocks: Iterator[bytes]) -> None:
         self._batches = _whole_lines(blocks)
         self._held, self._begin = b"", 0
         self._ended = False
-        self.taken, self.taken_lines = 0, 0
+        self.bytes_taken, self.lines_taken = 0, 0
 
     def take(self, lines: int, size: int) -> bytes:
         end, left = _end_of(self._held, self._begin, lines)
@@ -80,18 +80,18 @@ class Lines:
             end = last if last > begin else self._held.find(b"\n", begin) + 1
         self._begin = end
         cut = self._held[begin:end]
-        self.taken += len(cut)
-        self.taken_lines += lines if is_whole else cut.count(b"\n")
+        self.bytes_taken += len(cut)
+        self.lines_taken += lines if is_whole else cut.count(b"\n")
         return cut
 
 
-class PlainLines:
-    """The lines of a file, from a place on: each piece is read where it is cut. `hold` is called at the end.
+class FileLines:
+    """The lines of a file, from a place on: each chunk is read where it is cut. `hold` is called at the end.
     Raises OSError."""
 
     def __init__(self, number: int, place: int, hold: Callable[[], None]) -> None:
         self._number, self._place, self._hold = number, place, hold
-        self.taken, self.taken_lines = 0, 0
+        self.bytes_taken, self.lines_taken = 0, 0
 
     def take(self, lines: int, size: int) -> bytes:
         read = min(size, BLOCK)
@@ -104,27 +104,27 @@ class PlainLines:
         if found >= lines:
             end = len(held) if found == lines else 0
             end = held.rfind(b"\n") + 1 if end else (_end_of(held, 0, lines)[0] or 0)
-            return self._taken(shortened(held[:end]), end, lines)
+            return self._advance(truncate_lines(held[:end]), end, lines)
         if is_end:
-            return self._rest(held, found)
+            return self._take_rest(held, found)
         end = held.rfind(b"\n") + 1
-        return self._taken(shortened(held[:end]), end, found) if end else self._long()
+        return self._advance(truncate_lines(held[:end]), end, found) if end else self._take_long_line()
 
-    def _taken(self, given: bytes, size: int, lines: int) -> bytes:
-        self._place, self.taken = self._place + size, self.taken + size
-        self.taken_lines += lines
+    def _advance(self, given: bytes, size: int, lines: int) -> bytes:
+        self._place, self.bytes_taken = self._place + size, self.bytes_taken + size
+        self.lines_taken += lines
         return given
 
-    def _rest(self, held: bytes, found: int) -> bytes:
+    def _take_rest(self, held: bytes, found: int) -> bytes:
         """What is left of the file, where it is all that was asked for."""
         if not held:
             self._hold()
             return b""
         if held.endswith(b"\n"):
-            return self._taken(shortened(held), len(held), found)
-        return self._taken(shortened(held + b"\n"), len(held), found + 1)
+            return self._advance(truncate_lines(held), len(held), found)
+        return self._advance(truncate_lines(held + b"\n"), len(held), found + 1)
 
-    def _long(self) -> bytes:
+    def _take_long_line(self) -> bytes:
         """A line that is longer than all that may be taken."""
         begin, size = os.pread(self._number, LONGEST_GIVEN, self._place).partition(b"\n")[0], 0
         while True:
@@ -132,7 +132,7 @@ class PlainLines:
             end = held.find(b"\n") + 1
             size += end or len(held)
             if end or not held:
-                return self._taken(begin + b"\n", size, 1)
+                return self._advance(begin + b"\n", size, 1)
 
 
 def _end_of(held: bytes, begin: int, lines: int) -> Tuple[Optional[int], int]:
@@ -163,7 +163,7 @@ def _whole_lines(blocks: Iterator[bytes]) -> Iterator[bytes]:
     for block in blocks:
         whole = block.rfind(b"\n") + 1
         if whole:
-            yield shortened(rest + block[:whole])
+            yield truncate_lines(rest + block[:whole])
             rest = block[whole:][:LONGEST_GIVEN]
         else:
             rest = (rest + block)[:LONGEST_GIVEN]
@@ -171,7 +171,7 @@ def _whole_lines(blocks: Iterator[bytes]) -> Iterator[bytes]:
         yield rest + b"\n"
 
 
-def shortened(lines: bytes) -> bytes:
+def truncate_lines(lines: bytes) -> bytes:
     """Whole lines, each of more than LONGEST_GIVEN bytes cut to so many."""
     begin = 0
     while len(lines) - begin > LONGEST_GIVEN:
@@ -189,7 +189,7 @@ def _poll(number: int, milliseconds: Optional[float] = None) -> bool:
     return bool(waiting.poll(milliseconds))
 
 
-def _read_waiting(number: int, size: int) -> bytes:
+def _read_blocking(number: int, size: int) -> bytes:
     """The next bytes of an open file. It waits until there are some, also where the file says that there are
     none yet (O_NONBLOCK); so no bytes come at the end alone."""
     while True:
@@ -210,14 +210,14 @@ class ListFile:
         self._number = 0 if path == "-" else os.open(path, os.O_RDONLY | os.O_CLOEXEC)
         self._begin = os.fstat(self._number)
         self.is_regular = stat.S_ISREG(self._begin.st_mode)
-        self._raw = Blocks(functools.partial(_read_waiting, self._number))
+        self._raw = BlockReader(functools.partial(_read_blocking, self._number))
         # Where it begins: standard input may be a file of which something was read.
-        self._start = self._tell() if self.is_regular else 0
+        self._start = self._offset() if self.is_regular else 0
         self.is_compressed = self._raw.first(len(GZIP)) == GZIP
         self._file = io.BufferedReader(self._raw, BLOCK)
         self._blocks = self._read_blocks()
 
-    def _tell(self) -> int:
+    def _offset(self) -> int:
         return os.lseek(self._number, 0, os.SEEK_CUR)
 
     @property
@@ -226,16 +226,16 @@ class ListFile:
         return self._begin.st_size if self.is_regular else None
 
     @property
-    def place(self) -> Tuple[int, int]:
+    def id(self) -> Tuple[int, int]:
         """Which file it is: the numbers of its device and of its inode."""
         return self._begin.st_dev, self._begin.st_ino
 
-    def part(self, taken: int) -> Optional[float]:
+    def fraction(self, taken: int) -> Optional[float]:
         """Which part of the file so many bytes of the list are, as far as can be told; None where it
         can't."""
         if not self.size:
             return None
-        return min((self._tell() if self.is_compressed else taken) / self.size, 1.0)
+        return min((self._offset() if self.is_compressed else taken) / self.size, 1.0)
 
     def first_lines(self, most: int) -> List[bytes]:
         """Its first lines, so many at most, none longer than LONGEST_GIVEN bytes; `lines` and `blocks` give
@@ -254,11 +254,11 @@ class ListFile:
         lines = [] if is_paused else b"".join(held).split(b"\n")
         return [line[:LONGEST_GIVEN] for line in (lines if lines and lines[-1] else lines[:-1])[:most]]
 
-    def lines(self) -> Cuttable:
+    def lines(self) -> LineSource:
         """Its lines. Taking them raises RunError where it can't be read, or changed meanwhile; OSError."""
         if self.is_regular and not self.is_compressed:
-            return PlainLines(self._number, self._start, self.hold_unchanged)
-        return Lines(self._blocks)
+            return FileLines(self._number, self._start, self.require_unchanged)
+        return StreamLines(self._blocks)
 
     def blocks(self) -> Iterator[bytes]:
         """Its bytes, cut anywhere. Raises RunError where it can't be read, or changed meanwhile."""
@@ -269,13 +269,13 @@ class ListFile:
         if self.is_compressed:
             opened = gzip.GzipFile(fileobj=self._file)
         try:
-            yield from self._ending(_blocks_of(opened))
+            yield from self._limit_lines(_blocks_of(opened))
         except (OSError, EOFError, zlib.error) as error:
             kind = "as gzip" if self.is_compressed else "to its end"
             raise RunError("%s can't be read %s: %s" % (self.name, kind, error)) from error
-        self.hold_unchanged()
+        self.require_unchanged()
 
-    def _ending(self, blocks: Iterator[bytes]) -> Iterator[bytes]:
+    def _limit_lines(self, blocks: Iterator[bytes]) -> Iterator[bytes]:
         """The same blocks. Raises RunError where a line never ends."""
         size = 0
         for block in blocks:
@@ -285,7 +285,7 @@ class ListFile:
                 raise RunError(sentence % (self.name, "{:,}".format(LONGEST_UNENDED)))
             yield block
 
-    def hold_unchanged(self) -> None:
+    def require_unchanged(self) -> None:
         """Raises RunError where the file isn't as it was when it was opened. What was read before this
         returns was read of the file as it was."""
         now, then = os.fstat(self._number), self._begin
@@ -311,13 +311,13 @@ def _blocks_of(file: Union[gzip.GzipFile, io.BufferedReader]) -> Iterator[bytes]
 
 
 # So many lines are looked at before anything is decided.
-LOOKED_AT = 1_000
+SAMPLE_LINES = 1_000
 
 
-def hold_form(source: ListFile) -> None:
+def require_form(source: ListFile) -> None:
     """Raises FolderError where more than half of the first lines would be refused, which says why the first
     of them would be. Raises RunError where the list can't be read."""
-    lines = source.first_lines(LOOKED_AT)
+    lines = source.first_lines(SAMPLE_LINES)
     refused: List[Tuple[int, str]] = []
     for number, line in enumerate(lines, 1):
         text = line.decode("utf-8", "surrogateescape")
@@ -329,11 +329,11 @@ def hold_form(source: ListFile) -> None:
     raise FolderError(
         "%d of the first %d lines of %s would be refused, so nothing was decided; line %d: %.*r: %s."
         " `budlarem read LIST` writes the machines of a list in other forms"
-        % (len(refused), len(lines), source.name, number, LONGEST_SHOWN, text, why_refused(number, text))
+        % (len(refused), len(lines), source.name, number, LONGEST_SHOWN, text, refusal_reason(number, text))
     )
 
 
-def why_refused(number: int, line: str) -> str:
+def refusal_reason(number: int, line: str) -> str:
     """Why `bb` refuses a line, in words."""
     reading = read_line(number, line)
     if reading is None:

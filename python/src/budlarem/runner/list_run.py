@@ -15,14 +15,14 @@ from typing import Any, Callable, Counter, Dict, Iterator, List, Optional, Seque
 from .._files import Checksum, Directory, KindError
 from ..counts import KINDS
 from ..limits import Limits, words_of
-from .chunks import Counts, Identity, keep_of
+from .chunks import Counts, Identity, parse_retention
 from .errors import FolderError
-from .folder import README, RUN, SUMMARY, Begun, Folder, key_of, pass_name
-from .input import Cuttable, Lines, ListFile
-from .journal import JOURNAL, VERDICTS, Journal, PassFolder, left_by
-from .local import ThreadsRun
-from .passes import Manner, Pass, PassResult, Threads
-from .remote import HandingRun
+from .folder import README, RUN, SUMMARY, RunConfig, Folder, key_of, pass_name
+from .input import LineSource, StreamLines, ListFile
+from .journal import JOURNAL, VERDICTS, Journal, PassFolder, holdouts_of
+from .local import LocalRun
+from .passes import RunOptions, Pass, PassResult, ThreadBackend
+from .remote import RemoteRun
 
 _AGAIN = "run the command of that folder again, which writes both anew"
 
@@ -35,11 +35,11 @@ def _checksum_of(fields: Dict[str, Any]) -> Optional[Checksum]:
 
 @dataclasses.dataclass(frozen=True)
 class PassSummary:
-    """What a summary says of a pass. `checksum` is that of what is kept of its pieces."""
+    """What a summary says of a pass. `checksum` is that of what is kept of its chunks."""
 
     limits: Limits
     lines: int
-    pieces: int
+    chunks: int
     counts: Counts
     checksum: Optional[Checksum]
 
@@ -69,7 +69,7 @@ class RunSummary:
         passes = tuple(map(PassSummary.of, fields["passes"]))
         by = Identity(*(str(fields[name]) for name in ("version", "commit", "library")))
         counts = {kind: int(fields["counts"][kind]) for kind in KINDS}
-        kept, lines = str(keep_of([fields["kept"]])), int(fields["lines"])
+        kept, lines = str(parse_retention([fields["kept"]])), int(fields["lines"])
         return cls(passes, by, kept, lines, counts, _checksum_of(fields))
 
 
@@ -127,7 +127,7 @@ class FinishedRun:
             yield None
             return
         limits = [one.limits for one in self.summary.passes[:number]]
-        key = key_of(limits, keep_of([self.summary.kept]), self.summary.identity.library)
+        key = key_of(limits, parse_retention([self.summary.kept]), self.summary.identity.library)
         with contextlib.closing(self._top.subdirectory(name)) as inside:
             if inside.status(JOURNAL) is None:
                 yield None
@@ -138,20 +138,20 @@ class FinishedRun:
     def _require_records(self, number: int, one: PassSummary, journal: Journal) -> None:
         """Raises FolderError where the records of a pass don't come to what the summary says of it."""
         lines, checksum, counts = 0, Checksum(), dict.fromkeys(KINDS, 0)
-        for index in range(one.pieces):
+        for index in range(one.chunks):
             record = journal.read(index)
             if record is None or record.first != lines:
-                raise self._apart(number, "piece %d isn't of the run that the summary is of" % (index + 1))
+                raise self._mismatch(number, "chunk %d isn't of the run that the summary is of" % (index + 1))
             lines += record.lines
-            checksum = checksum.joined_with(Checksum(*record.kept))
+            checksum = checksum.add(Checksum(*record.kept))
             for kind, count in record.counts_by_kind().items():
                 counts[kind] += count
         if (lines, counts) != (one.lines, one.counts):
-            raise self._apart(number, "it has %d lines, and the summary says %d" % (lines, one.lines))
+            raise self._mismatch(number, "it has %d lines, and the summary says %d" % (lines, one.lines))
         if one.checksum not in (None, checksum):
-            raise self._apart(number, "its pieces aren't those that the summary is of")
+            raise self._mismatch(number, "its chunks aren't those that the summary is of")
 
-    def _apart(self, number: int, why: str) -> FolderError:
+    def _mismatch(self, number: int, why: str) -> FolderError:
         journal = os.path.join(self._top.at(pass_name(number)), JOURNAL)
         return FolderError("%s doesn't go with %s: %s; %s" % (journal, SUMMARY, why, _AGAIN))
 
@@ -188,112 +188,116 @@ class Outcome:
         )
 
 
-def run(folder: Folder, source: ListFile, passes: Sequence[Limits], manner: Manner) -> Outcome:
+def run(folder: Folder, source: ListFile, passes: Sequence[Limits], options: RunOptions) -> Outcome:
     """Decides a list in a folder, and leaves verdicts and summary there. Raises FolderError, CheckError,
     RunError, MovedError where the folder's path leads elsewhere before a pass or at the end, OSError."""
     try:
-        return _run_passes(folder, source, passes, manner)
+        return _run_passes(folder, source, passes, options)
     except OSError:
         # Nothing can be made in a folder that was removed.
         folder.require_named()
         raise
 
 
-def _run_passes(folder: Folder, source: ListFile, passes: Sequence[Limits], manner: Manner) -> Outcome:
+def _run_passes(folder: Folder, source: ListFile, passes: Sequence[Limits], options: RunOptions) -> Outcome:
     began = time.time(), time.monotonic()
-    begun = begin(folder, source, passes, manner)
-    folder.write(README, begun.page(folder.path))
+    config = start_or_resume(folder, source, passes, options)
+    folder.write(README, config.readme(folder.path))
     results: List[PassResult] = []
     with contextlib.ExitStack() as opened:
         folders: List[PassFolder] = []
         for number, limits in enumerate(passes, 1):
             folder.require_named()
-            found = folder.open_pass(passes[:number], manner.keep, manner.identity)
+            found = folder.open_pass(passes[:number], options.keep, options.identity)
             opened.callback(found.close)
-            lines, known = _lines_for(source, folders, results, begun)
-            manner.progress.begin(number, len(passes), _total_of(source, lines, known))
-            results.append(_run_pass(Pass(found, limits, manner, tuple(folders), known), lines))
+            lines, known = _lines_of_pass(source, folders, results, config)
+            options.progress.start(number, len(passes), _total_estimator(source, lines, known))
+            results.append(_run_pass(Pass(found, limits, options, tuple(folders), known), lines))
             folders.append(found)
-            if begun.list_lines is None:
-                begun.list_lines = results[0].lines
-                folder.begin(begun)
+            if config.list_lines is None:
+                config.list_lines = results[0].lines
+                folder.write_config(config)
         folder.require_named()
         checksum = results[0].checksum
         if len(folders) == 1:
             folder.write_verdicts(folders[0])
         else:
-            checksum = folder.join_verdicts(folders)
+            checksum = folder.merge_verdicts(folders)
     outcome = outcome_of(results)
-    summary = summary_of(source, results, outcome, manner, began, checksum)
+    summary = summary_of(source, results, outcome, options, began, checksum)
     folder.write(SUMMARY, json.dumps(summary, indent=2) + "\n")
     folder.require_named()
-    manner.progress.end()
+    options.progress.clear()
     return outcome
 
 
-def _run_pass(asked: Pass, lines: Cuttable) -> PassResult:
+def _run_pass(asked: Pass, lines: LineSource) -> PassResult:
     """Decides a pass, where the manner says."""
-    place = asked.manner.place
-    decider = ThreadsRun(asked, place) if isinstance(place, Threads) else HandingRun(asked, place)
+    place = asked.options.place
+    decider = LocalRun(asked, place) if isinstance(place, ThreadBackend) else RemoteRun(asked, place)
     return decider.run(lines)
 
 
-def _lines_for(
-    source: ListFile, folders: Sequence[PassFolder], results: Sequence[PassResult], begun: Begun
-) -> Tuple[Cuttable, Optional[int]]:
+def _lines_of_pass(
+    source: ListFile, folders: Sequence[PassFolder], results: Sequence[PassResult], config: RunConfig
+) -> Tuple[LineSource, Optional[int]]:
     """The lines of the next pass, and how many they are where that is known."""
     if not folders:
-        return source.lines(), begun.list_lines
+        return source.lines(), config.list_lines
     counts = results[-1].counts
-    return Lines(left_by(folders[-1])), counts["undecided steps"] + counts["undecided cells"]
+    return StreamLines(holdouts_of(folders[-1])), counts["undecided steps"] + counts["undecided cells"]
 
 
-def _total_of(source: ListFile, lines: Cuttable, known: Optional[int]) -> Callable[[int], Optional[float]]:
+def _total_estimator(
+    source: ListFile, lines: LineSource, known: Optional[int]
+) -> Callable[[int], Optional[float]]:
     """Of how many lines some lines are a part, where that is known."""
 
     def total(done: int) -> Optional[float]:
         if known is not None:
             return known
-        part = source.part(lines.taken)
-        return lines.taken_lines / part if part else None
+        part = source.fraction(lines.bytes_taken)
+        return lines.lines_taken / part if part else None
 
     return total
 
 
-def begin(folder: Folder, source: ListFile, passes: Sequence[Limits], manner: Manner) -> Begun:
+def start_or_resume(
+    folder: Folder, source: ListFile, passes: Sequence[Limits], options: RunOptions
+) -> RunConfig:
     """Holds what the folder was begun with against what is asked, and writes down what is new. Raises
     FolderError, which says what differs."""
     size = None if source.is_compressed else source.size
-    begun = folder.begun()
-    if begun is None:
-        begun = Begun(list(passes), manner.keep, manner.identity, source.name, size)
-        folder.begin(begun)
-        return begun
-    _require_same(folder, begun, passes, manner)
-    if size is not None and begun.list_bytes is not None and size != begun.list_bytes:
+    config = folder.read_config()
+    if config is None:
+        config = RunConfig(list(passes), options.keep, options.identity, source.name, size)
+        folder.write_config(config)
+        return config
+    _require_same(folder, config, passes, options)
+    if size is not None and config.list_bytes is not None and size != config.list_bytes:
         raise FolderError(
             "%s isn't the list that %s was begun with; give that list, or another folder:"
-            " it has %d bytes, and that one had %d" % (source.name, folder.path, size, begun.list_bytes)
+            " it has %d bytes, and that one had %d" % (source.name, folder.path, size, config.list_bytes)
         )
-    folder.require_free(range(len(begun.passes) + 1, len(passes) + 1))
-    if list(passes) != begun.passes:
-        begun.passes = list(passes)
-        folder.begin(begun)
-    return begun
+    folder.require_free(range(len(config.passes) + 1, len(passes) + 1))
+    if list(passes) != config.passes:
+        config.passes = list(passes)
+        folder.write_config(config)
+    return config
 
 
-def _require_same(folder: Folder, begun: Begun, passes: Sequence[Limits], manner: Manner) -> None:
+def _require_same(folder: Folder, config: RunConfig, passes: Sequence[Limits], options: RunOptions) -> None:
     """Raises FolderError where the folder was begun with another library, other passes or another --keep."""
     sentence = ""
-    if begun.identity.library != manner.identity.library:
+    if config.identity.library != options.identity.library:
         sentence = "another library: %s; here is %s; install that one, or give another folder"
-        sentence %= (begun.identity, manner.identity)
-    elif list(passes[: len(begun.passes)]) != begun.passes:
+        sentence %= (config.identity, options.identity)
+    elif list(passes[: len(config.passes)]) != config.passes:
         sentence = "other passes: %s; here are %s; give the same ones, with others behind them or not, or"
-        sentence = (sentence + " another folder") % (_passes_text(begun.passes), _passes_text(passes))
-    elif begun.keep != manner.keep:
+        sentence = (sentence + " another folder") % (_passes_text(config.passes), _passes_text(passes))
+    elif config.keep != options.keep:
         sentence = "--keep %s; here is --keep %s; give the same, or another folder"
-        sentence %= (begun.keep, manner.keep)
+        sentence %= (config.keep, options.keep)
     if sentence:
         raise FolderError("%s was begun with %s" % (folder.path, sentence))
 
@@ -312,7 +316,7 @@ def outcome_of(results: Sequence[PassResult]) -> Outcome:
     return Outcome(results[0].lines, counts)
 
 
-def _in_order(counts: Counter[str]) -> Dict[str, int]:
+def _by_kind(counts: Counter[str]) -> Dict[str, int]:
     return {kind: counts[kind] for kind in KINDS}
 
 
@@ -320,7 +324,7 @@ def summary_of(
     source: ListFile,
     results: Sequence[PassResult],
     outcome: Outcome,
-    manner: Manner,
+    options: RunOptions,
     began: Tuple[float, float],
     checksum: Checksum,
 ) -> Dict[str, Any]:
@@ -332,15 +336,15 @@ def summary_of(
     return {
         "list": source.name,
         "lines": outcome.lines,
-        "counts": _in_order(outcome.counts),
-        "kept": str(manner.keep),
+        "counts": _by_kind(outcome.counts),
+        "kept": str(options.keep),
         "verdicts": checksum.fields(),
         "passes": [
             {
                 "limits": dict(zip(Limits.RANGES, result.limits.numbers())),
                 "lines": result.lines,
-                "counts": _in_order(result.counts),
-                "pieces": result.pieces,
+                "counts": _by_kind(result.counts),
+                "pieces": result.chunks,
                 "verdicts": result.checksum.fields(),
                 "checked": result.is_checked,
                 "work_seconds": result.milliseconds / 1_000,
@@ -350,5 +354,5 @@ def summary_of(
         "began": times[0].isoformat(timespec="seconds"),
         "ended": times[1].isoformat(timespec="seconds"),
         "seconds": round(seconds, 3),
-        **dataclasses.asdict(manner.identity),
+        **dataclasses.asdict(options.identity),
     }

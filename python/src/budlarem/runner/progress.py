@@ -12,8 +12,8 @@ from .._text import escape_controls
 
 # Seconds between two lines, on a terminal and elsewhere.
 _OFTEN, _SELDOM = 0.5, 60.0
-# A pass of more seconds than this is announced, once so many pieces or seconds are there to reckon it from.
-_LONG, _PIECES, _ENOUGH = 3_600.0, 16, 5.0
+# A pass of more seconds than this is announced, once so many chunks or seconds are there to reckon it from.
+_LONG, _CHUNKS, _ENOUGH = 3_600.0, 16, 5.0
 
 
 def duration(seconds: float) -> str:
@@ -31,7 +31,7 @@ def duration(seconds: float) -> str:
     return "%.1f days" % (seconds / 86_400)
 
 
-def count_of(number: float) -> str:
+def short_count(number: float) -> str:
     """A count in few characters.
 
     >>> count_of(9_999), count_of(858_909), count_of(88_664_064)
@@ -56,29 +56,29 @@ class Progress:
 
     def _clear(self) -> None:
         self._began = time.monotonic()
-        self._standing, self._decided, self._pieces = 0, 0, 0
+        self._resumed, self._decided, self._chunks = 0, 0, 0
         self._is_announced = False
 
-    def begin(self, number: int, passes: int, total: Callable[[int], Optional[float]]) -> None:
+    def start(self, number: int, passes: int, total: Callable[[int], Optional[float]]) -> None:
         """Begins a pass. `total` gives of how many lines a number of lines is a part, where that is known."""
         self._clear()
         self._pass, self._passes, self._total = number, passes, total
         self._next = self._began + (_OFTEN if self._is_terminal else _SELDOM)
 
-    def stood(self, lines: int) -> None:
-        """Counts a piece that stood."""
-        self._standing += lines
+    def add_resumed(self, lines: int) -> None:
+        """Counts a chunk that stood."""
+        self._resumed += lines
         if not self._decided:
             self._began = time.monotonic()
 
-    def decided(self, lines: int) -> None:
-        """Counts a piece that was decided, or checked."""
+    def add_decided(self, lines: int) -> None:
+        """Counts a chunk that was decided, or checked."""
         self._decided += lines
-        self._pieces += 1
+        self._chunks += 1
 
-    def left(self) -> Optional[float]:
+    def remaining_seconds(self) -> Optional[float]:
         """How many seconds are left, at the pace so far; None where nothing says."""
-        done = self._standing + self._decided
+        done = self._resumed + self._decided
         total = self._total(done)
         if total is None or not self._decided:
             return None
@@ -87,13 +87,13 @@ class Progress:
     def text(self) -> str:
         """The line."""
         seconds = max(time.monotonic() - self._began, 1e-3)
-        done = self._standing + self._decided
-        parts = ["pass %d of %d" % (self._pass, self._passes), "%d pieces" % self._pieces]
-        total, left = self._total(done), self.left()
-        parts.append("%s lines" % count_of(done))
+        done = self._resumed + self._decided
+        parts = ["pass %d of %d" % (self._pass, self._passes), "%d chunks" % self._chunks]
+        total, left = self._total(done), self.remaining_seconds()
+        parts.append("%s lines" % short_count(done))
         if total:
             parts.append("%d%%" % min(100 * done / total, 100))
-        parts.append("%s lines/s" % count_of(self._decided / seconds))
+        parts.append("%s lines/s" % short_count(self._decided / seconds))
         if left is not None:
             parts.append("%s left" % duration(left))
         return ", ".join(parts)
@@ -104,7 +104,7 @@ class Progress:
         if now < self._next:
             return
         self._next = now + (_OFTEN if self._is_terminal else _SELDOM)
-        self._tell_long(now)
+        self._announce_long(now)
         line = self.text() + (", " + status if status else "")
         if self._is_terminal:
             width = shutil.get_terminal_size().columns - 1
@@ -113,31 +113,31 @@ class Progress:
         else:
             self._write("budlarem: %s\n" % line)
 
-    def _tell_long(self, now: float) -> None:
-        left = self.left()
-        is_known_enough = self._pieces >= _PIECES or (self._pieces and now - self._began > _ENOUGH)
+    def _announce_long(self, now: float) -> None:
+        left = self.remaining_seconds()
+        is_known_enough = self._chunks >= _CHUNKS or (self._chunks and now - self._began > _ENOUGH)
         if left is None or left < _LONG or self._is_announced or not is_known_enough:
             return
         self._is_announced = True
         self.print_line(
             "pass %d takes about %s, by the pace of its first %s lines"
-            % (self._pass, duration(left), count_of(self._decided))
+            % (self._pass, duration(left), short_count(self._decided))
         )
 
     def print_line(self, text: str) -> None:
         """Prints a sentence, on a line of its own, its control characters escaped."""
-        self._write(self.cleared() + "budlarem: %s\n" % escape_controls(text))
+        self._write(self.erase_sequence() + "budlarem: %s\n" % escape_controls(text))
         self._is_open = False
 
-    def cleared(self) -> str:
+    def erase_sequence(self) -> str:
         """What takes the line off the terminal."""
         if not self._is_open:
             return ""
         return "\r%s\r" % (" " * (shutil.get_terminal_size().columns - 1))
 
-    def end(self) -> None:
+    def clear(self) -> None:
         """Takes the line off the terminal."""
-        self._write(self.cleared())
+        self._write(self.erase_sequence())
         self._is_open = False
 
     def _write(self, text: str) -> None:
@@ -159,7 +159,7 @@ class TerminalLine:
         self._is_shown = sys.stderr.isatty() and not (is_beside and sys.stdout.isatty())
         self._width, self._next = 0, time.monotonic() + _OFTEN
 
-    def tell(self, text: Callable[[], str]) -> None:
+    def show(self, text: Callable[[], str]) -> None:
         """Shows a text, where the last one has stood for long enough. Less than 80 characters are shown of
         it."""
         if not self._is_shown or time.monotonic() < self._next:

@@ -52,7 +52,7 @@ class Form(Words):
     TEXT = "text"
 
 
-class Passed(Words):
+class Skipped(Words):
     """A line that is passed over: neither a machine nor refused."""
 
     EMPTY = "empty lines"

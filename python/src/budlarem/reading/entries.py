@@ -6,9 +6,9 @@ import dataclasses
 import re
 from typing import List, Sequence, Set, Tuple, Union
 
-from .._text import counted, first_hidden, name_of
+from .._text import pluralize, first_hidden, code_point
 from ..verdicts import MOST_SYMBOLS, STATES, is_machine
-from .values import Reason, Rewriting
+from .readings import Reason, Rewriting
 
 # Of so many states at most H is none, so it may be meant for the halting state.
 MOST_BEFORE_H = STATES.index("H")
@@ -52,7 +52,7 @@ def read_words(words: Sequence[Word]) -> Outcome:
         return entries
     rewritten = _letters(groups)
     if len(groups) == 1:
-        return _divided(entries[0], rewritten)
+        return _divide(entries[0], rewritten)
     if len(words) > 1:
         rewritten.add(Rewriting.SPACES)
     return _machine(entries, rewritten)
@@ -64,7 +64,7 @@ def read_entries(words: Sequence[Word]) -> Outcome:
     if isinstance(entries, Reason):
         return entries
     row = [entry for group in entries for entry in group]
-    return _divided(row, _letters(words) | {Rewriting.ENTRIES})
+    return _divide(row, _letters(words) | {Rewriting.ENTRIES})
 
 
 def read_arrays(groups: Sequence[Sequence[Word]]) -> Outcome:
@@ -116,7 +116,7 @@ def _no_entry(text: str, number: int, place: int, is_followed: bool) -> Reason:
         return Reason("lost", sentence, place)
     hidden = first_hidden(text)
     if hidden is not None:
-        sentence = "entry %d has %s, a character that doesn't show" % (number, name_of(text[hidden]))
+        sentence = "entry %d has %s, a character that doesn't show" % (number, code_point(text[hidden]))
         return Reason("hidden", sentence, place + hidden)
     return Reason("entry", "entry %d is no entry: %s" % (number, text), place)
 
@@ -132,13 +132,13 @@ def _letters(groups: Sequence[Word]) -> Set[Rewriting]:
     return found
 
 
-def _divided(entries: Group, rewritten: Set[Rewriting]) -> Outcome:
+def _divide(entries: Group, rewritten: Set[Rewriting]) -> Outcome:
     """The machine that a text without `_` is, where there is one division into groups that makes one."""
     count, begin = len(entries), entries[0][0]
     states = [number for number in range(1, len(STATES) + 1) if count % number == 0]
     sizes = [(number, count // number) for number in states if 2 <= count // number <= MOST_SYMBOLS]
     if not sizes:
-        sentence = "%s can't be divided into 1 to 25 groups of 2 to 10" % counted(count, "entry", "entries")
+        sentence = "%s can't be divided into 1 to 25 groups of 2 to 10" % pluralize(count, "entry", "entries")
         return Reason("division", sentence, begin + 1)
     outcomes: List[Outcome] = []
     for number, size in sizes:
@@ -167,7 +167,7 @@ def _machine(groups: Sequence[Group], rewritten: Set[Rewriting]) -> Outcome:
         text = ""
         for begin, entry in group:
             number += 1
-            entry = _rewritten(entry, halts_by_h)
+            entry = _rewrite_entry(entry, halts_by_h)
             wrong = _wrong_entry(entry, number, begin, len(groups), len(group))
             if wrong is not None:
                 return wrong
@@ -178,7 +178,7 @@ def _machine(groups: Sequence[Group], rewritten: Set[Rewriting]) -> Outcome:
     return Found("_".join(texts), tuple(kind for kind in Rewriting if kind in rewritten))
 
 
-def _rewritten(entry: str, halts_by_h: bool) -> str:
+def _rewrite_entry(entry: str, halts_by_h: bool) -> str:
     """An entry as `bb` reads it."""
     entry = entry.upper().replace("...", "---")
     return entry[:2] + "Z" if halts_by_h and entry[2] == "H" else entry
@@ -193,7 +193,7 @@ def _wrong_size(groups: Sequence[Group]) -> Union[Reason, None]:
         numbers = "%s and %d" % (", ".join(map(str, lengths[:-1])), lengths[-1])
         return Reason("groups", "the groups have %s entries" % numbers, other[0][0] + 1)
     if not 2 <= lengths[0] <= MOST_SYMBOLS:
-        sentence = "the groups have %s, not 2 to 10" % counted(lengths[0], "entry", "entries")
+        sentence = "the groups have %s, not 2 to 10" % pluralize(lengths[0], "entry", "entries")
         return Reason("symbols", sentence, begin + 1)
     if len(groups) > len(STATES):
         place = groups[len(STATES)][0][0] + 1

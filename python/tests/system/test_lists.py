@@ -15,7 +15,7 @@ from typing import Dict, Iterator, List, Sequence, Tuple
 import budlarem
 import pytest
 from budlarem import Form, Halt, Judgement, Limits, Undecided, Verdict
-from budlarem.normal_forms import form_of
+from budlarem.normal_forms import canonical_form
 from support import TOP
 from support.machines import mixed, uniform
 from support.program import Ended, as_lines, ended, options
@@ -230,7 +230,7 @@ def test_read(bb: str, tmp_path: pathlib.Path) -> None:
 def test_check(bb: str, rng: random.Random, tmp_path: pathlib.Path) -> None:
     """The answers are the program's, at small limits and at the greatest; counts and status tell of them."""
     verdicts = verdicts_of(1_000)
-    lines = [*(forged(rng, verdict) for verdict in verdicts), *map(str, verdicts), "x", "refused 3"]
+    lines = [*(forge(rng, verdict) for verdict in verdicts), *map(str, verdicts), "x", "refused 3"]
     given = as_lines(lines)
     for row in (LIMITS, GREATEST):
         right = ended([bb, "check", *options(row)], given)
@@ -262,7 +262,7 @@ def test_trace(bb: str) -> None:
             assert found[:2] == right[:2]
 
 
-def forged(source: random.Random, verdict: Verdict) -> str:
+def forge(source: random.Random, verdict: Verdict) -> str:
     """A claim in which a number or a side is another."""
     words_of = str(verdict).split(" ")
     place = source.randrange(2, len(words_of))
@@ -291,7 +291,7 @@ def test_forged_claims(bb: str, rng: random.Random, count: int) -> None:
     assert {one.judgement for one in judged} == {Judgement.CONFIRMED}
     claims = list(map(str, verdicts))
     places = source.sample(range(len(claims)), len(claims))
-    lines = [forged(source, verdicts[place]) for place in places] + claims
+    lines = [forge(source, verdicts[place]) for place in places] + claims
     answers = ended([bb, "check", *options(GREATEST)], as_lines(lines)).output.decode().splitlines()
     wrong: Dict[str, str] = {"bad": "contradicted", "ok": "confirmed"}
     judging = budlarem.judge(lines, limits=limits, undefined_steps=False, threads=2)
@@ -357,14 +357,14 @@ def test_forms_of_machines() -> None:
     """What has another form takes no longer than is asked."""
     machines = machines_of_four_states(5_000)
     began = time.process_time()
-    forms = {form_of(machine).text for machine in machines}
+    forms = {canonical_form(machine).text for machine in machines}
     each = (time.process_time() - began) / len(machines)
     print("a form of a machine, of %d: %.1f us" % (len(machines), 1e6 * each), flush=True)
     assert each < 30 * 50e-6
     assert len(forms) > len(machines) / 2
 
 
-def shown_on_terminal(*asked: str) -> Tuple[List[str], str]:
+def run_on_terminal(*asked: str) -> Tuple[List[str], str]:
     """The texts of progress that a command of the package showed on a terminal, and what stood there at the
     end."""
     with open(os.devnull, "wb") as output:
@@ -385,7 +385,7 @@ def test_progress(tmp_path: pathlib.Path) -> None:
         given = tmp_path / (name + ".txt")
         given.write_bytes(as_lines(lines) * 100 if name == "judge" else as_lines(lines[:1]) * 10)
         words = [word.replace("out.tar", str(tmp_path / "out.tar")) for word in more]
-        texts, left = shown_on_terminal(name, *words, str(given))
+        texts, left = run_on_terminal(name, *words, str(given))
         held = any(word in text for text in texts) and all(len(text) < 80 for text in texts)
         assert held, (name, texts[:5])
         lines_left = left.count("\n") if name != "judge" else left.count("small letters read as capital ones")

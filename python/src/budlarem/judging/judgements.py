@@ -6,8 +6,8 @@ import dataclasses
 from typing import Callable, Container, Dict, Iterable, Iterator, List, Optional, Set, Tuple, TypeVar
 
 from .._text import Words, escape_controls
-from ..claims import Said
-from ..normal_forms import form_of
+from ..claims import Claim
+from ..normal_forms import canonical_form
 from ..reading import Reading
 from ..verdicts import Verdict
 
@@ -32,45 +32,45 @@ class Judged:
     none."""
 
     judgement: Judgement
-    said: Said
+    claim: Claim
     ours: Optional[Verdict]
     reason: str
 
     @property
     def number(self) -> int:
         """The line's number, from 1 on."""
-        return self.said.reading.number
+        return self.claim.reading.number
 
     def __str__(self) -> str:
-        line = escape_controls(self.said.reading.line.replace("\t", " "))
+        line = escape_controls(self.claim.reading.line.replace("\t", " "))
         ours = line if self.ours is None else str(self.ours)
         return "%s\t%d\t%s\t%s" % (self.judgement, self.number, ours, self.reason)
 
 
 # The number of a line, and its machine.
-Placed = Tuple[int, str]
+NumberedMachine = Tuple[int, str]
 # Is called with what is being done beside judging, and with how many lines it was done.
-Tell = Callable[[str, int], None]
+ProgressCallback = Callable[[str, int], None]
 _Item = TypeVar("_Item")
 _COMPARED = "compared by form"
 
 
-def counted(items: Iterable[_Item], what: str, tell: Tell) -> Iterator[_Item]:
-    """The items; `tell` is called with each one's count."""
+def count_progress(items: Iterable[_Item], what: str, progress: ProgressCallback) -> Iterator[_Item]:
+    """The items; `progress` is called with each one's count."""
     for count, item in enumerate(items, 1):
-        tell(what, count)
+        progress(what, count)
         yield item
 
 
-class Lists:
+class ListOverlap:
     """The machines of two lists, and the numbers of their lines. Machines that the laws of verdicts make the
-    same are one. `tell` is called with the list's lines, and with the forms that are compared."""
+    same are one. `progress` is called with the list's lines, and with the forms that are compared."""
 
-    def __init__(self, listed: Iterable[Reading], tell: Tell) -> None:
+    def __init__(self, listed: Iterable[Reading], progress: ProgressCallback) -> None:
         self._listed: Dict[str, int] = {}
         self._theirs: Dict[str, List[int]] = {}
-        self._tell = tell
-        for reading in counted(listed, "of the list read", tell):
+        self._progress = progress
+        for reading in count_progress(listed, "of the list read", progress):
             if reading.machine is not None:
                 self._listed.setdefault(reading.machine, reading.number)
 
@@ -79,24 +79,26 @@ class Lists:
         if reading.machine is not None:
             self._theirs.setdefault(reading.machine, []).append(reading.number)
 
-    def missing(self) -> List[Placed]:
+    def missing(self) -> List[NumberedMachine]:
         """The machines of the list that have no line of theirs, each with its first line's number."""
         return [(self._listed[machine], machine) for machine in self._others(self._listed, self._theirs)]
 
-    def foreign(self) -> List[Placed]:
+    def foreign(self) -> List[NumberedMachine]:
         """Their lines whose machines aren't of the list."""
         found = self._others(self._theirs, self._listed)
         return sorted((number, machine) for machine in found for number in self._theirs[machine])
 
     def _others(self, machines: Iterable[str], those: Dict[str, _Item]) -> Iterator[str]:
         """The machines that aren't among those, in any form."""
-        left = _left(machines, those)
+        left = _not_among(machines, those)
         forms: Set[str] = set()
         if left:
-            forms.update(form_of(machine).text for machine in counted(those, _COMPARED, self._tell))
-        found = counted(left, _COMPARED, self._tell)
-        return (machine for machine in found if form_of(machine).text not in forms)
+            forms.update(
+                canonical_form(machine).text for machine in count_progress(those, _COMPARED, self._progress)
+            )
+        found = count_progress(left, _COMPARED, self._progress)
+        return (machine for machine in found if canonical_form(machine).text not in forms)
 
 
-def _left(machines: Iterable[str], those: Container[str]) -> List[str]:
+def _not_among(machines: Iterable[str], those: Container[str]) -> List[str]:
     return [machine for machine in machines if machine not in those]

@@ -38,7 +38,7 @@ def small_machines() -> List[str]:
     return ["%s%s_%s%s" % table for table in tables]
 
 
-def hold(machine: str, verdict: budlarem.Verdict, steps: int) -> None:
+def require_places(machine: str, verdict: budlarem.Verdict, steps: int) -> None:
     run = list(plain(machine, steps))
     for step in {*range(0, len(run), 3), len(run) - 1}:
         assert at(verdict, step) == Place(step, *run[step]), (str(verdict), step)
@@ -49,7 +49,7 @@ def test_plain_runs() -> None:
     for verdict in budlarem.decide(small_machines(), Limits(steps=100, cells=64, depth=0, nodes=0)):
         if isinstance(verdict, (budlarem.Halt, Cycler, Translated)):
             kinds.add(verdict.kind)
-            hold(verdict.machine, verdict, 25)
+            require_places(verdict.machine, verdict, 25)
     assert kinds == {"halt", "cycler", "translated"}
 
 

@@ -8,16 +8,16 @@ import os
 import sys
 from typing import BinaryIO, Counter, Dict, Iterator, Optional, Sequence, Union
 
-from ..claims import WORDS, Sayings, Word, read_words
+from ..claims import WORDS, Claims, Word, read_words
 from ..judging import Judgement, Judging, judge, translation_in
-from ..judging.sources import Twice
-from ..judging.values import Placed
+from ..judging.rereadable import RereadableList
+from ..judging.judgements import NumberedMachine
 from ..limits import GREATEST, Limits, Plan
-from ..lists import Agreement, compare
+from ..comparison import Agreement, compare
 from ..numbers import option_number
-from ..reading import Passed
+from ..reading import Skipped
 from ..reports import report
-from ..runner.progress import TerminalLine, count_of
+from ..runner.progress import TerminalLine, short_count
 from ..verdicts import Verdict
 from .shared import (
     ListReader,
@@ -62,24 +62,24 @@ class VerdictReader(ListReader):
 
     def verdicts(self) -> Iterator[Verdict]:
         """The verdict of each line that has one. Raises OSError, ValueError."""
-        source = Twice(self.source, self.form, self.columns)
+        source = RereadableList(self.source, self.form, self.columns)
         self.print_form(source.form)
         self.print_unused_words(source.form, self._word_file)
         self._print_translation(source)
-        sayings = Sayings(source.once(), source.form, self.words)
-        for said in sayings:
-            if said.claim is not None:
-                self.tell_rewritten(said.reading)
-                yield said.claim
-            elif said.reading.machine is None:
-                self.refuse(said.reading.number, str(said.reading))
+        claims = Claims(source.once(), source.form, self.words)
+        for claim in claims:
+            if claim.verdict is not None:
+                self.print_rewritten(claim.reading)
+                yield claim.verdict
+            elif claim.reading.machine is None:
+                self.refuse(claim.reading.number, str(claim.reading))
             else:
-                why = said.trouble or "no verdict of %s" % said.reading.machine
-                self.refuse(said.reading.number, "refused: %s" % why)
-        empty = {Passed.EMPTY: source.empty} if source.empty else {}
-        self.print_passed(sayings.passed + collections.Counter(empty), source.undecoded)
+                why = claim.trouble or "no verdict of %s" % claim.reading.machine
+                self.refuse(claim.reading.number, "refused: %s" % why)
+        empty = {Skipped.EMPTY: source.empty} if source.empty else {}
+        self.print_skipped(claims.skipped + collections.Counter(empty), source.undecoded)
 
-    def _print_translation(self, source: Twice) -> None:
+    def _print_translation(self, source: RereadableList) -> None:
         """Prints the translation of a table's words. Raises ValueError where several columns may have them."""
         try:
             translation = translation_in(source, self.words, lambda what, lines: None)
@@ -178,7 +178,7 @@ are the same there up to the names of states and symbols, and left and right."""
 
 def counts_text(counts: Counter[Judgement]) -> str:
     """How many lines were judged how so far."""
-    parts = ("%s %s" % (count_of(counts[kind]), kind) for kind in Judgement if counts[kind])
+    parts = ("%s %s" % (short_count(counts[kind]), kind) for kind in Judgement if counts[kind])
     return ", ".join(parts)
 
 
@@ -198,7 +198,7 @@ def do_judge(asked: argparse.Namespace) -> int:
         checker=checker,
         undefined_steps=True if asked.undefined_steps else None,
         threads=asked.threads,
-        tell=lambda what, lines: progress.tell(lambda: "%s lines %s" % (count_of(lines), what)),
+        progress=lambda what, lines: progress.show(lambda: "%s lines %s" % (short_count(lines), what)),
         form=reader.form,
         columns=reader.columns,
         words=None if asked.words is None else read_words(asked.words),
@@ -208,15 +208,15 @@ def do_judge(asked: argparse.Namespace) -> int:
     counts: Counter[Judgement] = collections.Counter()
     for judged in judging:
         counts[judged.judgement] += 1
-        reader.tell_rewritten(judged.said.reading)
+        reader.print_rewritten(judged.claim.reading)
         sys.stdout.write("%s\n" % judged)
-        progress.tell(lambda: counts_text(counts))
+        progress.show(lambda: counts_text(counts))
     missing, foreign = judging.missing(), judging.foreign()
     progress.clear()
     if asked.list is not None:
         _write_list(missing, foreign, asked.list)
     sys.stdout.flush()
-    reader.print_passed(judging.theirs.passed, judging.theirs.undecoded)
+    reader.print_skipped(judging.theirs.skipped, judging.theirs.undecoded)
     if judging.undefined_steps:
         print("%s: a step is counted for each ---" % reader.name, file=sys.stderr)
     parts = ", ".join("%s %d" % (kind, counts[kind]) for kind in Judgement)
@@ -232,7 +232,7 @@ def _print_form(reader: ListReader, judging: Judging) -> None:
             reader.print_line(line)
 
 
-def _write_list(missing: Sequence[Placed], foreign: Sequence[Placed], path: str) -> None:
+def _write_list(missing: Sequence[NumberedMachine], foreign: Sequence[NumberedMachine], path: str) -> None:
     """Writes which machines of the list have no line, and which lines aren't of it; counts them."""
     for number, machine in missing:
         sys.stdout.write("no-line\t%d\t%s\n" % (number, machine))

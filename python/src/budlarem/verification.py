@@ -8,7 +8,7 @@ import io
 from typing import Callable, Counter, Iterator, List, Optional, Sequence, Tuple
 
 from ._calls import BinaryReader
-from .engine import checked, decide
+from .engine import check_file, decide
 from .limits import Limits, Plan
 from .verdicts import Answer, Backward, Cycler, Halt, Refused, Translated, Undecided, Verdict, parse
 
@@ -16,7 +16,7 @@ _FINE = (b"ok", b"open")
 
 
 @dataclasses.dataclass
-class Checked:
+class CheckSummary:
     """What checking a list came to so far: how often each answer was given, and of the first line that is
     neither `ok` nor `open` the number, the text and the answer."""
 
@@ -28,17 +28,21 @@ class Checked:
         return sum(self.counts.values())
 
 
-def answers_to(
-    file: BinaryReader, limits: Limits, threads: int, found: Checked, tell: Callable[[Checked], None]
+def answer_blocks(
+    file: BinaryReader,
+    limits: Limits,
+    threads: int,
+    summary: CheckSummary,
+    tell: Callable[[CheckSummary], None],
 ) -> Iterator[bytes]:
     """The bytes that `bb check` writes for a file, block by block; `found` counts them, and `tell` is called
     with it after each."""
-    for lines, answers in checked(file, limits, threads=threads):
-        if found.first is None:
-            found.first = _first_of(lines, answers, found.lines)
+    for lines, answers in check_file(file, limits, threads=threads):
+        if summary.first is None:
+            summary.first = _first_unconfirmed(lines, answers, summary.lines)
         for answer in Answer:
-            found.counts[answer] += _count(answers, str(answer).encode())
-        tell(found)
+            summary.counts[answer] += _count(answers, str(answer).encode())
+        tell(summary)
         yield answers
 
 
@@ -47,7 +51,7 @@ def _count(answers: bytes, word: bytes) -> int:
     return answers.count(word + b"\n")
 
 
-def _first_of(lines: bytes, answers: bytes, before: int) -> Optional[Tuple[int, str, Answer]]:
+def _first_unconfirmed(lines: bytes, answers: bytes, before: int) -> Optional[Tuple[int, str, Answer]]:
     """The first line that is neither `ok` nor `open`, where so many lines come before these."""
     words = answers.split(b"\n")[:-1]
     if words.count(b"ok") + words.count(b"open") == len(words):
@@ -57,7 +61,7 @@ def _first_of(lines: bytes, answers: bytes, before: int) -> Optional[Tuple[int, 
     return before + place + 1, line, Answer(words[place].decode())
 
 
-def why(line: str, answer: Answer, limits: Limits) -> str:
+def explain(line: str, answer: Answer, limits: Limits) -> str:
     """Why the checker gives this answer to a line under these limits."""
     try:
         verdict = parse(line)
@@ -70,7 +74,7 @@ def why(line: str, answer: Answer, limits: Limits) -> str:
 
 def _over(verdict: Verdict, limits: Limits) -> str:
     """What of the limits a verdict passes."""
-    for limit, number in _named(verdict):
+    for limit, number in _bounded_numbers(verdict):
         if number > getattr(limits, limit):
             most = getattr(limits, limit)
             return "it names {:,} {}, but the limit is {:,}".format(number, _UNITS[limit], most)
@@ -80,7 +84,7 @@ def _over(verdict: Verdict, limits: Limits) -> str:
 _UNITS = {"steps": "steps", "depth": "levels", "nodes": "nodes"}
 
 
-def _named(verdict: Verdict) -> List[Tuple[str, int]]:
+def _bounded_numbers(verdict: Verdict) -> List[Tuple[str, int]]:
     """What a verdict names that a limit bounds."""
     if isinstance(verdict, Halt):
         return [("steps", verdict.steps)]
@@ -108,9 +112,9 @@ def _bad(verdict: Verdict, limits: Limits) -> str:
 def _bad_halt(verdict: Halt, limits: Limits) -> str:
     """What the machine does in place of the halt that is claimed."""
     bounds = Limits(verdict.steps, limits.cells, 0, 0)
-    (found,) = decide([verdict.machine], bounds, Plan(False, False, False))
-    if isinstance(found, Halt):
-        return "it halts after {:,} steps with {:,} cells that aren't 0".format(found.steps, found.score)
+    (summary,) = decide([verdict.machine], bounds, Plan(False, False, False))
+    if isinstance(summary, Halt):
+        return "it halts after {:,} steps with {:,} cells that aren't 0".format(summary.steps, summary.score)
     return "it doesn't halt within {:,} steps".format(verdict.steps)
 
 
@@ -140,6 +144,6 @@ def answers_of(claims: Sequence[Verdict], limits: Limits, threads: int) -> List[
 
 def _answers(claims: Sequence[Verdict], limits: Limits, threads: int) -> Iterator[Answer]:
     lines = "".join("%s\n" % claim for claim in claims).encode()
-    for _, answers in checked(io.BytesIO(lines), limits, threads=threads):
+    for _, answers in check_file(io.BytesIO(lines), limits, threads=threads):
         for word in answers.decode().split():
             yield Answer(word)

@@ -1,74 +1,15 @@
-"""What people do with lists of machines and of verdicts, as streams."""
+"""Compares two lists of verdicts, as streams."""
 
 from __future__ import annotations
 
 import collections
 import dataclasses
-from typing import Deque, Dict, Iterable, Iterator, List, Optional, Tuple, Union
+from typing import Dict, Iterable, Iterator, List, Optional, Tuple, Union
 
-from ._text import Words, escape_controls
-from .engine import decide
-from .limits import Limits, Plan
-from .normal_forms import form_of, turned
-from .reading import Columns, Form, Reading, read
-from .reading.files import Source
-from .verdicts import Backward, Cycler, Halt, OfMachine, Refused, Translated, Undecided, Verdict, is_machine
+from ._text import Words
+from .normal_forms import canonical_form, mirror_verdict
+from .verdicts import Backward, Cycler, Halt, MachineVerdict, Refused, Translated, Undecided, Verdict
 from .verdicts import verdicts_of
-
-
-@dataclasses.dataclass(frozen=True)
-class Carried:
-    """A verdict, and the reading of its line. As a text: the verdict line, and what else stood on the line
-    behind a tab, where something did."""
-
-    verdict: Verdict
-    reading: Reading
-
-    @property
-    def fields(self) -> str:
-        """What else stood on the line; nothing where it was refused."""
-        return self.reading.fields
-
-    def __str__(self) -> str:
-        fields = escape_controls(self.fields)
-        return "%s\t%s" % (self.verdict, fields) if fields else str(self.verdict)
-
-
-def decide_carried(
-    lines: Source,
-    limits: Limits = Limits(),
-    plan: Plan = Plan(),
-    *,
-    threads: int = 1,
-    form: Optional[Form] = None,
-    columns: Columns = Columns(),
-) -> Iterator[Carried]:
-    """Decides the machine of each line, wherever `read` finds it, and carries along what else stands there.
-    Where it finds none, the verdict is `Refused`, with the column at which `bb` refuses the line.
-
-    Takes what `read` takes. Raises what `read` and `decide` do.
-
-    >>> [str(carried) for carried in decide_carried(["1RB1LB_1LA1RZ, the champion", "1RA1RA", "x"])]
-    ['1RB1LB_1LA1RZ halt 6 4\\tthe champion', '1RA1RA translated R 1 2 1 1', 'refused 1']
-    """
-    return carried(read(lines, form, columns), limits, plan, threads=threads)
-
-
-def carried(
-    readings: Iterable[Reading], limits: Limits = Limits(), plan: Plan = Plan(), *, threads: int = 1
-) -> Iterator[Carried]:
-    """The verdict of each reading."""
-    waiting: Deque[Reading] = collections.deque()
-
-    def machines() -> Iterator[str]:
-        for reading in readings:
-            waiting.append(reading)
-            # A machine that the list's form doesn't allow there is refused by a space before it.
-            is_refused = reading.machine is None and is_machine(reading.line)
-            yield " " + reading.line if is_refused else reading.machine or reading.line
-
-    verdicts = decide(machines(), limits, plan, threads=threads)
-    return (Carried(verdict, waiting.popleft()) for verdict in verdicts)
 
 
 class Agreement(Words):
@@ -128,7 +69,7 @@ def agreement(first: Verdict, second: Verdict, undefined_steps: bool = False) ->
     return Agreement.AGREE if alike else Agreement.CONTRADICT
 
 
-def _parsed(items: Iterable[Union[str, Verdict]], name: str) -> Iterator[OfMachine]:
+def _parse_all(items: Iterable[Union[str, Verdict]], name: str) -> Iterator[MachineVerdict]:
     """The verdicts of verdicts and lines, but for refusals, which have no machine."""
     return (one for one in verdicts_of(items, name) if not isinstance(one, Refused))
 
@@ -136,11 +77,11 @@ def _parsed(items: Iterable[Union[str, Verdict]], name: str) -> Iterator[OfMachi
 class _Side:
     """A list of verdicts, read one after another, and those for which the other list had none yet."""
 
-    def __init__(self, items: Iterator[OfMachine]) -> None:
+    def __init__(self, items: Iterator[MachineVerdict]) -> None:
         self.items = items
-        self.waiting: Dict[str, List[OfMachine]] = {}
+        self.waiting: Dict[str, List[MachineVerdict]] = {}
 
-    def taken(self, machine: str) -> Optional[OfMachine]:
+    def take(self, machine: str) -> Optional[MachineVerdict]:
         """The first waiting verdict on a machine, which then waits no longer."""
         found = self.waiting.get(machine)
         if found is None:
@@ -150,7 +91,7 @@ class _Side:
             del self.waiting[machine]
         return verdict
 
-    def left(self) -> List[OfMachine]:
+    def remaining(self) -> List[MachineVerdict]:
         """The verdicts that wait."""
         return [verdict for verdicts in self.waiting.values() for verdict in verdicts]
 
@@ -176,7 +117,7 @@ def compare(
     contradict 1RB1LB_1LA1RZ
     only-second 1RA1RA
     """
-    sides = (_Side(_parsed(first, "first")), _Side(_parsed(second, "second")))
+    sides = (_Side(_parse_all(first, "first")), _Side(_parse_all(second, "second")))
     is_open = [True, True]
     while any(is_open):
         for here, side in enumerate(sides):
@@ -184,33 +125,33 @@ def compare(
             if verdict is None:
                 is_open[here] = False
                 continue
-            other = sides[1 - here].taken(verdict.machine)
+            other = sides[1 - here].take(verdict.machine)
             if other is None:
                 side.waiting.setdefault(verdict.machine, []).append(verdict)
                 continue
             pair = (verdict, other) if here == 0 else (other, verdict)
             yield Comparison(agreement(*pair, undefined_steps), verdict.machine, *pair)
-    yield from _compared_by_form(sides[0].left(), sides[1].left(), undefined_steps)
+    yield from _compared_by_form(sides[0].remaining(), sides[1].remaining(), undefined_steps)
 
 
 def _compared_by_form(
-    first: List[OfMachine], second: List[OfMachine], undefined_steps: bool
+    first: List[MachineVerdict], second: List[MachineVerdict], undefined_steps: bool
 ) -> Iterator[Comparison]:
     """Compares what has no machine of the same text in the other list: by what the laws of verdicts make the
     same."""
-    waiting: Dict[str, List[Tuple[OfMachine, bool]]] = collections.defaultdict(list)
+    waiting: Dict[str, List[Tuple[MachineVerdict, bool]]] = collections.defaultdict(list)
     for other in second if first else []:
-        form = form_of(other.machine)
+        form = canonical_form(other.machine)
         waiting[form.text].append((other, form.mirrored))
     for verdict in first:
         machine = verdict.machine
-        form = form_of(machine)
+        form = canonical_form(machine)
         found = waiting.get(form.text)
         if not found:
             yield Comparison(Agreement.ONLY_FIRST, machine, verdict, None)
             continue
         other, mirrored = found.pop(0)
-        kind = agreement(verdict, turned(other, mirrored != form.mirrored), undefined_steps)
+        kind = agreement(verdict, mirror_verdict(other, mirrored != form.mirrored), undefined_steps)
         yield Comparison(kind, machine, verdict, other)
-    left = (other for pairs in waiting.values() for other, _ in pairs) if first else iter(second)
-    yield from (Comparison(Agreement.ONLY_SECOND, other.machine, None, other) for other in left)
+    remaining = (other for pairs in waiting.values() for other, _ in pairs) if first else iter(second)
+    yield from (Comparison(Agreement.ONLY_SECOND, other.machine, None, other) for other in remaining)

@@ -11,12 +11,12 @@ from types import FrameType
 from typing import Optional
 
 from .._text import LONGEST_SHOWN, escape_controls
-from ..checking import Checked, answers_to, why
+from ..verification import CheckSummary, answer_blocks, explain
 from ..limits import Limits, limits_of
 from ..publishing import UnconfirmedError, publish
 from ..reading.files import BytesFile
 from ..runner.errors import RunError
-from ..runner.progress import TerminalLine, count_of
+from ..runner.progress import TerminalLine, short_count
 from ..verdicts import Answer
 from .shared import add_command, add_file, add_greatest_limits, add_number, greatest_limits, source_of
 
@@ -31,9 +31,9 @@ tapes of each thread then take 134 MB. Whoever fears a claim of 10^12 steps, whi
 --steps."""
 
 
-def counts_text(found: Checked) -> str:
+def counts_text(summary: CheckSummary) -> str:
     """How often each answer was given so far."""
-    counted = ((count_of(found.counts[answer]), answer) for answer in Answer if found.counts[answer])
+    counted = ((short_count(summary.counts[answer]), answer) for answer in Answer if summary.counts[answer])
     return ", ".join("%s %s" % pair for pair in counted)
 
 
@@ -41,22 +41,22 @@ def do_check(asked: argparse.Namespace) -> int:
     """Writes the checker's answers."""
     limits = greatest_limits(asked)
     name = "standard input" if asked.file in (None, "-") else asked.file
-    found, progress = Checked(), TerminalLine()
+    summary, progress = CheckSummary(), TerminalLine()
 
-    def tell(found: Checked) -> None:
-        progress.tell(lambda: counts_text(found))
+    def show(summary: CheckSummary) -> None:
+        progress.show(lambda: counts_text(summary))
 
     with contextlib.closing(BytesFile(source_of(asked.file))) as file:
-        for answers in answers_to(file, limits, asked.threads, found, tell):
+        for answers in answer_blocks(file, limits, asked.threads, summary, show):
             sys.stdout.write(answers.decode())
     progress.clear()
     sys.stdout.flush()
-    counts = ("%s %d" % (answer, found.counts[answer]) for answer in Answer)
+    counts = ("%s %d" % (answer, summary.counts[answer]) for answer in Answer)
     print(escape_controls("%s: %s" % (name, ", ".join(counts))), file=sys.stderr)
-    if found.first is None:
+    if summary.first is None:
         return 0
-    number, line, answer = found.first
-    parts = (name, number, answer, LONGEST_SHOWN, line, why(line, answer, limits))
+    number, line, answer = summary.first
+    parts = (name, number, answer, LONGEST_SHOWN, line, explain(line, answer, limits))
     print(escape_controls("%s:%d: %s: %.*s: %s" % parts), file=sys.stderr)
     return 1
 
@@ -71,7 +71,7 @@ def add_check(commands: "argparse._SubParsersAction[argparse.ArgumentParser]") -
 
 
 _PUBLISH = """Writes one archive of a decided list, which whoever gets it can check again: the list, the
-verdicts, limits and versions, the sha256 of each, a page that says what the lines mean, and again.py, a
+verdicts, limits and versions, the sha256 of each, a page that says what the lines mean, and recheck.py, a
 checker in plain Python. The checker has to confirm each claim first, and each line of LIST to have its
 verdict at its place. Files may be compressed by gzip; in the archive they aren't.
 
@@ -106,7 +106,7 @@ def do_publish(asked: argparse.Namespace) -> int:
                 passes=[limits_of(words) for words in asked.passes or ()],
                 limits=Limits(**{**most, "steps": asked.steps}),
                 threads=len(os.sched_getaffinity(0)) if asked.threads is None else asked.threads,
-                tell=lambda lines: progress.tell(lambda: "%s lines checked" % count_of(lines)),
+                progress=lambda lines: progress.show(lambda: "%s lines checked" % short_count(lines)),
             )
         finally:
             progress.clear()

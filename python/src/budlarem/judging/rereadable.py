@@ -11,21 +11,21 @@ from typing import IO, Any, Iterator, List, Optional
 from ..reading.files import Lines, Numbered, Source
 from ..reading.forms import ListForm, form_of
 from ..reading.tables import Columns
-from ..reading.values import Form
+from ..reading.readings import Form
 
 # So many characters of a list are kept between its readings. Of a longer one a regular file is read again,
 # and what comes from elsewhere is copied to the disk.
-_KEPT = 8_000_000
+_MOST_BUFFERED = 8_000_000
 
 
-class Twice:
+class RereadableList:
     """The lines of a list that aren't empty, which can be read more than once. `form` is that of the list."""
 
     def __init__(self, source: Source, form: Optional[Form] = None, columns: Columns = Columns()) -> None:
         self._source: Any = source
         self._lines = Lines(source)
         self._ahead: List[Numbered] = []
-        self._kept: Optional[List[Numbered]] = None
+        self._buffered: Optional[List[Numbered]] = None
         self._copy: Optional[IO[bytes]] = None
         self._is_begun = False
         self.form: ListForm = form_of(self._lines, self._ahead, form, columns)
@@ -53,9 +53,9 @@ class Twice:
         """The lines, from the first on. Raises OSError."""
         if not self._is_begun:
             self._is_begun = True
-            self._keep()
-        if self._kept is not None:
-            yield from self._kept
+            self._buffer()
+        if self._buffered is not None:
+            yield from self._buffered
         elif self._copy is not None:
             self._copy.seek(0)
             for line in self._copy:
@@ -65,7 +65,7 @@ class Twice:
             self._lines = Lines(self._source)
             yield from self._lines
 
-    def _keep(self) -> None:
+    def _buffer(self) -> None:
         """Reads the list for the first time: keeps it where it is short, copies it where it can't be read
         again."""
         kept: List[Numbered] = []
@@ -74,10 +74,10 @@ class Twice:
         for numbered in lines:
             kept.append(numbered)
             size += len(numbered[1]) + 64
-            if size > _KEPT:
+            if size > _MOST_BUFFERED:
                 break
         else:
-            self._kept = kept
+            self._buffered = kept
             return
         if not _is_regular(self._source):
             self._copy = tempfile.TemporaryFile()

@@ -7,8 +7,8 @@ import dataclasses
 import re
 from typing import Iterator, List, Optional, Tuple
 
-from .texts import Word
-from .values import Passed
+from .entries import Word
+from .readings import Skipped
 
 # What counts as a space: what JavaScript's \s matches.
 SPACES = "\t\n\v\f\r \u00a0\u1680\u2028\u2029\u202f\u205f\u3000\ufeff" + "".join(
@@ -33,7 +33,7 @@ _ARRAY = r"\[{0}%s(?:{0},{0}%s)*{0}\]".format(_SPACE)
 _GROUP = _ARRAY % (_ENTRY, _ENTRY)
 _ARRAYS = re.compile(_ARRAY % (_GROUP, _GROUP))
 # What nothing but a machine has in it, whole or not.
-_PIECES = re.compile(r"[0-9][LR](?:[A-Z_.-]|$)|[0-9][lr][a-z](?=[0-9_])|(?<=[a-z_])[0-9][lr][a-z]")
+_FRAGMENTS = re.compile(r"[0-9][LR](?:[A-Z_.-]|$)|[0-9][lr][a-z](?=[0-9_])|(?<=[a-z_])[0-9][lr][a-z]")
 # A word that looks like an entry.
 _ORDINAL = "3rd"
 _PART = re.compile(r"[^/?#&=]+")
@@ -92,13 +92,13 @@ def parts_of(line: str) -> Parts:
     for match in _TOKEN.finditer(line):
         token = Word(match.start(), match.group())
         if match.group("address") is not None:
-            addresses += _in_address(token)
+            addresses += _texts_in_address(token)
             rows += _row_in_address(token)
         elif _ROW.fullmatch(token.text):
             rows.append(token)
         elif _has_entries(_without_stop(token).text):
             words.append(_without_stop(token))
-    plain = _together(line, words, rows)
+    plain = _join_words(line, words, rows)
     inside = {word.begin for text in plain for word in text.words}
     texts = arrays + addresses + plain
     rows = [row for row in rows if row.begin not in inside]
@@ -134,7 +134,7 @@ def _without_stop(word: Word) -> Word:
     return Word(begin, text[:-1] if is_stopped else text)
 
 
-def _in_address(address: Word) -> Iterator[Text]:
+def _texts_in_address(address: Word) -> Iterator[Text]:
     """What of an address may be a machine."""
     last = address.text.rstrip("/").rfind("/") + 1
     for match in _PART.finditer(address.text):
@@ -154,10 +154,10 @@ def _has_entries(text: str) -> bool:
     """Whether a word has entries, or pieces of them."""
     if text == _ORDINAL or _ROW.fullmatch(text):
         return False
-    return _ENTRIES.fullmatch(text) is not None or _PIECES.search(text) is not None
+    return _ENTRIES.fullmatch(text) is not None or _FRAGMENTS.search(text) is not None
 
 
-def _together(line: str, words: List[Word], rows: List[Word]) -> List[Text]:
+def _join_words(line: str, words: List[Word], rows: List[Word]) -> List[Text]:
     """The texts that these words make: those between which there are only spaces are one. Between entries
     that stand alone, `---` is an entry."""
     texts: List[Text] = []
@@ -224,17 +224,17 @@ def plain_name(text: str) -> str:
     return re.sub("[^a-z0-9]", "", text.lower())
 
 
-def passed_over(bare: str) -> Optional[Passed]:
+def skip_reason(bare: str) -> Optional[Skipped]:
     """Why a line is passed over that has no spaces at its ends; None where it isn't."""
     if not bare:
-        return Passed.EMPTY
+        return Skipped.EMPTY
     if bare.startswith(_COMMENT):
-        return None if is_comment_of_machine(bare) else Passed.COMMENT
+        return None if is_comment_of_machine(bare) else Skipped.COMMENT
     if _FENCE.fullmatch(bare):
-        return None if parts_of(bare).texts else Passed.FENCE
+        return None if parts_of(bare).texts else Skipped.FENCE
     if _RULE.fullmatch(bare):
-        return None if parts_of(bare).texts else Passed.RULE
-    return Passed.HEADER if _is_header(bare) else None
+        return None if parts_of(bare).texts else Skipped.RULE
+    return Skipped.HEADER if _is_header(bare) else None
 
 
 def is_comment_of_machine(bare: str) -> bool:

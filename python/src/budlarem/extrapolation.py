@@ -25,7 +25,7 @@ class Place:
         return "%d %s %d" % (self.step, self.state, self.position)
 
 
-def _placing(verdict: Verdict, step: int) -> _Placing:
+def _require_placing(verdict: Verdict, step: int) -> _Placing:
     """The verdict, where it says something of that step. Raises ValueError."""
     if not isinstance(verdict, (Halt, Cycler, Translated)):
         raise ValueError(
@@ -48,18 +48,18 @@ def _confirm(verdict: _Placing, cells: int) -> None:
         raise ValueError("the checker answers %s to %s" % (answer, verdict))
 
 
-def _traced(machine: str, step: int, cells: int) -> Configuration:
+def _configuration_at(machine: str, step: int, cells: int) -> Configuration:
     """The configuration after so many steps, which there is within the cells."""
     (now,) = trace(machine, step, cells, start=step)
     return now
 
 
-def _moved(verdict: Translated, cells: int) -> int:
+def _shift_of(verdict: Translated, cells: int) -> int:
     """How far the head of a translated cycler moves from its first step to its second; left is negative."""
     if verdict.extent is not None:
         return verdict.extent.shift if verdict.side == "R" else -verdict.extent.shift
-    first = _traced(verdict.machine, verdict.first, cells)
-    return _traced(verdict.machine, verdict.second, cells).position - first.position
+    first = _configuration_at(verdict.machine, verdict.first, cells)
+    return _configuration_at(verdict.machine, verdict.second, cells).position - first.position
 
 
 def at(verdict: Verdict, step: int, cells: int = 65_536) -> Place:
@@ -88,13 +88,13 @@ def at(verdict: Verdict, step: int, cells: int = 65_536) -> Place:
     step, cells = whole("step", step), in_range("cells", cells, *Limits.RANGES["cells"])
     if step < 0:
         raise ValueError("step is %d, but must be 0 or more" % step)
-    placing = _placing(verdict, step)
+    placing = _require_placing(verdict, step)
     _confirm(placing, cells)
     if isinstance(placing, Halt) or step < placing.first:
         times, early = 0, step
     else:
         times, early = divmod(step - placing.first, placing.second - placing.first)
         early += placing.first
-    now = _traced(placing.machine, early, cells)
-    farther = times * _moved(placing, cells) if isinstance(placing, Translated) else 0
+    now = _configuration_at(placing.machine, early, cells)
+    farther = times * _shift_of(placing, cells) if isinstance(placing, Translated) else 0
     return Place(step, now.state, now.position + farther)
