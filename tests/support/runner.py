@@ -12,7 +12,7 @@ from typing import Any, Callable, Dict, List, Sequence
 import budlarem
 from budlarem import Limits
 from budlarem.counts import KINDS as KINDS_OF_VERDICTS, VerdictCounts
-from budlarem.runner import chunks, folder, input, journal, list_run, passes, progress
+from budlarem.runner import chunks, folder, input, journal, local, passes, progress, remote
 
 # Two that halt, a cycler, two translated cyclers, three that small limits leave, one of which larger ones
 # decide, and two that are no machines.
@@ -28,7 +28,7 @@ SMALL, MIDDLE = Limits(30, 16, 3, 5), Limits(1_000, 128, 20, 100)
 PASSES = (SMALL, MIDDLE)
 
 
-class PoolBackend:
+class PoolBackend(remote.ExecutorBackend):
     """Any executor, with so many workers. Each has a chunk, and as many chunks wait."""
 
     def __init__(self, executor: Executor, workers: int) -> None:
@@ -39,12 +39,6 @@ class PoolBackend:
 
     def submit(self, task: chunks.Task, lines: bytes, limits: chunks.Numbers) -> Future[Any]:
         return self._executor.submit(task, lines, limits)
-
-    def maintain(self) -> None:
-        pass
-
-    def status(self) -> str:
-        return ""
 
 
 def expected_verdicts(given: bytes, limits: Sequence[Limits] = PASSES) -> bytes:
@@ -124,15 +118,15 @@ class RunCase(contextlib.ExitStack):
         path: str = "",
         here: bool = False,
         keep: chunks.Retention = chunks.Retention(),
-    ) -> list_run.Outcome:
+    ) -> passes.Outcome:
         """A run, by an executor or by two threads."""
-        place: passes.Backend = passes.ThreadBackend(2)
+        backend: passes.Backend = local.ThreadBackend(2)
         if executor is not None:
-            place = PoolBackend(executor, 2)
+            backend = PoolBackend(executor, 2)
         with contextlib.closing(input.ListFile(path or str(self.list))) as listed:
             with contextlib.closing(folder.Folder(str(self.out))) as opened:
                 options = passes.RunOptions(
-                    place,
+                    backend,
                     chunks.identity(),
                     self.progress,
                     listed.name,
@@ -143,7 +137,7 @@ class RunCase(contextlib.ExitStack):
                     listed.require_unchanged,
                     self.seen.append,
                 )
-                return list_run.run(opened, listed, limits, options)
+                return passes.run(opened, listed, limits, options)
 
     def verdicts(self) -> bytes:
         return (self.out / "verdicts.txt").read_bytes()

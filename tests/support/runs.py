@@ -150,7 +150,7 @@ def require_interrupted(case: Case, process: Process) -> None:
         process.kill()
     print("SIGINT ended the run after %.3f s" % (time.monotonic() - began))
     assert status == 130, case.output()
-    assert "interrupted; the same command goes on" in case.output()
+    assert "interrupted; the same command resumes" in case.output()
 
 
 def kill_often(case: Case, count: int, chance: random.Random, *words: str) -> int:

@@ -1,5 +1,4 @@
-"""What stands in an archive of a decided list, and how it is written: the same contents are the same
-bytes."""
+"""The archive of a decided list. The same contents are the same bytes."""
 
 from __future__ import annotations
 
@@ -26,7 +25,7 @@ _FILES = {
     "README.txt": "this page",
     "list.txt": "the machines, in the order of the verdicts",
     "verdicts.txt": "the verdicts, one a line",
-    "about.json": "counts, limits, versions and sha256 of what was given",
+    "about.json": "counts, limits, versions and sha256 of the input",
     "recheck.py": "a checker of verdicts, in 150 lines of Python",
     "SHA256SUMS": "the sha256 of each other file",
 }
@@ -35,31 +34,28 @@ FORMAT = 1
 KINDS = ("halt", "cycler", "translated", "backward", "undecided", "refused")
 # The time of each file in an archive.
 _TIME = 315_532_800  # 1 January 1980
-# How many lines and bytes of a file are looked at together.
+# The lines and bytes of a batch.
 LINES, _BYTES = 100_000, 1 << 22
-# How many columns the page has.
-_WIDE = 79
-# How many digits of its sha256 name the folder in the archive.
-_DIGITS = 16
+# The width of the page, and the digits of its sha256 in the name of the archive's folder.
+_WIDE, _DIGITS = 79, 16
 _CHANGED = "%s changed while it was read; publish it when it no longer does"
 _HERE = pathlib.Path(__file__).parent
 
 
 class PublishError(ValueError):
-    """What was given can't be published. The text says which file, which line, and what would do."""
+    """Something can't be published. The text has the file, the line and advice."""
 
 
 class ArchivedFile:
-    """A file that goes into the archive, as it is or out of its gzip; and what it was seen to have: how many
-    bytes, their sha256 and their checksum."""
+    """A file for the archive, plain or gzip; once it was read, the sha256 and checksum of its content."""
 
     def __init__(self, path: str, name: str) -> None:
         self.path, self.name = path, name
         self.sha256, self.checksum = "", Checksum()
 
     def blocks(self) -> Iterator[bytes]:
-        """Its bytes, cut anywhere. Raises RunError, OSError, and PublishError where they aren't those that
-        were seen first."""
+        """Its content in blocks. Raises RunError, OSError, and PublishError if it has changed since it was
+        first read."""
         checksum, digest = Checksum(), hashlib.sha256()
         with contextlib.closing(ListFile(self.path)) as source:
             if not source.is_regular:
@@ -73,12 +69,9 @@ class ArchivedFile:
         self.sha256, self.checksum = digest.hexdigest(), checksum
 
     def batches(self) -> Iterator[bytes]:
-        """Its lines, some together, each with its newline."""
+        """Its lines in batches, with their newlines."""
         lines = StreamLines(self.blocks())
-        batch = lines.take(LINES, _BYTES)
-        while batch:
-            yield batch
-            batch = lines.take(LINES, _BYTES)
+        return iter(lambda: lines.take(LINES, _BYTES), b"")
 
     def lines(self) -> Iterator[bytes]:
         """Its lines, without their newlines."""
@@ -88,7 +81,7 @@ class ArchivedFile:
 
 @dataclasses.dataclass(frozen=True)
 class Provenance:
-    """How verdicts were decided, as far as that is known: the limits of each pass, and by which package."""
+    """The limits of each pass by which verdicts were decided, and the package, as far as known."""
 
     passes: Tuple[Limits, ...] = ()
     identity: Optional[Identity] = None
@@ -96,8 +89,8 @@ class Provenance:
 
 @dataclasses.dataclass(frozen=True)
 class Contents:
-    """What an archive is made of. `machines` is the list, where it is there; the checker confirmed
-    `confirmed` lines."""
+    """The contents of an archive. The checker confirmed `confirmed` lines; `machines` is the list, if
+    given."""
 
     machines: Optional[ArchivedFile]
     verdicts: ArchivedFile
@@ -109,51 +102,50 @@ class Contents:
         return [given for given in (self.machines, self.verdicts) if given is not None]
 
     def _counts(self) -> Dict[str, int]:
-        """How many lines there are of each kind."""
         kinds = {**self.counts.kinds, "undecided": self.counts.undecided()}
         return {kind: kinds.get(kind, 0) for kind in KINDS}
 
     def _greatest(self) -> Tuple[int, int, int]:
-        """The greatest steps, levels and nodes that claims name."""
+        """The greatest steps, levels and nodes of claims."""
         most = self.counts.most
         steps = most("halt steps", "cycler second", "translated second")
         return steps, most("backward levels"), most("backward nodes")
 
     def about(self) -> bytes:
-        """The file of counts, limits and versions."""
-        provenance = self.provenance.identity
+        """The text of `about.json`."""
+        decider = self.provenance.identity
         fields: Dict[str, Any] = {
             "format": FORMAT,
             "lines": sum(self.counts.kinds.values()),
             "counts": self._counts(),
             "greatest": dict(zip(("steps", "levels", "nodes"), self._greatest())),
             "passes": [words_of(limits) for limits in self.provenance.passes],
-            "decided_by": None if provenance is None else dataclasses.asdict(provenance),
+            "decided_by": None if decider is None else dataclasses.asdict(decider),
             "checked_by": dataclasses.asdict(identity()),
             "sha256": {given.name: given.sha256 for given in self._inputs()},
         }
         return (json.dumps(fields, indent=2) + "\n").encode()
 
     def _check_statement(self) -> str:
-        """What was checked, in sentences."""
+        """A statement of what was checked."""
         total = sum(self.counts.kinds.values())
         sentences = [
             "When this archive was made, Budlarem's checker confirmed each line that claims something: {:,}"
             " of {:,}.".format(self.confirmed, total),
-            "The checker is proved to confirm no claim that isn't so, whoever wrote it.",
+            "The checker is proved to confirm no false claim, whatever its origin.",
         ]
         if self.machines is not None:
             sentences.append("Each line of list.txt has its verdict on the same line of verdicts.txt.")
         if self.provenance.passes:
-            sentences.append("What is undecided was tried with these limits, one pass after another:")
+            sentences.append("Undecided machines were tried with these limits, one pass after another:")
         elif self.counts.undecided():
-            sentences.append("With which limits what is undecided was tried isn't known.")
+            sentences.append("The limits with which undecided machines were tried aren't known.")
         lines = [line for text in sentences for line in textwrap.wrap(text, _WIDE - 2)]
         lines += ["    " + words_of(limits) for limits in self.provenance.passes]
         return "\n".join("  " + line for line in lines)
 
     def readme(self) -> bytes:
-        """The page that says what the files are."""
+        """The text of `README.txt`."""
         own, kinds = identity(), self.counts.kinds
         title = "Verdicts on {:,} machines".format(sum(kinds.values()) - kinds["refused"])
         names = [name for name in _FILES if name != LIST or self.machines is not None]
@@ -175,7 +167,7 @@ class Contents:
         return string.Template(page).substitute(fields).encode()
 
     def write(self, file: BinaryIO) -> None:
-        """Writes the archive. Raises PublishError where a file isn't as it was seen, RunError, OSError."""
+        """Writes the archive. Raises PublishError if a file has changed, RunError, OSError."""
         small = {README: self.readme(), ABOUT: self.about(), RECHECK: (_HERE / RECHECK).read_bytes()}
         inputs = {given.name: given for given in self._inputs()}
         sums = {name: hashlib.sha256(data).hexdigest() for name, data in small.items()}
@@ -190,26 +182,25 @@ class Contents:
                 blocks = inputs[name].blocks() if name in inputs else iter([small[name]])
                 reader = io.BufferedReader(_reader_of(blocks), _BYTES)
                 archive.addfile(member, reader)
-                # It goes to the end, where what was read is held against what was seen.
+                # The end of a file is read too, where its sha256 is compared.
                 if reader.read(1):
                     raise PublishError(_CHANGED % name)
 
 
 def _reader_of(blocks: Iterator[bytes]) -> BlockReader:
-    """Blocks of bytes, as a file that is read."""
     return BlockReader(lambda size: next(blocks, b""))
 
 
 def _member(name: str, size: int) -> tarfile.TarInfo:
-    """A file's entry, with nothing of this computer in it."""
+    """The entry of a file, without traces of this computer."""
     member = tarfile.TarInfo(name)
     member.size, member.mtime, member.mode = size, _TIME, 0o644
     return member
 
 
 def write_new(path: str, contents: Contents) -> str:
-    """Writes an archive whole or not at all, where no file is; gives its sha256. Raises FileExistsError,
-    OSError, as where its folder was moved or removed meanwhile, and what `Contents.write` does."""
+    """Writes an archive whole or not at all; returns its sha256. Raises FileExistsError, OSError, also if its
+    folder was moved meanwhile, and what `Contents.write` does."""
     digest = hashlib.sha256()
 
     def fill(number: int) -> None:

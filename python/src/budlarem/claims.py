@@ -1,5 +1,5 @@
-"""The claim of a line of somebody's list on its machine: a verdict, or the word and numbers of a record; and
-the translation of a table's words."""
+"""The claim of a line of a list: a verdict, or the word and numbers of a record; and the translation of a
+table's words."""
 
 from __future__ import annotations
 
@@ -10,9 +10,9 @@ from typing import Counter, Dict, Iterable, Iterator, List, Optional, Tuple
 
 from ._text import Words, quote
 from .numbers import number_of, numbers_in
-from .reading import Form, ListForm, Skipped, Reading
+from .reading import Form, ListForm, Reading, Skipped
 from .reading.files import Numbered
-from .reading.forms import skip_kind, reading_of
+from .reading.forms import reading_of, skip_kind
 from .reading.tables import Layout
 from .reading.tokens import SPACES
 from .verdicts import Halt, Refused, Undecided, Verdict, parse, verdict_of, whole_number
@@ -21,7 +21,7 @@ __all__ = ["Claim", "Claims", "WORDS", "Word", "claim_in"]
 
 
 class Word(Words):
-    """What a word says of a machine."""
+    """The meaning of a word for a machine."""
 
     HALTS = "halts"
     NEVER_HALTS = "never halts"
@@ -30,31 +30,31 @@ class Word(Words):
 
 
 _HALTS = "halt halts halted halting"
-# After what says it outright come the names of deciders, and of what they find.
+# Plain words first, then the names of deciders and of behaviours.
 _NEVER_HALTS = """nonhalt nonhalts nonhalting neverhalts doesnothalt infinite
     loop loops looper loopers linrecurrence cycler cyclers translated translatedcycler translatedcyclers
     backward backwardreasoning haltingsegment bouncer bouncers counter counters
     far finiteautomatareduction wfar weightedfiniteautomatareduction mitmwfar
     cps ngramcps closedpositionset repwl repeatedwordlist ctl closedtapelanguage"""
 _UNDECIDED = "undecided unknown unsolved holdout holdouts"
-# The words that count, in small letters, and without the spaces, hyphens and low lines in them.
+# The known words in small letters, without spaces, hyphens and low lines.
 WORDS: Dict[str, Word] = {
     **dict.fromkeys(_HALTS.split(), Word.HALTS),
     **dict.fromkeys(_NEVER_HALTS.split(), Word.NEVER_HALTS),
     **dict.fromkeys(_UNDECIDED.split(), Word.UNDECIDED),
     "decided": Word.DECIDED,
 }
-# The word of a verdict of ours, and how many numbers it may have.
+# The kinds of our verdicts, and how many numbers each may have.
 _KINDS = {"halt": (2,), "cycler": (2,), "backward": (2,), "translated": (2, 4)}
-# Signs that may stand about a verdict beside a machine: none that denies or compares.
+# Signs that may surround a verdict beside a machine: none that denies or compares.
 _MARKS = SPACES + ",;:|()[]`*\"'\u2013\u2014-"
 
 
 @dataclasses.dataclass(frozen=True)
 class Claim:
-    """A line and its claim: a verdict in `claim`, or the `word` of a record with the numbers beside it, or
-    neither. `trouble` is the reason why nothing is judged, `unjudged` the cells of numbers that mean nothing
-    beside the word. A refusal has its verdict, and no machine."""
+    """A line and its claim: a verdict, or the `word` of a record with the numbers beside it, or neither.
+    `trouble` is the reason why nothing is judged; `unjudged` has the cells of numbers that mean nothing beside
+    the word. A refusal has its verdict, and no machine."""
 
     reading: Reading
     verdict: Optional[Verdict] = None
@@ -66,8 +66,8 @@ class Claim:
 
 
 class Claims(Iterator[Claim]):
-    """The claims of the lines of a list. `passed` counts the lines that are passed over, by their kinds.
-    `words` is the translation of the words of a table."""
+    """The claims of the lines of a list. `skipped` counts the skipped lines by kind; `words` translates the
+    words of a table."""
 
     def __init__(
         self, lines: Iterator[Numbered], form: ListForm, words: Optional[Dict[str, Word]] = None
@@ -92,12 +92,12 @@ class Claims(Iterator[Claim]):
 
 
 def claim_in(number: int, line: str) -> Optional[Claim]:
-    """The claim of a line of a text; None for a line that is passed over."""
+    """The claim of a line of a text; None for a skipped line."""
     return _claim_of(number, line, ListForm(Form.TEXT), WORDS)
 
 
 def _claim_of(number: int, line: str, form: ListForm, words: Dict[str, Word]) -> Optional[Claim]:
-    """The claim of a line; None for a line that is passed over."""
+    """The claim of a line; None for a skipped line."""
     if form.form in (Form.VERDICTS, Form.TEXT):
         claim = _of_verdict_line(number, line)
         is_rule = form.form is Form.TEXT and not line.partition(" ")[0].strip("-")
@@ -122,23 +122,18 @@ def _of_verdict_line(number: int, line: str) -> Optional[Claim]:
         return None
     if isinstance(verdict, Refused):
         return Claim(Reading(number, line, None), verdict)
-    behind = bare[len(verdict.machine) + 1 :] + ("\t" + fields if fields else "")
-    reading = Reading(number, line, verdict.machine, (), "", behind)
+    text = bare[len(verdict.machine) + 1 :]
+    reading = Reading(number, line, verdict.machine, (), "", text + ("\t" + fields if fields else ""))
+    own = Word.HALTS if isinstance(verdict, Halt) else Word.NEVER_HALTS
+    own = Word.UNDECIDED if isinstance(verdict, Undecided) else own
     for field in fields.split("\t") if fields else ():
-        word = WORDS.get(plain_word(field), Word.DECIDED)
-        if word not in (Word.DECIDED, _word_of(verdict)):
-            return Claim(reading, trouble=_two_statements(bare[len(verdict.machine) + 1 :], field))
+        if WORDS.get(plain_word(field), Word.DECIDED) not in (Word.DECIDED, own):
+            return Claim(reading, trouble=_two_statements(text, field))
     return Claim(reading, verdict)
 
 
 def _two_statements(first: str, second: str) -> str:
     return "the line says two things: %s, and %s" % (quote(first), quote(second))
-
-
-def _word_of(verdict: Verdict) -> Word:
-    if isinstance(verdict, Undecided):
-        return Word.UNDECIDED
-    return Word.HALTS if isinstance(verdict, Halt) else Word.NEVER_HALTS
 
 
 def _of_text(reading: Reading) -> Claim:
@@ -158,8 +153,7 @@ def _of_text(reading: Reading) -> Claim:
 
 
 def _verdict_in(machine: str, text: str) -> Verdict:
-    """The verdict of ours that a text is, whose numbers may have groups of three digits. Raises
-    ValueError."""
+    """The verdict of a text, whose numbers may have groups of three digits. Raises ValueError."""
     text = text[:-1] if text.endswith(".") else text
     kind, *words = text.split(" ")
     words = [word for word in words if word]
@@ -199,18 +193,18 @@ def _of_row(reading: Reading, layout: Layout, words: Dict[str, Word]) -> Claim:
         return Claim(reading, trouble=str(error))
 
 
-def _of_halt(reading: Reading, verdict: Optional[Halt], steps: Optional[int], score: Optional[int]) -> Claim:
+def _of_halt(reading: Reading, halt: Optional[Halt], steps: Optional[int], score: Optional[int]) -> Claim:
     """The claim of a record with these numbers beside a word for halting, or beside a halt. Raises
     ValueError."""
     assert reading.machine is not None
-    if verdict is None and steps is not None and score is not None:
+    if halt is None and steps is not None and score is not None:
         return Claim(reading, verdict_of(reading.machine, "halt %d %d" % (steps, score), whole_number))
-    if verdict is None:
+    if halt is None:
         return Claim(reading, word=Word.HALTS, steps=steps, score=score)
-    for number, own in ((steps, verdict.steps), (score, verdict.score)):
+    for number, own in ((steps, halt.steps), (score, halt.score)):
         if number not in (None, own):
-            return Claim(reading, trouble=_two_statements(str(verdict).partition(" ")[2], str(number)))
-    return Claim(reading, verdict)
+            return Claim(reading, trouble=_two_statements(str(halt).partition(" ")[2], str(number)))
+    return Claim(reading, halt)
 
 
 def plain_word(text: str) -> str:
@@ -218,22 +212,19 @@ def plain_word(text: str) -> str:
     return re.sub(r"[\s_-]", "", text.lower()).rstrip(".!")
 
 
-# The names of the meanings, as a file of words has them.
+# The names of the meanings in a file of words.
 MEANINGS: Dict[str, Word] = {
     "halting": Word.HALTS,
     "never halting": Word.NEVER_HALTS,
     "nothing": Word.UNDECIDED,
 }
-# So many words of a meaning are printed.
-_MOST_PRINTED = 20
-# So many different words are counted.
-_MOST_COUNTED = 100_000
+# The most words printed of a meaning, and the most different words counted.
+_MOST_PRINTED, _MOST_COUNTED = 20, 100_000
 
 
 def read_words(path: str) -> Dict[str, Word]:
-    """The words that count, with those of a file in place of the package's. Each line of the file is
-    `halting`, `never halting` or `nothing`, a colon, and words with commas between them. Raises OSError,
-    ValueError."""
+    """The known words, with those of a file in place of the package's. Each line of the file is `halting`,
+    `never halting` or `nothing`, a colon, and words with commas between them. Raises OSError, ValueError."""
     words = dict(WORDS)
     given: Dict[str, str] = {}
     with open(path, encoding="utf-8") as file:
@@ -256,48 +247,37 @@ def read_words(path: str) -> Dict[str, Word]:
 
 @dataclasses.dataclass(frozen=True)
 class Translation:
-    """How often each word of a column stands for halting, for never halting and for nothing."""
+    """The count of each word of a column, by its meaning."""
 
     counts: Dict[str, Counter[str]]
 
     def __str__(self) -> str:
-        return "\n".join("%s: %s" % (name, _format_counts(self.counts[name])) for name in MEANINGS)
+        return "\n".join(self.lines)
 
     @property
     def lines(self) -> List[str]:
-        """A line for each meaning."""
-        return str(self).split("\n")
-
-
-def _format_counts(counts: Counter[str]) -> str:
-    """The words of a meaning, the most frequent first."""
-    if not counts:
-        return "no word"
-    parts = ["%s %d" % (quote(word), count) for word, count in counts.most_common(_MOST_PRINTED)]
-    more = len(counts) - len(parts)
-    return ", ".join(parts) + (", and %d more words" % more if more > 0 else "")
+        """A line for each meaning, the most frequent words first."""
+        lines = []
+        for name in MEANINGS:
+            counts = self.counts[name]
+            parts = ["%s %d" % (quote(word), count) for word, count in counts.most_common(_MOST_PRINTED)]
+            more = len(counts) - len(parts)
+            text = ", ".join(parts) + (", and %d more words" % more if more > 0 else "")
+            lines.append("%s: %s" % (name, text or "no word"))
+        return lines
 
 
 def translation_of(claims: Iterable[Claim], layout: Layout, words: Dict[str, Word]) -> Translation:
-    """The translation of the words in a table's column of verdicts. Verdicts that stand whole in the column
-    are no words."""
+    """The translation of the words in a table's column of verdicts. Whole verdicts in it are no words."""
+    column = layout.columns["verdict"]
     counts: Dict[str, Counter[str]] = {name: collections.Counter() for name in MEANINGS}
-    for text, meaning in _translate(claims, layout.columns["verdict"], words):
-        if text in counts[meaning] or len(counts[meaning]) < _MOST_COUNTED:
-            counts[meaning][text] += 1
-    return Translation(counts)
-
-
-def _translate(claims: Iterable[Claim], column: int, words: Dict[str, Word]) -> Iterator[Tuple[str, str]]:
-    """Each word of the column, with the name of its meaning."""
     for claim in claims:
         row = claim.reading.row
         if row is None or claim.reading.machine is None or not row[column]:
             continue
         word = words.get(plain_word(row[column]))
-        if word is None and claim.verdict is not None:
-            continue
-        if word is Word.HALTS:
-            yield row[column], "halting"
-        else:
-            yield row[column], "never halting" if word is Word.NEVER_HALTS else "nothing"
+        if word is not None or claim.verdict is None:
+            meaning = next((name for name in MEANINGS if MEANINGS[name] is word), "nothing")
+            if row[column] in counts[meaning] or len(counts[meaning]) < _MOST_COUNTED:
+                counts[meaning][row[column]] += 1
+    return Translation(counts)

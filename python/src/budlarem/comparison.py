@@ -13,7 +13,7 @@ from .verdicts import verdicts_of
 
 
 class Agreement(Words):
-    """How what two lists say of a machine goes together."""
+    """The relation of two lists' verdicts on a machine."""
 
     AGREE = "agree"
     FIRST_DECIDES = "first-decides"
@@ -25,7 +25,7 @@ class Agreement(Words):
 
 @dataclasses.dataclass(frozen=True)
 class Comparison:
-    """What two lists say of a machine, None where one hasn't it, and how that goes together."""
+    """The verdicts of two lists on a machine, None in a list without it, and their relation."""
 
     agreement: Agreement
     machine: str
@@ -33,24 +33,24 @@ class Comparison:
     second: Optional[Verdict]
 
     def __str__(self) -> str:
-        said = " | ".join("-" if verdict is None else str(verdict) for verdict in (self.first, self.second))
-        return "%s\t%s" % (self.agreement, said)
+        verdicts = ("-" if verdict is None else str(verdict) for verdict in (self.first, self.second))
+        return "%s\t%s" % (self.agreement, " | ".join(verdicts))
 
 
-def _halts_alike(first: Halt, second: Halt, undefined_steps: bool) -> bool:
-    """Whether two halts are the same; or, where that is asked for, are apart by a step that one counts for an
-    undefined entry."""
+def _halts_agree(first: Halt, second: Halt, undefined_steps: bool) -> bool:
+    """Whether two halts are equal; with `undefined_steps` also if one counts a step for an undefined
+    transition."""
     if (first.steps, first.score) == (second.steps, second.score):
         return True
     fewer, more = sorted((first, second), key=lambda halt: halt.steps)
-    counted = more.steps == fewer.steps + 1 and more.score in (fewer.score, fewer.score + 1)
-    return undefined_steps and "---" in first.machine and counted
+    is_step = more.steps == fewer.steps + 1 and more.score in (fewer.score, fewer.score + 1)
+    return undefined_steps and "---" in first.machine and is_step
 
 
 def agreement(first: Verdict, second: Verdict, undefined_steps: bool = False) -> Agreement:
-    """How two verdicts on a machine go together.
+    """The relation of two verdicts on a machine.
 
-    Those contradict each other that can't both be right: a halt and what never halts, two different halts, a
+    Verdicts that can't both be right contradict each other: halting and never halting, two different halts, a
     cycler and a translated cycler, translated cyclers to both sides, two different trees.
     """
     if isinstance(first, Undecided) or isinstance(second, Undecided):
@@ -58,31 +58,26 @@ def agreement(first: Verdict, second: Verdict, undefined_steps: bool = False) ->
             return Agreement.AGREE
         return Agreement.SECOND_DECIDES if isinstance(first, Undecided) else Agreement.FIRST_DECIDES
     if isinstance(first, Halt) and isinstance(second, Halt):
-        alike = _halts_alike(first, second, undefined_steps)
+        agree = _halts_agree(first, second, undefined_steps)
     elif isinstance(first, Translated) and isinstance(second, Translated):
-        alike = first.side == second.side
+        agree = first.side == second.side
     elif isinstance(first, Backward) and isinstance(second, Backward):
-        alike = first == second
+        agree = first == second
     else:
         kinds = {type(first), type(second)}
-        alike = Halt not in kinds and kinds != {Cycler, Translated}
-    return Agreement.AGREE if alike else Agreement.CONTRADICT
-
-
-def _parse_all(items: Iterable[Union[str, Verdict]], name: str) -> Iterator[MachineVerdict]:
-    """The verdicts of verdicts and lines, but for refusals, which have no machine."""
-    return (one for one in verdicts_of(items, name) if not isinstance(one, Refused))
+        agree = Halt not in kinds and kinds != {Cycler, Translated}
+    return Agreement.AGREE if agree else Agreement.CONTRADICT
 
 
 class _Side:
-    """A list of verdicts, read one after another, and those for which the other list had none yet."""
+    """A list of verdicts without its refusals, and its verdicts for which the other list has none yet."""
 
-    def __init__(self, items: Iterator[MachineVerdict]) -> None:
-        self.items = items
+    def __init__(self, items: Iterable[Union[str, Verdict]], name: str) -> None:
+        self.items = (one for one in verdicts_of(items, name) if not isinstance(one, Refused))
         self.waiting: Dict[str, List[MachineVerdict]] = {}
 
     def take(self, machine: str) -> Optional[MachineVerdict]:
-        """The first waiting verdict on a machine, which then waits no longer."""
+        """Removes and returns the first waiting verdict on a machine."""
         found = self.waiting.get(machine)
         if found is None:
             return None
@@ -92,7 +87,7 @@ class _Side:
         return verdict
 
     def remaining(self) -> List[MachineVerdict]:
-        """The verdicts that wait."""
+        """The waiting verdicts."""
         return [verdict for verdicts in self.waiting.values() for verdict in verdicts]
 
 
@@ -102,22 +97,21 @@ def compare(
     *,
     undefined_steps: bool = False,
 ) -> Iterator[Comparison]:
-    """Compares two lists of verdicts, or verdict lines, by machine, in whatever order each is.
+    """Compares two lists of verdicts, or verdict lines, by machine, in any order.
 
-    Both are read side by side; what is held are the verdicts for which the other list had none yet, so lists
-    in about the same order take little memory. What is left then is compared by what the laws of verdicts
-    make the same: mirrored, or with other names for states and symbols. What only one has comes last.
-    Refusals are left out, since they don't have their machine; fields behind a tab too. `undefined_steps`:
-    one of the lists counts a step for an undefined entry.
+    Both are read side by side; verdicts for which the other list has none yet are held, so lists in about the
+    same order take little memory. The rest is compared up to the names of states and symbols and up to mirror
+    images. Machines of only one list come last. Refusals have no machine and are skipped, as are fields behind a
+    tab. `undefined_steps`: one of the lists counts a step for an undefined transition.
 
-    Raises ValueError, with its place, for a text that is no verdict line, TypeError for what is no text.
+    Raises ValueError with its place for a text that is no verdict line, TypeError for an item that is no text.
 
     >>> for found in compare(["1RB1LB_1LA1RZ halt 6 4"], ["1RA1RA cycler 1 2", "1RB1LB_1LA1RZ halt 5 4"]):
     ...     print(found.agreement, found.machine)
     contradict 1RB1LB_1LA1RZ
     only-second 1RA1RA
     """
-    sides = (_Side(_parse_all(first, "first")), _Side(_parse_all(second, "second")))
+    sides = (_Side(first, "first"), _Side(second, "second"))
     is_open = [True, True]
     while any(is_open):
         for here, side in enumerate(sides):
@@ -131,27 +125,25 @@ def compare(
                 continue
             pair = (verdict, other) if here == 0 else (other, verdict)
             yield Comparison(agreement(*pair, undefined_steps), verdict.machine, *pair)
-    yield from _compared_by_form(sides[0].remaining(), sides[1].remaining(), undefined_steps)
+    yield from _compare_by_form(sides[0].remaining(), sides[1].remaining(), undefined_steps)
 
 
-def _compared_by_form(
+def _compare_by_form(
     first: List[MachineVerdict], second: List[MachineVerdict], undefined_steps: bool
 ) -> Iterator[Comparison]:
-    """Compares what has no machine of the same text in the other list: by what the laws of verdicts make the
-    same."""
+    """Compares verdicts on machines that the other list has in another form or not at all."""
     waiting: Dict[str, List[Tuple[MachineVerdict, bool]]] = collections.defaultdict(list)
     for other in second if first else []:
         form = canonical_form(other.machine)
         waiting[form.text].append((other, form.mirrored))
     for verdict in first:
-        machine = verdict.machine
-        form = canonical_form(machine)
+        form = canonical_form(verdict.machine)
         found = waiting.get(form.text)
         if not found:
-            yield Comparison(Agreement.ONLY_FIRST, machine, verdict, None)
+            yield Comparison(Agreement.ONLY_FIRST, verdict.machine, verdict, None)
             continue
         other, mirrored = found.pop(0)
         kind = agreement(verdict, mirror_verdict(other, mirrored != form.mirrored), undefined_steps)
-        yield Comparison(kind, machine, verdict, other)
-    remaining = (other for pairs in waiting.values() for other, _ in pairs) if first else iter(second)
-    yield from (Comparison(Agreement.ONLY_SECOND, other.machine, None, other) for other in remaining)
+        yield Comparison(kind, verdict.machine, verdict, other)
+    rest = (other for pairs in waiting.values() for other, _ in pairs) if first else iter(second)
+    yield from (Comparison(Agreement.ONLY_SECOND, other.machine, None, other) for other in rest)

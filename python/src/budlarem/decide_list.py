@@ -16,15 +16,15 @@ from .verdicts import Verdict, is_machine
 
 @dataclasses.dataclass(frozen=True)
 class Carried:
-    """A verdict, and the reading of its line. As a text: the verdict line, and what else stood on the line
-    behind a tab, where something did."""
+    """A verdict, and the reading of its line. Its text is the verdict line, followed by a tab and the other
+    fields of the line, if any."""
 
     verdict: Verdict
     reading: Reading
 
     @property
     def fields(self) -> str:
-        """What else stood on the line; nothing where it was refused."""
+        """The other fields of the line; empty for a refusal."""
         return self.reading.fields
 
     def __str__(self) -> str:
@@ -41,8 +41,8 @@ def decide_carried(
     form: Optional[Form] = None,
     columns: Columns = Columns(),
 ) -> Iterator[Carried]:
-    """Decides the machine of each line, wherever `read` finds it, and carries along what else stands there.
-    Where it finds none, the verdict is `Refused`, with the column at which `bb` refuses the line.
+    """Decides the machine of each line, as `read` finds it, and keeps the other fields. A line without a machine
+    gets `Refused`, with the column at which `bb` refuses it.
 
     Takes what `read` takes. Raises what `read` and `decide` do.
 

@@ -1,4 +1,4 @@
-"""What a verdict says of steps that no run reaches."""
+"""The place of a machine after steps that no run reaches, by its verdict."""
 
 from __future__ import annotations
 
@@ -9,13 +9,10 @@ from .engine import Configuration, check, trace
 from .limits import Limits, in_range, whole
 from .verdicts import VERDICTS, Answer, Cycler, Halt, Translated, Verdict
 
-# A verdict that says where its machine is, after how many steps whatever.
-_Placing = Union[Halt, Cycler, Translated]
-
 
 @dataclasses.dataclass(frozen=True)
 class Place:
-    """A machine after `step` steps: its state (`Z` once it halted there) and the head's position."""
+    """A machine after `step` steps: its state (`Z` after a step into it) and the head's position."""
 
     step: int
     state: str
@@ -25,23 +22,10 @@ class Place:
         return "%d %s %d" % (self.step, self.state, self.position)
 
 
-def _require_placing(verdict: Verdict, step: int) -> _Placing:
-    """The verdict, where it says something of that step. Raises ValueError."""
-    if not isinstance(verdict, (Halt, Cycler, Translated)):
-        raise ValueError(
-            "%s doesn't say where its machine is after %d steps; trace() runs a machine" % (verdict, step)
-        )
-    if isinstance(verdict, Halt) and step > verdict.steps:
-        raise ValueError("the machine halts after %d steps, so it makes no %d" % (verdict.steps, step))
-    return verdict
-
-
-def _confirm(verdict: _Placing, cells: int) -> None:
-    """Has the checker confirm a verdict. Raises ValueError where it doesn't, LimitsError where the verdict
-    names more steps than a run may have."""
+def _confirm(verdict: Union[Halt, Cycler, Translated], cells: int) -> None:
+    """Raises ValueError if the checker doesn't confirm a verdict, LimitsError if it names too many steps."""
     last = verdict.steps if isinstance(verdict, Halt) else max(verdict.first, verdict.second)
-    limits = Limits(steps=last, cells=cells, depth=0, nodes=0)
-    (answer,) = check([verdict], limits)
+    (answer,) = check([verdict], Limits(steps=last, cells=cells, depth=0, nodes=0))
     if answer is Answer.OVER:
         raise ValueError("the run of %s needs more than %d cells; give more" % (verdict, cells))
     if answer is not Answer.OK:
@@ -49,13 +33,13 @@ def _confirm(verdict: _Placing, cells: int) -> None:
 
 
 def _configuration_at(machine: str, step: int, cells: int) -> Configuration:
-    """The configuration after so many steps, which there is within the cells."""
+    """The configuration after so many steps, which the cells allow."""
     (now,) = trace(machine, step, cells, start=step)
     return now
 
 
 def _shift_of(verdict: Translated, cells: int) -> int:
-    """How far the head of a translated cycler moves from its first step to its second; left is negative."""
+    """How far the head moves from the first step of a pair to the second; left is negative."""
     if verdict.extent is not None:
         return verdict.extent.shift if verdict.side == "R" else -verdict.extent.shift
     first = _configuration_at(verdict.machine, verdict.first, cells)
@@ -63,19 +47,17 @@ def _shift_of(verdict: Translated, cells: int) -> int:
 
 
 def at(verdict: Verdict, step: int, cells: int = 65_536) -> Place:
-    """The state and the head's position after `step` steps, however many, as a halt, a cycler or a translated
-    cycler says.
+    """The state and the head's position after `step` steps, however many, by a halt, a cycler or a translated
+    cycler.
 
-    From the first step of a cycler's pair on, the configurations come again. From that of a translated
-    cycler's pair on, the states come again, with the head farther out by the shift each time. So the machine
-    is run to the last step that the verdict names, and no farther, within `cells`. The checker has to confirm
-    the verdict first.
+    From the first step of a cycler's pair on, the configurations repeat. From that of a translated cycler's pair
+    on, the states repeat, with the head farther out by the shift each time. So the machine is run at most to the
+    last step of the verdict, within `cells`. The checker has to confirm the verdict first.
 
-    Raises ValueError where the verdict says nothing of that step (a halt of later ones; a tree, an undecided
-    one or a refusal of any), where the checker doesn't answer `ok` to it, where its run needs more than
-    `cells`, and where `step` is below 0; LimitsError, a ValueError, where `cells` are out of their range or
-    the verdict names more than 1,000,000,000,000 steps; TypeError where `verdict` is no verdict, or one of
-    the others no whole number.
+    Raises ValueError if the verdict doesn't fix that step (a halt later ones; a tree, an undecided machine or a
+    refusal any), the checker doesn't answer `ok`, the run needs more than `cells`, or `step` is below 0;
+    LimitsError, a ValueError, if `cells` are out of their range or the verdict names more than
+    1,000,000,000,000 steps; TypeError if `verdict` is no verdict, or another argument no whole number.
 
     >>> from budlarem import parse
     >>> print(at(parse("0RB---_0LA--- cycler 2 4"), 10**15 + 1))
@@ -88,13 +70,18 @@ def at(verdict: Verdict, step: int, cells: int = 65_536) -> Place:
     step, cells = whole("step", step), in_range("cells", cells, *Limits.RANGES["cells"])
     if step < 0:
         raise ValueError("step is %d, but must be 0 or more" % step)
-    placing = _require_placing(verdict, step)
-    _confirm(placing, cells)
-    if isinstance(placing, Halt) or step < placing.first:
+    if not isinstance(verdict, (Halt, Cycler, Translated)):
+        raise ValueError(
+            "%s doesn't say where its machine is after %d steps; trace() runs a machine" % (verdict, step)
+        )
+    if isinstance(verdict, Halt) and step > verdict.steps:
+        raise ValueError("the machine halts after %d steps, so it makes no %d" % (verdict.steps, step))
+    _confirm(verdict, cells)
+    if isinstance(verdict, Halt) or step < verdict.first:
         times, early = 0, step
     else:
-        times, early = divmod(step - placing.first, placing.second - placing.first)
-        early += placing.first
-    now = _configuration_at(placing.machine, early, cells)
-    farther = times * _shift_of(placing, cells) if isinstance(placing, Translated) else 0
+        times, early = divmod(step - verdict.first, verdict.second - verdict.first)
+        early += verdict.first
+    now = _configuration_at(verdict.machine, early, cells)
+    farther = times * _shift_of(verdict, cells) if isinstance(verdict, Translated) else 0
     return Place(step, now.state, now.position + farther)

@@ -45,7 +45,7 @@ def _kept_answer(limits: Numbers) -> ChunkReply:
 
 """
 LIES = [
-    ("room.reply().text", "_lie(asked, room.reply().text)"),
+    ("buffer.reply().text", "_lie(asked, buffer.reply().text)"),
     (
         "def _make_reply(",
         """def _lie(asked: str, written: bytes) -> bytes:
@@ -68,11 +68,11 @@ threading.Thread(target=collect, daemon=True).start()
 # What is changed in the package of workers that can't decide anything rightly, and what the run says of them.
 WRONG_WORKERS: Dict[str, Tuple[str, List[Tuple[str, str]], str]] = {
     "another version": ("_version.py", [('VERSION = "', 'VERSION = "9.')], "it was decided by version 9."),
-    "garbage": ("runner/chunks.py", [("room.reply().text", 'b"x\\n"')], "came back for"),
+    "garbage": ("runner/chunks.py", [("buffer.reply().text", 'b"x\\n"')], "came back for"),
     "a byte that changes on its way": (
         "runner/chunks.py",
         [("return (written,", 'return (written[:-2] + b"7\\n",')],
-        "what came back was changed on its way",
+        "the reply was changed in transit",
     ),
     "answers to other verdicts": (
         "runner/chunks.py",
@@ -83,7 +83,7 @@ WRONG_WORKERS: Dict[str, Tuple[str, List[Tuple[str, str]], str]] = {
             ),
             ("def check_chunk", KEEPS_ANSWERS + "def check_chunk"),
         ],
-        "what came back answers other lines",
+        "the reply answers other lines",
     ),
     "a reply that can't be read": (
         "runner/chunks.py",
@@ -182,7 +182,7 @@ def test_five_kills(bb: str, tmp_path: pathlib.Path) -> None:
                 found.kill_workers()
             found.start_worker()
             status = process.wait()
-        assert "cut in halves" in case.output(), case.output()
+        assert "bisecting" in case.output(), case.output()
         require_end(case, status, expected_verdicts(bb, case.list.read_bytes(), [LONG_PASS]))
 
 
@@ -209,8 +209,8 @@ def test_deadly_line(bb: str, tmp_path: pathlib.Path) -> None:
                     found.start_worker(deadly)
                 time.sleep(0.02)
         number = quick.count(b"\n") + 1
-        named = "line %d: it ended the workers that decided it" % number in case.output()
-        is_one = "all but 1 chunks stand" in case.output() and process.returncode == 3
+        named = "line %d: every worker that decided it died" % number in case.output()
+        is_one = "all but 1 chunks are stored" in case.output() and process.returncode == 3
         assert named and is_one, case.output()
         found.kill_workers()
         found.start_worker()
@@ -274,7 +274,7 @@ def test_wrong_worker(few: Given, tmp_path: pathlib.Path, what: str) -> None:
         case = case_of(found, "wrong", given)
         more = ["--check"] if what == "answers to other verdicts" else []
         status = case.run(str(case.list), *more, variables=collect_garbage(found.top))
-        held = status == 3 and said in case.output() and "goes on" in case.output()
+        held = status == 3 and said in case.output() and "resumes" in case.output()
         assert held, case.output()
         assert "Traceback" not in case.output(), case.output()
         found.kill_workers()

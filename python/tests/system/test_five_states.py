@@ -155,7 +155,7 @@ def test_interruptions(tmp_path: pathlib.Path) -> None:
         (os.killpg if number == signal.SIGKILL else os.kill)(process.pid, number)
         found, output = wait_for(process)
         assert found == status, output
-        is_announced = "interrupted; the same command goes on" in output
+        is_announced = "interrupted; the same command resumes" in output
         assert is_announced == (number == signal.SIGINT)
         assert number == signal.SIGKILL or not is_left(process.pid), "something that it ran is left"
     status, output = wait_for(start(out, *asked))

@@ -95,7 +95,7 @@ def test_printed(tmp_path: pathlib.Path) -> None:
         if name == "check":
             continue
         printed = error.decode()
-        says = "form text" in printed and "3 lines passed over: empty lines 1, comments 1" in printed
+        says = "form text" in printed and "3 lines skipped: empty lines 1, comments 1" in printed
         assert says and status != 3, (name, printed)
         status, _, error = command(name, str(wide), *(more if name != "compare" else [str(wide)]))
         once = error.count(b"UTF-16") == 2 and error.count(b"\n") == 1
@@ -106,7 +106,7 @@ def test_printed(tmp_path: pathlib.Path) -> None:
         once = error.count(b"UTF-8") == 1 and b"2 lines with bytes that are no UTF-8" in error
         assert once, (name, error)
     printed = command("judge", "-", "--list", str(given), given=b"1RA1RA\n").error.decode()
-    says = "list.txt: 3 lines passed over" in printed and "list.txt:3: refused: a machine in" in printed
+    says = "list.txt: 3 lines skipped" in printed and "list.txt:3: refused: a machine in" in printed
     assert says
 
 

@@ -239,8 +239,8 @@ def require_names(place: Place) -> None:
     """Names that an archive can't have, and files that aren't there."""
     place.out.write_bytes(b"mine")
     cases = [
-        (place.given(), place.out, 2, "out.tar is there already"),
-        (place.given(), place.top / "out.tar.gz", 2, "out.tar.gz: what is written is a tar archive"),
+        (place.given(), place.out, 2, "out.tar exists already"),
+        (place.given(), place.top / "out.tar.gz", 2, "out.tar.gz: the output is a tar archive"),
         (["--verdicts", str(place.top)], place.top / "new.tar", 2, "not of `budlarem run`"),
         (["--verdicts", "-"], place.top / "new.tar", 2, "standard input is read more than once"),
         (["--verdicts", str(place.top / "none")], place.top / "new.tar", 3, "none"),

@@ -183,7 +183,7 @@ def test_signals(tmp_path: pathlib.Path, number: signal.Signals) -> None:
             status = process.wait(60)
         finally:
             process.kill()
-    what = "ended by %s; the same command goes on after what stands in %s\n" % (number.name, case.out)
+    what = "ended by %s; the same command resumes the run in %s\n" % (number.name, case.out)
     assert status == 128 + number and what in case.output()
 
 

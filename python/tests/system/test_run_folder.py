@@ -349,7 +349,7 @@ def test_mixed(tmp_path: pathlib.Path, passes: int) -> None:
             shutil.copyfile(second / name, mixed / name)
         out = tmp_path / ("mixed-%d-%s.tar" % (passes, name))
         status, said = command("publish", str(out), "--verdicts", str(mixed))
-        assert status == 2 and "doesn't go with" in said and not out.exists()
+        assert status == 2 and "doesn't match" in said and not out.exists()
     out = tmp_path / ("whole-%d.tar" % passes)
     status, said = command("publish", str(out), "--verdicts", str(first), "--list", str(cases[0].list))
     assert status == 0, said
@@ -370,7 +370,7 @@ def test_other_counts(tmp_path: pathlib.Path) -> None:
     shutil.rmtree(cases[0].out / "pass-1")
     out = tmp_path / "counts.tar"
     status, said = command("publish", str(out), "--verdicts", str(cases[0].out))
-    assert status == 2 and "summary.json doesn't go with verdicts.txt" in said and not out.exists(), said
+    assert status == 2 and "summary.json doesn't match verdicts.txt" in said and not out.exists(), said
 
 
 def test_archive(tmp_path: pathlib.Path) -> None:
@@ -389,7 +389,7 @@ def test_archive(tmp_path: pathlib.Path) -> None:
     assert after == before
     (place / "new.tar").symlink_to(place / "nowhere")
     status, said = command("publish", str(place / "new.tar"), "--verdicts", str(place / "verdicts.txt"))
-    assert status == 2 and "is there already" in said and not (place / "nowhere").exists(), said
+    assert status == 2 and "exists already" in said and not (place / "nowhere").exists(), said
 
 
 @pytest.mark.needs(modules=("matplotlib",))

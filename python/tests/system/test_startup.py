@@ -27,7 +27,7 @@ QUIET, PATIENCE = 0.3, 60.0
 _STATUSES = {signal.SIGINT: 130, signal.SIGTERM: 143, signal.SIGHUP: 129}
 # What the command says that a signal ended, and whether SIGTERM and SIGHUP end it as other programs.
 _SENTENCES = {
-    "run": r"budlarem: (interrupted|ended by SIG\w+); the same command goes on after what stands.*\n",
+    "run": r"budlarem: (interrupted|ended by SIG\w+); the same command resumes the run.*\n",
     "publish": r"budlarem: SIG\w+: no archive is written\n",
     "check": r"",
 }

@@ -188,11 +188,9 @@ def test_bars() -> None:
 
 
 def test_the_smallest_are_kept() -> None:
-    found = reports.gather_statistics(
-        ["%s undecided steps" % one for one in ("1RA1RA", UNDECIDED, "1RA0RA")], 2
-    )
+    found = reports.Statistics(["%s undecided steps" % one for one in ("1RA1RA", UNDECIDED, "1RA0RA")], 2)
     assert [machine for _, machine in found.smallest] == ["1RA0RA", "1RA1RA"]
-    assert reports.gather_statistics(LINES, 0).smallest == []
+    assert reports.Statistics(LINES, 0).smallest == []
 
 
 @pytest.mark.needs(modules=("matplotlib",))

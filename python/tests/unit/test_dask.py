@@ -278,7 +278,7 @@ def test_workers_that_were_killed_by_chance(double: ClusterCase) -> None:
         double.client.answer()
         double.maintain()
     double.is_right(future)
-    assert "5 lines ended their workers" in double.sentences[-1]
+    assert "5 lines killed their workers" in double.sentences[-1]
 
 
 def test_a_reply_that_cannot_be_read(double: ClusterCase, monkeypatch: pytest.MonkeyPatch) -> None:

@@ -17,7 +17,7 @@ from typing import Any, Callable, Dict, Iterator, List, Sequence, Tuple
 import budlarem
 import pytest
 from budlarem import Limits, _api, _files, _library, publish
-from budlarem.runner import chunks, folder, list_run
+from budlarem.runner import chunks, folder
 from budlarem.runner.errors import FolderError, MovedError, RunError
 from support.runner import LIST, PASSES, SMALL, Answering, RunCase, expected_verdicts
 
@@ -301,8 +301,8 @@ def test_folders_of_passes_that_are_not_asked_for(case: RunCase) -> None:
     assert (case.out / "pass-7" / "notes").read_text() == "mine"
 
 
-def finished(case: RunCase) -> Iterator[list_run.FinishedRun]:
-    found = list_run.FinishedRun(str(case.out))
+def finished(case: RunCase) -> Iterator[folder.FinishedRun]:
+    found = folder.FinishedRun(str(case.out))
     try:
         yield found
     finally:
@@ -330,7 +330,7 @@ def test_a_summary_of_an_earlier_version(case: RunCase) -> None:
     publish(case.top / "whole.tar", case.out)
     lines = case.verdicts().splitlines(keepends=True)
     (case.out / "verdicts.txt").write_bytes(b"".join(lines[:-1]))
-    with pytest.raises(budlarem.PublishError, match="doesn't go with verdicts.txt: it counts"):
+    with pytest.raises(budlarem.PublishError, match="doesn't match verdicts.txt: it counts"):
         publish(case.top / "cut.tar", case.out)
 
 
@@ -339,7 +339,7 @@ def test_journals_that_do_not_go_with_a_summary(case: RunCase) -> None:
     whole = (case.out / "pass-2" / "journal").read_bytes()
     for change in (whole[:200], whole.replace(b"decided", b"checked", 1), b""):
         (case.out / "pass-2" / "journal").write_bytes(change)
-        with pytest.raises(budlarem.PublishError, match="pass-2/journal doesn't go with summary.json"):
+        with pytest.raises(budlarem.PublishError, match="pass-2/journal doesn't match summary.json"):
             publish(case.top / "new.tar", case.out)
 
 

@@ -208,4 +208,4 @@ def test_verdicts_that_are_decided_again(case: Case) -> None:
     case.list.write_bytes(MACHINE)
     case.run_over()
     (case.out / "verdicts.txt").unlink()
-    require_refused(case, "has no verdicts.txt: that run isn't at its end")
+    require_refused(case, "has no verdicts.txt: that run isn't finished")

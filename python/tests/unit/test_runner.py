@@ -125,7 +125,7 @@ def test_another_list(case: RunCase) -> None:
 def test_changed_passes_and_libraries(case: RunCase) -> None:
     case.run_over()
     for limits in ([SMALL], [MIDDLE, SMALL], [MIDDLE], [SMALL, SMALL, MIDDLE]):
-        with pytest.raises(FolderError, match="begun with other passes"):
+        with pytest.raises(FolderError, match="started with other passes"):
             case.run_over(limits=limits)
     path = case.out / "run.json"
     written = path.read_text()
@@ -385,7 +385,7 @@ def test_a_file_that_another_makes_meanwhile(case: RunCase) -> None:
             return reply
 
         case.out = case.top / ("out-" + name)
-        with pytest.raises(RunError, match=name + " was made or replaced by another"):
+        with pytest.raises(RunError, match=name + " was made or replaced by another process"):
             case.run_over(Answering(change))
         assert (case.out / name).read_text() == "mine"
         (case.out / name).unlink()
@@ -485,7 +485,7 @@ def test_what_is_kept(case: RunCase) -> None:
         assert (summary["lines"], summary["kept"]) == (370, str(keep))
         with pytest.raises(FolderError, match="dropped before they were checked"):
             case.run_over(limits=limits, keep=keep, check=True)
-        with pytest.raises(FolderError, match="begun with --keep left"):
+        with pytest.raises(FolderError, match="started with --keep left"):
             case.run_over(limits=limits)
 
 
@@ -516,7 +516,7 @@ def test_a_line_of_a_later_pass_is_named(case: RunCase) -> None:
 
     keep = chunks.Retention(True)
     case.run_over(limits=[SMALL], keep=keep)
-    with pytest.raises(RunError, match="pass 2, line [0-9]+ of those that pass 1 left: "):
+    with pytest.raises(RunError, match="pass 2, line [0-9]+ of the holdouts of pass 1: "):
         case.run_over(Answering(change), keep=keep)
 
 
@@ -556,14 +556,14 @@ def test_wrong_answers_now_and_then(case: RunCase) -> None:
         executor = Answering(lambda reply, before: answer(reply) if before in (1, 30) else reply)
         case.run_over(executor)
         assert case.verdicts() == expected_verdicts(LIST)
-        assert "it is tried again" in case.progress.kept.getvalue()
+        assert "trying again" in case.progress.kept.getvalue()
 
 
 def test_wrong_answers_each_time(case: RunCase) -> None:
     for begin in (0, 5, 60):
         case.out = case.top / str(begin)
         executor = Answering(lambda reply, before: reply if before < begin else (b"x\n", *reply[1:]))
-        with pytest.raises(RunError, match="pass [12], lines? .* so it was 3 times"):
+        with pytest.raises(RunError, match="pass [12], lines? .* tried 3 times"):
             case.run_over(executor)
         assert not (case.out / "verdicts.txt").exists()
         require_resumed(case)
@@ -599,7 +599,7 @@ def test_one_answer_for_two_chunks(case: RunCase) -> None:
             kept_lines.append(super().submit(function, *given, **named))
             return kept_lines[0]
 
-    with pytest.raises(RunError, match="pass 1, lines? .* so it was 3 times|one future"):
+    with pytest.raises(RunError, match="pass 1, lines? .* tried 3 times|one future"):
         case.run_over(Same(lambda reply, before: reply))
     require_resumed(case)
 
@@ -617,7 +617,7 @@ def test_an_executor_that_takes_or_answers_nothing(case: RunCase) -> None:
 
     with pytest.raises(RunError, match="it was closed"):
         case.run_over(Closed())
-    with pytest.raises(RunError, match="it was cancelled; so it was 3 times"):
+    with pytest.raises(RunError, match="it was cancelled; tried 3 times"):
         case.run_over(Cancelling())
     require_resumed(case)
 
@@ -661,7 +661,7 @@ def test_answers_to_other_verdicts(case: RunCase) -> None:
         is_check = reply[6].startswith(chunks.CHECK)
         return next(one for one in kept_lines if one[6] == reply[6]) if is_check else reply
 
-    with pytest.raises(RunError, match="answers other lines; so it was 3 times"):
+    with pytest.raises(RunError, match="answers other lines; tried 3 times"):
         case.run_over(Answering(swap), check=True)
     require_resumed(case)
 
@@ -736,7 +736,7 @@ def test_a_terminal() -> None:
 def test_a_long_pass_is_announced_once() -> None:
     shown = KeptProgress()
     shown.start(2, 2, lambda lines: 10**9)
-    shown._began -= 10
+    shown._started -= 10
     shown.add_decided(5)
     for _ in range(2):
         shown._next = 0.0

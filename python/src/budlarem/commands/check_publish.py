@@ -11,43 +11,39 @@ from types import FrameType
 from typing import Optional
 
 from .._text import LONGEST_SHOWN, escape_controls
-from ..verification import CheckSummary, answer_blocks, explain
 from ..limits import Limits, limits_of
 from ..publishing import UnconfirmedError, publish
 from ..reading.files import BytesFile
 from ..runner.errors import RunError
 from ..runner.progress import TerminalLine, short_count
 from ..verdicts import Answer
-from .shared import add_command, add_file, add_greatest_limits, add_number, greatest_limits, source_of
+from ..verification import CheckSummary, answer_blocks, explain
+from .shared import Subcommands, add_command, add_file, add_greatest_limits, add_number, greatest_limits
+from .shared import source_of
 
-_CHECK = """Checks verdict lines, whoever wrote them, and writes an answer to each line, the bytes of bb
-check: ok, its claim holds; bad, it doesn't; over, it names more than the limits have, or its run
-needs more cells; open, it claims nothing; unread, it is no verdict line. Standard error gets the
-counts at the end, and the first line that is neither ok nor open, with the reason. Status 1
-where there is one. A gzip is read.
+_CHECK = """Checks verdict lines of any origin, and writes an answer to each line, the bytes of bb check: ok,
+the claim holds; bad, it doesn't; over, it exceeds the limits, or its run needs more cells; open, it claims
+nothing; unread, it is no verdict line. Standard error gets the counts at the end, and the first line that is
+neither ok nor open, with the reason. Status 1 if there is one. FILE may be a gzip.
 
-A claim costs what it names, whatever the limits, so these are the greatest where they aren't given. The
-tapes of each thread then take 134 MB. Whoever fears a claim of 10^12 steps, which takes hours, gives
---steps."""
+The check of a claim takes as many steps as it names, whatever the limits, so these are the greatest by default.
+The tapes of each thread then take 134 MB. Pass --steps against claims of 10^12 steps, which take hours."""
 
 
 def counts_text(summary: CheckSummary) -> str:
-    """How often each answer was given so far."""
-    counted = ((short_count(summary.counts[answer]), answer) for answer in Answer if summary.counts[answer])
-    return ", ".join("%s %s" % pair for pair in counted)
+    """The count of each answer so far."""
+    counts = ((short_count(summary.counts[answer]), answer) for answer in Answer if summary.counts[answer])
+    return ", ".join("%s %s" % pair for pair in counts)
 
 
 def do_check(asked: argparse.Namespace) -> int:
     """Writes the checker's answers."""
-    limits = greatest_limits(asked)
+    limits, progress = greatest_limits(asked), TerminalLine()
     name = "standard input" if asked.file in (None, "-") else asked.file
-    summary, progress = CheckSummary(), TerminalLine()
-
-    def show(summary: CheckSummary) -> None:
-        progress.show(lambda: counts_text(summary))
-
+    summary = CheckSummary()
     with contextlib.closing(BytesFile(source_of(asked.file))) as file:
-        for answers in answer_blocks(file, limits, asked.threads, summary, show):
+        for answers in answer_blocks(file, limits, asked.threads, summary):
+            progress.show(lambda: counts_text(summary))
             sys.stdout.write(answers.decode())
     progress.clear()
     sys.stdout.flush()
@@ -61,8 +57,8 @@ def do_check(asked: argparse.Namespace) -> int:
     return 1
 
 
-def add_check(commands: "argparse._SubParsersAction[argparse.ArgumentParser]") -> None:
-    """Adds the command to a reader of command lines."""
+def add_check(commands: Subcommands) -> None:
+    """Adds the command to a parser."""
     columns = [("answer", "ok, bad, over, open or unread")]
     check = add_command(commands, "check", do_check, "check verdict lines", _CHECK, columns)
     add_file(check)
@@ -70,23 +66,19 @@ def add_check(commands: "argparse._SubParsersAction[argparse.ArgumentParser]") -
     add_number(check, "--threads", "cores used", 1)
 
 
-_PUBLISH = """Writes one archive of a decided list, which whoever gets it can check again: the list, the
-verdicts, limits and versions, the sha256 of each, a page that says what the lines mean, and recheck.py, a
-checker in plain Python. The checker has to confirm each claim first, and each line of LIST to have its
-verdict at its place. Files may be compressed by gzip; in the archive they aren't.
+_PUBLISH = """Writes one archive of a decided list that others can check: the list, the verdicts, limits and
+versions, the sha256 of each, a page that explains the lines, and recheck.py, a checker in plain Python. The
+checker has to confirm each claim first, and each line of LIST has to have its verdict at the same place. Files
+may be gzips; the archive has them uncompressed.
 
-Status 1 where a verdict isn't confirmed, 2 where something can't be published; nothing is written then."""
+Status 1 if a verdict isn't confirmed, 2 if something can't be published; nothing is written then."""
 
 
 class _Ended(BaseException):
-    """A signal that ends the process, by way of what takes away the half archive."""
-
-    def __init__(self, number: int) -> None:
-        super().__init__(number)
-        self.number = number
+    """A signal that ends the process, once the half archive is removed."""
 
 
-def _end_by(number: int, frame: Optional[FrameType]) -> None:
+def _raise_ended(number: int, frame: Optional[FrameType]) -> None:
     raise _Ended(number)
 
 
@@ -94,12 +86,12 @@ def do_publish(asked: argparse.Namespace) -> int:
     """Writes an archive of a decided list."""
     for number in (signal.SIGINT, signal.SIGTERM, signal.SIGHUP):
         if signal.getsignal(number) is not signal.SIG_IGN:
-            signal.signal(number, _end_by)
+            signal.signal(number, _raise_ended)
     progress = TerminalLine(is_beside=False)
     most = {name: highest for name, (_, highest) in Limits.RANGES.items()}
     try:
         try:
-            written = publish(
+            archive = publish(
                 asked.out,
                 asked.verdicts,
                 asked.list,
@@ -110,28 +102,25 @@ def do_publish(asked: argparse.Namespace) -> int:
             )
         finally:
             progress.clear()
-        print(written)
+        print(archive)
         return 0
     except UnconfirmedError as error:
-        sentence, status = str(error), 1
+        text, status = str(error), 1
     except RunError as error:
-        sentence, status = str(error), 3
+        text, status = str(error), 3
     except _Ended as end:
-        sentence, status = "%s: no archive is written" % signal.Signals(end.number).name, 128 + end.number
-    print("budlarem: %s" % escape_controls(sentence), file=sys.stderr)
+        text, status = "%s: no archive is written" % signal.Signals(end.args[0]).name, 128 + end.args[0]
+    print("budlarem: %s" % escape_controls(text), file=sys.stderr)
     return status
 
 
-def add_publish(commands: "argparse._SubParsersAction[argparse.ArgumentParser]") -> None:
-    """Adds the command to a reader of command lines."""
-    columns = [
-        ("sha256", "of the archive"),
-        ("name", "of the archive; `sha256sum --check` reads such a line"),
-    ]
+def add_publish(commands: Subcommands) -> None:
+    """Adds the command to a parser."""
+    columns = [("sha256", "of the archive"), ("name", "of the archive, a line for `sha256sum --check`")]
     parser = add_command(
         commands, "publish", do_publish, "an archive that others can check", _PUBLISH, columns, "two spaces"
     )
-    parser.add_argument("out", metavar="OUT.tar", help="the archive; one that is there stays as it is")
+    parser.add_argument("out", metavar="OUT.tar", help="the archive; an existing file isn't replaced")
     parser.add_argument(
         "--verdicts", required=True, metavar="FILE", help="verdict lines, or the folder of `budlarem run`"
     )
@@ -143,8 +132,7 @@ def add_publish(commands: "argparse._SubParsersAction[argparse.ArgumentParser]")
         action="append",
         dest="passes",
         metavar="steps=N,cells=N,depth=N,nodes=N",
-        help="limits that the verdicts were decided with, for the readers; a run's folder has them itself",
+        help="limits by which the verdicts were decided, for the readers; a run's folder has them",
     )
-    highest = Limits.RANGES["steps"][1]
-    add_number(parser, "--steps", "the most that a claim may name", highest)
+    add_number(parser, "--steps", "the most steps of a claim", Limits.RANGES["steps"][1])
     add_number(parser, "--threads", "cores used (default: all)")

@@ -1,9 +1,9 @@
-"""What judging a line comes to, and which machines of a list have a line in another."""
+"""The judgement of a claim, and the comparison of two lists by machine."""
 
 from __future__ import annotations
 
 import dataclasses
-from typing import Callable, Container, Dict, Iterable, Iterator, List, Optional, Set, Tuple, TypeVar
+from typing import Callable, Dict, Iterable, Iterator, List, Optional, Set, Tuple, TypeVar
 
 from .._text import Words, escape_controls
 from ..claims import Claim
@@ -13,11 +13,11 @@ from ..verdicts import Verdict
 
 
 class Judgement(Words):
-    """What is said of a line that claims something of a machine.
+    """The judgement of a line.
 
-    `CONFIRMED`: the checker confirms the claim, or our verdict says what the word does. `CONTRADICTED`: the
-    checker refutes the claim, or our verdict says the other. `NOT_JUDGED`: neither, or the form of the list
-    gives no claim. `UNREADABLE`: the line has no one machine.
+    `CONFIRMED`: the checker confirms the claim, or our verdict agrees with the word. `CONTRADICTED`: the
+    checker refutes the claim, or our verdict disagrees. `NOT_JUDGED`: neither, or the line makes no claim.
+    `UNREADABLE`: the line has no one machine.
     """
 
     CONFIRMED = "confirmed"
@@ -28,8 +28,7 @@ class Judgement(Words):
 
 @dataclasses.dataclass(frozen=True)
 class Judged:
-    """A line of theirs, what is said of it and why, and our verdict on its machine, None where it has
-    none."""
+    """A claim of theirs, its judgement and the reason, and our verdict on its machine, if it has one."""
 
     judgement: Judgement
     claim: Claim
@@ -49,10 +48,9 @@ class Judged:
 
 # The number of a line, and its machine.
 NumberedMachine = Tuple[int, str]
-# Is called with what is being done beside judging, and with how many lines it was done.
+# Called with a description of the work, and the lines done.
 ProgressCallback = Callable[[str, int], None]
 _Item = TypeVar("_Item")
-_COMPARED = "compared by form"
 
 
 def count_progress(items: Iterable[_Item], what: str, progress: ProgressCallback) -> Iterator[_Item]:
@@ -63,8 +61,7 @@ def count_progress(items: Iterable[_Item], what: str, progress: ProgressCallback
 
 
 class ListOverlap:
-    """The machines of two lists, and the numbers of their lines. Machines that the laws of verdicts make the
-    same are one. `progress` is called with the list's lines, and with the forms that are compared."""
+    """The machines of two lists with their line numbers. Machines of one canonical form are the same."""
 
     def __init__(self, listed: Iterable[Reading], progress: ProgressCallback) -> None:
         self._listed: Dict[str, int] = {}
@@ -80,25 +77,20 @@ class ListOverlap:
             self._theirs.setdefault(reading.machine, []).append(reading.number)
 
     def missing(self) -> List[NumberedMachine]:
-        """The machines of the list that have no line of theirs, each with its first line's number."""
+        """The machines of the list without a line of theirs, each with its first line's number."""
         return [(self._listed[machine], machine) for machine in self._others(self._listed, self._theirs)]
 
     def foreign(self) -> List[NumberedMachine]:
-        """Their lines whose machines aren't of the list."""
+        """Their lines whose machines aren't in the list."""
         found = self._others(self._theirs, self._listed)
         return sorted((number, machine) for machine in found for number in self._theirs[machine])
 
     def _others(self, machines: Iterable[str], those: Dict[str, _Item]) -> Iterator[str]:
         """The machines that aren't among those, in any form."""
-        left = _not_among(machines, those)
+        rest = [machine for machine in machines if machine not in those]
         forms: Set[str] = set()
-        if left:
-            forms.update(
-                canonical_form(machine).text for machine in count_progress(those, _COMPARED, self._progress)
-            )
-        found = count_progress(left, _COMPARED, self._progress)
+        if rest:
+            compared = count_progress(those, "compared by form", self._progress)
+            forms.update(canonical_form(machine).text for machine in compared)
+        found = count_progress(rest, "compared by form", self._progress)
         return (machine for machine in found if canonical_form(machine).text not in forms)
-
-
-def _not_among(machines: Iterable[str], those: Container[str]) -> List[str]:
-    return [machine for machine in machines if machine not in those]

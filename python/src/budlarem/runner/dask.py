@@ -1,9 +1,9 @@
-"""Chunks decided by dask's workers, through a scheduler.
+"""Chunks decided by the workers of a dask cluster.
 
-The workers need this package, and the same Python and dask as the runner; the scheduler needs nothing. What
-dask's executor loses is handed over again or fetched: futures that were cancelled since the scheduler went
-away, those that never end since the connection broke or a reply can't be read, and a task that ended its
-workers, which is cut in halves.
+The workers need this package, and the same Python and dask as the runner; the scheduler needs nothing. Tasks
+that dask's executor loses are submitted again or their replies fetched: futures that were cancelled since the
+scheduler left, futures that never finish since the connection broke or a reply can't be read, and a task that
+killed its workers, whose lines are bisected.
 """
 
 from __future__ import annotations
@@ -23,17 +23,18 @@ from typing import Any, Callable, Deque, Dict, Mapping, Optional
 
 from .chunks import Job, Numbers, Task, bisect_job
 from .errors import RunError
+from .remote import ExecutorBackend
 
-# Seconds between two looks at the scheduler, and how many it has to answer one.
+# Seconds between two inquiries, and the timeout of one.
 _OFTEN, _PATIENCE = 1.0, 10.0
-# Seconds after which a reply that dask has, and its executor doesn't give, is fetched, and a job of which
-# dask knows nothing is handed over again.
+# Seconds after which a reply that dask has, and its executor doesn't give, is fetched, and an unknown job is
+# submitted again.
 _SILENT = 5.0
-# Chunks under way where no worker is known.
+# Chunks in flight while no worker is known.
 _LEAST = 4
-# What these log is printed in sentences, or is of no use to whoever runs the command.
+# Loggers whose messages are reported otherwise, or are of no use to the user.
 _LOGGERS = ("distributed", "distributed.client", "tornado", "tornado.application")
-# dask warns of a task of more than a million bytes, as verdict lines that are checked may be.
+# dask warns of tasks of more than a million bytes, such as verdict lines to check.
 _LARGE = "Large object of size"
 
 
@@ -49,8 +50,8 @@ def import_distributed() -> Any:
 
 @dataclasses.dataclass
 class Submission:
-    """By which connection a job was handed over, and under which key; dask's own future, without which dask
-    may forget a reply that its executor couldn't read; and since when the job is no more under way there."""
+    """The connection and key of a submitted job; dask's own future, without which dask may forget a reply that
+    its executor can't read; and since when the job isn't pending there."""
 
     connection: Any
     key: str
@@ -58,9 +59,9 @@ class Submission:
     since: Optional[float] = None
 
 
-class DaskBackend:
+class DaskBackend(ExecutorBackend):
     """The workers of a scheduler. `security` has the files of dask's TLS options, `report` prints a sentence.
-    Raises RunError where no scheduler answers."""
+    Raises RunError if no scheduler answers."""
 
     def __init__(self, address: str, security: Mapping[str, str], report: Callable[[str], None]) -> None:
         self._address, self._report = address, report
@@ -71,11 +72,11 @@ class DaskBackend:
         self._security = self._dask.Security(**security, require_encryption=True) if security else None
         # It guards the jobs, which dask's thread ends.
         self._lock = threading.RLock()
-        # Jobs that dask has, and those that have to be handed over again.
+        # Jobs that dask has, and jobs to submit again.
         self._submissions: Dict[Job, Submission] = {}
         self._lost: Deque[Job] = collections.deque()
-        # Jobs whose workers ended, and their halves, of which one at a time is handed over: dask says the
-        # same of all that a worker had, and only one of them ended it.
+        # Jobs whose workers died, and their halves. One half at a time is submitted: dask blames all tasks of
+        # a dead worker, and only one killed it.
         self._killed: Deque[Job] = collections.deque()
         self._halves: Deque[Job] = collections.deque()
         self._suspect: Optional[Job] = None
@@ -86,11 +87,14 @@ class DaskBackend:
         error = self._connect()
         if error is not None:
             raise RunError("no scheduler answers at %s: %s" % (address, error))
-        self._report_dashboard()
+        try:
+            self._report("dask's page is at %s" % self._client.dashboard_link)
+        except Exception:
+            self._report("the scheduler at %s has no page" % self._address)
 
     def _connect(self) -> Optional[Exception]:
-        """Makes the client anew; what is wrong where that fails. A client that can't be made leaves its
-        thread behind, so all use the thread of the first one."""
+        """Makes a new client; returns the error, if any. A failed client leaves its thread behind, so all use
+        the thread of the first one."""
         loop = None if self._client is None else self._client.loop
         try:
             self._client = self._dask.Client(
@@ -100,12 +104,6 @@ class DaskBackend:
             return error
         self._executor = self._client.get_executor(pure=False)
         return None
-
-    def _report_dashboard(self) -> None:
-        try:
-            self._report("dask's page is at %s" % self._client.dashboard_link)
-        except Exception:
-            self._report("the scheduler at %s has no page" % self._address)
 
     def width(self) -> int:
         return max(2 * self._threads, _LEAST)
@@ -119,11 +117,11 @@ class DaskBackend:
         return job.future
 
     def _connection(self) -> Any:
-        """An object that each connection to the scheduler has of its own; None where there is none."""
+        """The object of the present connection to the scheduler; None without one."""
         return self._client.scheduler_comm if self._client.status == "running" else None
 
     def _submit(self, job: Job) -> None:
-        """Hands a job over, now or when the scheduler is there."""
+        """Submits a job, now or once there is a scheduler."""
         submission = Submission(self._connection(), "budlarem-" + uuid.uuid4().hex)
         with self._lock:
             job.turn += 1
@@ -134,20 +132,20 @@ class DaskBackend:
             inner = self._executor.submit(job.task, job.lines, job.limits, key=submission.key)
             submission.own = self._dask.Future(submission.key, self._client)
         except Exception:
-            # What a closed client raises is a bare Exception.
+            # A closed client raises a bare Exception.
             self._requeue(job)
             return
         inner.add_done_callback(functools.partial(self._on_done, job, job.turn))
 
     def _requeue(self, job: Job) -> None:
-        """Has a job handed over again; what is still said of it is passed over."""
+        """Has a job submitted again; later news of this turn are ignored."""
         with self._lock:
             job.turn += 1
             self._submissions.pop(job, None)
             self._lost.append(job)
 
     def _on_done(self, job: Job, turn: int, inner: Future[Any]) -> None:
-        """Takes what dask's executor says of a job. It is called in dask's thread."""
+        """Handles a finished future of dask's executor, in dask's thread."""
         try:
             error = inner.exception()
         except CancelledError as cancelled:
@@ -155,7 +153,7 @@ class DaskBackend:
         self._finish(job, turn, None if error else inner.result(), error)
 
     def _finish(self, job: Job, turn: int, reply: object, error: Optional[BaseException]) -> None:
-        """Takes what came of a job, if nothing did before."""
+        """Ends a job, unless its turn is over."""
         with self._lock:
             if turn != job.turn:
                 return
@@ -174,8 +172,7 @@ class DaskBackend:
                 job.future.set_result(reply)
 
     def maintain(self) -> None:
-        """Looks now and then whether the scheduler and its workers are there, and hands over again what was
-        lost."""
+        """Inquires now and then about scheduler and workers, and submits lost jobs again."""
         self._submit_halves()
         if time.monotonic() < self._next:
             return
@@ -186,7 +183,8 @@ class DaskBackend:
             self._count_workers()
             self._requeue_stale()
             self._fetch_stuck()
-            self._resubmit()
+            for _ in range(len(self._lost)):
+                self._submit(self._lost.popleft())
         elif self._client.status != "closed":
             self._report_silence()
         self._next = time.monotonic() + _OFTEN
@@ -208,30 +206,26 @@ class DaskBackend:
         self._report_missing("the scheduler at %s doesn't answer; waiting for it" % self._address)
 
     def _report_missing(self, text: str) -> None:
-        """Prints once what is missing."""
+        """Reports once what is missing."""
         if text != self._missing:
             self._missing, self._workers = text, 0
             self._report(text)
 
     def _requeue_stale(self) -> None:
-        """Has jobs handed over again that went by another connection: dask's executor never ends those whose
-        replies were on their way when that broke."""
+        """Requeues jobs of another connection: dask's executor never ends those whose replies were in transit
+        when it broke."""
         connection = self._connection()
         with self._lock:
-            for job in [
-                job
-                for job, submission in self._submissions.items()
-                if submission.connection is not connection
-            ]:
+            for job in [job for job, one in self._submissions.items() if one.connection is not connection]:
                 self._requeue(job)
 
     def _fetch_stuck(self) -> None:
-        """Fetches replies that dask has, and its executor doesn't give: it never ends a future whose reply
-        can't be read, nor those that came with it. What dask has forgotten is handed over again."""
+        """Fetches replies that dask has and its executor doesn't give: it never ends a future whose reply it
+        can't read, nor those that came with it. Requeues jobs that dask has forgotten."""
         now = time.monotonic()
         with self._lock:
-            under_way = [(job, job.turn, submission) for job, submission in self._submissions.items()]
-        for job, turn, submission in under_way:
+            pending = [(job, job.turn, submission) for job, submission in self._submissions.items()]
+        for job, turn, submission in pending:
             state = self._client.futures.get(submission.key)
             status = "lost" if state is None else state.status
             if status == "pending":
@@ -241,17 +235,13 @@ class DaskBackend:
             elif now - submission.since > _SILENT:
                 if status in ("finished", "error"):
                     self._fetch(job, turn, submission)
-                else:
-                    self._requeue_if_same(job, turn)
-
-    def _requeue_if_same(self, job: Job, turn: int) -> None:
-        """Has a job handed over again, if nothing was said of it meanwhile."""
-        with self._lock:
-            if turn == job.turn:
-                self._requeue(job)
+                    continue
+                with self._lock:
+                    if turn == job.turn:
+                        self._requeue(job)
 
     def _fetch(self, job: Job, turn: int, submission: Submission) -> None:
-        """Fetches the reply to a job; where it doesn't come in time, later again."""
+        """Fetches the reply to a job; after a timeout it is tried again later."""
         submission.since = None
         try:
             reply = self._dask.Future(submission.key, self._client).result(_PATIENCE)
@@ -262,10 +252,6 @@ class DaskBackend:
         else:
             self._finish(job, turn, reply, None)
 
-    def _resubmit(self) -> None:
-        for _ in range(len(self._lost)):
-            self._submit(self._lost.popleft())
-
     def _submit_halves(self) -> None:
         while self._killed:
             job = self._killed.popleft()
@@ -273,7 +259,7 @@ class DaskBackend:
                 halves = bisect_job(job)
             self._halves.extend(halves)
             if halves:
-                self._report("%d lines ended their workers; they are cut in halves" % job.lines.count(b"\n"))
+                self._report("%d lines killed their workers; bisecting them" % job.lines.count(b"\n"))
         if self._halves and self._suspect is None:
             self._suspect = self._halves.popleft()
             self._submit(self._suspect)

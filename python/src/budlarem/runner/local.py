@@ -1,8 +1,9 @@
-"""A pass whose chunks threads of this process decide. Each cuts a chunk, decides it, checks it and keeps it:
-for a line nothing is done in Python, and all calls leave Python's lock."""
+"""Decides a pass in threads of this process. Each thread takes a chunk, decides, checks and stores it. Nothing
+runs in Python for a single line, and all calls release Python's lock."""
 
 from __future__ import annotations
 
+import dataclasses
 import queue
 import threading
 import time
@@ -14,41 +15,48 @@ from ..limits import Plan
 from .chunks import validate_verdicts
 from .errors import RunError
 from .input import LineSource
-from .passes import Pass, PassRun, Chunk, ThreadBackend
+from .passes import Chunk, Pass, PassResult, PassRun
+
+
+@dataclasses.dataclass(frozen=True)
+class ThreadBackend:
+    """Threads of this process."""
+
+    count: int
+
+    def run_pass(self, task: Pass, lines: LineSource) -> PassResult:
+        return LocalRun(task, self.count).run(lines)
 
 
 class LocalRun(PassRun):
-    """Decides a pass by threads. What they come to needs no look: the library of this process is what would
-    look."""
+    """A pass in threads."""
 
-    def __init__(self, asked: Pass, threads: ThreadBackend) -> None:
-        super().__init__(asked)
+    def __init__(self, task: Pass, threads: int) -> None:
+        super().__init__(task)
         self._threads = threads
-        self._decide_lines, self._check_lines = decide_call(asked.limits, Plan()), check_call(asked.limits)
-        # They guard the list and its cutting, and the pace: the list may be slow.
+        self._decide_lines, self._check_lines = decide_call(task.limits, Plan()), check_call(task.limits)
+        # They guard the list with its chunker, and the pace: the list may be slow.
         self._feed, self._pace = threading.Lock(), threading.Lock()
         self._is_stopped = False
-        # What each thread ends by: an error, or None.
+        # The error that ended each thread, or None.
         self._ended: queue.SimpleQueue[Optional[BaseException]] = queue.SimpleQueue()
 
     def _decide(self, lines: LineSource) -> None:
         chunks = self._chunker.chunks(lines)
-        crew: List[threading.Thread] = []
-        for _ in range(self._threads.count):
-            # They are daemons, so that the process ends in the middle of a machine too.
-            crew.append(
-                threading.Thread(target=self._run_worker, args=(chunks,), name="budlarem", daemon=True)
-            )
+        workers: List[threading.Thread] = []
+        for _ in range(self._threads):
+            # Daemon threads let the process end in the middle of a machine.
+            workers.append(threading.Thread(target=self._work, args=(chunks,), name="budlarem", daemon=True))
             try:
-                crew[-1].start()
+                workers[-1].start()
             except RuntimeError as error:
-                raise RunError("%d threads can't be started: %s" % (self._threads.count, error)) from error
-        while crew:
+                raise RunError("%d threads can't be started: %s" % (self._threads, error)) from error
+        while workers:
             try:
-                failed = self._ended.get(timeout=0.1)
-                crew.pop()
-                if failed is not None:
-                    raise failed
+                failure = self._ended.get(timeout=0.1)
+                workers.pop()
+                if failure is not None:
+                    raise failure
             except queue.Empty:
                 pass
             self._sync_if_due()
@@ -57,37 +65,31 @@ class LocalRun(PassRun):
     def _stop(self) -> None:
         self._is_stopped = True
 
-    def _run_worker(self, chunks: Iterator[Chunk]) -> None:
-        """What a thread does: a chunk after another."""
+    def _work(self, chunks: Iterator[Chunk]) -> None:
         try:
-            rooms = ReplyBuffer(), ReplyBuffer()
-            for chunk in self._next_chunks(chunks):
-                self._process(chunk, *rooms)
+            buffers = ReplyBuffer(), ReplyBuffer()
+            while not self._is_stopped:
+                with self._feed:
+                    chunk = next(chunks, None)
+                if chunk is None:
+                    break
+                self._process(chunk, *buffers)
         except BaseException as error:
             self._ended.put(error)
         else:
             self._ended.put(None)
 
-    def _next_chunks(self, chunks: Iterator[Chunk]) -> Iterator[Chunk]:
-        """The chunks that this thread gets."""
-        while not self._is_stopped:
-            with self._feed:
-                chunk = next(chunks, None)
-            if chunk is None:
-                return
-            yield chunk
-
-    def _process(self, chunk: Chunk, room: ReplyBuffer, answers: ReplyBuffer) -> None:
-        """Decides a chunk where it doesn't stand, checks it where that is asked for, and keeps it. Raises
-        CheckError, OSError, MemoryError."""
+    def _process(self, chunk: Chunk, buffer: ReplyBuffer, answers: ReplyBuffer) -> None:
+        """Decides a chunk unless it is stored, checks it if asked, and stores it. Raises CheckError, OSError,
+        MemoryError."""
         if not self._is_stored(chunk):
-            began = time.monotonic()
-            self._decide_lines(room, chunk.given)
-            chunk.seconds = time.monotonic() - began
-            chunk.written = room.reply().text
+            started = time.monotonic()
+            self._decide_lines(buffer, chunk.given)
+            chunk.seconds = time.monotonic() - started
+            chunk.written = buffer.reply().text
             chunk.counts = validate_verdicts(chunk.given, chunk.written)
             with self._pace:
-                self._chunker.pace.update(chunk.lines, chunk.seconds, self._threads.width())
+                self._chunker.pace.update(chunk.lines, chunk.seconds, 2 * self._threads)
         if self._needs_check(chunk) and chunk.written is not None:
             self._check_lines(answers, chunk.written)
             chunk.is_confirmed = answers.status == CLEAN

@@ -1,4 +1,4 @@
-"""A pass whose chunks an executor decides: they are handed over, and what comes back is looked at."""
+"""Decides a pass by an executor: submits chunks and validates the replies."""
 
 from __future__ import annotations
 
@@ -7,37 +7,50 @@ import time
 from concurrent.futures import CancelledError, Future, ThreadPoolExecutor
 from typing import Any, Dict, Iterator, List, Optional
 
-from .chunks import (
-    CHECK,
-    DECIDE,
-    check_chunk,
-    decide_chunk,
-    validate_verdicts,
-    open_reply,
-    describe_task,
-    quote_line,
-)
+from .chunks import CHECK, DECIDE, Numbers, Task, check_chunk, decide_chunk, describe_task, open_reply
+from .chunks import quote_line, validate_verdicts
 from .errors import FatalLineError, ReplyError, RunError, describe_error
 from .input import LineSource
-from .passes import SENT, ExecutorBackend, Pass, PassRun, Chunk
+from .passes import SENT, Chunk, Pass, PassResult, PassRun
 
 TRIES = 3
-# How many threads look at what comes back and write it, and how many chunks are with them at most.
-_LOOKERS, _MOST_LOOKED_AT = 4, 8
+# The threads that validate and write replies, and the most chunks that they have.
+_VALIDATORS, _MOST_VALIDATING = 4, 8
+
+
+class ExecutorBackend:
+    """An executor, wrapped for the runner."""
+
+    def width(self) -> int:
+        """The most chunks in flight."""
+        raise NotImplementedError
+
+    def submit(self, task: Task, lines: bytes, limits: Numbers) -> Future[Any]:
+        raise NotImplementedError
+
+    def maintain(self) -> None:
+        """Called now and then for other work of the executor. Raises RunError."""
+
+    def status(self) -> str:
+        """More text for the progress line; may be empty."""
+        return ""
+
+    def run_pass(self, task: Pass, lines: LineSource) -> PassResult:
+        return RemoteRun(task, self).run(lines)
 
 
 class RemoteRun(PassRun):
-    """Decides a pass by an executor."""
+    """A pass by an executor."""
 
     CHUNK_SIZE = SENT
 
-    def __init__(self, asked: Pass, place: ExecutorBackend) -> None:
-        super().__init__(asked)
-        self._place = place
+    def __init__(self, task: Pass, backend: ExecutorBackend) -> None:
+        super().__init__(task)
+        self._backend = backend
         self._pending: Dict[Future[Any], Chunk] = {}
         self._validating: Dict[Future[Any], Chunk] = {}
         self._done: queue.SimpleQueue[Future[Any]] = queue.SimpleQueue()
-        self._validators = ThreadPoolExecutor(_LOOKERS, "budlarem look")
+        self._validators = ThreadPoolExecutor(_VALIDATORS, "budlarem validate")
         # The list may be slow: a thread of its own reads the next chunk.
         self._reader = ThreadPoolExecutor(1, "budlarem read")
         self._read: Optional[Future[Optional[Chunk]]] = None
@@ -48,33 +61,29 @@ class RemoteRun(PassRun):
         is_ended = False
         while self._pending or self._validating or not is_ended:
             if self._read is None and not is_ended and self._has_room():
-                self._read = self._reader.submit(_next_of, chunks)
+                self._read = self._reader.submit(lambda: next(chunks, None))
                 self._read.add_done_callback(self._done.put)
             self._receive(0.1)
             if self._read is not None and self._read.done():
                 chunk, self._read = self._read.result(), None
                 is_ended = chunk is None
-                if chunk is not None:
-                    self._accept(chunk)
+                if chunk is not None and self._is_stored(chunk) and not self._needs_check(chunk):
+                    self._store(chunk)
+                elif chunk is not None:
+                    self._submit(chunk)
         if self._skipped:
-            raise RunError("all but %d chunks stand; %s" % (len(self._skipped), "; ".join(self._skipped[:3])))
+            reasons = "; ".join(self._skipped[:3])
+            raise RunError("all but %d chunks are stored; %s" % (len(self._skipped), reasons))
 
     def _stop(self) -> None:
         self._validators.shutdown()
         self._reader.shutdown(wait=False)
 
     def _has_room(self) -> bool:
-        return len(self._pending) < self._place.width() and len(self._validating) < _MOST_LOOKED_AT
-
-    def _accept(self, chunk: Chunk) -> None:
-        """Hands over a chunk; one that stands is only looked at."""
-        if self._is_stored(chunk) and not self._needs_check(chunk):
-            self._store(chunk)
-        else:
-            self._submit(chunk)
+        return len(self._pending) < self._backend.width() and len(self._validating) < _MOST_VALIDATING
 
     def _submit(self, chunk: Chunk) -> None:
-        """Hands a chunk over, to be decided or to be checked."""
+        """Submits a chunk to be decided or checked."""
         task, lines = (decide_chunk, chunk.given)
         if chunk.written is not None:
             if self._options.is_checked_here:
@@ -83,31 +92,27 @@ class RemoteRun(PassRun):
             task, lines = (check_chunk, chunk.written)
         chunk.submitted = time.monotonic()
         try:
-            future = self._place.submit(task, lines, self._limits.numbers())
+            future = self._backend.submit(task, lines, self._limits.numbers())
         except Exception as error:
-            raise RunError("no chunk can be handed over: %s" % describe_error(error)) from error
+            raise RunError("no chunk can be submitted: %s" % describe_error(error)) from error
         if future in self._pending:
-            raise RunError("two chunks got one future: the executor mixes them up")
+            raise RunError("the executor returned one future for two chunks")
         self._pending[future] = chunk
         future.add_done_callback(self._done.put)
 
     def _receive(self, seconds: float) -> None:
-        """Takes what came back, of which there may be nothing within so many seconds, and puts down what is
-        written, where it is time for it."""
+        """Handles what is done, waiting at most `seconds` for the first, and syncs when due."""
         for future in self._drain(seconds):
-            chunk = self._pending.pop(future, None)
-            if chunk is not None:
-                self._handle_result(chunk, future)
-                continue
-            chunk = self._validating.pop(future, None)
-            if chunk is not None:
-                self._finish_validation(chunk, future)
+            if future in self._pending:
+                self._handle_result(self._pending.pop(future), future)
+            elif future in self._validating:
+                self._finish_validation(self._validating.pop(future), future)
         self._sync_if_due()
-        self._place.maintain()
-        self._options.progress.tick(self._place.status())
+        self._backend.maintain()
+        self._options.progress.tick(self._backend.status())
 
     def _drain(self, seconds: float) -> Iterator[Future[Any]]:
-        """What came back: at most as much as is under way."""
+        """The futures that are done; at most as many as are in flight."""
         for _ in range(len(self._pending) + len(self._validating) + 1):
             try:
                 yield self._done.get(timeout=seconds) if seconds else self._done.get_nowait()
@@ -116,33 +121,32 @@ class RemoteRun(PassRun):
             seconds = 0.0
 
     def _handle_result(self, chunk: Chunk, future: Future[Any]) -> None:
-        """Takes what came back of a chunk."""
         try:
-            failed = future.exception()
+            error = future.exception()
         except CancelledError:
-            failed = ReplyError("it was cancelled")
-        if isinstance(failed, FatalLineError):
-            self._skip(chunk, failed)
-        elif failed is not None:
-            self._retry(chunk, failed)
+            error = ReplyError("it was cancelled")
+        if isinstance(error, FatalLineError):
+            self._skip(chunk, error)
+        elif error is not None:
+            self._retry(chunk, error)
         else:
             self._validate_later(chunk, future.result())
 
     def _validate_later(self, chunk: Chunk, reply: object) -> None:
-        """Hands what came back of a chunk to those who look at it; None where it is to be checked here."""
-        looked = self._validators.submit(self._validate, chunk, reply)
-        self._validating[looked] = chunk
-        looked.add_done_callback(self._done.put)
+        """Has a thread validate a reply; None for a chunk to be checked here."""
+        future = self._validators.submit(self._validate, chunk, reply)
+        self._validating[future] = chunk
+        future.add_done_callback(self._done.put)
 
     def _validate(self, chunk: Chunk, reply: object) -> None:
-        """Looks at a reply, takes what is in it, and keeps it once it needn't be checked. Raises ReplyError,
-        CheckError, OSError."""
-        limits, most = self._limits.numbers(), time.monotonic() - chunk.submitted
+        """Validates a reply, and stores the chunk once no check is needed. Raises ReplyError, CheckError,
+        OSError."""
+        limits, elapsed = self._limits.numbers(), time.monotonic() - chunk.submitted
         if chunk.written is None:
-            asked = describe_task(DECIDE, limits)
-            written, seconds = open_reply(reply, self._options.identity, asked, chunk.given)
+            task = describe_task(DECIDE, limits)
+            written, seconds = open_reply(reply, self._options.identity, task, chunk.given)
             chunk.counts = validate_verdicts(chunk.given, written)
-            chunk.written, chunk.seconds = written, min(seconds, most)
+            chunk.written, chunk.seconds = written, min(seconds, elapsed)
         elif not self._options.is_checked_here:
             self._validate_answers(chunk, chunk.written, reply)
         if self._options.is_checked_here and not chunk.is_confirmed:
@@ -151,27 +155,27 @@ class RemoteRun(PassRun):
             self._store(chunk)
 
     def _validate_answers(self, chunk: Chunk, verdicts: bytes, reply: object) -> None:
-        """Looks at the reply of who checked. Raises ReplyError, CheckError."""
-        asked = describe_task(CHECK, self._limits.numbers())
-        answers, _ = open_reply(reply, self._options.identity, asked, verdicts)
+        """Validates the reply of a check. Raises ReplyError, CheckError."""
+        task = describe_task(CHECK, self._limits.numbers())
+        answers, _ = open_reply(reply, self._options.identity, task, verdicts)
         self._validate_check(chunk, verdicts, answers)
 
-    def _finish_validation(self, chunk: Chunk, looked: Future[Any]) -> None:
-        """A chunk that was looked at is kept, or handed over again. Raises what the look raised."""
-        error = looked.exception()
+    def _finish_validation(self, chunk: Chunk, future: Future[Any]) -> None:
+        """Submits a validated chunk again if it needs a check. Raises what the validation raised."""
+        error = future.exception()
         if isinstance(error, ReplyError):
             self._retry(chunk, error)
             return
         if error is not None:
             raise error
         if not chunk.is_timed:
-            self._chunker.pace.update(chunk.lines, chunk.seconds, self._place.width())
+            self._chunker.pace.update(chunk.lines, chunk.seconds, self._backend.width())
             chunk.is_timed = True
         if self._needs_check(chunk):
             self._submit(chunk)
 
     def _retry(self, chunk: Chunk, error: BaseException) -> None:
-        """Hands a chunk over again; raises RunError where that was done often enough."""
+        """Submits a chunk again. Raises RunError after TRIES failures."""
         chunk.tries += 1
         first, last = chunk.first, chunk.first + chunk.lines - 1
         if isinstance(error, ReplyError) and error.line is not None:
@@ -179,18 +183,13 @@ class RemoteRun(PassRun):
         where = self._describe_lines(first, last)
         text = "pass %d, %s: %s" % (self._folder.number, where, describe_error(error))
         if chunk.tries >= TRIES:
-            raise RunError("%s; so it was %d times" % (text, TRIES)) from error
-        self._options.progress.print_line("%s; it is tried again" % text)
+            raise RunError("%s; tried %d times" % (text, TRIES)) from error
+        self._options.progress.print_line("%s; trying again" % text)
         self._submit(chunk)
 
     def _skip(self, chunk: Chunk, error: FatalLineError) -> None:
-        """Goes on without a chunk that can't be decided; the run ends by it when all others are."""
+        """Skips a chunk that can't be decided. The run fails once all others are stored."""
         where = self._describe_lines(chunk.first + error.line)
-        line = chunk.given.split(b"\n")[error.line]
-        self._skipped.append("pass %d, %s: %s: %s" % (self._folder.number, where, error, quote_line(line)))
+        line = quote_line(chunk.given.split(b"\n")[error.line])
+        self._skipped.append("pass %d, %s: %s: %s" % (self._folder.number, where, error, line))
         self._options.progress.print_line(self._skipped[-1])
-
-
-def _next_of(chunks: Iterator[Chunk]) -> Optional[Chunk]:
-    """The next of some chunks; None where there are no more."""
-    return next(chunks, None)
