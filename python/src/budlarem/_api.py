@@ -1,4 +1,4 @@
-"""The calls and types of the package, which `budlarem` imports at their first use."""
+"""The calls and types of the package, imported at their first use."""
 
 from ._archive import PublishError
 from ._library import LibraryError
