@@ -7,7 +7,7 @@ import contextlib
 import io
 import pathlib
 from concurrent.futures import Executor, Future
-from typing import Any, Callable, Dict, List, Sequence
+from typing import Any, Callable, Optional, Sequence
 
 import budlarem
 from budlarem import Limits
@@ -62,7 +62,7 @@ class Answering(Executor):
     """An executor whose answer to a task a function changes; it is given the reply and how many came
     before."""
 
-    def __init__(self, change: Callable[[chunks.ChunkReply, int], Any]) -> None:
+    def __init__(self, change: Callable[[chunks.ChunkReply, int], Any] = lambda reply, before: reply) -> None:
         self.change, self.count = change, 0
 
     def submit(self, function: Any, /, *given: Any, **named: Any) -> Any:
@@ -75,12 +75,28 @@ class Answering(Executor):
         return future
 
 
+def act(action: Callable[[], object], at: Optional[int] = None) -> Answering:
+    """An executor that acts before each reply, or before the reply with index `at`."""
+
+    def change(reply: chunks.ChunkReply, before: int) -> chunks.ChunkReply:
+        if at in (None, before):
+            action()
+        return reply
+
+    return Answering(change)
+
+
+def answer_with(old: bytes, new: bytes) -> Answering:
+    """An executor that replaces bytes in each reply, under a right digest."""
+    return Answering(lambda reply, before: reseal(reply, reply[0].replace(old, new)))
+
+
 class Late(Executor):
     """An executor that answers when several tasks wait, the last one first."""
 
     def __init__(self, most: int) -> None:
         self.most = most
-        self.waiting: List[Callable[[], None]] = []
+        self.waiting: list[Callable[[], None]] = []
 
     def submit(self, function: Any, /, *given: Any, **named: Any) -> Any:
         future: Future[Any] = Future()
@@ -107,7 +123,7 @@ class RunCase(contextlib.ExitStack):
         self.top, self.list, self.out = top, top / "list.txt", top / "out"
         self.list.write_bytes(LIST)
         self.progress = KeptProgress()
-        self.seen: List[bytes] = []
+        self.seen: list[bytes] = []
 
     def run_over(
         self,
@@ -152,14 +168,14 @@ class RunCase(contextlib.ExitStack):
         found.chunks = found.journal.length
         return found
 
-    def records(self, limits: Sequence[Limits]) -> List[journal.Record]:
+    def records(self, limits: Sequence[Limits]) -> list[journal.Record]:
         """What the journal of the last of these passes has."""
         found = self.open_last_pass(limits).journal
         records = map(found.read, range(found.length))
         return [record for record in records if record is not None]
 
 
-def counts_of(verdicts: bytes) -> Dict[str, int]:
+def counts_of(verdicts: bytes) -> dict[str, int]:
     """How many verdict lines there are of each kind."""
     counts = VerdictCounts()
     for line in verdicts.decode().splitlines():

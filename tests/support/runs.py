@@ -13,7 +13,7 @@ import signal
 import subprocess
 import sys
 import time
-from typing import Any, Callable, Dict, List, Optional, Sequence, Tuple
+from typing import Any, Callable, Sequence
 
 from . import restore_signals
 from .machines import CHAMPION, mixed
@@ -57,7 +57,7 @@ def random_list(count: int, seed: int) -> bytes:
     return as_lines(lines)
 
 
-def decide_lines(program: str, given: bytes, limits: Sequence[int]) -> List[bytes]:
+def decide_lines(program: str, given: bytes, limits: Sequence[int]) -> list[bytes]:
     """The program's verdict lines."""
     return ended([program, "decide", *options(limits)], given).output.splitlines(keepends=True)
 
@@ -80,13 +80,13 @@ class Case:
         top.mkdir()
         self.list, self.out, self.errors = top / "list.txt", top / "out", top / "errors.txt"
         self.list.write_bytes(given)
-        self.words: List[str] = [word for limits in passes for word in ("--pass", words_of(limits))]
+        self.words: list[str] = [word for limits in passes for word in ("--pass", words_of(limits))]
 
     def start(
         self,
         *more: str,
-        words: Optional[List[str]] = None,
-        variables: Optional[Dict[str, str]] = None,
+        words: list[str] | None = None,
+        variables: dict[str, str] | None = None,
         **how: Any,
     ) -> Process:
         """Starts a run, which heeds interruptions; standard error is a file."""
@@ -199,7 +199,7 @@ def is_at_work(pid: int) -> bool:
         return False
 
 
-def interrupt(where: str) -> Tuple[int, bytes, float]:
+def interrupt(where: str) -> tuple[int, bytes, float]:
     """How a process ends that is interrupted in a list, in one long machine or in a trace: its status, what
     it said, and after how many seconds."""
     command = [sys.executable, "-c", WAITS, where, LONG_MACHINE.decode().strip()]

@@ -9,7 +9,7 @@ import random
 import signal
 import subprocess
 import time
-from typing import Dict, Iterator, List, Tuple
+from typing import Iterator, Tuple
 
 import pytest
 from support.clusters import Cluster, changed_package, cluster
@@ -66,7 +66,7 @@ def collect():
 threading.Thread(target=collect, daemon=True).start()
 """
 # What is changed in the package of workers that can't decide anything rightly, and what the run says of them.
-WRONG_WORKERS: Dict[str, Tuple[str, List[Tuple[str, str]], str]] = {
+WRONG_WORKERS: dict[str, tuple[str, list[tuple[str, str]], str]] = {
     "another version": ("_version.py", [('VERSION = "', 'VERSION = "9.')], "it was decided by version 9."),
     "garbage": ("runner/chunks.py", [("buffer.reply().text", 'b"x\\n"')], "came back for"),
     "a byte that changes on its way": (
@@ -109,7 +109,7 @@ def few(bb: str) -> Given:
     return given, expected_verdicts(bb, given, PASSES)
 
 
-def case_of(found: Cluster, name: str, given: bytes, passes: Tuple[Tuple[int, ...], ...] = PASSES) -> Case:
+def case_of(found: Cluster, name: str, given: bytes, passes: tuple[tuple[int, ...], ...] = PASSES) -> Case:
     """A list that the cluster decides in small chunks."""
     case = Case(found.top / name, given, passes)
     case.words += ["--scheduler", found.address, "--piece", "100"]
@@ -153,7 +153,7 @@ def test_killed_worker(bb: str, tmp_path: pathlib.Path, lines: int) -> None:
     with cluster(2, tmp_path) as found:
         case = case_of(found, "killed", given + LONG_MACHINE + given, (QUICK_PASS, LONG_PASS))
         with case.start() as process:
-            at_work: List[Process] = []
+            at_work: list[Process] = []
 
             def is_one_at_work() -> bool:
                 at_work[:] = [worker for worker in found.workers if is_at_work(worker.pid)]
@@ -251,7 +251,7 @@ def test_scheduler(many: Given, tmp_path: pathlib.Path, is_late: bool) -> None:
         require_end(case, status, right)
 
 
-def collect_garbage(tmp_path: pathlib.Path) -> Dict[str, str]:
+def collect_garbage(tmp_path: pathlib.Path) -> dict[str, str]:
     """The environment of a run that collects garbage all the time, so that nothing is kept by chance."""
     site = tmp_path / "site"
     site.mkdir()

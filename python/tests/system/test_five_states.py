@@ -10,7 +10,7 @@ import runpy
 import signal
 import subprocess
 import time
-from typing import Any, Callable, Dict, Iterator, List, Tuple
+from typing import Any, Callable, Iterator
 
 import pytest
 from support import TOP, restore_signals
@@ -25,12 +25,12 @@ KINDS = ("halt", "cycler", "translated", "backward", "undecided steps", "undecid
 PASSES = [(181_381, (48_219, 17_984, 109_456, 3_424, 2_298, 0, 0)), (2_298, (0, 0, 2, 0, 2_296, 0, 0))]
 FOUR_STATES = (858_909, (249_693, 87_754, 500_902, 12_105, 8_455, 0, 0))
 FOUR_STATES_GREATEST = {"halt steps": 106, "cycler second": 102, "backward levels": 11, "backward nodes": 14}
-WRITTEN: Dict[str, Any] = json.loads((DOCUMENTS / "five-states.json").read_text())
+WRITTEN: dict[str, Any] = json.loads((DOCUMENTS / "five-states.json").read_text())
 Process = subprocess.Popen[bytes]
 
 
 @pytest.fixture(autouse=True)
-def lister(list_machines: Callable[..., List[str]]) -> None:
+def lister(list_machines: Callable[..., list[str]]) -> None:
     """The lister is built."""
 
 
@@ -42,18 +42,18 @@ def start(out: pathlib.Path, *asked: str) -> Process:
     )
 
 
-def wait_for(process: Process) -> Tuple[int, str]:
+def wait_for(process: Process) -> tuple[int, str]:
     """The status of a process, and what it printed."""
     output = process.communicate(timeout=600)[1].decode()
     return process.returncode, output
 
 
-def summary_in(out: pathlib.Path) -> Dict[str, Any]:
-    found: Dict[str, Any] = json.loads((out / "summary.json").read_text())
+def summary_in(out: pathlib.Path) -> dict[str, Any]:
+    found: dict[str, Any] = json.loads((out / "summary.json").read_text())
     return found
 
 
-def passes(summary: Dict[str, Any]) -> List[Tuple[int, Tuple[int, ...]]]:
+def passes(summary: dict[str, Any]) -> list[tuple[int, tuple[int, ...]]]:
     """The lines of each pass, and the counts by kind."""
     return [(one["lines"], tuple(one["counts"][kind] for kind in KINDS)) for one in summary["passes"]]
 
@@ -75,7 +75,7 @@ def test_sample(bb: str, tmp_path: pathlib.Path) -> None:
         assert abs(sampled - share) <= allowed, kind
 
 
-def figures_of(summary: Dict[str, Any]) -> Iterator[str]:
+def figures_of(summary: dict[str, Any]) -> Iterator[str]:
     """What the document must state of a run, in its own words."""
     first, second = summary["passes"]
     for kind in KINDS:
@@ -192,7 +192,7 @@ def test_stream(bb: str, cover: str, tmp_path: pathlib.Path) -> None:
     """The verdicts that are kept come as one list, in order: `cover` finds that it covers its size."""
     small = ("--states", "3", "--parts", "5")
 
-    def stream(name: str, *more: str) -> Tuple[int, bytes, bytes]:
+    def stream(name: str, *more: str) -> tuple[int, bytes, bytes]:
         command = [
             SCRIPT,
             "--library",

@@ -6,7 +6,7 @@ import itertools
 import random
 import signal
 import sys
-from typing import Iterator, List, Sequence, Tuple
+from typing import Iterator, Sequence, Tuple
 
 import budlarem
 import pytest
@@ -44,7 +44,7 @@ def random_row(source: random.Random) -> Row:
     return (source.choice((0, 1, 17, 300, 5_000)), cells, depth, source.choice((0, 3, 100, 2_000)))
 
 
-def require_deciding(bb: str, row: Row, switches: Sequence[str], lines: List[str], threads: int) -> List[str]:
+def require_deciding(bb: str, row: Row, switches: Sequence[str], lines: list[str], threads: int) -> list[str]:
     """The package's verdicts, as objects and as bytes, are the program's; gives their lines."""
     expected = output_of(bb, ["decide", *options(row), *switches], as_lines(lines))
     limits, plan = Limits(*row), plan_of(switches)
@@ -57,7 +57,7 @@ def require_deciding(bb: str, row: Row, switches: Sequence[str], lines: List[str
     return expected.decode().splitlines()
 
 
-def list_of(count: int) -> List[str]:
+def list_of(count: int) -> list[str]:
     return list(mixed(count, 1))
 
 
@@ -80,7 +80,7 @@ def forge(source: random.Random, line: str) -> str:
     return " ".join(fields)
 
 
-def require_claims(bb: str, lines: List[str], row: Row, source: random.Random) -> None:
+def require_claims(bb: str, lines: list[str], row: Row, source: random.Random) -> None:
     """The answers to claims of which half are forged, and what `parse` takes of them."""
     claims = [forge(source, line) if k % 2 else line for k, line in enumerate(lines)]
     expected = output_of(bb, ["check", *options(row)], as_lines(claims))
@@ -143,7 +143,7 @@ def test_noise(bb: str, rng: random.Random, count: int) -> None:
 
 
 @pytest.mark.parametrize("count", [20_000, pytest.param(1_000_000, marks=pytest.mark.slow)])
-def test_four_states(bb: str, four_states: List[str], count: int) -> None:
+def test_four_states(bb: str, four_states: list[str], count: int) -> None:
     for threads in (1, 4):
         require_deciding(bb, (200, 256, 20, 1_000), [], four_states[:count], threads)
 

@@ -14,7 +14,7 @@ import subprocess
 import sys
 import tarfile
 import time
-from typing import Any, Callable, Dict, List, Optional, Tuple
+from typing import Any, Callable
 
 import pytest
 from support import restore_signals
@@ -40,11 +40,11 @@ class Place:
         self.list.write_bytes(as_lines(lines))
         self.verdicts.write_bytes(ended([bb, "decide", *options(FIRST)], as_lines(lines)).output)
 
-    def words(self, *more: str, out: Optional[pathlib.Path] = None) -> List[str]:
+    def words(self, *more: str, out: pathlib.Path | None = None) -> list[str]:
         """A command that publishes."""
         return [sys.executable, "-m", "budlarem", "publish", str(out or self.out), *more]
 
-    def given(self) -> List[str]:
+    def given(self) -> list[str]:
         return ["--verdicts", str(self.verdicts), "--list", str(self.list)]
 
     def publish(self, *more: str, **how: Any) -> "subprocess.CompletedProcess[str]":
@@ -53,7 +53,7 @@ class Place:
         command = self.words(*(more or self.given()), out=out)
         return subprocess.run(command, capture_output=True, text=True, **how)
 
-    def left(self) -> List[str]:
+    def left(self) -> list[str]:
         """What stands beside list and verdicts."""
         return sorted(set(os.listdir(self.top)) - {"list.txt", "verdicts.txt"})
 
@@ -65,9 +65,9 @@ def unpack(path: pathlib.Path, into: pathlib.Path) -> pathlib.Path:
     return made
 
 
-def commands_of(readme: str) -> List[List[str]]:
+def commands_of(readme: str) -> list[list[str]]:
     """The commands of a README, those of each numbered way together."""
-    ways: List[List[str]] = []
+    ways: list[list[str]] = []
     for line in readme.partition("How to check it again")[2].splitlines():
         if line[2:4] in ("1.", "2.", "3.", "4.", "5."):
             ways.append([])
@@ -91,7 +91,7 @@ class Ways:
         self._environment = {**os.environ, "PATH": "%s:%s" % (programs, os.environ["PATH"])}
 
     def run(self, command: str) -> "subprocess.CompletedProcess[str]":
-        how: Dict[str, Any] = {"cwd": self.folder, "env": self._environment, "errors": "replace"}
+        how: dict[str, Any] = {"cwd": self.folder, "env": self._environment, "errors": "replace"}
         return subprocess.run(["sh", "-c", command], capture_output=True, text=True, **how)
 
     def is_whole(self) -> bool:
@@ -134,7 +134,7 @@ def require_changes(ways: Ways, count: int, source: random.Random) -> None:
     assert ways.is_whole()
 
 
-def archive_of(bb: str, top: pathlib.Path) -> Tuple[Place, Ways]:
+def archive_of(bb: str, top: pathlib.Path) -> tuple[Place, Ways]:
     """An archive that was made, and what stands in its unpacked folder."""
     place = Place(bb, top / "archive", 3_000, 1)
     done = place.publish(*place.given(), "--pass", PASS)
@@ -300,7 +300,7 @@ def interrupt_publish(
     place: Place, number: int, ready: Callable[["subprocess.Popen[bytes]"], object]
 ) -> "tuple[int, str]":
     """The status and standard error of a process that is sent a signal once it is ready."""
-    how: Dict[str, Any] = {"stdout": subprocess.DEVNULL, "stderr": subprocess.PIPE}
+    how: dict[str, Any] = {"stdout": subprocess.DEVNULL, "stderr": subprocess.PIPE}
     with subprocess.Popen(place.words(*place.given()), preexec_fn=restore_signals, **how) as process:
         ready(process)
         process.send_signal(number)

@@ -12,7 +12,7 @@ import resource
 import signal
 import subprocess
 import time
-from typing import Callable, List, Tuple
+from typing import Callable
 
 import pytest
 from support.program import MAX_CELLS, MAX_STEPS
@@ -268,7 +268,7 @@ def test_slow_kill(bb: str, tmp_path: pathlib.Path) -> None:
     assert status == 0 and case.verdicts() == right, status
 
 
-def limit_resources(*limits: Tuple[int, int]) -> Callable[[], None]:
+def limit_resources(*limits: tuple[int, int]) -> Callable[[], None]:
     """What sets these limits of the system for a process, which isn't root's, for whom there are none."""
 
     def limit() -> None:
@@ -286,7 +286,7 @@ def limit_resources(*limits: Tuple[int, int]) -> Callable[[], None]:
 def test_no_memory(tmp_path: pathlib.Path) -> None:
     """No memory, and no threads, also while a long machine is under way: the run ends at once, with status 3
     and a sentence, or the limit is enough and it is at work."""
-    faults: List[Tuple[str, Tuple[int, int]]] = [
+    faults: list[tuple[str, tuple[int, int]]] = [
         ("%d MB" % size, (resource.RLIMIT_AS, size << 20)) for size in (56, 80, 120, 160, 200, 280, 400)
     ]
     faults += [("%d threads" % count, (resource.RLIMIT_NPROC, count)) for count in range(1, 9)]
@@ -316,7 +316,7 @@ def test_closed_files(tmp_path: pathlib.Path) -> None:
     for closed in ((0,), (1,), (2,), (1, 2), (0, 1, 2)):
         case = Case(tmp_path / ("closed-%s" % "".join(map(str, closed))), b"1RB1LB_1LA1RZ\n1RA1RA\n")
 
-        def close(numbers: Tuple[int, ...] = closed) -> None:
+        def close(numbers: tuple[int, ...] = closed) -> None:
             for number in numbers:
                 os.close(number)
 

@@ -9,7 +9,7 @@ import shutil
 import signal
 import subprocess
 import sys
-from typing import Callable, Dict, Iterator, Optional, Tuple
+from typing import Callable, Iterator
 
 import pytest
 from support.runs import PASSES, Case, expected_verdicts, random_list, wait_until, words_of
@@ -23,10 +23,10 @@ MACHINE = b"1RB1LB_1LA1RZ\n"
 Fault = Callable[[Case], None]
 
 
-def snapshot(tmp_path: pathlib.Path) -> Dict[str, bytes]:
+def snapshot(tmp_path: pathlib.Path) -> dict[str, bytes]:
     """All that a folder has, by path: the bytes of files, where links lead, and the kind of what else is
     there."""
-    found: Dict[str, bytes] = {}
+    found: dict[str, bytes] = {}
     for path in sorted(tmp_path.rglob("*")):
         name = str(path.relative_to(tmp_path))
         if path.is_symlink():
@@ -39,7 +39,7 @@ def snapshot(tmp_path: pathlib.Path) -> Dict[str, bytes]:
 
 
 @contextlib.contextmanager
-def stop_run(case: Case) -> Iterator[Tuple["subprocess.Popen[bytes]", bool]]:
+def stop_run(case: Case) -> Iterator[tuple["subprocess.Popen[bytes]", bool]]:
     """A run that is stopped in the middle, and whether it was at work by then. It goes on afterwards, to its
     end."""
     with case.start() as process:
@@ -59,7 +59,7 @@ def slow_case(tmp_path: pathlib.Path, name: str, seed: int, passes: int = 1) -> 
     return case
 
 
-def require_moved_error(case: Case, status: int, before: Dict[str, bytes]) -> None:
+def require_moved_error(case: Case, status: int, before: dict[str, bytes]) -> None:
     """The run ended with status 3 and a sentence, and what stands at its path is as it was."""
     said = case.output()
     assert status == 3 and MOVED in said, said
@@ -110,7 +110,7 @@ def test_replaced(tmp_path: pathlib.Path) -> None:
         os.unlink(case.out)
         case.out.symlink_to(elsewhere)
 
-    faults: Dict[str, Fault] = {
+    faults: dict[str, Fault] = {
         "removed": lambda case: shutil.rmtree(case.out),
         "replaced by own files": replace,
         "a link pointed elsewhere": point_elsewhere,
@@ -216,7 +216,7 @@ def require_unchanged(case: Case, top: pathlib.Path) -> None:
 
 
 # What somebody else has in a folder that no run began: paths, and what is there.
-MINE: Dict[str, Dict[str, str]] = {
+MINE: dict[str, dict[str, str]] = {
     "a pass": {"pass-1/diary.txt": "mine"},
     "pieces": {"pass-1/pieces": "mine"},
     "a journal": {"pass-1/journal": "mine"},
@@ -236,7 +236,7 @@ LINKED = (
 
 
 @pytest.mark.parametrize("files", MINE.values(), ids=MINE)
-def test_files_of_somebody_else(tmp_path: pathlib.Path, files: Dict[str, str]) -> None:
+def test_files_of_somebody_else(tmp_path: pathlib.Path, files: dict[str, str]) -> None:
     """A folder of somebody else stays as it is."""
     case = Case(tmp_path / "foreign", MACHINE, [QUICK_PASS])
     for name, text in files.items():
@@ -316,7 +316,7 @@ def test_begun(bb: str, tmp_path: pathlib.Path) -> None:
     require_unchanged(case, case.out)
 
 
-def command(*more: str, given: Optional[pathlib.Path] = None) -> Tuple[int, str]:
+def command(*more: str, given: pathlib.Path | None = None) -> tuple[int, str]:
     """The status of a command of the package, whose standard input is a file, and what it says."""
     with open(given or os.devnull, "rb") as file:
         done = subprocess.run(

@@ -9,7 +9,7 @@ import itertools
 import os
 import pathlib
 import unittest.mock
-from typing import Any, Iterator, List
+from typing import Any, Iterator
 
 import hypothesis
 import pytest
@@ -20,7 +20,7 @@ from hypothesis import strategies as st
 from support.runner import KINDS, LIST, MIDDLE, PASSES, SMALL, RunCase, counts_of, expected_verdicts
 
 
-def take_all(blocks: Iterator[bytes], lines: int, size: int) -> List[bytes]:
+def take_all(blocks: Iterator[bytes], lines: int, size: int) -> list[bytes]:
     found = input.StreamLines(blocks)
     return list(iter(lambda: found.take(lines, size), b""))
 
@@ -33,7 +33,7 @@ def take_all(blocks: Iterator[bytes], lines: int, size: int) -> List[bytes]:
     cut=st.sampled_from((1, 7, 1_000, 1_030)),
 )
 def test_chunks_are_the_same_however_the_bytes_come(
-    case: RunCase, lengths: List[int], lines: int, size: int, cut: int
+    case: RunCase, lengths: list[int], lines: int, size: int, cut: int
 ) -> None:
     texts = [b"x" * length for length in lengths]
     given = b"\n".join(texts)
@@ -214,7 +214,7 @@ def test_replies() -> None:
     reply = chunks.decide_chunk(KINDS, SMALL.numbers())
     asked = chunks.describe_task(chunks.DECIDE, SMALL.numbers())
     assert chunks.open_reply(reply, ours, asked, KINDS)[0] == expected_verdicts(KINDS, [SMALL])
-    wrong: List[Any] = [
+    wrong: list[Any] = [
         None,
         b"",
         [],

@@ -11,7 +11,7 @@ import pathlib
 import re
 import subprocess
 import sys
-from typing import Any, List, Tuple
+from typing import Any
 from unittest import mock
 
 import budlarem
@@ -127,7 +127,7 @@ def test_no_machine() -> None:
         ((10, 100, 1_000), Growth.LINE),
     ],
 )
-def test_growths(counts: Tuple[int, int, int], found: Growth) -> None:
+def test_growths(counts: tuple[int, int, int], found: Growth) -> None:
     assert growth.classify_growth(counts) is found
 
 
@@ -239,7 +239,7 @@ def test_what_is_missing_is_named() -> None:
         budlarem.report([], "page.html")
 
 
-def run_with(*words: str, given: str = "") -> Tuple[int, List[str], str]:
+def run_with(*words: str, given: str = "") -> tuple[int, list[str], str]:
     """The status of the command, its lines, and what it says."""
     command = [sys.executable, "-m", "budlarem", *words]
     ended = subprocess.run(command, input=given.encode(), capture_output=True)
@@ -255,7 +255,7 @@ def test_a_refused_line_is_named_and_passed_over(tmp_path: pathlib.Path) -> None
     machines = [CHAMPION, "1RB1LC_1LA1RZ", "1RA1RA"]
     claims = [CHAMPION + " halt 6 4", "1RA1RA halt 6", "1RA1RA translated R 1 2 1 1"]
     path = str(tmp_path / "list.txt")
-    rows: List[Tuple[List[str], List[str], int]] = [
+    rows: list[tuple[list[str], list[str], int]] = [
         (["read", path], machines, 2),
         (["decide", path], machines, 3),
         (["normal", path], machines, 2),

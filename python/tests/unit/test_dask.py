@@ -9,7 +9,7 @@ import io
 import types
 import unittest.mock
 from concurrent.futures import CancelledError, Future
-from typing import Any, Dict, Iterator, List, Optional, Tuple
+from typing import Any, Iterator
 
 import pytest
 from budlarem import commands
@@ -46,16 +46,16 @@ class DoubleClient:
         self.status, self.scheduler_comm, self.loop = "running", object(), object()
         self.how = how
         self.dashboard_link = "http://page"
-        self.workers: Dict[str, int] = {"one": 1}
-        self.futures: Dict[str, State] = {}
-        self.given: List[Any] = []
-        self.fetched: Dict[str, Any] = {}
+        self.workers: dict[str, int] = {"one": 1}
+        self.futures: dict[str, State] = {}
+        self.given: list[Any] = []
+        self.fetched: dict[str, Any] = {}
 
     def get_executor(self, pure: bool) -> DoubleClient:
         assert not pure
         return self
 
-    def nthreads(self, callback_timeout: float) -> Dict[str, int]:
+    def nthreads(self, callback_timeout: float) -> dict[str, int]:
         return self.workers
 
     def submit(self, task: Any, lines: bytes, limits: chunks.Numbers, key: str) -> Future[Any]:
@@ -104,8 +104,8 @@ class Dask:
     KilledWorker, Future = KilledWorker, DoubleFuture
 
     def __init__(self) -> None:
-        self.clients: List[DoubleClient] = []
-        self.refuses: Optional[Exception] = None
+        self.clients: list[DoubleClient] = []
+        self.refuses: Exception | None = None
 
     def Client(self, *address: str, **how: Any) -> DoubleClient:
         if self.refuses is not None:
@@ -113,7 +113,7 @@ class Dask:
         self.clients.append(DoubleClient(*address, **how))
         return self.clients[-1]
 
-    def Security(self, **files: Any) -> Dict[str, Any]:
+    def Security(self, **files: Any) -> dict[str, Any]:
         return files
 
 
@@ -341,7 +341,7 @@ def test_replies_that_do_not_go_together() -> None:
     good = reply_to(LINES, LIMITS)
     other = (*good[:4], "another library", *good[5:])
     odd = reply_to(LINES[:-7], LIMITS)
-    cases: List[Tuple[List[Any], Any]] = [
+    cases: list[tuple[list[Any], Any]] = [
         ([good, good], (good[0] * 2, *reply_to(LINES * 2, LIMITS)[1:])),
         ([good, None], None),
         ([b"x", good], b"x"),
@@ -389,7 +389,7 @@ def test_options_of_tls() -> None:
         place("--scheduler", "tls://there:8786", *words)
         with pytest.raises(ValueError, match="--tls-key missing/key.pem can't be read: No such file"):
             place("--scheduler", "tls://there:8786", *words, "--tls-key", "missing/key.pem")
-    files: Dict[str, Any] = {name: __file__ for name in ("tls_ca_file", "tls_client_cert", "tls_client_key")}
+    files: dict[str, Any] = {name: __file__ for name in ("tls_ca_file", "tls_client_cert", "tls_client_key")}
     assert double.clients[0].how["security"] == {**files, "require_encryption": True}
     assert len(double.clients) == 1
 

@@ -9,7 +9,7 @@ import re
 import subprocess
 import sys
 import threading
-from typing import Any, Iterator, List, Tuple
+from typing import Any, Iterator
 
 import budlarem
 import pytest
@@ -29,7 +29,7 @@ LINES = [
 COUNTER = "1RB0RA_1LC1LB_1RA0LB"
 
 
-def decide_lines(machines: Any, *given: Any, **more: Any) -> List[str]:
+def decide_lines(machines: Any, *given: Any, **more: Any) -> list[str]:
     return [str(verdict) for verdict in budlarem.decide(machines, *given, **more)]
 
 
@@ -121,7 +121,7 @@ def test_threads_end_with_the_list() -> None:
 
 
 def test_lines_and_verdicts() -> None:
-    given: List[Any] = [LINES[0], budlarem.Halt(CHAMPION, 6, 5), "x", budlarem.Refused(3), LINES[2]]
+    given: list[Any] = [LINES[0], budlarem.Halt(CHAMPION, 6, 5), "x", budlarem.Refused(3), LINES[2]]
     answers = [Answer.OK, Answer.BAD, Answer.UNREAD, Answer.OPEN, Answer.OK]
     assert list(budlarem.check(given)) == answers
     assert list(budlarem.check(LINES[:1], Limits(steps=5))) == [Answer.OVER]
@@ -139,7 +139,7 @@ def test_a_verdict_with_a_field_of_another_type() -> None:
     half: Any = 6.0
     pair: Any = (1, 1)
     nothing: Any = None
-    cases: List[Tuple[budlarem.Verdict, str]] = [
+    cases: list[tuple[budlarem.Verdict, str]] = [
         (budlarem.Halt(CHAMPION, text, 4), "steps is '6' of type str, but must be a whole number"),
         (budlarem.Halt(CHAMPION, half, 4), "steps is 6.0 of type float"),
         (budlarem.Halt(CHAMPION, True, 4), "steps is True"),
@@ -160,7 +160,7 @@ def test_blocks_of_any_kind() -> None:
     given = "".join(line + "\n" for line in MACHINES).encode()
     expected = "".join(line + "\n" for line in LINES).encode()
     cut = [given[k : k + 3] for k in range(0, len(given), 3)]
-    kinds: List[Any] = [given, bytearray(given), memoryview(given), io.BytesIO(given), cut, iter([given])]
+    kinds: list[Any] = [given, bytearray(given), memoryview(given), io.BytesIO(given), cut, iter([given])]
     for blocks in kinds:
         assert b"".join(budlarem.decide_bytes(blocks)) == expected
     assert b"".join(budlarem.check_bytes(expected)) == b"ok\nok\nok\nopen\nopen\n"

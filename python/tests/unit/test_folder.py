@@ -12,17 +12,17 @@ import random
 import shutil
 import unittest.mock
 import zlib
-from typing import Any, Callable, Dict, Iterator, List, Sequence, Tuple
+from typing import Any, Callable, Iterator, Sequence
 
 import budlarem
 import pytest
 from budlarem import Limits, _api, _files, _library, publish
 from budlarem.runner import chunks, folder
 from budlarem.runner.errors import FolderError, MovedError, RunError
-from support.runner import LIST, PASSES, SMALL, Answering, RunCase, expected_verdicts
+from support.runner import LIST, PASSES, SMALL, RunCase, act, expected_verdicts
 
 
-def contents(top: pathlib.Path) -> Dict[str, bytes]:
+def contents(top: pathlib.Path) -> dict[str, bytes]:
     """The bytes of all files below a folder."""
     return {str(path): path.read_bytes() for path in top.rglob("*") if path.is_file()}
 
@@ -199,7 +199,7 @@ def is_ended(case: RunCase, after: int, limits: Sequence[Limits]) -> bool:
 
 
 def test_each_call(case: RunCase) -> None:
-    cases: List[Tuple[List[Limits], List[Limits]]] = [([], [SMALL]), ([SMALL], [*PASSES]), ([], [*PASSES])]
+    cases: list[tuple[list[Limits], list[Limits]]] = [([], [SMALL]), ([SMALL], [*PASSES]), ([], [*PASSES])]
     for before, limits in cases:
         after, was_ended = 0, True
         while was_ended:
@@ -276,18 +276,12 @@ def test_chunks_and_passes_that_are_replaced_meanwhile(case: RunCase) -> None:
 
     for number, replace in enumerate((replace_chunks, replace_pass)):
         case.out = case.top / str(number)
-
-        def change(reply: chunks.ChunkReply, before: int) -> chunks.ChunkReply:
-            if before == 3:
-                replace()
-            return reply
-
         if number == 0:
-            case.run_over(Answering(change), limits=[SMALL])
+            case.run_over(act(replace, 3), limits=[SMALL])
             assert case.verdicts() == expected_verdicts(LIST, [SMALL])
         else:
             with pytest.raises(MovedError):
-                case.run_over(Answering(change), limits=[SMALL])
+                case.run_over(act(replace, 3), limits=[SMALL])
         assert (case.out / "pass-1" / "pieces").read_text() == "mine"
 
 

@@ -6,7 +6,7 @@ import io
 import json
 import pathlib
 import random
-from typing import Iterable, List, Optional, Tuple
+from typing import Iterable
 from unittest import mock
 
 import budlarem
@@ -32,7 +32,7 @@ def claim_of(line: str) -> Claim:
     return found
 
 
-def judgements(lines: Iterable[str], undefined_steps: Optional[bool] = None) -> List[str]:
+def judgements(lines: Iterable[str], undefined_steps: bool | None = None) -> list[str]:
     judging = budlarem.judge(lines, limits=SMALL, undefined_steps=undefined_steps)
     return [str(one.judgement) for one in judging]
 
@@ -278,7 +278,7 @@ def test_each_reading_has_the_same_lines(tmp_path: pathlib.Path) -> None:
     with open(path, "wb") as file:
         file.write(content)
     for kept in (10**6, 100, 0):
-        given: Tuple[Source, ...] = (path, io.BytesIO(content), iter(lines))
+        given: tuple[Source, ...] = (path, io.BytesIO(content), iter(lines))
         for source in given:
             with mock.patch.object(rereadable, "_MOST_BUFFERED", kept):
                 twice = rereadable.RereadableList(source)
@@ -305,7 +305,7 @@ def test_the_form_is_the_machine_with_other_names() -> None:
     assert canonical_form("1RB1LB_1LA1RZ") != canonical_form("1RB1LA_1LA1RZ")
 
 
-def draw_machine(source: random.Random) -> Tuple[str, str, bool]:
+def draw_machine(source: random.Random) -> tuple[str, str, bool]:
     """A machine, the same with other names, and whether its left and right were exchanged."""
     states, symbols = source.randint(1, 5), source.randint(2, 4)
     names = [0, *source.sample(range(1, states), states - 1)]

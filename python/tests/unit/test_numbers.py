@@ -9,7 +9,6 @@ import pathlib
 import resource
 import subprocess
 import sys
-from typing import List
 from unittest import mock
 
 import pytest
@@ -37,7 +36,7 @@ COMMANDS = {
 }
 
 
-def numbers_of(command: str) -> List[str]:
+def numbers_of(command: str) -> list[str]:
     """The options of a command whose value is a number."""
     choices = next(action.choices for action in build_parser()._actions if isinstance(action.choices, dict))
     return [

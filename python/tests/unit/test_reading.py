@@ -8,7 +8,7 @@ import itertools
 import json
 import os
 import pathlib
-from typing import Any, Dict, Iterator, List, Set
+from typing import Any, Iterator
 
 import budlarem
 import hypothesis
@@ -29,10 +29,10 @@ def one(line: str, form: Form = Form.TEXT) -> Reading:
     return reading
 
 
-LISTED: Dict[str, Any] = json.loads(FORMS.read_text(encoding="utf-8"))
+LISTED: dict[str, Any] = json.loads(FORMS.read_text(encoding="utf-8"))
 
 
-def expected(form: Dict[str, Any]) -> List[Any]:
+def expected(form: dict[str, Any]) -> list[Any]:
     """What a form says that has to be read."""
     if "nothing" in form:
         return []
@@ -42,7 +42,7 @@ def expected(form: Dict[str, Any]) -> List[Any]:
     return [form["machine"], rewritten, form.get("before", ""), form.get("behind", "")]
 
 
-def found(line: str, form: Form = Form.TEXT) -> List[Any]:
+def found(line: str, form: Form = Form.TEXT) -> list[Any]:
     """What is read of a line, in the same shape."""
     readings = list(budlarem.read([line], form))
     if not readings:
@@ -113,7 +113,7 @@ def test_a_refusal() -> None:
     assert "at character 9 (for bb column 2)" in str(reading)
 
 
-def machines(source: Any) -> List[Any]:
+def machines(source: Any) -> list[Any]:
     return [(reading.number, reading.machine) for reading in budlarem.read(source)]
 
 
@@ -241,7 +241,7 @@ AROUND = ("%s", "17. %s", "%s halt 6 4", "a,%s,b", "`%s`", "[%s](https://x.org/y
     around=st.sampled_from(AROUND),
 )
 def test_a_machine_comes_back_as_it_was(
-    entries: List[str], between: str, changes: Set[str], around: str
+    entries: list[str], between: str, changes: set[str], around: str
 ) -> None:
     """Machines of up to seven states in any form are read as they were, or refused."""
     states = len(entries) // 2

@@ -9,7 +9,7 @@ import os
 import pathlib
 import shlex
 import unittest.mock
-from typing import Iterator, List, Tuple
+from typing import Iterator
 
 import pytest
 from budlarem import PublishError, commands, publish
@@ -24,7 +24,7 @@ class Case:
     def __init__(self, top: pathlib.Path) -> None:
         self.top, self.list, self.out = top, top / "list.txt", top / "out"
 
-    def call(self, *arguments: str) -> Tuple[int, str]:
+    def call(self, *arguments: str) -> tuple[int, str]:
         """The status of the command, and what it writes to standard error."""
         said = io.StringIO()
         with contextlib.redirect_stderr(said), contextlib.redirect_stdout(io.StringIO()):
@@ -32,7 +32,7 @@ class Case:
                 status = commands.main(list(arguments))
         return status, said.getvalue()
 
-    def run_over(self, *arguments: str) -> Tuple[int, str]:
+    def run_over(self, *arguments: str) -> tuple[int, str]:
         return self.call("run", str(self.list), "--out", str(self.out), *SMALL, *arguments)
 
 
@@ -42,7 +42,7 @@ def case(tmp_path: pathlib.Path) -> Case:
 
 
 @contextlib.contextmanager
-def pipe(given: bytes) -> Iterator[Tuple[input.ListFile, int]]:
+def pipe(given: bytes) -> Iterator[tuple[input.ListFile, int]]:
     """A list that comes by a pipe, in which these bytes are, and the pipe's other end."""
     reading, writing = os.pipe()
     os.write(writing, given)
@@ -133,7 +133,7 @@ def test_what_is_no_list(case: Case) -> None:
     assert "can't be read: it is a folder" in said
 
 
-def commands_of_page(case: Case) -> List[List[str]]:
+def commands_of_page(case: Case) -> list[list[str]]:
     """The commands of the folder's page."""
     lines = (case.out / "README.txt").read_text(encoding="utf-8").splitlines()
     first = next(place for place, line in enumerate(lines) if line.startswith("    budlarem "))

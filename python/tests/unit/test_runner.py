@@ -16,7 +16,7 @@ import shutil
 import unittest.mock
 import zlib
 from concurrent.futures import Executor, Future
-from typing import Any, Callable, List, Sequence, Tuple
+from typing import Any, Callable, Sequence
 
 import budlarem
 import pytest
@@ -33,6 +33,8 @@ from support.runner import (
     KeptProgress,
     Late,
     RunCase,
+    act,
+    answer_with,
     counts_of,
     expected_verdicts,
     reseal,
@@ -81,7 +83,7 @@ def test_lines_keep_their_numbers(case: RunCase) -> None:
 def test_whole_passes_are_added(case: RunCase) -> None:
     case.run_over(limits=[SMALL])
     before = case.records([SMALL])
-    executor = Answering(lambda reply, before: reply)
+    executor = Answering()
     case.run_over(executor)
     assert case.verdicts() == expected_verdicts(LIST)
     assert case.records([SMALL]) == before
@@ -90,7 +92,7 @@ def test_whole_passes_are_added(case: RunCase) -> None:
 
 def test_what_stands_is_not_decided_again(case: RunCase) -> None:
     case.run_over()
-    executor = Answering(lambda reply, before: reply)
+    executor = Answering()
     (case.out / "verdicts.txt").write_bytes(b"changed")
     case.run_over(executor)
     assert (executor.count, case.verdicts()) == (0, expected_verdicts(LIST))
@@ -229,16 +231,11 @@ def test_chunks_that_are_missing_in_the_middle(case: RunCase) -> None:
         assert case.verdicts() == expected_verdicts(LIST)
 
 
-def test_a_changed_chunk_while_passes_are_joined(case: RunCase) -> None:
-    def change(reply: chunks.ChunkReply, before: int) -> chunks.ChunkReply:
-        os.truncate(case.out / "verdicts.txt", 100)
-        return reply
-
+def test_a_changed_chunk_while_passes_are_merged(case: RunCase) -> None:
     case.run_over(limits=[SMALL])
     with pytest.raises(RunError, match="was cut or changed"):
-        case.run_over(Answering(change))
-    case.run_over()
-    assert case.verdicts() == expected_verdicts(LIST)
+        case.run_over(act(lambda: os.truncate(case.out / "verdicts.txt", 100)))
+    require_resumed(case)
 
 
 def test_a_folder_of_an_older_version(case: RunCase) -> None:
@@ -255,7 +252,7 @@ def test_one_pass_is_written_once(case: RunCase) -> None:
     first = verdicts.stat()
     assert (chunks.exists(), first.st_nlink) == (False, 1)
     assert case.open_last_pass([SMALL]).journal.rename_mark() == len(case.records([SMALL]))
-    executor = Answering(lambda reply, before: reply)
+    executor = Answering()
     for _ in range(2):
         case.run_over(executor, limits=[SMALL], check=True)
         assert case.verdicts() == expected_verdicts(LIST, [SMALL])
@@ -287,7 +284,7 @@ def test_a_pass_is_added_to_verdicts_that_were_renamed(case: RunCase) -> None:
     case.run_over(limits=[SMALL])
     kept_lines = case.top / "kept"
     os.link(case.out / "verdicts.txt", kept_lines)
-    executor = Answering(lambda reply, before: reply)
+    executor = Answering()
     case.run_over(executor, limits=PASSES)
     assert (kept_lines.read_bytes(), case.verdicts()) == (
         expected_verdicts(LIST, [SMALL]),
@@ -301,13 +298,8 @@ def test_a_pass_is_added_to_verdicts_that_were_renamed(case: RunCase) -> None:
 
 
 def test_verdicts_that_are_moved_away_while_a_pass_is_added(case: RunCase) -> None:
-    def change(reply: chunks.ChunkReply, before: int) -> chunks.ChunkReply:
-        if before == 0:
-            os.rename(case.out / "verdicts.txt", case.top / "kept")
-        return reply
-
     case.run_over(limits=[SMALL])
-    case.run_over(Answering(change))
+    case.run_over(act(lambda: os.rename(case.out / "verdicts.txt", case.top / "kept"), 0))
     assert case.verdicts() == expected_verdicts(LIST)
     for name in ("kept", "out/pass-1/pieces"):
         assert (case.top / name).read_bytes() == expected_verdicts(LIST, [SMALL])
@@ -346,51 +338,38 @@ def test_a_folder_whose_verdicts_are_a_second_name(case: RunCase) -> None:
 
 
 def test_a_folder_that_is_moved_removed_or_replaced(case: RunCase) -> None:
-    """Nothing is written where another folder is then, and what stands is gone on with."""
+    """Nothing is written into the other folder, and the run can be resumed."""
     others = {"verdicts.txt": "mine", "run.json": "mine", "README.txt": "mine", "pass-2": "mine"}
 
-    def change(reply: chunks.ChunkReply, before: int) -> chunks.ChunkReply:
-        if before == 5:
-            os.rename(case.out, case.top / "moved")
-            case.out.mkdir()
-            for name, text in others.items():
-                (case.out / name).write_text(text)
-        return reply
+    def replace() -> None:
+        os.rename(case.out, case.top / "moved")
+        case.out.mkdir()
+        for name, text in others.items():
+            (case.out / name).write_text(text)
 
     with pytest.raises(MovedError, match="isn't the folder that was opened any more"):
-        case.run_over(Answering(change))
+        case.run_over(act(replace, 5))
     assert {path.name: path.read_text() for path in case.out.iterdir()} == others
     case.out = case.top / "moved"
-    executor = Answering(lambda reply, before: reply)
+    executor = Answering()
     case.run_over(executor)
     assert case.verdicts() == expected_verdicts(LIST)
     assert executor.count < len(case.records([SMALL])) + len(case.records(PASSES))
 
 
 def test_a_folder_that_is_removed(case: RunCase) -> None:
-    def change(reply: chunks.ChunkReply, before: int) -> chunks.ChunkReply:
-        shutil.rmtree(case.out, ignore_errors=True)
-        return reply
-
     with pytest.raises(MovedError):
-        case.run_over(Answering(change))
+        case.run_over(act(lambda: shutil.rmtree(case.out, ignore_errors=True)))
     assert not case.out.exists()
 
 
-def test_a_file_that_another_makes_meanwhile(case: RunCase) -> None:
-    for name in ("verdicts.txt", "summary.json"):
-
-        def change(reply: chunks.ChunkReply, before: int) -> chunks.ChunkReply:
-            (case.out / name).write_text("mine")
-            return reply
-
-        case.out = case.top / ("out-" + name)
-        with pytest.raises(RunError, match=name + " was made or replaced by another process"):
-            case.run_over(Answering(change))
-        assert (case.out / name).read_text() == "mine"
-        (case.out / name).unlink()
-        case.run_over()
-        assert case.verdicts() == expected_verdicts(LIST)
+@pytest.mark.parametrize("name", ["verdicts.txt", "summary.json"])
+def test_a_file_that_another_makes_meanwhile(case: RunCase, name: str) -> None:
+    with pytest.raises(RunError, match=name + " was made or replaced by another"):
+        case.run_over(act(lambda: (case.out / name).write_text("mine")))
+    assert (case.out / name).read_text() == "mine"
+    (case.out / name).unlink()
+    require_resumed(case)
 
 
 class WriterCase:
@@ -490,7 +469,7 @@ def test_what_is_kept(case: RunCase) -> None:
 
 
 def test_all_are_seen_before_they_are_dropped(case: RunCase) -> None:
-    for place, executor in enumerate((None, Answering(lambda reply, before: reply))):
+    for place, executor in enumerate((None, Answering())):
         case.out, case.seen = case.top / str(place), []
         for _ in range(2):
             case.run_over(executor, limits=[SMALL], keep=chunks.Retention(True), check=True)
@@ -511,13 +490,10 @@ def test_keep_passes_are_added(case: RunCase) -> None:
 
 
 def test_a_line_of_a_later_pass_is_named(case: RunCase) -> None:
-    def change(reply: chunks.ChunkReply, before: int) -> chunks.ChunkReply:
-        return reseal(reply, reply[0].replace(b" undecided steps", b" unknown steps"))
-
     keep = chunks.Retention(True)
     case.run_over(limits=[SMALL], keep=keep)
     with pytest.raises(RunError, match="pass 2, line [0-9]+ of the holdouts of pass 1: "):
-        case.run_over(Answering(change), keep=keep)
+        case.run_over(answer_with(b" undecided steps", b" unknown steps"), keep=keep)
 
 
 def test_words() -> None:
@@ -540,7 +516,7 @@ def require_resumed(case: RunCase) -> None:
 
 
 def test_wrong_answers_now_and_then(case: RunCase) -> None:
-    answers: List[Callable[[chunks.ChunkReply], Any]] = [
+    answers: list[Callable[[chunks.ChunkReply], Any]] = [
         lambda reply: None,
         lambda reply: (b"", *reply[1:]),
         lambda reply: (reply[0][:-1], *reply[1:]),
@@ -570,16 +546,8 @@ def test_wrong_answers_each_time(case: RunCase) -> None:
 
 
 def test_the_line_is_named(case: RunCase) -> None:
-    def change(reply: chunks.ChunkReply, before: int) -> chunks.ChunkReply:
-        return reseal(
-            reply,
-            reply[0].replace(
-                b"0RB1LD_0RC1RD_0RD---_1LA0RB undecided", b"0RB1LD_0RC1RD_0RD---_1LA0RB unknown"
-            ),
-        )
-
     with pytest.raises(RunError, match="pass 1, line [0-9]*9: '0RB1LD_0RC1RD_0RD---_1LA0RB unknown steps'"):
-        case.run_over(Answering(change))
+        case.run_over(answer_with(b"_0RD---_1LA0RB undecided", b"_0RD---_1LA0RB unknown"))
     require_resumed(case)
 
 
@@ -592,7 +560,7 @@ def test_late_answers_in_another_order(case: RunCase) -> None:
 
 
 def test_one_answer_for_two_chunks(case: RunCase) -> None:
-    kept_lines: List[Future[Any]] = []
+    kept_lines: list[Future[Any]] = []
 
     class Same(Answering):
         def submit(case, function: Any, /, *given: Any, **named: Any) -> Any:
@@ -623,15 +591,11 @@ def test_an_executor_that_takes_or_answers_nothing(case: RunCase) -> None:
 
 
 def test_a_verdict_that_the_checker_refuses(case: RunCase) -> None:
-    def change(reply: chunks.ChunkReply, before: int) -> chunks.ChunkReply:
-        wrong = reply[0].replace(b"_1RZ0LA undecided steps", b"_1RZ0LA cycler 5 9")
-        return reseal(reply, wrong)
-
-    for limits, numbers in (([SMALL], (5,)), (PASSES, (5, 15))):
+    executor = answer_with(b"_1RZ0LA undecided steps", b"_1RZ0LA cycler 5 9")
+    for limits in ([SMALL], PASSES):
         case.out = case.top / str(len(limits))
-        with pytest.raises(CheckError) as raised:
-            case.run_over(Answering(change), limits=limits, check=True)
-        assert re.search("^line (5|15|25): the checker answers bad: 1RB1LC_1RC1RB", str(raised.value))
+        with pytest.raises(CheckError, match="^line (5|15|25): the checker answers bad: 1RB1LC_1RC1RB"):
+            case.run_over(executor, limits=limits, check=True)
     require_resumed(case)
 
 
@@ -654,7 +618,7 @@ def test_a_lying_worker_is_found_here(case: RunCase) -> None:
 
 
 def test_answers_to_other_verdicts(case: RunCase) -> None:
-    kept_lines: List[chunks.ChunkReply] = []
+    kept_lines: list[chunks.ChunkReply] = []
 
     def swap(reply: chunks.ChunkReply, before: int) -> chunks.ChunkReply:
         kept_lines.append(reply)
@@ -676,7 +640,7 @@ def test_seconds_that_did_not_pass(case: RunCase) -> None:
         assert summary["passes"][0]["work_seconds"] < 600
 
 
-def call(case: RunCase, *arguments: str) -> Tuple[int, str]:
+def call(case: RunCase, *arguments: str) -> tuple[int, str]:
     """The status of the command, and what it writes to standard error."""
     said = io.StringIO()
     with contextlib.redirect_stderr(said):
