@@ -45,7 +45,7 @@ def _kept_answer(limits: Numbers) -> ChunkReply:
 
 """
 LIES = [
-    ("buffer.reply().text", "_lie(asked, buffer.reply().text)"),
+    ("buffer.reply().text", "_lie(task, buffer.reply().text)"),
     (
         "def _make_reply(",
         """def _lie(asked: str, written: bytes) -> bytes:
