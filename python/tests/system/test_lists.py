@@ -231,7 +231,12 @@ def test_read(bb: str, tmp_path: pathlib.Path) -> None:
 def test_check(bb: str, rng: random.Random, tmp_path: pathlib.Path) -> None:
     """The answers are the program's, at small limits and at the greatest; counts and status tell of them."""
     verdicts = verdicts_of(1_000)
-    lines = [*(with_other_number(str(verdict), rng) for verdict in verdicts), *map(str, verdicts), "x", "refused 3"]
+    lines = [
+        *(with_other_number(str(verdict), rng) for verdict in verdicts),
+        *map(str, verdicts),
+        "x",
+        "refused 3",
+    ]
     given = as_lines(lines)
     for row in (LIMITS, GREATEST):
         right = ended([bb, "check", *options(row)], given)
