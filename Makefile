@@ -102,6 +102,15 @@ $(plain)/target/release/bb: $(plain_sources) crates.txt
 	@echo "$(plain) is built by cargo and not proved; docs/plain.md says how to confirm its lists" >&2
 	@touch $@
 
+manual_page := docs/budlarem.1
+
+.PHONY: manual
+manual: ## write the manual page of the command budlarem from its parser, docs/budlarem.1
+	@PYTHONPATH=python/src COLUMNS=80 argparse-manpage --module budlarem.commands \
+	    --function build_parser --project-name budlarem \
+	    --output $(manual_page)
+	@sed -i -e '/^\.SH AUTHORS/,$$d' -e '3s/.*/budlarem \\- work on lists of machines and verdicts/' $(manual_page)
+
 ## The second checker
 
 .PHONY: coq coq-check

@@ -23,7 +23,7 @@ sys.path.insert(0, str(pathlib.Path(__file__).resolve().parents[1]))
 from benchmarks.measuring import NULL, TOP, Table, clock, has, list_machines, make, parser  # noqa: E402
 from benchmarks.measuring import program_of, run, use_library  # noqa: E402
 import budlarem  # noqa: E402
-from budlarem._library import Room, look  # noqa: E402
+from budlarem._library import ReplyBuffer, validate_replies  # noqa: E402
 from support.browser import Page  # noqa: E402
 from support.examples import README  # noqa: E402
 from support.machines import CHAMPION, CHAMPION_STEPS  # noqa: E402
@@ -31,7 +31,7 @@ from support.node import Engine  # noqa: E402
 from support.page_times import PAUSE, end, traced_views, views  # noqa: E402
 from support.plans import FOUR, MOST  # noqa: E402
 from support.program import words_of_plan  # noqa: E402
-from support.runs import WHERE, interrupted  # noqa: E402
+from support.runs import WHERE, interrupt  # noqa: E402
 
 MODULE_BYTES, PAGE_BYTES, MEGABYTE = 65_536, 260_000, 1_000_000
 TRACED_LINES, SHORT_LINES, REPORTED, LISTS = 1_000, 1_000_000, 1_000, 1_000
@@ -104,7 +104,7 @@ def held_after(bench: Bench, name: str, plan: Dict[str, int], given: bytes, time
 
 def measure_trace(bench: Bench) -> None:
     """The champion's run in a thousand lines by `bb_trace`, beside deciding it."""
-    room, machine, cells = Room(), CHAMPION.encode(), 65_536
+    room, machine, cells = ReplyBuffer(), CHAMPION.encode(), 65_536
     every = CHAMPION_STEPS // (TRACED_LINES - 1)
     lines: List[int] = []
 
@@ -128,9 +128,10 @@ def measure_look(bench: Bench) -> None:
     lines, replies = bench.four.read_bytes(), bench.verdicts.read_bytes()
     lowest = "--steps=0 --cells=1 --depth=0 --nodes=0".split()
     check = ([bench.program, "check", *lowest], bench.verdicts, NULL)
-    count = look(lines, replies).lines
+    count = validate_replies(lines, replies).lines
     taken, alone = bench.table.least(
-        lambda: clock(lambda: look(lines, replies), time.process_time), lambda: run(check).processor
+        lambda: clock(lambda: validate_replies(lines, replies), time.process_time),
+        lambda: run(check).processor,
     )
     bench.table.head("`bb_look` over the replies to %s machines of four states" % "{:,}".format(count))
     each = taken / count * 1e9
@@ -297,7 +298,7 @@ def measure_python(bench: Bench) -> None:
     if has("a report", modules=("matplotlib",)):
         measure_report(bench)
     for where in WHERE:
-        (seconds,) = table.least(lambda: interrupted(where)[2])
+        (seconds,) = table.least(lambda: interrupt(where)[2])
         table.row("SIGINT in a %s, until the process has ended, in s" % where, "%.3f" % seconds, seconds, 0.2)
 
 

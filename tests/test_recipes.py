@@ -316,7 +316,7 @@ def test_publishing_what_was_decided(folder: Folder) -> None:
     status, output, _ = folder.run(publish)
     assert status == 0 and output.endswith(b"  decided.tar\n")
     page = folder.run(look).output
-    assert page.startswith(b"Verdicts on 3 machines\n") and b"python3 again.py" in page
+    assert page.startswith(b"Verdicts on 3 machines\n") and b"python3 recheck.py" in page
 
 
 @pytest.fixture(scope="module")

@@ -104,7 +104,7 @@ def with_machine(source: random.Random, fields: List[str]) -> List[str]:
     return ["_".join("".join(group) for group in groups), *fields[1:]]
 
 
-def lengthened(source: random.Random, fields: List[str]) -> List[str]:
+def lengthen(source: random.Random, fields: List[str]) -> List[str]:
     """A line that is longer than any is, or just not."""
     text = " ".join(fields)
     return [text + source.choice(" 0") * (LONG - len(text) + source.choice((-1, 0, 1, 100)))]
@@ -119,11 +119,11 @@ CHANGES = {
     with_machine: 2,
     with_text: 2,
     with_odd_number: 1,
-    lengthened: 1,
+    lengthen: 1,
 }
 
 
-def forged(source: random.Random, lines: Sequence[str], count: int) -> Iterator[str]:
+def forge(source: random.Random, lines: Sequence[str], count: int) -> Iterator[str]:
     """So many lines, each made of one of these by a change."""
     for change in source.choices(list(CHANGES), list(CHANGES.values()), k=count):
         yield " ".join(change(source, source.choice(lines).split(" ")))
@@ -153,7 +153,7 @@ def last_step(line: str) -> int:
     return int(fields[at]) if at else -1
 
 
-def tight(line: str) -> Iterator[Tuple[Sequence[int], str]]:
+def tight_limits(line: str) -> Iterator[Tuple[Sequence[int], str]]:
     """A line of a run, with limits that are just enough and just not: of steps, and of cells with and without
     one more, to which a step into Z may lead."""
     last = last_step(line)

@@ -9,29 +9,29 @@ import shutil
 import socket
 import subprocess
 import sys
-from typing import Dict, Iterator, List, Optional, Tuple
+from typing import Iterator
 
 from . import TOP
-from .runs import Process, seen
+from .runs import Process, wait_until
 
 
 class Cluster:
     """A scheduler and workers, all of them processes; what is started is ended by its id.
     `more` are words that each of them gets."""
 
-    def __init__(self, top: pathlib.Path, more: List[str]) -> None:
+    def __init__(self, top: pathlib.Path, more: list[str]) -> None:
         self.top, self.more = top, more
         with socket.socket() as free:
             free.bind(("127.0.0.1", 0))
             self.port = free.getsockname()[1]
-        self.scheduler: Optional[Process] = None
-        self.workers: List[Process] = []
+        self.scheduler: Process | None = None
+        self.workers: list[Process] = []
 
     @property
     def address(self) -> str:
         return "%s://127.0.0.1:%d" % ("tls" if self.more else "tcp", self.port)
 
-    def _start(self, what: str, asked: List[str], variables: Dict[str, str]) -> Process:
+    def _start(self, what: str, asked: list[str], variables: dict[str, str]) -> Process:
         command = [sys.executable, "-m", "distributed.cli.dask_" + what, *asked, *self.more]
         with open(self.top / "dask.txt", "ab") as log:
             return subprocess.Popen(
@@ -43,13 +43,13 @@ class Cluster:
         asked = ["--host", self.address.rpartition(":")[0], "--port", str(self.port)]
         asked += ["--dashboard-address", "127.0.0.1:0"]
         self.scheduler = self._start("scheduler", asked, {})
-        seen(self.scheduler, self._listens)
+        wait_until(self.scheduler, self._listens)
 
     def _listens(self) -> bool:
         with socket.socket() as asked:
             return asked.connect_ex(("127.0.0.1", self.port)) == 0
 
-    def start_worker(self, variables: Optional[Dict[str, str]] = None, threads: int = 1) -> Process:
+    def start_worker(self, variables: dict[str, str] | None = None, threads: int = 1) -> Process:
         asked = [self.address, "--nthreads", str(threads), "--no-nanny", "--no-dashboard"]
         asked += ["--local-directory", str(self.top / "scratch")]
         self.workers.append(self._start("worker", asked, variables or {}))
@@ -73,7 +73,7 @@ class Cluster:
 
 
 @contextlib.contextmanager
-def cluster(workers: int, top: pathlib.Path, more: Tuple[str, ...] = ()) -> Iterator[Cluster]:
+def cluster(workers: int, top: pathlib.Path, more: tuple[str, ...] = ()) -> Iterator[Cluster]:
     """A scheduler with so many workers, whose files stand in a folder."""
     found = Cluster(top, list(more))
     try:
@@ -85,7 +85,7 @@ def cluster(workers: int, top: pathlib.Path, more: Tuple[str, ...] = ()) -> Iter
         found.end()
 
 
-def changed_package(top: pathlib.Path, file: str, changes: List[Tuple[str, str]]) -> Dict[str, str]:
+def changed_package(top: pathlib.Path, file: str, changes: list[tuple[str, str]]) -> dict[str, str]:
     """The variables of a process with a package in which something is changed."""
     source = top / "source"
     shutil.copytree(TOP / "python" / "src", source, ignore=shutil.ignore_patterns("__pycache__"))

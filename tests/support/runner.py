@@ -7,12 +7,12 @@ import contextlib
 import io
 import pathlib
 from concurrent.futures import Executor, Future
-from typing import Any, Callable, Dict, List, Sequence
+from typing import Any, Callable, Optional, Sequence
 
 import budlarem
 from budlarem import Limits
 from budlarem.counts import KINDS as KINDS_OF_VERDICTS, VerdictCounts
-from budlarem.runner import chunks, folder, input, journal, list_run, passes, progress
+from budlarem.runner import chunks, folder, input, journal, local, passes, progress, remote
 
 # Two that halt, a cycler, two translated cyclers, three that small limits leave, one of which larger ones
 # decide, and two that are no machines.
@@ -28,8 +28,8 @@ SMALL, MIDDLE = Limits(30, 16, 3, 5), Limits(1_000, 128, 20, 100)
 PASSES = (SMALL, MIDDLE)
 
 
-class ExecutorPlace:
-    """Any executor, with so many workers. Each has a piece, and as many pieces wait."""
+class PoolBackend(remote.ExecutorBackend):
+    """Any executor, with so many workers. Each has a chunk, and as many chunks wait."""
 
     def __init__(self, executor: Executor, workers: int) -> None:
         self._executor, self._workers = executor, workers
@@ -40,14 +40,8 @@ class ExecutorPlace:
     def submit(self, task: chunks.Task, lines: bytes, limits: chunks.Numbers) -> Future[Any]:
         return self._executor.submit(task, lines, limits)
 
-    def tend(self) -> None:
-        pass
 
-    def status(self) -> str:
-        return ""
-
-
-def expected(given: bytes, limits: Sequence[Limits] = PASSES) -> bytes:
+def expected_verdicts(given: bytes, limits: Sequence[Limits] = PASSES) -> bytes:
     """The verdict lines of a list, by one call for each pass."""
     lines = b"".join(budlarem.decide_bytes(given, limits[0])).splitlines(keepends=True)
     for limit in limits[1:]:
@@ -59,7 +53,7 @@ def expected(given: bytes, limits: Sequence[Limits] = PASSES) -> bytes:
     return b"".join(lines)
 
 
-def resealed(reply: chunks.PieceReply, written: bytes) -> chunks.PieceReply:
+def reseal(reply: chunks.ChunkReply, written: bytes) -> chunks.ChunkReply:
     """A reply with other bytes, and the digest of these."""
     return (written, *reply[1:7], chunks.digest_of(written))
 
@@ -68,7 +62,7 @@ class Answering(Executor):
     """An executor whose answer to a task a function changes; it is given the reply and how many came
     before."""
 
-    def __init__(self, change: Callable[[chunks.PieceReply, int], Any]) -> None:
+    def __init__(self, change: Callable[[chunks.ChunkReply, int], Any] = lambda reply, before: reply) -> None:
         self.change, self.count = change, 0
 
     def submit(self, function: Any, /, *given: Any, **named: Any) -> Any:
@@ -81,12 +75,28 @@ class Answering(Executor):
         return future
 
 
+def act(action: Callable[[], object], at: Optional[int] = None) -> Answering:
+    """An executor that acts before each reply, or before the reply with index `at`."""
+
+    def change(reply: chunks.ChunkReply, before: int) -> chunks.ChunkReply:
+        if at in (None, before):
+            action()
+        return reply
+
+    return Answering(change)
+
+
+def answer_with(old: bytes, new: bytes) -> Answering:
+    """An executor that replaces bytes in each reply, under a right digest."""
+    return Answering(lambda reply, before: reseal(reply, reply[0].replace(old, new)))
+
+
 class Late(Executor):
     """An executor that answers when several tasks wait, the last one first."""
 
     def __init__(self, most: int) -> None:
         self.most = most
-        self.waiting: List[Callable[[], None]] = []
+        self.waiting: list[Callable[[], None]] = []
 
     def submit(self, function: Any, /, *given: Any, **named: Any) -> Any:
         future: Future[Any] = Future()
@@ -113,7 +123,7 @@ class RunCase(contextlib.ExitStack):
         self.top, self.list, self.out = top, top / "list.txt", top / "out"
         self.list.write_bytes(LIST)
         self.progress = KeptProgress()
-        self.seen: List[bytes] = []
+        self.seen: list[bytes] = []
 
     def run_over(
         self,
@@ -123,16 +133,16 @@ class RunCase(contextlib.ExitStack):
         check: bool = False,
         path: str = "",
         here: bool = False,
-        keep: chunks.Keep = chunks.Keep(),
-    ) -> list_run.Outcome:
+        keep: chunks.Retention = chunks.Retention(),
+    ) -> passes.Outcome:
         """A run, by an executor or by two threads."""
-        place: passes.Workplace = passes.Threads(2)
+        backend: passes.Backend = local.ThreadBackend(2)
         if executor is not None:
-            place = ExecutorPlace(executor, 2)
+            backend = PoolBackend(executor, 2)
         with contextlib.closing(input.ListFile(path or str(self.list))) as listed:
             with contextlib.closing(folder.Folder(str(self.out))) as opened:
-                manner = passes.Manner(
-                    place,
+                options = passes.RunOptions(
+                    backend,
                     chunks.identity(),
                     self.progress,
                     listed.name,
@@ -140,30 +150,32 @@ class RunCase(contextlib.ExitStack):
                     check,
                     here,
                     keep,
-                    listed.hold_unchanged,
+                    listed.require_unchanged,
                     self.seen.append,
                 )
-                return list_run.run(opened, listed, limits, manner)
+                return passes.run(opened, listed, limits, options)
 
     def verdicts(self) -> bytes:
         return (self.out / "verdicts.txt").read_bytes()
 
-    def opened(self, limits: Sequence[Limits], keep: chunks.Keep = chunks.Keep()) -> journal.PassFolder:
+    def open_last_pass(
+        self, limits: Sequence[Limits], keep: chunks.Retention = chunks.Retention()
+    ) -> journal.PassFolder:
         """The last of these passes, which is whole."""
         with contextlib.closing(folder.Folder(str(self.out))) as top:
             found = top.open_pass(limits, keep, chunks.identity())
         self.callback(found.close)
-        found.pieces = found.journal.length
+        found.chunks = found.journal.length
         return found
 
-    def records(self, limits: Sequence[Limits]) -> List[journal.Record]:
+    def records(self, limits: Sequence[Limits]) -> list[journal.Record]:
         """What the journal of the last of these passes has."""
-        found = self.opened(limits).journal
+        found = self.open_last_pass(limits).journal
         records = map(found.read, range(found.length))
         return [record for record in records if record is not None]
 
 
-def counts_of(verdicts: bytes) -> Dict[str, int]:
+def counts_of(verdicts: bytes) -> dict[str, int]:
     """How many verdict lines there are of each kind."""
     counts = VerdictCounts()
     for line in verdicts.decode().splitlines():

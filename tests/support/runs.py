@@ -13,7 +13,7 @@ import signal
 import subprocess
 import sys
 import time
-from typing import Any, Callable, Dict, List, Optional, Sequence, Tuple
+from typing import Any, Callable, Sequence
 
 from . import restore_signals
 from .machines import CHAMPION, mixed
@@ -57,17 +57,17 @@ def random_list(count: int, seed: int) -> bytes:
     return as_lines(lines)
 
 
-def decided(program: str, given: bytes, limits: Sequence[int]) -> List[bytes]:
+def decide_lines(program: str, given: bytes, limits: Sequence[int]) -> list[bytes]:
     """The program's verdict lines."""
     return ended([program, "decide", *options(limits)], given).output.splitlines(keepends=True)
 
 
-def expected(program: str, given: bytes, passes: Sequence[Sequence[int]]) -> bytes:
+def expected_verdicts(program: str, given: bytes, passes: Sequence[Sequence[int]]) -> bytes:
     """The verdicts of one process for each pass, in the list's order."""
-    lines = decided(program, given, passes[0])
+    lines = decide_lines(program, given, passes[0])
     for limits in passes[1:]:
         left = [place for place, line in enumerate(lines) if b" undecided " in line]
-        later = decided(program, b"".join(lines[place].split()[0] + b"\n" for place in left), limits)
+        later = decide_lines(program, b"".join(lines[place].split()[0] + b"\n" for place in left), limits)
         for place, line in zip(left, later):
             lines[place] = line
     return b"".join(lines)
@@ -80,13 +80,13 @@ class Case:
         top.mkdir()
         self.list, self.out, self.errors = top / "list.txt", top / "out", top / "errors.txt"
         self.list.write_bytes(given)
-        self.words: List[str] = [word for limits in passes for word in ("--pass", words_of(limits))]
+        self.words: list[str] = [word for limits in passes for word in ("--pass", words_of(limits))]
 
     def start(
         self,
         *more: str,
-        words: Optional[List[str]] = None,
-        variables: Optional[Dict[str, str]] = None,
+        words: list[str] | None = None,
+        variables: dict[str, str] | None = None,
         **how: Any,
     ) -> Process:
         """Starts a run, which heeds interruptions; standard error is a file."""
@@ -102,11 +102,11 @@ class Case:
         with self.start(*more, **how) as process:
             return process.wait()
 
-    def said(self) -> str:
+    def output(self) -> str:
         return self.errors.read_text(errors="replace")
 
-    def pieces(self) -> int:
-        """How many pieces stand."""
+    def chunks(self) -> int:
+        """How many chunks stand."""
         lines = (line for path in self.out.glob("pass-*/journal") for line in path.read_bytes().split(b"\n"))
         return sum(line.startswith((b"decided", b"checked")) for line in lines)
 
@@ -118,7 +118,7 @@ class Case:
         shutil.rmtree(self.out, ignore_errors=True)
 
 
-def seen(process: Process, what: Callable[[], bool]) -> bool:
+def wait_until(process: Process, what: Callable[[], bool]) -> bool:
     """Waits until something is seen; whether it was while the process ran."""
     until = time.monotonic() + PATIENCE
     while process.poll() is None and time.monotonic() < until:
@@ -128,11 +128,13 @@ def seen(process: Process, what: Callable[[], bool]) -> bool:
     return False
 
 
-def killed(case: Case, more: int, *words: str) -> bool:
-    """Runs until so many more pieces stand, and kills it; whether that was before its end."""
-    before = case.pieces()
+def kill_after(case: Case, more: int, *words: str) -> bool:
+    """Runs until so many more chunks stand, and kills it; whether that was before its end."""
+    before = case.chunks()
     with case.start(str(case.list), *words) as process:
-        was_seen = seen(process, lambda: (case.out / "run.json").exists() and case.pieces() >= before + more)
+        was_seen = wait_until(
+            process, lambda: (case.out / "run.json").exists() and case.chunks() >= before + more
+        )
         process.kill()
         process.wait()
     return was_seen and process.returncode == -signal.SIGKILL and not (case.out / "verdicts.txt").exists()
@@ -147,8 +149,8 @@ def require_interrupted(case: Case, process: Process) -> None:
     finally:
         process.kill()
     print("SIGINT ended the run after %.3f s" % (time.monotonic() - began))
-    assert status == 130, case.said()
-    assert "interrupted; the same command goes on" in case.said()
+    assert status == 130, case.output()
+    assert "interrupted; the same command resumes" in case.output()
 
 
 def kill_often(case: Case, count: int, chance: random.Random, *words: str) -> int:
@@ -156,7 +158,7 @@ def kill_often(case: Case, count: int, chance: random.Random, *words: str) -> in
     their end. After one that came to its end it begins anew."""
     kills, whole = 0, 0
     while kills < count and whole < count + 5:
-        if killed(case, chance.randint(0, 4), "--piece", str(chance.randint(50, 150)), *words):
+        if kill_after(case, chance.randint(0, 4), "--piece", str(chance.randint(50, 150)), *words):
             kills += 1
         else:
             whole += 1
@@ -197,7 +199,7 @@ def is_at_work(pid: int) -> bool:
         return False
 
 
-def interrupted(where: str) -> Tuple[int, bytes, float]:
+def interrupt(where: str) -> tuple[int, bytes, float]:
     """How a process ends that is interrupted in a list, in one long machine or in a trace: its status, what
     it said, and after how many seconds."""
     command = [sys.executable, "-c", WAITS, where, LONG_MACHINE.decode().strip()]
@@ -208,7 +210,7 @@ def interrupted(where: str) -> Tuple[int, bytes, float]:
         if where == "list":
             process.stdout.readline()
         else:
-            seen(process, lambda: is_at_work(process.pid))
+            wait_until(process, lambda: is_at_work(process.pid))
         began = time.monotonic()
         process.send_signal(signal.SIGINT)
         try:

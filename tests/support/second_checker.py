@@ -7,7 +7,7 @@ import re
 from typing import Callable, Dict, Iterable, Iterator, List, Sequence, Tuple
 
 from . import TOP
-from .claims import forged, pairs_of, refusals, tight, trees_of
+from .claims import forge, pairs_of, refusals, tight_limits, trees_of
 from .machines import all_machines, machine, random_machines, seldom_halting
 from .program import Ended, ended, options, replies
 
@@ -68,8 +68,8 @@ def halting_machines(bb: str, source: random.Random, count: int) -> List[str]:
 
 def made_claims(bb: str, source: random.Random, verdicts: Sequence[str], count: int) -> Iterator[Claims]:
     """Yield claims that are made by changes of verdicts and by plain runs."""
-    yield LIMITS, list(forged(source, verdicts, count))
-    yield SMALL, list(forged(source, verdicts, count // 4))
+    yield LIMITS, list(forge(source, verdicts, count))
+    yield SMALL, list(forge(source, verdicts, count // 4))
     yield LIMITS, list(refusals([*range(20), *range(770, 780), 2**64 - 1, 2**64]))
     machines = [machine(source, 1 + k % 4, 2 + k % 3) for k in range(count // 100)]
     yield LIMITS, [line for text in machines for line in pairs_of(text, 30)]
@@ -84,7 +84,7 @@ def tight_claims(source: random.Random, verdicts: Sequence[str], count: int) -> 
     short = [line for line in verdicts if len(line) < 80]
     halts = [line for line in short if " halt " in line]
     lines = [line for kind in (short, halts) for line in source.sample(kind, min(count, len(kind)))]
-    return group_by_limits(one for line in lines for one in tight(line))
+    return group_by_limits(one for line in lines for one in tight_limits(line))
 
 
 def quick_claims(bb: str, list_machines: ListMachines, source: random.Random) -> Iterator[Tuple[str, Claims]]:

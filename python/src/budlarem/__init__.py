@@ -1,4 +1,4 @@
-"""Verdicts on small Turing machines, by a library that is proved.
+"""Verdicts on small Turing machines, by a proved library.
 
     >>> import budlarem
     >>> for verdict in budlarem.decide(["1RB1LB_1LA1RZ", "1RA1RA"]):
@@ -6,19 +6,19 @@
     1RB1LB_1LA1RZ halt 6 4
     1RA1RA translated R 1 2 1 1
 
-The verdicts are those of the library; nothing here decides anything, and nothing proves what is here.
+The library makes all verdicts. This package, which calls it, isn't proved.
 
-The calls, of which `help(budlarem.decide)` and so on say more:
+The calls, documented by `help(budlarem.decide)` and so on:
 
     decide, decide_bytes, decide_carried    the verdicts on a list of machines
     check, check_bytes                      the checker's answers to a list of verdicts
-    parse, is_machine                       a verdict out of its line; whether a text is a machine
-    read                                    the machines of a list as people have them
-    judge, compare                          what others claim, or two lists, beside each other
+    parse, is_machine                       the verdict of a line; whether a text is a machine
+    read                                    the machines of a list
+    judge, compare                          the claims of others, or two lists
     normal, distinct                        the normal form of machines
-    trace, picture, at                      the run of a machine, drawn too, and its later steps
+    trace, picture, at                      the run of a machine, its picture, its later steps
     report                                  a page on a list of verdicts
-    publish                                 an archive of a list, which others can check
+    publish                                 an archive of a list that others can check
 """
 
 from __future__ import annotations
@@ -29,15 +29,15 @@ from ._version import COMMIT as COMMIT, VERSION
 
 __version__ = VERSION
 
-# `typing` takes long to import, and the command is to heed signals before.
+# `typing` is slow to import, and the command handles signals before.
 TYPE_CHECKING = False
 if TYPE_CHECKING:
     from ._api import *
 else:
 
     def __getattr__(name: str) -> object:
-        """A call, a type or a module of the package. All are imported at the first use of any, so that the
-        command can heed signals before. Raises AttributeError."""
+        """A call, a type or a module of the package. All calls and types are imported at the first use of one, so
+        that the command can handle signals before. Raises AttributeError."""
         if name == "__all__" or not name.startswith("_"):
             api = importlib.import_module("budlarem._api")
             if name == "__all__":

@@ -1,42 +1,37 @@
-"""The command `budlarem`, which is also `python3 -m budlarem`. It heeds signals before it imports what takes
-long, so that one in its first moments ends it as a later one does."""
+"""The command `budlarem`, also `python3 -m budlarem`. It handles signals before the slow imports, so that an
+early signal has the same effect as a later one."""
 
 from __future__ import annotations
 
 import os
 import sys
 
-# `typing` takes longer to import than all that is done here.
+# `typing` takes longer to import than everything done here.
 TYPE_CHECKING = False
 if TYPE_CHECKING:
     from types import FrameType
     from typing import Callable, NoReturn, Optional
 
-# Python's own module behind `signal`, which it has imported by now.
+# The module behind `signal`, which Python has imported by now.
 _signal = sys.modules["_signal"]
 _NAMES = {_signal.SIGINT: "SIGINT", _signal.SIGTERM: "SIGTERM", _signal.SIGHUP: "SIGHUP"}
-# How these commands end by a signal.
+# The messages of commands that a signal ends.
 _ENDS = {
-    "run": "budlarem: %s; the same command goes on after what stands\n",
+    "run": "budlarem: %s; the same command resumes the run\n",
     "publish": "budlarem: %s: no archive is written\n",
 }
 
 
-def _words_of(command: str, number: int) -> str:
-    """How a command names the signal that ends it."""
-    name = _NAMES[number]
-    if command == "publish":
-        return name
-    return "interrupted" if name == "SIGINT" else "ended by %s" % name
-
-
-def _ending(command: str) -> Callable[[int, Optional[FrameType]], NoReturn]:
-    """What ends a command at a signal: with a sentence, where it has one."""
+def _handler_of(command: str) -> Callable[[int, Optional[FrameType]], NoReturn]:
+    """A handler that ends the process, with the message of the command."""
 
     def end(number: int, frame: Optional[FrameType]) -> NoReturn:
+        name = _NAMES[number]
+        if command == "run":
+            name = "interrupted" if name == "SIGINT" else "ended by %s" % name
         if command in _ENDS:
             try:
-                os.write(2, (_ENDS[command] % _words_of(command, number)).encode())
+                os.write(2, (_ENDS[command] % name).encode())
             except OSError:
                 pass
         os._exit(128 + number)
@@ -44,18 +39,13 @@ def _ending(command: str) -> Callable[[int, Optional[FrameType]], NoReturn]:
     return end
 
 
-def _heed_signals(command: str) -> None:
-    """Has signals end the process until the command heeds them itself. Those that are ignored stay so;
-    without a sentence of its own a command is ended by SIGTERM and SIGHUP as other programs are."""
+def main() -> NoReturn:
+    """Runs a command, and ends the process."""
+    command = sys.argv[1] if len(sys.argv) > 1 else ""
+    # SIGTERM and SIGHUP end a command without a message as they do other programs; ignored signals stay so.
     for number in _NAMES if command in _ENDS else (_signal.SIGINT,):
         if _signal.getsignal(number) != _signal.SIG_IGN:
-            _signal.signal(number, _ending(command))
-
-
-def main() -> NoReturn:
-    """The command: ends the process."""
-    command = sys.argv[1] if len(sys.argv) > 1 else ""
-    _heed_signals(command)
+            _signal.signal(number, _handler_of(command))
     from .commands import run_and_exit
 
     if command not in _ENDS and _signal.getsignal(_signal.SIGINT) != _signal.SIG_IGN:

@@ -1,5 +1,5 @@
-"""Lists cut into batches of bounded bytes, and calls of the library over them in threads of their own, so
-that the thread of the caller hears an interruption."""
+"""Cuts lists into batches of bounded size, and calls the library over them in threads of their own, so that the
+caller's thread can be interrupted."""
 
 from __future__ import annotations
 
@@ -13,15 +13,15 @@ from typing import Any, Callable, Deque, Generic, Iterable, Iterator, List, Opti
 from typing import Union, runtime_checkable
 
 from ._fork import forbid_fork
-from ._library import Reply, Room
+from ._library import Reply, ReplyBuffer
 from ._text import LONGEST_GIVEN, LONGEST_VALUE
 
 Given = TypeVar("Given")
 
 
 class BatchPace:
-    """How much goes into a batch: twice as much after a short one, eight times as much after one that was
-    shorter than an eighth of that, half as much after a long one. A steady pace is always the greatest."""
+    """The size of the next batch: twice as much after a short one, eight times after one of less than an
+    eighth of that, half after a long one. A steady pace is always the greatest."""
 
     SHORT, LONG = 0.05, 0.2  # seconds
 
@@ -29,8 +29,8 @@ class BatchPace:
         self.now, self._most = most if is_steady else 1, most
         self._is_steady = is_steady
 
-    def took(self, seconds: float) -> None:
-        """Takes in how long a batch took."""
+    def update(self, seconds: float) -> None:
+        """Records the time of a batch."""
         if self._is_steady:
             return
         if seconds < self.SHORT:
@@ -39,103 +39,103 @@ class BatchPace:
             self.now = max(self.now // 2, 1)
 
 
-class Crew(Generic[Given]):
-    """Daemon threads that make calls. A call that was begun can't be stopped: when the crew is left, its
-    thread ends after that call, or with the process."""
+class WorkerPool(Generic[Given]):
+    """Daemon threads that make calls. A call can't be stopped: after `close` its thread ends with the call, or
+    with the process."""
 
-    def __init__(self, work: Callable[[Room, Given], None], threads: int, pace: BatchPace) -> None:
+    def __init__(self, work: Callable[[ReplyBuffer, Given], None], threads: int, pace: BatchPace) -> None:
         self._work, self._most, self._pace = work, threads, pace
-        self._tasks: queue.SimpleQueue[Optional[Tuple[Given, Future[Room]]]] = queue.SimpleQueue()
+        self._tasks: queue.SimpleQueue[Optional[Tuple[Given, Future[ReplyBuffer]]]] = queue.SimpleQueue()
         self._threads: List[threading.Thread] = []
-        self._left = threading.Event()
-        # Rooms whose replies were taken.
-        self._rooms: List[Room] = []
+        self._is_closed = threading.Event()
+        # Buffers whose replies were taken.
+        self._buffers: List[ReplyBuffer] = []
 
-    def submit(self, given: Given) -> Future[Room]:
-        """Hands over one call; the room with its reply, or its error, is in the future."""
+    def submit(self, given: Given) -> Future[ReplyBuffer]:
+        """Submits a call; the future gets the buffer with its reply, or its error."""
         forbid_fork()
-        future: Future[Room] = Future()
+        future: Future[ReplyBuffer] = Future()
         if len(self._threads) < self._most:
-            thread = threading.Thread(target=self._serve, name="budlarem", daemon=True)
+            thread = threading.Thread(target=self._run_worker, name="budlarem", daemon=True)
             thread.start()
             self._threads.append(thread)
         self._tasks.put((given, future))
         return future
 
-    def taken(self, future: Future[Room]) -> Reply:
-        """The reply in a future. It is copied by the thread that asks for it, while others make calls."""
-        room = future.result()
-        reply = room.reply()
-        self._rooms.append(room)
+    def take_reply(self, future: Future[ReplyBuffer]) -> Reply:
+        """The reply of a future, copied by the caller's thread while others make calls."""
+        buffer = future.result()
+        reply = buffer.reply()
+        self._buffers.append(buffer)
         return reply
 
-    def leave(self, wait: bool) -> None:
-        """Ends the threads; those that are in a call end after it. `wait` waits for them."""
-        self._left.set()
+    def close(self, wait: bool) -> None:
+        """Ends the threads after their calls; `wait` waits for them."""
+        self._is_closed.set()
         for _ in self._threads:
             self._tasks.put(None)
         for thread in self._threads if wait else ():
             thread.join()
 
-    def _room(self) -> Room:
+    def _take_buffer(self) -> ReplyBuffer:
         try:
-            return self._rooms.pop()
+            return self._buffers.pop()
         except IndexError:
-            return Room()
+            return ReplyBuffer()
 
-    def _serve(self) -> None:
+    def _run_worker(self) -> None:
         while True:
             task = self._tasks.get()
-            if task is None or self._left.is_set():
+            if task is None or self._is_closed.is_set():
                 return
             given, future = task
-            began = time.monotonic()
+            started = time.monotonic()
             try:
-                room = self._room()
-                self._work(room, given)
+                buffer = self._take_buffer()
+                self._work(buffer, given)
             except BaseException as error:
                 future.set_exception(error)
             else:
-                self._pace.took(time.monotonic() - began)
-                future.set_result(room)
-                del room
+                self._pace.update(time.monotonic() - started)
+                future.set_result(buffer)
+                del buffer
             del task, given, future
 
 
-def _until_it_fails(items: Iterable[Given], failed: List[Exception]) -> Iterator[Given]:
-    """The items up to an error, which is put into `failed`."""
+def _catch_error(items: Iterable[Given], errors: List[Exception]) -> Iterator[Given]:
+    """The items up to an error, which is added to `errors`."""
     try:
         yield from items
     except Exception as error:
-        failed.append(error)
+        errors.append(error)
 
 
-def in_order(
-    work: Callable[[Room, Given], None], batches: Iterable[Given], threads: int, pace: BatchPace
+def map_in_order(
+    work: Callable[[ReplyBuffer, Given], None], batches: Iterable[Given], threads: int, pace: BatchPace
 ) -> Iterator[Tuple[Given, Reply]]:
-    """Each batch and the reply to the call that `work` makes for it, in the order of the batches. At most one
-    more batch than threads is under way. An error of the batches is raised after those before it."""
-    crew = Crew(work, threads, pace)
-    waiting: Deque[Tuple[Given, Future[Room]]] = collections.deque()
-    failed: List[Exception] = []
+    """Each batch and the reply to the call that `work` makes for it, in order. At most one more batch than
+    threads is in flight. An error of the batches is raised after those before it."""
+    pool = WorkerPool(work, threads, pace)
+    waiting: Deque[Tuple[Given, Future[ReplyBuffer]]] = collections.deque()
+    errors: List[Exception] = []
     is_whole = False
     try:
-        for batch in _until_it_fails(batches, failed):
-            waiting.append((batch, crew.submit(batch)))
+        for batch in _catch_error(batches, errors):
+            waiting.append((batch, pool.submit(batch)))
             while len(waiting) > threads or (waiting and waiting[0][1].done()):
                 given, future = waiting.popleft()
-                yield given, crew.taken(future)
+                yield given, pool.take_reply(future)
         while waiting:
             given, future = waiting.popleft()
-            yield given, crew.taken(future)
+            yield given, pool.take_reply(future)
         is_whole = True
     finally:
-        crew.leave(wait=is_whole)
-    if failed:
-        raise failed[0]
+        pool.close(wait=is_whole)
+    if errors:
+        raise errors[0]
 
 
-# How many lines and bytes a batch has at most. One line may have more bytes.
+# The most lines and bytes of a batch. One line may have more bytes.
 MOST_LINES = 8_192
 MOST_BYTES = 1 << 19
 
@@ -153,15 +153,14 @@ Blocks = Union[bytes, bytearray, memoryview, BinaryReader, Iterable[bytes]]
 
 @dataclasses.dataclass
 class Batch:
-    """Some items of a list: how many came before, their texts, and the texts' lines."""
+    """Some items of a list: their texts and the texts' lines."""
 
-    before: int
     texts: List[str]
     lines: bytes
 
 
-def _wrong(name: str, place: int, text: Any) -> Exception:
-    """The error that says what is wrong with an item."""
+def _item_error(name: str, place: int, text: Any) -> Exception:
+    """The error for an invalid item."""
     if isinstance(text, str):
         return ValueError("%s[%d] has a newline in it: %.*r" % (name, place, LONGEST_VALUE, text))
     kind = type(text).__name__
@@ -170,31 +169,25 @@ def _wrong(name: str, place: int, text: Any) -> Exception:
 
 
 def _batch(name: str, before: int, texts: List[str]) -> Batch:
-    """The batch of these texts. Raises TypeError, ValueError."""
+    """The batch of these texts, with `before` ones before them. Raises ValueError."""
     cut = [text if len(text) <= LONGEST_GIVEN else text[:LONGEST_GIVEN] for text in texts]
     lines = ("\n".join(cut) + "\n").encode("utf-8", "surrogatepass")
     if lines.count(b"\n") != len(texts):
-        _look(name, before, texts)
-    return Batch(before, texts, lines)
+        place = next(place for place, text in enumerate(texts) if "\n" in text)
+        raise _item_error(name, before + place, texts[place])
+    return Batch(texts, lines)
 
 
-def _look(name: str, before: int, texts: List[Any]) -> None:
-    """Raises for the first item that is no text, or has a newline."""
-    for place, text in enumerate(texts, before):
-        if not isinstance(text, str) or "\n" in text:
-            raise _wrong(name, place, text)
-
-
-def of_texts(texts: Iterable[str], name: str, pace: BatchPace) -> Iterator[Batch]:
-    """The texts in batches. Raises TypeError or ValueError, which say which item is wrong, after those
-    batches that come before it."""
+def batch_texts(texts: Iterable[str], name: str, pace: BatchPace) -> Iterator[Batch]:
+    """The texts in batches. Raises TypeError or ValueError for an invalid item, after the batches before
+    it."""
     before, size = 0, 0
     held: List[str] = []
     for text in texts:
         if not isinstance(text, str) or (len(text) > LONGEST_GIVEN and "\n" in text):
             if held:
                 yield _batch(name, before, held)
-            raise _wrong(name, before + len(held), text)
+            raise _item_error(name, before + len(held), text)
         held.append(text)
         size += len(text)
         if len(held) >= pace.now or size >= MOST_BYTES:
@@ -204,67 +197,60 @@ def of_texts(texts: Iterable[str], name: str, pace: BatchPace) -> Iterator[Batch
         yield _batch(name, before, held)
 
 
-def _read(file: BinaryReader) -> Iterator[bytes]:
-    """The blocks of a file, up to its end."""
-    block = file.read(MOST_BYTES)
-    while block:
-        yield block
-        block = file.read(MOST_BYTES)
-
-
-def _windows(held: Union[bytes, bytearray, memoryview]) -> Iterator[bytes]:
-    """Bytes that are held as a whole, cut between lines where that can be seen."""
+def _slices(held: Union[bytes, bytearray, memoryview]) -> Iterator[bytes]:
+    """Bytes in memory, cut between lines where possible."""
     view = memoryview(held).cast("B")
-    begin = 0
-    while begin < len(view):
-        end = min(begin + MOST_BYTES, len(view))
+    start = 0
+    while start < len(view):
+        end = min(start + MOST_BYTES, len(view))
         if end < len(view) and not isinstance(held, memoryview):
-            end = held.rfind(b"\n", begin, end) + 1 or end
-        yield bytes(view[begin:end])
-        begin = end
+            end = held.rfind(b"\n", start, end) + 1 or end
+        yield bytes(view[start:end])
+        start = end
 
 
-def _pieces(blocks: Blocks) -> Iterator[bytes]:
-    """The bytes, cut anywhere."""
+def _iter_blocks(blocks: Blocks) -> Iterator[bytes]:
+    """The bytes, cut anywhere. Raises TypeError."""
     if isinstance(blocks, (bytes, bytearray, memoryview)):
-        yield from _windows(blocks)
+        yield from _slices(blocks)
         return
     if isinstance(blocks, str):
         raise TypeError("bytes, a file of bytes or blocks of bytes, not a str")
-    for place, block in enumerate(_read(blocks) if isinstance(blocks, BinaryReader) else blocks):
+    read = blocks.read if isinstance(blocks, BinaryReader) else None
+    items: Iterable[bytes] = blocks if read is None else iter(lambda: read(MOST_BYTES), b"")  # type: ignore
+    for place, block in enumerate(items):
         if not isinstance(block, (bytes, bytearray, memoryview)):
-            kind = type(block).__name__
-            raise TypeError("blocks[%d] is of type %s, not bytes" % (place, kind))
+            raise TypeError("blocks[%d] is of type %s, not bytes" % (place, type(block).__name__))
         yield bytes(block)
 
 
-def of_bytes(blocks: Blocks, pace: BatchPace) -> Iterator[bytes]:
-    """The bytes in batches of whole lines; of a line longer than LONGEST_GIVEN its beginning is left."""
+def batch_bytes(blocks: Blocks, pace: BatchPace) -> Iterator[bytes]:
+    """The bytes in batches of whole lines; a line longer than LONGEST_GIVEN is cut."""
     rest, is_cut = b"", False
-    for piece in _pieces(blocks):
+    for block in _iter_blocks(blocks):
         if is_cut:
-            end = piece.find(b"\n")
+            end = block.find(b"\n")
             if end < 0:
                 continue
-            piece, is_cut = piece[end:], False
-        whole = piece.rfind(b"\n") + 1
+            block, is_cut = block[end:], False
+        whole = block.rfind(b"\n") + 1
         if whole:
-            yield from _sliced(rest, piece, whole, pace)
+            yield from _slice(rest, block, whole, pace)
             rest = b""
-        rest += piece[whole:]
+        rest += block[whole:]
         if len(rest) > LONGEST_GIVEN:
             rest, is_cut = rest[:LONGEST_GIVEN], True
     if rest:
         yield rest
 
 
-def _sliced(rest: bytes, piece: bytes, whole: int, pace: BatchPace) -> Iterator[bytes]:
-    """The begin of a line and the piece that it goes on in, up to `whole`, where a line ends: in batches of
-    bounded bytes, the last of which may have half as many more."""
-    begin = 0
-    while begin < whole:
+def _slice(rest: bytes, block: bytes, whole: int, pace: BatchPace) -> Iterator[bytes]:
+    """The start of a line and the block with its end, up to `whole`, the end of a line: in batches of bounded
+    bytes; the last may have half as many more."""
+    start = 0
+    while start < whole:
         end = whole
-        if whole - begin > 1.5 * pace.now:
-            end = piece.find(b"\n", begin + pace.now - 1) + 1
-        yield rest + piece[begin:end]
-        begin, rest = end, b""
+        if whole - start > 1.5 * pace.now:
+            end = block.find(b"\n", start + pace.now - 1) + 1
+        yield rest + block[start:end]
+        start, rest = end, b""

@@ -1,5 +1,4 @@
-"""Whether this process was forked from one with threads. It is imported before anything else, so that it
-knows of all forks."""
+"""Detects a fork of a process with threads. It is imported first, so that it sees all forks."""
 
 from __future__ import annotations
 
@@ -8,7 +7,7 @@ import sys
 
 
 class Fork:
-    """Whether this process was forked from one that had threads; the library may not be called then."""
+    """The library may not be called in a process that was forked from one with threads."""
 
     had_threads = False
     forbidden = False
@@ -27,7 +26,7 @@ os.register_at_fork(before=Fork.before, after_in_child=Fork.in_child)
 
 
 def forbid_fork() -> None:
-    """Raises RuntimeError in a process that was forked from one with threads."""
+    """Raises RuntimeError in such a process."""
     if Fork.forbidden:
         raise RuntimeError(
             "the library can't be called in a process that was forked from one with threads;"

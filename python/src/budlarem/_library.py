@@ -1,4 +1,4 @@
-"""The library `libbb.so`: where it is, its calls, and buffers for their replies, which are used again."""
+"""The library `libbb.so`: its location, its calls, and reusable buffers for their replies."""
 
 from __future__ import annotations
 
@@ -18,13 +18,12 @@ CLEAN, NOT_CLEAN, LIMITS, MEMORY, SHORT = range(5)
 _HERE = pathlib.Path(__file__).resolve().parent
 _NUMBER, _SIZE, _SWITCH = ctypes.c_uint64, ctypes.c_size_t, ctypes.c_bool
 _BUFFERS = (ctypes.c_char_p, _SIZE, ctypes.c_void_p, _SIZE, ctypes.POINTER(_SIZE))
-# The begin of a 64-bit ELF file of little-endian numbers; its header, of which are read the places of the
-# program and section headers, and how long and how many they are; and of a program header the place and the
-# length of its part of the file.
+# The magic of a 64-bit little-endian ELF file; place, size and number of the program and section headers in its
+# header; and place and length of a part of the file in a program header.
 _ELF_BEGIN = b"\x7fELF\x02\x01"
 _ELF = struct.Struct("<24s8xQQ6xHHHH2x")
 _ELF_PROGRAM = struct.Struct("<8xQ16xQ")
-# How many kinds of replies a look counts.
+# The number of kinds of replies.
 _KINDS = 7
 _CALLS = {
     "bb_decide": (_NUMBER,) * 4 + (_SWITCH,) * 3 + _BUFFERS,
@@ -35,13 +34,12 @@ _CALLS = {
 
 
 class LibraryError(OSError):
-    """The library `libbb.so` isn't there, was cut short, or can't be loaded. The text says where it was
-    looked for."""
+    """The library `libbb.so` is missing, truncated, or can't be loaded. The text has the paths."""
 
 
-def places() -> List[pathlib.Path]:
-    """Where the library is looked for: where the variable BB_LIBRARY says, and nowhere else; if it isn't
-    set, beside this package, then where `make library` of the repository puts it."""
+def candidate_paths() -> List[pathlib.Path]:
+    """The paths of the library: that of the variable BB_LIBRARY alone, if set; else beside this package, then the
+    output of `make library` in the repository."""
     named = os.environ.get(VARIABLE)
     if named:
         return [pathlib.Path(named)]
@@ -52,14 +50,14 @@ def places() -> List[pathlib.Path]:
 
 
 @functools.lru_cache(maxsize=None)
-def loaded() -> ctypes.CDLL:
-    """The library, loaded at the first call. Raises LibraryError."""
-    looked = places()
-    path = next((place for place in looked if place.is_file()), None)
+def load_library() -> ctypes.CDLL:
+    """The library. Raises LibraryError."""
+    candidates = candidate_paths()
+    path = next((place for place in candidates if place.is_file()), None)
     if path is None:
         raise LibraryError(
-            "libbb.so isn't at %s; a wheel has it, `make library` builds it, and the "
-            "variable %s says where it is" % (" nor at ".join(map(str, looked)), VARIABLE)
+            "libbb.so isn't at %s; install the wheel, build it by `make library`, or set the variable %s to its"
+            " path" % (" nor at ".join(map(str, candidates)), VARIABLE)
         )
     require_whole(path)
     try:
@@ -69,8 +67,8 @@ def loaded() -> ctypes.CDLL:
 
 
 def require_whole(path: pathlib.Path) -> None:
-    """Raises LibraryError where a library was cut short: a call into the missing part would end the process
-    by SIGBUS. That of a wheel has as many bytes as the wheel says, any other as many as its headers name."""
+    """Raises LibraryError for a truncated library: a call into the missing part would end the process by SIGBUS.
+    The size is that of the wheel, or that of the headers."""
     try:
         with open(path, "rb") as file:
             size = os.fstat(file.fileno()).st_size
@@ -96,8 +94,8 @@ def require_whole(path: pathlib.Path) -> None:
 
 
 def _least_size(file: BinaryIO) -> int:
-    """How many bytes a 64-bit ELF file has at least, by its headers; 0 for other files, which the system
-    refuses to load. Raises struct.error where the headers themselves were cut, OSError."""
+    """The least size of a 64-bit ELF file by its headers; 0 for other files, which the system refuses to load.
+    Raises struct.error for truncated headers, OSError."""
     head = file.read(_ELF.size)
     if not head.startswith(_ELF_BEGIN):
         return 0
@@ -112,10 +110,10 @@ def _least_size(file: BinaryIO) -> int:
 
 
 @functools.lru_cache(maxsize=None)
-def call_named(name: str) -> Callable[..., int]:
-    """A call of the library. Raises LibraryError."""
+def bind_call(name: str) -> Callable[..., int]:
+    """A function of the library. Raises LibraryError."""
     try:
-        call = getattr(loaded(), name)
+        call = getattr(load_library(), name)
     except AttributeError:
         raise LibraryError("the library has no call %s; it is older than this package" % name) from None
     call.argtypes, call.restype = _CALLS[name], ctypes.c_uint32
@@ -123,41 +121,33 @@ def call_named(name: str) -> Callable[..., int]:
     return made
 
 
-@functools.lru_cache(maxsize=None)
-def has_call(name: str) -> bool:
-    """Whether the library has a call: an older one may not. Raises LibraryError."""
-    return hasattr(loaded(), name)
-
-
-class Looked(NamedTuple):
-    """What a look at the replies to some lines came to: whether they are those to all lines, else how many
-    are before the first that isn't; and then how many there are of each kind."""
+class ReplyCheck(NamedTuple):
+    """Whether replies fit their lines, or the index of the first that doesn't; and the count of each kind."""
 
     fits: bool
     lines: int
     counts: Tuple[int, ...]
 
 
-def look(lines: bytes, replies: bytes) -> Looked:
-    """Looks at the replies to some lines. Raises LibraryError where the library has no such call."""
+def validate_replies(lines: bytes, replies: bytes) -> ReplyCheck:
+    """Validates the replies to some lines. Raises LibraryError."""
     counts, count = (_NUMBER * _KINDS)(), _NUMBER()
-    call = call_named("bb_look")
+    call = bind_call("bb_look")
     status = call(lines, len(lines), replies, len(replies), ctypes.byref(counts), ctypes.byref(count))
-    return Looked(status == CLEAN, count.value, tuple(counts))
+    return ReplyCheck(status == CLEAN, count.value, tuple(counts))
 
 
 class Reply(NamedTuple):
-    """What a call returned: its status, how many bytes its reply has, and the reply; none where the status is
-    SHORT."""
+    """The status of a call, the length of its reply, and the reply; empty if the status is SHORT."""
 
     status: int
     length: int
     text: bytes
 
 
-class Room:
-    """A buffer for the reply to one call after another. What of it was never written to takes no memory, so
-    that it may be much larger than the replies."""
+class ReplyBuffer:
+    """A buffer for the replies of successive calls. Untouched pages take no memory, so it may be much larger than
+    the replies."""
 
     def __init__(self) -> None:
         self._make(mmap.PAGESIZE)
@@ -173,13 +163,12 @@ class Room:
         return self._status
 
     def reply(self) -> Reply:
-        """What the last call returned."""
-        given_back = 0 if self._status == SHORT else self._length
-        return Reply(self._status, self._length, self._bytes[:given_back])
+        """The reply of the last call."""
+        return Reply(self._status, self._length, self._bytes[: 0 if self._status == SHORT else self._length])
 
     def call(self, name: str, asked: Sequence[int], given: bytes, room: int) -> None:
-        """Makes a call with these numbers, over these bytes. `room` is how many bytes a reply is likely to
-        have at most; where it has more, the call is made again. Raises LibraryError, MemoryError."""
+        """Makes a call with these numbers over these bytes, twice if the reply exceeds `room` bytes. Raises
+        LibraryError, MemoryError."""
         self.call_once(name, asked, given, room)
         if self._status == SHORT:
             self.call_once(name, asked, given, self._length)
@@ -187,9 +176,8 @@ class Room:
             raise AssertionError("%s with %r asks for %d bytes, and then for more" % (name, asked, room))
 
     def call_once(self, name: str, asked: Sequence[int], given: bytes, room: int) -> None:
-        """Makes a call, whose status is SHORT where the reply has more than `room` bytes. Raises
-        LibraryError, MemoryError."""
-        call = call_named(name)
+        """Makes a call; its status is SHORT if the reply exceeds `room` bytes. Raises LibraryError, MemoryError."""
+        call = bind_call(name)
         if room > len(self._bytes):
             self._make(1 << (room - 1).bit_length())
         count = _SIZE()

@@ -1,4 +1,4 @@
-"""The version. `build_wheel.py` writes the commit into it, in a copy, and how many bytes its library has."""
+"""The version. In the wheel `build_wheel.py` adds the commit and the size of the library."""
 
 from __future__ import annotations
 

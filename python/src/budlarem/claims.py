@@ -1,5 +1,5 @@
-"""The claim of a line of somebody's list on its machine: a verdict, or the word and numbers of a record; and
-the translation of a table's words."""
+"""The claim of a line of a list: a verdict, or the word and numbers of a record; and the translation of a
+table's words."""
 
 from __future__ import annotations
 
@@ -8,20 +8,20 @@ import dataclasses
 import re
 from typing import Counter, Dict, Iterable, Iterator, List, Optional, Tuple
 
-from ._text import Words, shown
+from ._text import Words, quote
 from .numbers import number_of, numbers_in
-from .reading import Form, ListForm, Passed, Reading
+from .reading import Form, ListForm, Reading, Skipped
 from .reading.files import Numbered
-from .reading.forms import passed_kind, reading_of
+from .reading.forms import reading_of, skip_kind
 from .reading.tables import Layout
-from .reading.words import SPACES
+from .reading.tokens import SPACES
 from .verdicts import Halt, Refused, Undecided, Verdict, parse, verdict_of, whole_number
 
-__all__ = ["Said", "Sayings", "WORDS", "Word", "said_by"]
+__all__ = ["Claim", "Claims", "WORDS", "Word", "claim_in"]
 
 
 class Word(Words):
-    """What a word says of a machine."""
+    """The meaning of a word for a machine."""
 
     HALTS = "halts"
     NEVER_HALTS = "never halts"
@@ -30,34 +30,34 @@ class Word(Words):
 
 
 _HALTS = "halt halts halted halting"
-# After what says it outright come the names of deciders, and of what they find.
+# Plain words first, then the names of deciders and of behaviours.
 _NEVER_HALTS = """nonhalt nonhalts nonhalting neverhalts doesnothalt infinite
     loop loops looper loopers linrecurrence cycler cyclers translated translatedcycler translatedcyclers
     backward backwardreasoning haltingsegment bouncer bouncers counter counters
     far finiteautomatareduction wfar weightedfiniteautomatareduction mitmwfar
     cps ngramcps closedpositionset repwl repeatedwordlist ctl closedtapelanguage"""
 _UNDECIDED = "undecided unknown unsolved holdout holdouts"
-# The words that count, in small letters, and without the spaces, hyphens and low lines in them.
+# The known words in small letters, without spaces, hyphens and low lines.
 WORDS: Dict[str, Word] = {
     **dict.fromkeys(_HALTS.split(), Word.HALTS),
     **dict.fromkeys(_NEVER_HALTS.split(), Word.NEVER_HALTS),
     **dict.fromkeys(_UNDECIDED.split(), Word.UNDECIDED),
     "decided": Word.DECIDED,
 }
-# The word of a verdict of ours, and how many numbers it may have.
+# The kinds of our verdicts, and how many numbers each may have.
 _KINDS = {"halt": (2,), "cycler": (2,), "backward": (2,), "translated": (2, 4)}
-# Signs that may stand about a verdict beside a machine: none that denies or compares.
+# Signs that may surround a verdict beside a machine: none that denies or compares.
 _MARKS = SPACES + ",;:|()[]`*\"'\u2013\u2014-"
 
 
 @dataclasses.dataclass(frozen=True)
-class Said:
-    """A line and its claim: a verdict in `claim`, or the `word` of a record with the numbers beside it, or
-    neither. `trouble` is the reason why nothing is judged, `unjudged` the cells of numbers that mean nothing
-    beside the word. A refusal has its verdict, and no machine."""
+class Claim:
+    """A line and its claim: a verdict, or the `word` of a record with the numbers beside it, or neither.
+    `trouble` is the reason why nothing is judged; `unjudged` has the cells of numbers that mean nothing beside
+    the word. A refusal has its verdict, and no machine."""
 
     reading: Reading
-    claim: Optional[Verdict] = None
+    verdict: Optional[Verdict] = None
     word: Optional[Word] = None
     trouble: Optional[str] = None
     steps: Optional[int] = None
@@ -65,55 +65,55 @@ class Said:
     unjudged: Tuple[str, ...] = ()
 
 
-class Sayings(Iterator[Said]):
-    """The claims of the lines of a list. `passed` counts the lines that are passed over, by their kinds.
-    `words` is the translation of the words of a table."""
+class Claims(Iterator[Claim]):
+    """The claims of the lines of a list. `skipped` counts the skipped lines by kind; `words` translates the
+    words of a table."""
 
     def __init__(
         self, lines: Iterator[Numbered], form: ListForm, words: Optional[Dict[str, Word]] = None
     ) -> None:
-        self.passed: Counter[Passed] = collections.Counter()
+        self.skipped: Counter[Skipped] = collections.Counter()
         self._words = WORDS if words is None else words
-        self._sayings = self._said(lines, form)
+        self._claims = self._read_claims(lines, form)
 
-    def __iter__(self) -> Iterator[Said]:
-        return self._sayings
+    def __iter__(self) -> Iterator[Claim]:
+        return self._claims
 
-    def __next__(self) -> Said:
-        return next(self._sayings)
+    def __next__(self) -> Claim:
+        return next(self._claims)
 
-    def _said(self, lines: Iterator[Numbered], form: ListForm) -> Iterator[Said]:
+    def _read_claims(self, lines: Iterator[Numbered], form: ListForm) -> Iterator[Claim]:
         for number, line in lines:
-            said = _said_of(number, line, form, self._words)
-            if said is not None:
-                yield said
+            claim = _claim_of(number, line, form, self._words)
+            if claim is not None:
+                yield claim
             else:
-                self.passed[passed_kind(line)] += 1
+                self.skipped[skip_kind(line)] += 1
 
 
-def said_by(number: int, line: str) -> Optional[Said]:
-    """The claim of a line of a text; None for a line that is passed over."""
-    return _said_of(number, line, ListForm(Form.TEXT), WORDS)
+def claim_in(number: int, line: str) -> Optional[Claim]:
+    """The claim of a line of a text; None for a skipped line."""
+    return _claim_of(number, line, ListForm(Form.TEXT), WORDS)
 
 
-def _said_of(number: int, line: str, form: ListForm, words: Dict[str, Word]) -> Optional[Said]:
-    """The claim of a line; None for a line that is passed over."""
+def _claim_of(number: int, line: str, form: ListForm, words: Dict[str, Word]) -> Optional[Claim]:
+    """The claim of a line; None for a skipped line."""
     if form.form in (Form.VERDICTS, Form.TEXT):
-        said = _of_verdict_line(number, line)
+        claim = _of_verdict_line(number, line)
         is_rule = form.form is Form.TEXT and not line.partition(" ")[0].strip("-")
-        if said is not None and not is_rule:
-            return said
+        if claim is not None and not is_rule:
+            return claim
     reading = reading_of(number, line, form)
     if reading is None or reading.machine is None:
-        return None if reading is None else Said(reading)
+        return None if reading is None else Claim(reading)
     if form.layout is not None:
         return _of_row(reading, form.layout, words)
     if form.form is Form.MACHINES:
-        return Said(reading, trouble="a list of machines claims nothing")
+        return Claim(reading, trouble="a list of machines claims nothing")
     return _of_text(reading)
 
 
-def _of_verdict_line(number: int, line: str) -> Optional[Said]:
+def _of_verdict_line(number: int, line: str) -> Optional[Claim]:
     """The claim of a verdict line, which may have fields behind a tab; None for another line."""
     bare, _, fields = line.rstrip("\r").partition("\t")
     try:
@@ -121,45 +121,39 @@ def _of_verdict_line(number: int, line: str) -> Optional[Said]:
     except ValueError:
         return None
     if isinstance(verdict, Refused):
-        return Said(Reading(number, line, None), verdict)
-    behind = bare[len(verdict.machine) + 1 :] + ("\t" + fields if fields else "")
-    reading = Reading(number, line, verdict.machine, (), "", behind)
+        return Claim(Reading(number, line, None), verdict)
+    text = bare[len(verdict.machine) + 1 :]
+    reading = Reading(number, line, verdict.machine, (), "", text + ("\t" + fields if fields else ""))
+    own = Word.HALTS if isinstance(verdict, Halt) else Word.NEVER_HALTS
+    own = Word.UNDECIDED if isinstance(verdict, Undecided) else own
     for field in fields.split("\t") if fields else ():
-        word = WORDS.get(plain_word(field), Word.DECIDED)
-        if word not in (Word.DECIDED, _word_of(verdict)):
-            return Said(reading, trouble=_both(bare[len(verdict.machine) + 1 :], field))
-    return Said(reading, verdict)
+        if WORDS.get(plain_word(field), Word.DECIDED) not in (Word.DECIDED, own):
+            return Claim(reading, trouble=_two_statements(text, field))
+    return Claim(reading, verdict)
 
 
-def _both(first: str, second: str) -> str:
-    return "the line says two things: %s, and %s" % (shown(first), shown(second))
+def _two_statements(first: str, second: str) -> str:
+    return "the line says two things: %s, and %s" % (quote(first), quote(second))
 
 
-def _word_of(claim: Verdict) -> Word:
-    if isinstance(claim, Undecided):
-        return Word.UNDECIDED
-    return Word.HALTS if isinstance(claim, Halt) else Word.NEVER_HALTS
-
-
-def _of_text(reading: Reading) -> Said:
+def _of_text(reading: Reading) -> Claim:
     """The claim of a line of a text: the rest of the line, if that is one verdict."""
     assert reading.machine is not None
     parts = [part.strip(_MARKS) for part in (reading.before, reading.behind)]
     rest = [part for part in parts if part]
     if not rest:
-        return Said(reading, trouble="nothing is said of the machine")
+        return Claim(reading, trouble="nothing is said of the machine")
     text = " ".join(rest)
     try:
         if len(rest) == 1:
-            return Said(reading, _verdict_in(reading.machine, text))
+            return Claim(reading, _verdict_in(reading.machine, text))
     except ValueError:
         pass
-    return Said(reading, trouble="the rest of the line is no verdict of ours: %s" % shown(text))
+    return Claim(reading, trouble="the rest of the line is no verdict of ours: %s" % quote(text))
 
 
 def _verdict_in(machine: str, text: str) -> Verdict:
-    """The verdict of ours that a text is, whose numbers may have groups of three digits. Raises
-    ValueError."""
+    """The verdict of a text, whose numbers may have groups of three digits. Raises ValueError."""
     text = text[:-1] if text.endswith(".") else text
     kind, *words = text.split(" ")
     words = [word for word in words if word]
@@ -171,44 +165,46 @@ def _verdict_in(machine: str, text: str) -> Verdict:
     return verdict_of(machine, " ".join([kind, *side, *numbers]), whole_number)
 
 
-def _of_row(reading: Reading, layout: Layout, words: Dict[str, Word]) -> Said:
+def _of_row(reading: Reading, layout: Layout, words: Dict[str, Word]) -> Claim:
     """The claim of a record of a table."""
     assert reading.machine is not None and reading.row is not None
     cells = {role: reading.row[place] for role, place in layout.columns.items()}
     cell = cells.get("verdict", "")
     if not cell:
-        return Said(reading, trouble="no word says whether it halts")
+        return Claim(reading, trouble="no word says whether it halts")
     word = words.get(plain_word(cell))
     try:
-        claim = None if word is not None else _verdict_in(reading.machine, cell)
+        verdict = None if word is not None else _verdict_in(reading.machine, cell)
     except ValueError:
-        claim = None
-    if claim is not None and not isinstance(claim, Halt):
-        return Said(reading, claim)
+        verdict = None
+    if verdict is not None and not isinstance(verdict, Halt):
+        return Claim(reading, verdict)
     numbers = tuple(cells[role] for role in ("steps", "score") if cells.get(role))
     if word is Word.NEVER_HALTS:
-        return Said(reading, word=word, unjudged=numbers)
-    if claim is None and word is not Word.HALTS:
-        return Said(reading, word=word, trouble=None if word is not None else "%s says neither" % shown(cell))
+        return Claim(reading, word=word, unjudged=numbers)
+    if verdict is None and word is not Word.HALTS:
+        return Claim(
+            reading, word=word, trouble=None if word is not None else "%s says neither" % quote(cell)
+        )
     try:
         steps, score = (number_of(cells[role]) if cells.get(role) else None for role in ("steps", "score"))
-        return _of_halt(reading, claim, steps, score)
+        return _of_halt(reading, verdict, steps, score)
     except ValueError as error:
-        return Said(reading, trouble=str(error))
+        return Claim(reading, trouble=str(error))
 
 
-def _of_halt(reading: Reading, claim: Optional[Halt], steps: Optional[int], score: Optional[int]) -> Said:
+def _of_halt(reading: Reading, halt: Optional[Halt], steps: Optional[int], score: Optional[int]) -> Claim:
     """The claim of a record with these numbers beside a word for halting, or beside a halt. Raises
     ValueError."""
     assert reading.machine is not None
-    if claim is None and steps is not None and score is not None:
-        return Said(reading, verdict_of(reading.machine, "halt %d %d" % (steps, score), whole_number))
-    if claim is None:
-        return Said(reading, word=Word.HALTS, steps=steps, score=score)
-    for number, own in ((steps, claim.steps), (score, claim.score)):
+    if halt is None and steps is not None and score is not None:
+        return Claim(reading, verdict_of(reading.machine, "halt %d %d" % (steps, score), whole_number))
+    if halt is None:
+        return Claim(reading, word=Word.HALTS, steps=steps, score=score)
+    for number, own in ((steps, halt.steps), (score, halt.score)):
         if number not in (None, own):
-            return Said(reading, trouble=_both(str(claim).partition(" ")[2], str(number)))
-    return Said(reading, claim)
+            return Claim(reading, trouble=_two_statements(str(halt).partition(" ")[2], str(number)))
+    return Claim(reading, halt)
 
 
 def plain_word(text: str) -> str:
@@ -216,22 +212,19 @@ def plain_word(text: str) -> str:
     return re.sub(r"[\s_-]", "", text.lower()).rstrip(".!")
 
 
-# The names of the meanings, as a file of words has them.
+# The names of the meanings in a file of words.
 MEANINGS: Dict[str, Word] = {
     "halting": Word.HALTS,
     "never halting": Word.NEVER_HALTS,
     "nothing": Word.UNDECIDED,
 }
-# So many words of a meaning are printed.
-_MOST_PRINTED = 20
-# So many different words are counted.
-_MOST_COUNTED = 100_000
+# The most words printed of a meaning, and the most different words counted.
+_MOST_PRINTED, _MOST_COUNTED = 20, 100_000
 
 
 def read_words(path: str) -> Dict[str, Word]:
-    """The words that count, with those of a file in place of the package's. Each line of the file is
-    `halting`, `never halting` or `nothing`, a colon, and words with commas between them. Raises OSError,
-    ValueError."""
+    """The known words, with those of a file in place of the package's. Each line of the file is `halting`,
+    `never halting` or `nothing`, a colon, and words with commas between them. Raises OSError, ValueError."""
     words = dict(WORDS)
     given: Dict[str, str] = {}
     with open(path, encoding="utf-8") as file:
@@ -246,7 +239,7 @@ def read_words(path: str) -> Dict[str, Word]:
             for text in texts.split(","):
                 word = plain_word(text)
                 if given.setdefault(word, meaning) != meaning:
-                    raise ValueError("%s:%d: %s has two meanings" % (path, number, shown(text.strip())))
+                    raise ValueError("%s:%d: %s has two meanings" % (path, number, quote(text.strip())))
                 if word:
                     words[word] = MEANINGS[meaning]
     return words
@@ -254,48 +247,37 @@ def read_words(path: str) -> Dict[str, Word]:
 
 @dataclasses.dataclass(frozen=True)
 class Translation:
-    """How often each word of a column stands for halting, for never halting and for nothing."""
+    """The count of each word of a column, by its meaning."""
 
     counts: Dict[str, Counter[str]]
 
     def __str__(self) -> str:
-        return "\n".join("%s: %s" % (name, _counted(self.counts[name])) for name in MEANINGS)
+        return "\n".join(self.lines)
 
     @property
     def lines(self) -> List[str]:
-        """A line for each meaning."""
-        return str(self).split("\n")
+        """A line for each meaning, the most frequent words first."""
+        lines = []
+        for name in MEANINGS:
+            counts = self.counts[name]
+            parts = ["%s %d" % (quote(word), count) for word, count in counts.most_common(_MOST_PRINTED)]
+            more = len(counts) - len(parts)
+            text = ", ".join(parts) + (", and %d more words" % more if more > 0 else "")
+            lines.append("%s: %s" % (name, text or "no word"))
+        return lines
 
 
-def _counted(counts: Counter[str]) -> str:
-    """The words of a meaning, the most frequent first."""
-    if not counts:
-        return "no word"
-    parts = ["%s %d" % (shown(word), count) for word, count in counts.most_common(_MOST_PRINTED)]
-    more = len(counts) - len(parts)
-    return ", ".join(parts) + (", and %d more words" % more if more > 0 else "")
-
-
-def translation_of(sayings: Iterable[Said], layout: Layout, words: Dict[str, Word]) -> Translation:
-    """The translation of the words in a table's column of verdicts. Verdicts that stand whole in the column
-    are no words."""
+def translation_of(claims: Iterable[Claim], layout: Layout, words: Dict[str, Word]) -> Translation:
+    """The translation of the words in a table's column of verdicts. Whole verdicts in it are no words."""
+    column = layout.columns["verdict"]
     counts: Dict[str, Counter[str]] = {name: collections.Counter() for name in MEANINGS}
-    for text, meaning in _translated(sayings, layout.columns["verdict"], words):
-        if text in counts[meaning] or len(counts[meaning]) < _MOST_COUNTED:
-            counts[meaning][text] += 1
-    return Translation(counts)
-
-
-def _translated(sayings: Iterable[Said], column: int, words: Dict[str, Word]) -> Iterator[Tuple[str, str]]:
-    """Each word of the column, with the name of its meaning."""
-    for said in sayings:
-        row = said.reading.row
-        if row is None or said.reading.machine is None or not row[column]:
+    for claim in claims:
+        row = claim.reading.row
+        if row is None or claim.reading.machine is None or not row[column]:
             continue
         word = words.get(plain_word(row[column]))
-        if word is None and said.claim is not None:
-            continue
-        if word is Word.HALTS:
-            yield row[column], "halting"
-        else:
-            yield row[column], "never halting" if word is Word.NEVER_HALTS else "nothing"
+        if word is not None or claim.verdict is None:
+            meaning = next((name for name in MEANINGS if MEANINGS[name] is word), "nothing")
+            if row[column] in counts[meaning] or len(counts[meaning]) < _MOST_COUNTED:
+                counts[meaning][row[column]] += 1
+    return Translation(counts)

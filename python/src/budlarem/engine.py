@@ -1,72 +1,64 @@
-"""Deciding, checking and tracing by the library."""
+"""Decides, checks and traces by the library."""
 
 from __future__ import annotations
 
 import dataclasses
 from typing import Callable, Iterable, Iterator, List, Optional, Sequence, Tuple, Union
 
-from ._calls import MOST_BYTES, MOST_LINES, Batch, BatchPace, BinaryReader, Blocks, in_order, of_bytes
-from ._calls import of_texts
+from ._calls import MOST_BYTES, MOST_LINES, Batch, BatchPace, BinaryReader, Blocks, batch_bytes, batch_texts
+from ._calls import map_in_order
 from ._fork import forbid_fork
-from ._library import NOT_CLEAN, SHORT, Reply, Room, loaded
+from ._library import NOT_CLEAN, SHORT, Reply, ReplyBuffer, load_library
 from ._text import LONGEST_GIVEN, LONGEST_SHOWN, LONGEST_VALUE
 from .limits import Limits, Plan, in_range, whole
-from .verdicts import VERDICTS, Answer, Refused, Verdict, hold_fields, verdict_of
+from .verdicts import VERDICTS, Answer, Refused, Verdict, require_field_types, verdict_of
 
-# How many bytes a block has at most that is checked with large tapes; and from how many cells on a call costs
-# the tapes, so that batches are no smaller where claims are checked.
+# The most bytes of a block that is checked with large tapes; and the cells from which on a call costs the
+# tapes, so that batches of claims are always large.
 _LARGE, _LARGE_TAPES = 1 << 22, 1 << 20
-# It makes a call over lines, and leaves the reply in the room.
-Call = Callable[[Room, bytes], None]
+# It makes a call over lines, and leaves the reply in the buffer.
+Call = Callable[[ReplyBuffer, bytes], None]
 _ANSWERS = {str(answer): answer for answer in Answer}
-# How many bytes a reply to one line has beyond the line itself, at most, and how many an answer has.
+# The most bytes of a reply beyond its line, and of an answer.
 _BEYOND, _ANSWER = 98, 7
-# How many bytes the replies to some lines have for each byte of these at most, since a machine has six or
-# more and its line one more; and for how many bytes of verdict lines an answer has one.
+# The most bytes of replies per byte of their lines, since a machine has six bytes or more and its line one
+# more; and the bytes of verdict lines for each byte of answers.
 _FOLD, _FOR_EACH = 15, 2
-# How many bytes of a trace are asked for at once, where a line isn't longer; and how many they would have at
-# most if each line were as long as it may be.
+# The bytes of a trace that are asked for at once, unless a line is longer; and the most bytes that they would
+# have if each line were as long as possible.
 _TRACED, _TRACED_AT_WORST = 1 << 24, 1 << 28
 _LONGEST_REFUSAL = len("refused 775\n")
-# A run of so many steps takes less time than an interruption may wait.
+# A run of so many steps ends before an interruption has to.
 _SHORT_RUN = 100_000
 
 
 class MachineError(ValueError):
     """A text is no machine. `machine` is the text, `column` is 1 plus the length of its longest prefix that
-    begins one, `place` says which of a list it is, as `machines[2]`, where it is of one."""
+    starts a machine, `place` its place in a list, as `machines[2]`."""
 
     def __init__(self, machine: str, column: int, place: str = "") -> None:
         super().__init__(machine, column, place)
         self.machine, self.column, self.place = machine, column, place
 
     def __str__(self) -> str:
-        sentence = "no machine, from column %d on: %.*r" % (self.column, LONGEST_SHOWN, self.machine)
-        return "%s: %s" % (self.place, sentence) if self.place else sentence
+        text = "no machine, from column %d on: %.*r" % (self.column, LONGEST_SHOWN, self.machine)
+        return "%s: %s" % (self.place, text) if self.place else text
 
 
-def deciding(limits: Limits, plan: Plan) -> Call:
-    """The call that decides the lines of some bytes."""
-    asked = (*limits.numbers(), *plan.switches())
-
-    def call(room: Room, lines: bytes) -> None:
-        room.call("bb_decide", asked, lines, _FOLD * len(lines) + _BEYOND)
-
-    return call
+def decide_call(limits: Limits, plan: Plan) -> Call:
+    """The call that decides lines."""
+    arguments = (*limits.numbers(), *plan.switches())
+    return lambda buffer, lines: buffer.call("bb_decide", arguments, lines, _FOLD * len(lines) + _BEYOND)
 
 
-def checking(limits: Limits) -> Call:
-    """The call that checks the lines of some bytes."""
-    asked = limits.numbers()
-
-    def call(room: Room, lines: bytes) -> None:
-        room.call("bb_check", asked, lines, len(lines) // _FOR_EACH + _ANSWER)
-
-    return call
+def check_call(limits: Limits) -> Call:
+    """The call that checks verdict lines."""
+    arguments = limits.numbers()
+    return lambda buffer, lines: buffer.call("bb_check", arguments, lines, len(lines) // _FOR_EACH + _ANSWER)
 
 
-def _made_ready(limits: Limits, plan: Plan, threads: int) -> int:
-    """Raises what is wrong before anything is read; gives the number of threads."""
+def _prepare(limits: Limits, plan: Plan, threads: int) -> int:
+    """Raises an error for wrong arguments before anything is read; returns the number of threads."""
     if not isinstance(limits, Limits):
         raise TypeError("limits is of type %s, not Limits" % type(limits).__name__)
     if not isinstance(plan, Plan):
@@ -75,81 +67,79 @@ def _made_ready(limits: Limits, plan: Plan, threads: int) -> int:
     if number < 1:
         raise ValueError("threads is %d, but must be 1 or more" % number)
     forbid_fork()
-    loaded()
+    load_library()
     return number
 
 
-def _listed(name: str, texts: Iterable[object]) -> None:
-    """Raises TypeError for a text or bytes where a list of texts is asked for."""
+def _require_list(name: str, texts: Iterable[object]) -> None:
+    """Raises TypeError for anything else than a list of texts."""
     if isinstance(texts, (str, bytes, bytearray)):
         raise TypeError("%s is one %s; a list of texts is asked for" % (name, type(texts).__name__))
     iter(texts)
 
 
-def _answered(
+def _reply_lines(
     batches: Iterator[Batch], call: Call, threads: int, pace: BatchPace
 ) -> Iterator[Tuple[str, str]]:
-    """Each text and the line that the library writes for it."""
+    """Each text and the library's line for it."""
 
-    def work(room: Room, batch: Batch) -> None:
-        call(room, batch.lines)
+    def work(buffer: ReplyBuffer, batch: Batch) -> None:
+        call(buffer, batch.lines)
 
-    for batch, reply in in_order(work, batches, threads, pace):
+    for batch, reply in map_in_order(work, batches, threads, pace):
         yield from zip(batch.texts, reply.text.decode().split("\n"))
-
-
-def _verdict(machine: str, line: str) -> Verdict:
-    """The verdict of a text, by the line that the library wrote for it."""
-    words = line[len(machine) + 1 :]
-    if line.startswith("refused "):
-        return Refused(int(line[len("refused ") :]), machine)
-    return verdict_of(machine, words)
 
 
 def decide(
     machines: Iterable[str], limits: Limits = Limits(), plan: Plan = Plan(), *, threads: int = 1
 ) -> Iterator[Verdict]:
-    """The verdict of each machine, in order; `Refused` where a text is no machine.
+    """The verdict of each machine, in order; `Refused` for a text that is no machine.
 
     `machines` is any iterable of texts without newlines. It is read some texts ahead, and never held as a
-    whole. `threads` is how many cores are used at most.
+    whole. `threads` is the number of cores used.
 
-    The call runs beside the caller's thread, which can be interrupted. What it was at then ends by itself, or
-    with the process.
+    The calls run beside the caller's thread, which can be interrupted. The present call then ends by itself,
+    or with the process.
 
-    Raises TypeError where an item is no text and ValueError where it has a newline, both with its place in
-    the list, after the verdicts before it; MemoryError where there is none for the tapes; LibraryError where
-    the library isn't found; RuntimeError in a process that was forked from one with threads.
+    Raises TypeError for an item that is no text and ValueError for one with a newline, both with its place in
+    the list, after the verdicts before it; MemoryError without memory for the tapes; LibraryError if the
+    library isn't found; RuntimeError in a process that was forked from one with threads.
 
     >>> [str(verdict) for verdict in decide(["1RB1LB_1LA1RZ", "1RA1RA"])]
     ['1RB1LB_1LA1RZ halt 6 4', '1RA1RA translated R 1 2 1 1']
     >>> list(decide(["1rB1LB"]))
     [Refused(column=2, machine='1rB1LB')]
     """
-    threads = _made_ready(limits, plan, threads)
-    _listed("machines", machines)
-    pace = BatchPace(MOST_LINES)
-    answered = _answered(of_texts(machines, "machines", pace), deciding(limits, plan), threads, pace)
-    return (_verdict(machine, line) for machine, line in answered)
+
+    def verdict(machine: str, line: str) -> Verdict:
+        if line.startswith("refused "):
+            return Refused(int(line[len("refused ") :]), machine)
+        return verdict_of(machine, line[len(machine) + 1 :])
+
+    threads, pace = _prepare(limits, plan, threads), BatchPace(MOST_LINES)
+    _require_list("machines", machines)
+    batches = batch_texts(machines, "machines", pace)
+    pairs = _reply_lines(batches, decide_call(limits, plan), threads, pace)
+    return (verdict(machine, line) for machine, line in pairs)
 
 
 def column_of(text: str) -> Optional[int]:
-    """The column with which the library refuses a text; None where it is a machine. Nothing is run. Raises
-    LibraryError, RuntimeError, MemoryError."""
+    """The column at which the library refuses a text; None for a machine. Nothing is run. Raises LibraryError,
+    RuntimeError, MemoryError."""
     forbid_fork()
-    room = Room()
+    buffer = ReplyBuffer()
     line = text.encode("utf-8", "surrogateescape")[:LONGEST_GIVEN]
-    deciding(Limits(0, 1, 0, 0), Plan(False, False, False))(room, line)
-    reply = room.reply().text
+    decide_call(Limits(0, 1, 0, 0), Plan(False, False, False))(buffer, line)
+    reply = buffer.reply().text
     return int(reply.split()[1]) if reply.startswith(b"refused ") else None
 
 
 def _lines_of(items: Iterable[Union[str, Verdict]]) -> Iterator[str]:
-    """The lines of verdicts and lines; what is neither is left as it is. Raises TypeError, with its place,
-    for a verdict that has a field of another type."""
+    """The lines of verdicts; other items stay as they are. Raises TypeError with its place for a verdict with
+    a field of another type."""
     for place, item in enumerate(items):
         if isinstance(item, VERDICTS):
-            hold_fields("lines[%d]" % place, item)
+            require_field_types("lines[%d]" % place, item)
             yield str(item)
         else:
             yield item
@@ -165,20 +155,19 @@ def check(
     >>> [answer.name for answer in check(["1RB1LB_1LA1RZ halt 6 4", "1RB1LB_1LA1RZ halt 6 5", "x"])]
     ['OK', 'BAD', 'UNREAD']
     """
-    threads = _made_ready(limits, Plan(), threads)
-    _listed("lines", lines)
-    pace = _checking_pace(MOST_LINES, limits)
-    answered = _answered(of_texts(_lines_of(lines), "lines", pace), checking(limits), threads, pace)
-    return (_ANSWERS[answer] for _, answer in answered)
+    threads, pace = _prepare(limits, Plan(), threads), _check_pace(MOST_LINES, limits)
+    _require_list("lines", lines)
+    batches = batch_texts(_lines_of(lines), "lines", pace)
+    pairs = _reply_lines(batches, check_call(limits), threads, pace)
+    return (_ANSWERS[answer] for _, answer in pairs)
 
 
-def _checking_pace(most: int, limits: Limits) -> BatchPace:
-    """How many claims are checked together."""
+def _check_pace(most: int, limits: Limits) -> BatchPace:
     return BatchPace(most, is_steady=limits.cells >= _LARGE_TAPES)
 
 
 def _replies(blocks: Blocks, call: Call, threads: int, pace: BatchPace) -> Iterator[bytes]:
-    return (reply.text for _, reply in in_order(call, of_bytes(blocks, pace), threads, pace))
+    return (reply.text for _, reply in map_in_order(call, batch_bytes(blocks, pace), threads, pace))
 
 
 def decide_bytes(
@@ -187,13 +176,13 @@ def decide_bytes(
     """The bytes that `bb decide` writes for these bytes, in blocks of whole lines.
 
     `blocks` is bytes, a file that is open for reading bytes, or an iterable of bytes that are cut anywhere.
-    Raises as `decide` does; TypeError where a block isn't bytes.
+    Raises as `decide` does; TypeError for a block that isn't bytes.
 
     >>> b"".join(decide_bytes(b"1RB1LB_1LA1RZ\\n"))
     b'1RB1LB_1LA1RZ halt 6 4\\n'
     """
-    threads = _made_ready(limits, plan, threads)
-    return _replies(blocks, deciding(limits, plan), threads, BatchPace(MOST_BYTES))
+    threads = _prepare(limits, plan, threads)
+    return _replies(blocks, decide_call(limits, plan), threads, BatchPace(MOST_BYTES))
 
 
 def check_bytes(blocks: Blocks, limits: Limits = Limits(), *, threads: int = 1) -> Iterator[bytes]:
@@ -203,26 +192,26 @@ def check_bytes(blocks: Blocks, limits: Limits = Limits(), *, threads: int = 1) 
     >>> b"".join(check_bytes(b"1RB1LB_1LA1RZ halt 6 4\\n"))
     b'ok\\n'
     """
-    threads = _made_ready(limits, Plan(), threads)
-    return _replies(blocks, checking(limits), threads, _checking_pace(MOST_BYTES, limits))
+    threads = _prepare(limits, Plan(), threads)
+    return _replies(blocks, check_call(limits), threads, _check_pace(MOST_BYTES, limits))
 
 
-def checked(file: BinaryReader, limits: Limits, *, threads: int = 1) -> Iterator[Tuple[bytes, bytes]]:
-    """Lines of a file, and the bytes that `bb check` writes for them, in large blocks: with large tapes what
-    a call costs is the tapes. A line of more than LONGEST_GIVEN bytes is cut. Raises what `decide` does."""
-    threads = _made_ready(limits, Plan(), threads)
+def check_file(file: BinaryReader, limits: Limits, *, threads: int = 1) -> Iterator[Tuple[bytes, bytes]]:
+    """Lines of a file, and the bytes that `bb check` writes for them, in large blocks, since large tapes cost
+    more than the lines. A line of more than LONGEST_GIVEN bytes is cut. Raises what `decide` does."""
+    threads = _prepare(limits, Plan(), threads)
     most = _LARGE if threads == 1 else _LARGE // 4
     pace = BatchPace(most, is_steady=True)
     blocks = iter(lambda: file.read(most), b"")
-    replies = in_order(checking(limits), of_bytes(blocks, pace), threads, pace)
+    replies = map_in_order(check_call(limits), batch_bytes(blocks, pace), threads, pace)
     return ((lines, reply.text) for lines, reply in replies)
 
 
 @dataclasses.dataclass(frozen=True)
 class Configuration:
-    """A machine after `step` steps: its state (`Z` once it halted there), the head's position, and the
-    symbols of the cells visited so far, one digit each, from the position `low` on, the lowest of them. As a
-    text: the line of `bb trace`, which hasn't that."""
+    """A machine after `step` steps: its state (`Z` after a step into it), the head's position, and the symbols
+    of the cells visited so far, one digit each, from the position `low` on. Its text is the line of `bb
+    trace`, without `low`."""
 
     step: int
     state: str
@@ -235,14 +224,14 @@ class Configuration:
 
 
 class Trace(Iterator[Configuration]):
-    """The configurations of a machine, one after another. `cut` is None until the last one was given; then it
-    says whether the limit of cells ended the run before `upto`."""
+    """The configurations of a machine, one after another. `cut` is None until the last one; then it says
+    whether the limit of cells ended the run before `upto`."""
 
     def __init__(self, machine: str, upto: int, cells: int, start: int, every: int) -> None:
         self.cut: Optional[bool] = None
         self._machine, self._upto, self._cells = machine, upto, cells
         self._next, self._every = start, every
-        # How many cells were visited at most when the last line was given.
+        # The most cells visited at the last line so far.
         self._visited = start + 1
         self._held: Iterator[bytes] = iter(())
 
@@ -260,63 +249,59 @@ class Trace(Iterator[Configuration]):
         return Configuration(int(step), state, int(position), cells, int(low))
 
     def _longest(self, count: int) -> int:
-        """How many bytes each of the next `count` lines has at most."""
+        """The most bytes of each of the next `count` lines."""
         visited = min(self._cells, self._visited + self._every * count, self._upto + 1)
         return len("%d Z -%d -%d \n" % (self._upto, self._cells, self._cells)) + visited
 
     def _lines(self) -> List[bytes]:
-        """The next lines, as many as fit into the bytes that are asked for at once. Each call runs the
-        machine from its start."""
-        left = (self._upto - self._next) // self._every + 1 if self._next <= self._upto else 0
-        count = left
+        """The next lines, as many as fit into the bytes that are asked for at once. Each call runs the machine
+        from its start. Raises MachineError."""
+        rest = (self._upto - self._next) // self._every + 1 if self._next <= self._upto else 0
+        count = rest
         while count > 1 and count * self._longest(count) > _TRACED_AT_WORST:
             count //= 2
         room = min(count * self._longest(count), _TRACED) + _LONGEST_REFUSAL
-        status, length, reply = self._asked(count, left, room)
+        status, length, reply = self._call(count, rest, room)
         while status == SHORT:
             if count == 1:
                 room = length
             count = max(count * room // length, 1)
-            status, length, reply = self._asked(count, left, room)
+            status, length, reply = self._call(count, rest, room)
         if reply.startswith(b"refused "):
             raise MachineError(self._machine, int(reply.split()[1]))
         lines = reply.split(b"\n")[:-1]
         self._next += self._every * len(lines)
-        if status == NOT_CLEAN or count == left or len(lines) < count:
+        if status == NOT_CLEAN or count == rest or len(lines) < count:
             self.cut = status == NOT_CLEAN
         elif lines:
             self._visited = len(lines[-1].rpartition(b" ")[2])
         return lines
 
-    def _asked(self, count: int, left: int, room: int) -> Reply:
-        """What a call returns for the next `count` lines; where they are all that are `left`, of the last
-        step too."""
-        last = self._upto if count == left else self._next + self._every * (count - 1)
-        return _apart(self._machine, (last, self._cells, self._next, self._every), room)
+    def _call(self, count: int, rest: int, room: int) -> Reply:
+        """The reply for the next `count` lines; if they are all the `rest`, with the last step too. A long
+        call is made beside the caller's thread."""
+        last = self._upto if count == rest else self._next + self._every * (count - 1)
+        arguments: Sequence[int] = (last, self._cells, self._next, self._every)
 
+        def work(buffer: ReplyBuffer, line: bytes) -> None:
+            buffer.call_once("bb_trace", arguments, line, room)
 
-def _apart(machine: str, asked: Sequence[int], room: int) -> Reply:
-    """What one call that traces returns. It is made beside the caller's thread unless it is short."""
-    line = machine.encode("utf-8", "surrogatepass")[:LONGEST_GIVEN]
-
-    def work(buffer: Room, line: bytes) -> None:
-        buffer.call_once("bb_trace", asked, line, room)
-
-    if asked[0] <= _SHORT_RUN:
-        buffer = Room()
-        work(buffer, line)
-        return buffer.reply()
-    ((_, reply),) = in_order(work, [line], 1, BatchPace(1))
-    return reply
+        line = self._machine.encode("utf-8", "surrogatepass")[:LONGEST_GIVEN]
+        if last <= _SHORT_RUN:
+            buffer = ReplyBuffer()
+            work(buffer, line)
+            return buffer.reply()
+        ((_, reply),) = map_in_order(work, [line], 1, BatchPace(1))
+        return reply
 
 
 def trace(machine: str, upto: int, cells: int = 65_536, start: int = 0, every: int = 1) -> Trace:
     """The configurations of a machine after `start` steps, `start + every` and so on, up to `upto` or to the
-    last one that `cells` allow. A step that isn't given costs what simulating it costs.
+    last one that `cells` allow. A skipped step costs its simulation.
 
-    Raises LimitsError where a number is out of its range, TypeError where it is no whole number or the
-    machine no text, ValueError where that has a newline, and MachineError, one of them, where it is no
-    machine, at the first configuration.
+    Raises LimitsError for a number out of its range, TypeError for one that is no whole number or a machine
+    that is no text, ValueError for one with a newline, and MachineError, one of them, at the first
+    configuration, for a text that is no machine.
 
     >>> [str(now) for now in trace("1RB1LB_1LA1RZ", 6, start=4)]
     ['4 A -2 0111', '5 B -1 1111', '6 Z 0 1111']
@@ -325,11 +310,10 @@ def trace(machine: str, upto: int, cells: int = 65_536, start: int = 0, every: i
         raise TypeError("machine is of type %s, not str" % type(machine).__name__)
     if "\n" in machine:
         raise ValueError("the machine has a newline in it: %.*r" % (LONGEST_VALUE, machine))
-    most = Limits.RANGES["steps"][1]
-    upto = in_range("upto", upto, 0, most)
+    upto = in_range("upto", upto, 0, Limits.RANGES["steps"][1])
     cells = in_range("cells", cells, *Limits.RANGES["cells"])
     start = in_range("start", start, 0, 2**64 - 1)
     every = in_range("every", every, 1, 2**64 - 1)
     forbid_fork()
-    loaded()
+    load_library()
     return Trace(machine, upto, cells, start, every)

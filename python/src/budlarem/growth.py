@@ -1,4 +1,4 @@
-"""How the cells that a run visits grow with its steps: a guess from three looks, which claims nothing."""
+"""The growth of the cells that a run visits: an estimate from three samples, which claims nothing."""
 
 from __future__ import annotations
 
@@ -15,7 +15,7 @@ _ROOT = (0.2, 0.8)
 
 
 class Growth(Words):
-    """How the cells that a run visits grow with its steps; `HALTS` where it ended before."""
+    """The growth of the cells that a run visits; `HALTS` if it ended."""
 
     STAYS = "stays"
     LOGARITHM = "logarithm"
@@ -25,17 +25,17 @@ class Growth(Words):
 
 
 @dataclasses.dataclass(frozen=True)
-class Grown:
-    """How many cells a run has visited after a hundredth of `steps`, a tenth, and all, and how that grows.
-    `steps` are fewer than asked for where the cells ended the run, or the machine halted."""
+class GrowthSamples:
+    """The cells that a run has visited after a hundredth of `steps`, a tenth, and all, and their growth. `steps`
+    are fewer than asked for if the cells ended the run, or the machine halted."""
 
     steps: int
     visited: Tuple[int, int, int]
     growth: Growth
 
 
-def growth(visited: Tuple[int, int, int]) -> Growth:
-    """How these counts grow, each at ten times the steps of the one before."""
+def classify_growth(visited: Tuple[int, int, int]) -> Growth:
+    """The growth of these counts, each at ten times the steps of the one before."""
     first, second, third = visited
     if second == third:
         return Growth.STAYS
@@ -45,9 +45,9 @@ def growth(visited: Tuple[int, int, int]) -> Growth:
     return Growth.ROOT if power < _ROOT[1] else Growth.LINE
 
 
-def _hundredths(machine: str, steps: int, cells: int) -> Tuple[Optional[bool], List[int]]:
-    """The cells visited after each hundredth of the steps, up to all of them; and whether the cells ended the
-    run before, None where it made all steps and went on."""
+def _visited_by_hundredths(machine: str, steps: int, cells: int) -> Tuple[Optional[bool], List[int]]:
+    """The cells visited after each hundredth of the steps; and whether the cells ended the run before all, None
+    if it made all steps and went on."""
     apart = max(steps // 100, 1)
     rows = trace(machine, steps, cells, apart + steps % apart, apart)
     found = list(rows)
@@ -56,7 +56,7 @@ def _hundredths(machine: str, steps: int, cells: int) -> Tuple[Optional[bool], L
 
 
 def _last_step(machine: str, steps: int, cells: int) -> int:
-    """The last step that a run makes within these limits."""
+    """The last step of a run within these limits."""
     last, apart = 0, max(steps // 100, 1)
     while True:
         last = max((now.step for now in trace(machine, steps, cells, last, apart)), default=last)
@@ -65,30 +65,30 @@ def _last_step(machine: str, steps: int, cells: int) -> int:
         apart = max(apart // 100, 1)
 
 
-def grown(machine: str, steps: int, cells: int = 65_536) -> Grown:
-    """How the cells that a machine visits grow, looked at after `steps` / 100, / 10, and all of them.
+def measure_growth(machine: str, steps: int, cells: int = 65_536) -> GrowthSamples:
+    """The growth of the cells that a machine visits, sampled after `steps` / 100, / 10, and all.
 
-    Staying: a tenth of the steps and all have the same cells. Else by the power of the steps with which they
-    grow from the first look to the last: below 0.2 it is called a logarithm, below 0.8 a root, else a line.
-    Where the cells end the run, or the machine halts, the steps are those that were made.
+    It stays if a tenth of the steps and all have the same cells. Otherwise the power of the steps from the first
+    sample to the last decides: below 0.2 a logarithm, below 0.8 a root, else a line. If the cells end the run,
+    or the machine halts, the steps are those that were made.
 
-    Raises what `trace` does; LimitsError where the steps are fewer than 100.
+    Raises what `trace` does; LimitsError for fewer than 100 steps.
 
-    >>> grown("1RA1RA", steps=10_000).growth
+    >>> measure_growth("1RA1RA", steps=10_000).growth
     <Growth.LINE: 'line'>
     """
     in_range("steps", steps, 100, Limits.RANGES["steps"][1])
-    is_cut, counts = _hundredths(machine, steps, cells)
+    is_cut, counts = _visited_by_hundredths(machine, steps, cells)
     if is_cut is not None:
         steps = _last_step(machine, steps, cells)
     if is_cut is False:
-        looks = (next(trace(machine, at, cells, at)) for at in (steps // 100, steps // 10, steps))
-        first, second, last = (len(now.cells) for now in looks)
-        return Grown(steps, (first, second, last), Growth.HALTS)
+        rows = (next(trace(machine, at, cells, at)) for at in (steps // 100, steps // 10, steps))
+        first, second, last = (len(now.cells) for now in rows)
+        return GrowthSamples(steps, (first, second, last), Growth.HALTS)
     if is_cut:
-        counts = _hundredths(machine, steps, cells)[1]
+        counts = _visited_by_hundredths(machine, steps, cells)[1]
     if len(counts) < 100:
         last = counts[-1] if counts else 0
-        return Grown(steps, (last, last, last), Growth.LINE)
+        return GrowthSamples(steps, (last, last, last), Growth.LINE)
     visited = (counts[len(counts) // 100 - 1], counts[len(counts) // 10 - 1], counts[-1])
-    return Grown(steps, visited, growth(visited))
+    return GrowthSamples(steps, visited, classify_growth(visited))

@@ -1,4 +1,4 @@
-"""The limits of a run and the deciders that are asked."""
+"""The limits of a run and its deciders."""
 
 from __future__ import annotations
 
@@ -14,8 +14,8 @@ from .numbers import whole_number
 class LimitsError(ValueError):
     """A limit is out of its range.
 
-    `limit` is its name, `lowest` and `highest` are its range, `given` is what was given. What is the highest
-    of `depth` depends on the cells: 2 * depth - 1 may be at most the cells.
+    `limit` is its name, `lowest` and `highest` its range, `given` the value. The highest `depth` depends on the
+    cells: 2 * depth - 1 may be at most the cells.
     """
 
     def __init__(self, limit: str, lowest: int, highest: int, given: int) -> None:
@@ -35,14 +35,13 @@ class LimitsError(ValueError):
 
 
 def whole(name: str, given: Any) -> int:
-    """A whole number that was given, whatever type of whole numbers it has. Raises TypeError."""
+    """A whole number of any integral type. Raises TypeError."""
     if isinstance(given, bool):
         raise TypeError("%s is %r, but must be a whole number" % (name, given))
     try:
         return operator.index(given)
     except TypeError:
-        kind = type(given).__name__
-        parts = (name, LONGEST_VALUE, given, kind)
+        parts = (name, LONGEST_VALUE, given, type(given).__name__)
         raise TypeError("%s is %.*r of type %s, but must be a whole number" % parts) from None
 
 
@@ -56,13 +55,13 @@ def in_range(name: str, given: Any, lowest: int, highest: int) -> int:
 
 @dataclasses.dataclass(frozen=True)
 class Limits:
-    """What a run may cost.
+    """The limits of a run.
 
-    `steps`: of one simulation, 0 to 1,000,000,000,000. `cells`: of one tape, 1 to 67,108,864; a thread that
-    decides has three tapes of as many bytes. `depth`: levels of the backward tree, 0 to 10,000. `nodes`: of
-    that tree, 0 to 1,000,000,000,000. 2 * depth - 1 must be at most `cells`. The defaults are the program's.
+    `steps`: of one simulation, 0 to 1,000,000,000,000. `cells`: of one tape, 1 to 67,108,864; a thread has three
+    tapes of as many bytes. `depth`: levels of the backward tree, 0 to 10,000. `nodes`: of that tree, 0 to
+    1,000,000,000,000. 2 * depth - 1 must be at most `cells`. The defaults are the program's.
 
-    Raises LimitsError where one is out of its range, TypeError where one is no whole number.
+    Raises LimitsError for a number out of its range, TypeError for anything else.
 
     >>> Limits(steps=1_000).steps
     1000
@@ -90,24 +89,23 @@ class Limits:
             raise LimitsError("depth", 0, (self.cells + 1) // 2, self.depth)
 
     def numbers(self) -> Tuple[int, int, int, int]:
-        """The four limits, in their order."""
         return self.steps, self.cells, self.depth, self.nodes
 
 
-# With these no claim is refused for a limit; each costs what it names.
+# The greatest limits, which refuse no claim.
 GREATEST = Limits(**{name: highest for name, (_, highest) in Limits.RANGES.items()})
 
 
 def words_of(limits: Limits) -> str:
-    """Limits as `--pass` takes them."""
+    """The value of `--pass` for limits."""
     return "steps=%d,cells=%d,depth=%d,nodes=%d" % limits.numbers()
 
 
 def limits_of(words: str) -> Limits:
-    """The limits that words as `steps=1000,cells=1024` name; the others are the program's. Raises ValueError,
+    """The limits of words such as `steps=1000,cells=1024`; the others are the program's. Raises ValueError,
     LimitsError."""
     found: Dict[str, int] = {}
-    # A comma also stands between the digits of a number.
+    # A comma may also separate groups of digits.
     for word in re.split(",(?![0-9]{3}(?:,|$))", words):
         name, _, number = word.partition("=")
         try:
@@ -124,7 +122,7 @@ def limits_of(words: str) -> Limits:
 
 @dataclasses.dataclass(frozen=True)
 class Plan:
-    """Which deciders are asked, in this order. Raises TypeError where one is neither True nor False."""
+    """The deciders in use, in their order. Raises TypeError for anything but True and False."""
 
     cyclers: bool = True
     translated: bool = True
@@ -134,10 +132,8 @@ class Plan:
         for field in dataclasses.fields(self):
             given = getattr(self, field.name)
             if not isinstance(given, bool):
-                kind = type(given).__name__
-                parts = (field.name, LONGEST_VALUE, given, kind)
+                parts = (field.name, LONGEST_VALUE, given, type(given).__name__)
                 raise TypeError("%s is %.*r of type %s, but must be True or False" % parts)
 
     def switches(self) -> Tuple[bool, bool, bool]:
-        """The three switches, in their order."""
         return self.cyclers, self.translated, self.backward

@@ -1,12 +1,12 @@
 """The two normal forms of machines.
 
-`normal` runs a machine: its states are named in the order of their first use in that run, and its first move
-is to the right, as machines are published. Symbols keep their names, and a state that the run doesn't reach
-keeps its place. Machines with one normal form behave alike in that many steps.
+`normal` runs a machine: states are named in the order of their first use in that run, and the first move is to
+the right, as machines are published. Symbols keep their names, and an unreached state keeps its place. Machines
+of one normal form behave alike for that many steps.
 
-`form_of` runs nothing: states and symbols are named in the order in which they are met in the table. Machines
-of one form are the same up to names and sides, so the laws of verdicts give them one verdict: `compare` and
-`judge` take them for one.
+`canonical_form` runs nothing: states and symbols are named in the order in which they are met in the table.
+Machines of one form are the same up to names and sides, so the laws of verdicts give them one verdict: `compare`
+and `judge` identify them.
 """
 
 from __future__ import annotations
@@ -17,13 +17,13 @@ from typing import Dict, Iterable, Iterator, List, NamedTuple, Optional, Tuple
 from .engine import MachineError, trace
 from .verdicts import STATES, Translated, Verdict, is_machine
 
-_TURNED = {"L": "R", "R": "L"}
+_SAME_SIDE, _OTHER_SIDE = {"L": "L", "R": "R"}, {"L": "R", "R": "L"}
 
 
 @dataclasses.dataclass(frozen=True)
 class Normal:
-    """A machine in normal form. `states` has, for each of its states in order, which state of the machine it
-    is; `mirrored` says that left and right were exchanged."""
+    """A machine in normal form. `states` has the state of the machine for each state of the form; `mirrored`:
+    left and right were exchanged."""
 
     machine: str
     normal: str
@@ -35,21 +35,20 @@ class Normal:
 
 
 def _first_uses(machine: str, count: int, steps: int, cells: int) -> str:
-    """The states in the order in which a run of so many steps comes to them."""
-    found, upto = "A", 64
+    """The states in the order of their first use in a run of so many steps."""
+    upto = 64
     while True:
         upto = min(upto, steps)
-        rows = trace(machine, upto, cells)
-        states = [now.state for now in rows]
+        states = [now.state for now in trace(machine, upto, cells)]
         found = "".join(dict.fromkeys(state for state in states if state != "Z"))
         if len(found) == count or upto == steps or len(states) <= upto:
-            return found
+            return found or "A"
         upto *= 8
 
 
 def normal(machine: str, *, steps: int = 10_000, cells: int = 65_536) -> Normal:
-    """The normal form of a machine: its states in the order of their first use in its run of so many steps,
-    those that aren't reached after them as they stand; mirrored where its first move is to the left.
+    """The normal form of a machine: states in the order of their first use in a run of `steps`, then the others
+    in their order; mirrored if the first move is to the left.
 
     Raises what `trace` does.
 
@@ -62,9 +61,8 @@ def normal(machine: str, *, steps: int = 10_000, cells: int = 65_536) -> Normal:
     used = _first_uses(machine, len(groups), steps, cells)
     order = used + "".join(state for state in STATES[: len(groups)] if state not in used)
     mirrored = machine[1] == "L"
-    names = {old: new for new, old in zip(STATES, order)}
-    names["Z"] = "Z"
-    moves = _TURNED if mirrored else {"L": "L", "R": "R"}
+    names = {**{old: new for new, old in zip(STATES, order)}, "Z": "Z"}
+    moves = _OTHER_SIDE if mirrored else _SAME_SIDE
 
     def entry(text: str) -> str:
         return text if text == "---" else text[0] + moves[text[1]] + names[text[2]]
@@ -77,9 +75,8 @@ def normal(machine: str, *, steps: int = 10_000, cells: int = 65_536) -> Normal:
 def distinct(
     machines: Iterable[str], *, steps: int = 10_000, cells: int = 65_536
 ) -> Iterator[Tuple[Normal, Optional[str]]]:
-    """The normal form of each machine, and the first machine before it that has the same one, or None.
-
-    What is held are the normal forms that were met. Raises what `trace` does, with the place of the item.
+    """The normal form of each machine, and the first machine before it with the same one, or None. The normal
+    forms so far are held. Raises what `trace` does, with the place of the item.
 
     >>> [(form.machine, before) for form, before in distinct(["1RA---", "1LA---"])]
     [('1RA---', None), ('1LA---', '1RA---')]
@@ -97,38 +94,30 @@ def distinct(
         yield form, before
 
 
-class Form(NamedTuple):
-    """A text that a machine has in common with all that are the same, and whether left and right are
-    exchanged in it."""
+class CanonicalForm(NamedTuple):
+    """The text that all machines of a form have in common, and whether left and right are exchanged in it."""
 
     text: str
     mirrored: bool
 
 
-def form_of(machine: str) -> Form:
-    """The form of a machine: states and symbols are named in the order in which they are met on the way from
-    A and 0 through the entries, and the first entry goes to the right. What isn't met comes behind.
+def canonical_form(machine: str) -> CanonicalForm:
+    """The form of a machine: states and symbols are named in the order in which they are met on the way from A
+    and 0 through the entries, and the first entry goes to the right. The others come behind. Nothing is run.
 
-    Two machines of one form are the same up to names and sides, so the laws of verdicts give them one
-    verdict; nothing is run.
-
-    >>> form_of("1RB1LB_1LA1RZ") == form_of("1RB1LB_1LA1RZ")
-    True
-    >>> form_of("2LC---2RB_1LA0RZ---_------2RC").mirrored
+    >>> canonical_form("2LC---2RB_1LA0RZ---_------2RC").mirrored
     True
     """
     groups = machine.split("_")
-    if groups[0].startswith("---"):
-        return min(Form(_Walk(groups, False).text(), False), Form(_Walk(groups, True).text(), True))
-    mirrored = groups[0][1] == "L"
-    return Form(_Walk(groups, mirrored).text(), mirrored)
+    sides = [groups[0][1] == "L"] if not groups[0].startswith("---") else [False, True]
+    return min(CanonicalForm(_Walk(groups, mirrored).text(), mirrored) for mirrored in sides)
 
 
-def turned(verdict: Verdict, is_turned: bool) -> Verdict:
-    """The verdict on a machine whose left and right are exchanged, where that is so."""
-    if not is_turned or not isinstance(verdict, Translated):
+def mirror_verdict(verdict: Verdict, is_mirrored: bool) -> Verdict:
+    """The verdict on the mirror image of a machine if `is_mirrored`, else the verdict itself."""
+    if not is_mirrored or not isinstance(verdict, Translated):
         return verdict
-    return dataclasses.replace(verdict, side=_TURNED[verdict.side])
+    return dataclasses.replace(verdict, side=_OTHER_SIDE[verdict.side])
 
 
 class _Walk:
@@ -136,7 +125,7 @@ class _Walk:
 
     def __init__(self, groups: List[str], mirrored: bool) -> None:
         self._rows = dict(zip(STATES, groups))
-        self._sides = _TURNED if mirrored else {"L": "L", "R": "R"}
+        self._sides = _OTHER_SIDE if mirrored else _SAME_SIDE
         self._states: Dict[str, str] = {"A": "A", "Z": "Z"}
         self._symbols: Dict[str, str] = {"0": "0"}
         self._count = len(groups[0]) // 3
@@ -145,11 +134,11 @@ class _Walk:
             self._name_others()
 
     def _entry(self, state: str, symbol: str) -> str:
-        begin = 3 * int(symbol)
-        return self._rows[state][begin : begin + 3]
+        start = 3 * int(symbol)
+        return self._rows[state][start : start + 3]
 
     def _go(self, ahead: List[Tuple[str, str]]) -> None:
-        """Names what is met in these entries, and from there on."""
+        """Names everything met in these entries, and from there on."""
         for state, symbol in ahead:
             entry = self._entry(state, symbol)
             written, after = entry[0], entry[2]
@@ -161,18 +150,18 @@ class _Walk:
                 ahead += self._name_state(after)
 
     def _name_symbol(self, symbol: str) -> List[Tuple[str, str]]:
-        """Gives a symbol the next name; gives the entries that are met with it."""
+        """Gives a symbol the next name; returns the entries met with it."""
         self._symbols[symbol] = str(len(self._symbols))
         return [(state, symbol) for state in self._states if state != "Z"]
 
     def _name_state(self, state: str) -> List[Tuple[str, str]]:
-        """Gives a state the next name; gives the entries that are met with it."""
+        """Gives a state the next name; returns the entries met with it."""
         self._states[state] = STATES[len(self._states) - 1]
         return [(state, symbol) for symbol in self._symbols]
 
     def _name_others(self) -> None:
-        """Names the states and symbols that weren't met: the least of what tells them apart first, and then
-        what is met from there."""
+        """Names the states and symbols that weren't met: the one of least colour first, and then everything met
+        from there."""
         while True:
             states = [state for state in self._rows if state not in self._states]
             symbols = [symbol for symbol in map(str, range(self._count)) if symbol not in self._symbols]
@@ -184,44 +173,43 @@ class _Walk:
             self._go(self._name_state(least) if states else self._name_symbol(least))
 
     def _colours(self, states: List[str], symbols: List[str]) -> Dict[str, int]:
-        """A number for each of these, the same for those that nothing tells apart; old names change none. It
-        is refined by the numbers of what stands in the entries, as long as that tells more apart."""
+        """A colour for each of these, equal for indistinguishable ones and independent of old names. Colours are
+        refined by those of the entries as long as that distinguishes more."""
         colours = dict.fromkeys(states + symbols, 0)
         count = 1
         while True:
-            seen: Dict[str, List[str]] = {one: self._seen(one, colours) for one in colours}
-            ranks = {entries: rank for rank, entries in enumerate(sorted(map(str, seen.values())))}
-            colours = {one: ranks[str(entries)] for one, entries in seen.items()}
+            signatures = {one: str(self._signature(one, colours)) for one in colours}
+            ranks = {entries: rank for rank, entries in enumerate(sorted(signatures.values()))}
+            colours = {one: ranks[entries] for one, entries in signatures.items()}
             if len(set(colours.values())) <= count:
                 return colours
             count = len(set(colours.values()))
 
-    def _seen(self, one: str, colours: Dict[str, int]) -> List[str]:
-        """What tells a state or a symbol apart: where it stands in the entries, with the numbers of what has
-        no name."""
+    def _signature(self, one: str, colours: Dict[str, int]) -> List[str]:
+        """The entries with a state or symbol, with the colours of unnamed ones."""
+
+        def name_of(one: str) -> str:
+            return self._states.get(one) or self._symbols.get(one) or "(%d)" % colours.get(one, -1)
+
         found = []
         for state, row in self._rows.items():
             for place in range(self._count):
                 entry, symbol = row[3 * place : 3 * place + 3], str(place)
-                if one in (state, symbol, entry[0], entry[2]):
-                    parts = (state, symbol, entry[0], entry[2])
-                    names = ("=" if part == one else self._name_of(part, colours) for part in parts)
+                parts = (state, symbol, entry[0], entry[2])
+                if one in parts:
+                    names = ("=" if part == one else name_of(part) for part in parts)
                     found.append(self._sides.get(entry[1], "-") + ",".join(names))
-        return [self._name_of(one, colours), *sorted(found)]
-
-    def _name_of(self, one: str, colours: Dict[str, int]) -> str:
-        name = self._states.get(one) or self._symbols.get(one)
-        return name or "(%d)" % colours.get(one, -1)
-
-    def _named(self, state: str, symbol: str) -> str:
-        """An entry in new names."""
-        entry = self._entry(state, symbol)
-        if entry == "---":
-            return entry
-        return self._symbols[entry[0]] + self._sides[entry[1]] + self._states[entry[2]]
+        return [name_of(one), *sorted(found)]
 
     def text(self) -> str:
         """The machine in new names."""
+
+        def rename(entry: str) -> str:
+            if entry == "---":
+                return entry
+            return self._symbols[entry[0]] + self._sides[entry[1]] + self._states[entry[2]]
+
         states = sorted((new, old) for old, new in self._states.items() if old != "Z")
         symbols = [old for old, _ in sorted(self._symbols.items(), key=lambda pair: pair[1])]
-        return "_".join("".join([self._named(state, symbol) for symbol in symbols]) for _, state in states)
+        groups = ("".join(rename(self._entry(state, symbol)) for symbol in symbols) for _, state in states)
+        return "_".join(groups)

@@ -1,11 +1,11 @@
-"""Whole numbers as people write them: with groups of three digits, or without."""
+"""Reads whole numbers, with or without groups of three digits."""
 
 from __future__ import annotations
 
 import re
 from typing import Iterator, List, Sequence
 
-from ._text import shown
+from ._text import quote
 
 # One separator between all groups of a number: a comma, an apostrophe, a low line or a space of any width.
 _NUMBER = re.compile(
@@ -13,24 +13,24 @@ _NUMBER = re.compile(
 )
 
 _DIGITS = re.compile("[0-9]{1,99}")
-# So many times ten, with a part behind a point or without.
+# A number times a power of ten, with or without decimals.
 _POWER = re.compile("(?:([0-9]{1,15})(?:\\.([0-9]{1,15}))?[eE]\\+?|10\\^)([0-9]{1,2})")
 
 
 def number_of(text: str) -> int:
-    """The number that a text is, with or without groups of three digits. Raises ValueError.
+    """The number of a text, with or without groups of three digits. Raises ValueError.
 
     >>> number_of("47,176,870")
     47176870
     """
     if _NUMBER.fullmatch(text) is None:
-        raise ValueError("%s is no number" % shown(text))
+        raise ValueError("%s is no number" % quote(text))
     return int(re.sub("[^0-9]", "", text))
 
 
 def whole_number(text: str) -> int:
-    """A whole number as people write it for an option: `1000000`, `1,000,000`, `1_000_000`, `1e6`, `10^6`,
-    each with a sign or without. Raises ValueError.
+    """The number of an option: `1000000`, `1,000,000`, `1_000_000`, `1e6`, `10^6`, with or without a sign. Raises
+    ValueError.
 
     >>> whole_number("1e6"), whole_number("-1,000")
     (1000000, -1000)
@@ -42,37 +42,37 @@ def whole_number(text: str) -> int:
     if power is not None:
         whole, part, zeros = power[1] or "1", power[2] or "", int(power[3])
         if zeros < len(part):
-            raise ValueError("%s is no whole number" % shown(text))
+            raise ValueError("%s is no whole number" % quote(text))
         scaled: int = int(whole + part) * 10 ** (zeros - len(part))
         return sign * scaled
     if _DIGITS.fullmatch(digits) is None and _NUMBER.fullmatch(digits) is None:
-        raise ValueError("%s is no whole number" % shown(text))
+        raise ValueError("%s is no whole number" % quote(text))
     return sign * int(re.sub("[^0-9]", "", digits))
 
 
 def option_number(text: str) -> int:
-    """The same for a reader of command lines, whose error says what would do. Raises ArgumentTypeError."""
+    """The number of an option, for argparse. Raises ArgumentTypeError, with advice."""
     try:
         return whole_number(text)
     except ValueError as error:
-        # Only command lines need it, and it takes a while to import.
+        # Its import takes a while.
         from argparse import ArgumentTypeError
 
         raise ArgumentTypeError("%s; 1000000, 1,000,000, 1_000_000 and 1e6 are" % error) from None
 
 
 def numbers_in(words: Sequence[str], counts: Sequence[int]) -> List[int]:
-    """The numbers that these words are, with spaces between them, of which there have to be so many: the
-    words of one number may be its groups. Raises ValueError where there isn't one way to read them."""
+    """The numbers of these words, each of one word or of several groups. Raises ValueError unless there is one
+    way to read them as one of these counts of numbers."""
     ways = [way for way in _ways(list(words), max(counts)) if len(way) in counts]
     if len(ways) != 1:
-        text = shown(" ".join(words))
+        text = quote(" ".join(words))
         raise ValueError("%s can be read as numbers in %d ways" % (text, len(ways)))
     return [number_of(text) for text in ways[0]]
 
 
 def _ways(words: List[str], most: int) -> Iterator[List[str]]:
-    """The ways to put words together to numbers, so many at most."""
+    """The ways to join words to at most so many numbers."""
     if not words:
         yield []
     if not words or most == 0:

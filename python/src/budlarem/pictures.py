@@ -11,11 +11,11 @@ import struct
 import zlib
 from typing import Iterable, List, Optional, Sequence, Tuple, Union
 
-from ._files import naming
+from ._files import name_errors
 from .engine import Configuration, trace
 from .limits import in_range, whole
 
-# The colours of the symbols 0 to 9, then of a position not visited yet, then of the head.
+# The colours of the symbols 0 to 9, then of an unvisited position, then of the head.
 COLOURS = [
     (255, 255, 255), (20, 20, 20), (60, 110, 200), (240, 180, 40), (60, 150, 80),
     (150, 80, 170), (80, 190, 200), (150, 110, 70), (240, 140, 170), (170, 200, 90),
@@ -23,22 +23,21 @@ COLOURS = [
 ]  # fmt: skip
 UNVISITED, HEAD = 10, 11
 MOST_PIXELS = 100_000_000
-# A picture of more positions is scaled down, where no width is asked for.
+# A picture of more positions is scaled down unless a width is given.
 MOST_WIDE = 2_000
 _DIGITS = bytes(max(code - ord("0"), 0) if code < 58 else 0 for code in range(256))
 
 
 class PictureError(ValueError):
-    """There is nothing to draw, or the picture would be too large. The text says what would do."""
+    """There is nothing to draw, or the picture would be too large. The text has advice."""
 
 
 @dataclasses.dataclass(frozen=True)
 class Picture:
-    """A picture as a PNG file, and what it shows: each of how many steps, up to which, which positions.
+    """A picture as a PNG file. It shows each `every`th step up to `last`, and the positions `left` to `right`.
 
-    `is_cut` says that steps follow which aren't shown, `is_part` that not all positions are shown. A pixel
-    stands for `across` cells, and where that are several it has their mean colour. A notebook shows it by
-    itself.
+    `is_cut`: steps follow that aren't shown. `is_part`: not all positions are shown. A pixel has the mean colour
+    of `across` cells. A notebook shows the picture.
     """
 
     png: bytes = dataclasses.field(repr=False)
@@ -51,48 +50,47 @@ class Picture:
     across: int = 1
 
     def save(self, path: Union[str, "os.PathLike[str]"]) -> None:
-        """Writes the PNG file. Raises PictureError where the name is one of another kind of file, OSError
-        where it can't be written."""
+        """Writes the PNG file. Raises PictureError for the name of another kind of file, OSError."""
         ending = os.path.splitext(os.fspath(path))[1]
         if ending.lower() not in ("", ".png"):
-            named = os.fspath(path)
-            raise PictureError("%s: a picture is a PNG file, so not a name that ends in %s" % (named, ending))
-        with naming(path), open(path, "wb") as file:
+            text = "%s: a picture is a PNG file, so not a name that ends in %s"
+            raise PictureError(text % (os.fspath(path), ending))
+        with name_errors(path), open(path, "wb") as file:
             file.write(self.png)
 
     def _repr_png_(self) -> bytes:
         return self.png
 
 
-def _spaced(last: int, most: int) -> int:
-    """The least power of two of which at most so many multiples are up to `last`."""
+def _spacing(last: int, most: int) -> int:
+    """The least power of two with at most `most` multiples up to `last`."""
     every = 1
     while last // every + 1 > most:
         every *= 2
     return every
 
 
-def spread(machine: str, upto: int, cells: int, most: int) -> Tuple[List[Configuration], int]:
-    """At most so many of all steps of a run, evenly spaced, and how far apart they are: a power of two. Only
-    some are traced for it."""
-    every = _spaced(upto, most)
+def sample_rows(machine: str, upto: int, cells: int, most: int) -> Tuple[List[Configuration], int]:
+    """At most `most` steps of a run, evenly spaced, and their distance, a power of two. Only some steps are
+    traced for it."""
+    every = _spacing(upto, most)
     chosen = list(trace(machine, upto, cells, every=every))
-    closer = _spaced(min(upto, chosen[-1].step + every - 1), most)
+    closer = _spacing(min(upto, chosen[-1].step + every - 1), most)
     if closer < every:
         chosen, every = list(trace(machine, upto, cells, every=closer)), closer
     while every > 1 and 2 * len(chosen) - 1 <= most:
-        closer_rows = list(trace(machine, upto, cells, every=every // 2))
-        if len(closer_rows) > most:
+        rows = list(trace(machine, upto, cells, every=every // 2))
+        if len(rows) > most:
             break
-        chosen, every = closer_rows, every // 2
+        chosen, every = rows, every // 2
     return chosen, every
 
 
-def stretch(
+def visible_range(
     chosen: Sequence[Configuration], columns: Optional[int], first: Optional[int], last: Optional[int]
 ) -> Tuple[int, int, bool]:
-    """The first and the last position shown, and whether those aren't just the ones visited: those that were
-    asked for, else all, or so many `columns` of them about the middle where so many are asked for."""
+    """The first and last position shown, and whether these aren't the visited ones: the given ones, else all,
+    cut to `columns` about the middle."""
     low = min(row.low for row in chosen)
     high = max(row.low + len(row.cells) - 1 for row in chosen)
     left = low if first is None else first
@@ -106,62 +104,60 @@ def stretch(
     return left, right, (left, right) != (low, high)
 
 
-def places(row: Configuration, left: int, right: int, has_head: bool = True) -> bytes:
-    """The places of a row, each as the number of its colour; the head's as that of its symbol, where it isn't
-    to be seen."""
+def row_colours(row: Configuration, left: int, right: int, has_head: bool = True) -> bytes:
+    """The number of the colour of each place of a row. Without `has_head` the head's place has its symbol."""
     shown = bytearray([UNVISITED]) * (right - left + 1)
-    begin, end = max(left, row.low), min(right + 1, row.low + len(row.cells))
-    if begin < end:
-        cells = row.cells[begin - row.low : end - row.low].encode()
-        shown[begin - left : end - left] = cells.translate(_DIGITS)
+    start, end = max(left, row.low), min(right + 1, row.low + len(row.cells))
+    if start < end:
+        cells = row.cells[start - row.low : end - row.low].encode()
+        shown[start - left : end - left] = cells.translate(_DIGITS)
     if has_head and left <= row.position <= right:
         shown[row.position - left] = HEAD
     return bytes(shown)
 
 
-def means(places: bytes, across: int, is_rounded: bool = True) -> bytes:
-    """The mean colours of so many places each, three bytes a pixel: red, green, blue; rounded, or cut off."""
-    parts = (places[begin : begin + across] for begin in range(0, len(places), across))
+def mean_colours(row: bytes, across: int, is_rounded: bool = True) -> bytes:
+    """The mean colours of each `across` places, rounded or cut off; three bytes a pixel: red, green, blue."""
+    parts = (row[start : start + across] for start in range(0, len(row), across))
     return b"".join(_mean(part, len(part) // 2 if is_rounded else 0) for part in parts)
 
 
 @functools.lru_cache(maxsize=1 << 16)
 def _mean(part: bytes, more: int) -> bytes:
-    """The mean colour of places, to whose sums so much is added."""
+    """The mean colour of places, with `more` added to each sum."""
     sums = (sum(COLOURS[place][colour] for place in part) for colour in range(3))
     return bytes((total + more) // len(part) for total in sums)
 
 
-def _chunk(kind: bytes, data: bytes) -> bytes:
-    """A chunk of a PNG file."""
-    return struct.pack(">I", len(data)) + kind + data + struct.pack(">I", zlib.crc32(kind + data))
+def _png(wide: int, high: int, kind: int, palette: bytes, lines: bytes) -> bytes:
+    """A PNG file of lines that each start with a byte 0; kind 3 has a palette, kind 2 a colour a pixel."""
 
+    def chunk(kind: bytes, data: bytes) -> bytes:
+        return struct.pack(">I", len(data)) + kind + data + struct.pack(">I", zlib.crc32(kind + data))
 
-def _file(wide: int, high: int, kind: int, palette: bytes, lines: bytes) -> bytes:
-    """A PNG file of lines that each begin with a byte 0; kind 3 has a palette, kind 2 a colour a pixel."""
     header = struct.pack(">IIBBBBB", wide, high, 8, kind, 0, 0, 0)
-    colours = _chunk(b"PLTE", palette) if palette else b""
-    data = _chunk(b"IDAT", zlib.compress(lines, 6))
-    return b"\x89PNG\r\n\x1a\n" + _chunk(b"IHDR", header) + colours + data + _chunk(b"IEND", b"")
+    colours = chunk(b"PLTE", palette) if palette else b""
+    data = chunk(b"IDAT", zlib.compress(lines, 6))
+    return b"\x89PNG\r\n\x1a\n" + chunk(b"IHDR", header) + colours + data + chunk(b"IEND", b"")
 
 
 def png_of_colours(wide: int, high: int, rows: Iterable[bytes]) -> bytes:
-    """A PNG file of rows in which a pixel is three bytes: red, green, blue."""
-    return _file(wide, high, 2, b"", b"".join(b"\0" + row for row in rows))
+    """A PNG file of rows with three bytes a pixel: red, green, blue."""
+    return _png(wide, high, 2, b"", b"".join(b"\0" + row for row in rows))
 
 
 def png(rows: Sequence[bytes], scale: int) -> bytes:
-    """A PNG file of rows in which a place is the number of its colour, each so many pixels wide and high."""
+    """A PNG file of rows with the number of a colour for each place, each `scale` pixels wide and high."""
     lines = []
     for row in rows:
         wide = b"".join(bytes([place]) * scale for place in row) if scale > 1 else row
         lines.extend([b"\0" + wide] * scale)
     palette = bytes(part for colour in COLOURS for part in colour)
-    return _file(len(rows[0]) * scale, len(rows) * scale, 3, palette, b"".join(lines))
+    return _png(len(rows[0]) * scale, len(rows) * scale, 3, palette, b"".join(lines))
 
 
 def _refuse_large(rows: int, columns: int, scale: int) -> None:
-    """Raises PictureError where a picture of so many places, each of so many pixels a side, is too large."""
+    """Raises PictureError for a picture that is too large."""
     pixels = rows * columns * scale**2
     if pixels <= MOST_PIXELS:
         return
@@ -174,7 +170,7 @@ def _refuse_large(rows: int, columns: int, scale: int) -> None:
     raise PictureError("%s; lower rows or columns" % size)
 
 
-def _drawn(
+def _draw(
     chosen: Sequence[Configuration],
     every: int,
     is_cut: bool,
@@ -182,28 +178,24 @@ def _drawn(
     columns: Optional[int],
     *sides: Optional[int],
 ) -> Picture:
-    """The picture of these rows, between these sides. Raises PictureError where there are none, or too many
-    pixels."""
+    """The picture of these rows between these sides. Raises PictureError."""
     if not chosen:
         raise PictureError("no step to show")
-    first, last, is_part = stretch(chosen, columns, *sides)
+    first, last, is_part = visible_range(chosen, columns, *sides)
     if last < first:
         raise PictureError("no position to show")
     across = 1 if columns is not None else -(-(last - first + 1) // MOST_WIDE)
     wide = -(-(last - first + 1) // across)
     _refuse_large(len(chosen), wide, scale)
-    shown = (places(row, first, first + wide * across - 1, across == 1) for row in chosen)
+    rows = (row_colours(row, first, first + wide * across - 1, across == 1) for row in chosen)
     if across == 1:
-        data = png(list(shown), scale)
+        data = png(list(rows), scale)
     else:
-        data = _scaled((means(row, across) for row in shown), wide, len(chosen), scale)
+        means = (mean_colours(row, across) for row in rows)
+        wider = (b"".join(row[k : k + 3] * scale for k in range(0, len(row), 3)) for row in means)
+        scaled = (row for row in wider for _ in range(scale))
+        data = png_of_colours(wide * scale, len(chosen) * scale, scaled)
     return Picture(data, every, chosen[-1].step, first, last, is_cut, is_part, across)
-
-
-def _scaled(rows: Iterable[bytes], wide: int, high: int, scale: int) -> bytes:
-    """A PNG file of rows of colours, each pixel so many times as wide and high."""
-    wider = (b"".join(row[k : k + 3] * scale for k in range(0, len(row), 3)) for row in rows)
-    return png_of_colours(wide * scale, high * scale, (row for row in wider for _ in range(scale)))
 
 
 def picture(
@@ -218,14 +210,13 @@ def picture(
     right: Optional[int] = None,
     scale: int = 1,
 ) -> Picture:
-    """The space-time picture of a run of `upto` steps, or of as many as there are, or as the cells allow.
+    """The space-time picture of a run of `upto` steps, or as many as there are or the cells allow.
 
-    A row is a step, from the top down, a column a position. 0 is white, 1 black, the head red, a position not
-    visited yet grey. `every`: each of so many steps, else such a power of two that at most `rows` are left.
-    `left`, `right`: the positions shown, else all, or `columns` of them about the middle where so many are
-    asked for. Where they are more than 2,000 and no `columns` are asked for, the picture is scaled down: a
-    pixel has the mean colour of the cells that it stands for, and the head isn't seen. `scale`: how many
-    pixels a place is wide and high.
+    A row is a step, from the top down, a column a position. 0 is white, 1 black, the head red, an unvisited
+    position grey. `every`: show each `every`th step; by default a power of two with at most `rows` rows. `left`,
+    `right`: the positions shown; by default all, cut to `columns` about the middle. More than 2,000 positions
+    are scaled down unless `columns` is given: a pixel has the mean colour of its cells, and the head isn't
+    shown. `scale`: the width and height of a place in pixels.
 
     Raises what `trace` does, and PictureError.
 
@@ -237,11 +228,11 @@ def picture(
             in_range(name, asked, 1, 2**64 - 1)
     sides = [side if side is None else whole(name, side) for name, side in (("left", left), ("right", right))]
     if every is None:
-        chosen, apart = spread(machine, upto, cells, rows)
+        chosen, apart = sample_rows(machine, upto, cells, rows)
         is_cut = False
     else:
         apart = in_range("every", every, 1, 2**64 - 1)
         chosen = list(itertools.islice(trace(machine, upto, cells, every=apart), rows + 1))
         is_cut = len(chosen) > rows
         del chosen[rows:]
-    return _drawn(chosen, apart, is_cut, scale, columns, *sides)
+    return _draw(chosen, apart, is_cut, scale, columns, *sides)

@@ -1,4 +1,4 @@
-"""A decided list as one archive, which whoever gets it can check again in five ways."""
+"""Publishes a decided list as one archive, which others can check in five ways."""
 
 from __future__ import annotations
 
@@ -8,17 +8,17 @@ import itertools
 import os
 from typing import Callable, List, NoReturn, Optional, Sequence, Tuple, Union
 
-from ._archive import LINES, LIST, VERDICTS, Contents, Decided, Input, PublishError, write_new
-from ._calls import BatchPace, in_order
+from ._archive import LINES, LIST, VERDICTS, ArchivedFile, Contents, Provenance, PublishError, write_new
+from ._calls import BatchPace, map_in_order
 from ._text import LONGEST_SHOWN
-from .checking import why
 from .counts import VerdictCounts
-from .engine import checking, decide_bytes
+from .engine import check_call, decide_bytes
 from .limits import GREATEST, Limits, in_range
-from .runner.chunks import Keep
+from .runner.chunks import Retention
 from .runner.errors import FolderError
-from .runner.list_run import FinishedRun
+from .runner.folder import FinishedRun
 from .verdicts import Answer
+from .verification import explain
 
 Path = Union[str, "os.PathLike[str]"]
 
@@ -29,8 +29,8 @@ class UnconfirmedError(PublishError):
 
 @dataclasses.dataclass(frozen=True)
 class Published:
-    """An archive that was written: its path, its sha256, how many lines claim something, which the checker
-    confirmed, and how many claim nothing. As a text: its line for `sha256sum --check`."""
+    """An archive: its path, its sha256, the number of lines with a claim, which the checker confirmed, and of
+    lines without. Its text is a line for `sha256sum --check`."""
 
     path: str
     sha256: str
@@ -43,107 +43,77 @@ class Published:
     @classmethod
     def of(cls, path: str, contents: Contents) -> Published:
         """Writes an archive of these contents. Raises what `write_new` does."""
-        claims = contents.confirmed
-        return cls(path, write_new(path, contents), claims, sum(contents.seen.kinds.values()) - claims)
+        total = sum(contents.counts.kinds.values())
+        return cls(path, write_new(path, contents), contents.confirmed, total - contents.confirmed)
 
 
-def _confirmed(verdicts: Input, limits: Limits, threads: int, tell: Callable[[int], None]) -> Tuple[int, int]:
-    """Has the checker confirm all verdicts; gives how many it confirmed, and how many claim nothing. Raises
+def _confirm_all(
+    verdicts: ArchivedFile, limits: Limits, threads: int, progress: Callable[[int], None]
+) -> Tuple[int, int]:
+    """Has the checker confirm all verdicts. Returns the number of lines with a claim, and without. Raises
     UnconfirmedError."""
     confirmed, free = 0, 0
-    # A call makes its tapes anew, which takes a tenth of a second where they are large: so the batches are,
-    # too.
-    for _, reply in in_order(checking(limits), verdicts.batches(), threads, BatchPace(1)):
+    # Each call makes its tapes, which takes a tenth of a second for large ones; so the batches are large.
+    for _, reply in map_in_order(check_call(limits), verdicts.batches(), threads, BatchPace(1)):
         answers = reply.text
         lines, ok, open_ = (answers.count(word) for word in (b"\n", b"ok\n", b"open\n"))
         if ok + open_ < lines:
             _raise_unconfirmed(verdicts, confirmed + free, answers.decode().split("\n"), limits)
         confirmed, free = confirmed + ok, free + open_
-        tell(confirmed + free)
+        progress(confirmed + free)
     return confirmed, free
 
 
-def _raise_unconfirmed(verdicts: Input, before: int, answers: Sequence[str], limits: Limits) -> NoReturn:
-    """Raises the error for the first of these answers that isn't as it has to be."""
+def _raise_unconfirmed(
+    verdicts: ArchivedFile, before: int, answers: Sequence[str], limits: Limits
+) -> NoReturn:
+    """Raises the error for the first of these answers that confirms nothing."""
     place = next(place for place, answer in enumerate(answers) if answer not in ("ok", "open"))
     number, answer = before + place, Answer(answers[place])
     line = next(itertools.islice(verdicts.lines(), number, None), b"").decode("utf-8", "surrogateescape")
-    parts = (verdicts.path, number + 1, answer, LONGEST_SHOWN, line, why(line, answer, limits))
+    parts = (verdicts.path, number + 1, answer, LONGEST_SHOWN, line, explain(line, answer, limits))
     raise UnconfirmedError("%s:%d: %s: %.*s: %s" % parts)
 
 
-def _shown(line: bytes) -> str:
-    return repr(line[:LONGEST_SHOWN].decode("utf-8", "backslashreplace"))
-
-
-def _seen(verdicts: Input) -> VerdictCounts:
-    """What verdicts have."""
-    seen = VerdictCounts()
-    for line in verdicts.lines():
-        seen.add(line.decode())
-    return seen
-
-
-def _seen_beside(machines: Input, verdicts: Input) -> VerdictCounts:
-    """What verdicts have, where each belongs to the line of the list at its place. Raises PublishError where
-    one doesn't."""
-    seen = VerdictCounts()
+def _count_beside(machines: ArchivedFile, verdicts: ArchivedFile) -> VerdictCounts:
+    """The counts of verdicts. Raises PublishError unless each belongs to the line of the list at its place."""
+    counts = VerdictCounts()
     refused: List[Tuple[int, bytes, bytes]] = []
     pairs = itertools.zip_longest(machines.lines(), verdicts.lines())
     for number, (line, verdict) in enumerate(pairs, 1):
         if line is None or verdict is None:
             short, other = (machines, verdicts) if line is None else (verdicts, machines)
             raise PublishError("%s has %d lines, and %s has more" % (short.path, number - 1, other.path))
-        machine = seen.add(verdict.decode())
+        machine = counts.add(verdict.decode())
         if not machine:
             refused.append((number, line, verdict))
         elif machine.encode() != line:
-            _raise_other(machines, verdicts, number, line)
+            _raise_mismatch(machines, verdicts, number, line)
         if len(refused) == LINES:
-            _hold_refused(machines, verdicts, refused)
+            _require_refused(machines, verdicts, refused)
             refused.clear()
-    _hold_refused(machines, verdicts, refused)
-    return seen
+    _require_refused(machines, verdicts, refused)
+    return counts
 
 
-def _raise_other(machines: Input, verdicts: Input, number: int, line: bytes) -> NoReturn:
-    """Raises the error for a line of the list to which its verdict doesn't belong."""
+def _raise_mismatch(machines: ArchivedFile, verdicts: ArchivedFile, number: int, line: bytes) -> NoReturn:
+    """Raises the error for a line of the list that has another verdict."""
+    shown = repr(line[:LONGEST_SHOWN].decode("utf-8", "backslashreplace"))
     raise PublishError(
         "%s:%d: line %d of %s isn't the verdict on %s; the list has one machine a line, as `budlarem read`"
-        " writes them, in the order of the verdicts"
-        % (machines.path, number, number, verdicts.path, _shown(line))
+        " writes them, in the order of the verdicts" % (machines.path, number, number, verdicts.path, shown)
     )
 
 
-def _hold_refused(machines: Input, verdicts: Input, refused: Sequence[Tuple[int, bytes, bytes]]) -> None:
-    """Raises PublishError where a line of the list isn't refused as its verdict says."""
+def _require_refused(
+    machines: ArchivedFile, verdicts: ArchivedFile, refused: Sequence[Tuple[int, bytes, bytes]]
+) -> None:
+    """Raises PublishError for a line of the list that isn't refused as its verdict says."""
     given = b"".join(line + b"\n" for _, line, _ in refused)
     replies = b"".join(decide_bytes(given, Limits(0, 1, 0, 0))).split(b"\n")
     for (number, line, verdict), reply in zip(refused, replies):
         if reply != verdict:
-            _raise_other(machines, verdicts, number, line)
-
-
-def _decision_of(run: FinishedRun) -> Decided:
-    """How the verdicts of a run were decided. Raises PublishError where it kept only some, FolderError where
-    its journals aren't of it."""
-    if run.summary.kept != str(Keep()):
-        raise PublishError(
-            "%s has only the verdicts that --keep %s kept, and all are published; decide the list without"
-            " --keep, in another folder" % (os.path.dirname(run.verdicts), run.summary.kept)
-        )
-    run.require_journals()
-    return Decided(tuple(one.limits for one in run.summary.passes), run.summary.identity)
-
-
-def _hold_out(path: str) -> None:
-    """Raises PublishError where an archive can't have this name."""
-    if not path.endswith(".tar"):
-        raise PublishError(
-            "%s: what is written is a tar archive, so a name that ends in .tar is asked for" % path
-        )
-    if os.path.lexists(path):
-        raise PublishError("%s is there already; give another name, or take it away first" % path)
+            _raise_mismatch(machines, verdicts, number, line)
 
 
 def publish(
@@ -154,59 +124,59 @@ def publish(
     passes: Sequence[Limits] = (),
     limits: Limits = GREATEST,
     threads: int = 1,
-    tell: Callable[[int], None] = lambda lines: None,
+    progress: Callable[[int], None] = lambda lines: None,
 ) -> Published:
-    """Writes one archive, which others can check, of verdict lines, or of a folder of `budlarem run`, and of
-    the list `machines`, where it is given. The files may be compressed by gzip; in the archive they aren't.
+    """Writes one archive, which others can check, of verdict lines or a folder of `budlarem run`, and of the
+    list `machines`, if given. The files may be gzips; the archive has them uncompressed.
 
-    The checker has to confirm each claim within `limits`, on so many `threads`, and each line of the list to
-    have its verdict at its place. `passes` says with which limits the verdicts were decided; a run's folder
-    says it itself. `tell` is called with how many lines were checked. The same contents are the same bytes.
+    The checker has to confirm each claim within `limits`, on `threads` cores, and each line of the list has to
+    have its verdict at its place. `passes` are the limits by which the verdicts were decided; a run's folder
+    has them. `progress` is called with the number of checked lines. The same contents are the same bytes.
 
-    Raises PublishError, a ValueError, where `path` is there already or doesn't end in `.tar`, where list and
-    verdicts don't go together, or a file changes meanwhile; UnconfirmedError, one of them, for a verdict that
-    isn't confirmed; OSError where a file can't be read or written. Nothing is left at `path` then.
+    Raises PublishError, a ValueError, if `path` exists or doesn't end in `.tar`, list and verdicts don't match,
+    or a file changes meanwhile; UnconfirmedError, one of them, for a verdict that isn't confirmed; OSError if a
+    file can't be read or written. Nothing is left at `path` then.
     """
     out, given = os.fspath(path), os.fspath(verdicts)
     in_range("threads", threads, 1, 1_024)
-    _hold_out(out)
+    if not out.endswith(".tar"):
+        raise PublishError("%s: the output is a tar archive, so give a name that ends in .tar" % out)
+    if os.path.lexists(out):
+        raise PublishError("%s exists already; give another name, or take it away first" % out)
     if os.path.isdir(given) and passes:
-        raise PublishError("%s says itself with which limits it was decided" % given)
-    listed = None if machines is None else Input(os.fspath(machines), LIST)
+        raise PublishError("%s has the limits by which it was decided" % given)
+    listed = None if machines is None else ArchivedFile(os.fspath(machines), LIST)
+
+    def contents_of(verdicts: str, provenance: Provenance) -> Contents:
+        lines = ArchivedFile(verdicts, VERDICTS)
+        confirmed, free = _confirm_all(lines, limits, threads, progress)
+        if confirmed + free == 0:
+            raise PublishError("%s has no line" % lines.path)
+        counts = VerdictCounts() if listed is None else _count_beside(listed, lines)
+        for line in lines.lines() if listed is None else ():
+            counts.add(line.decode())
+        return Contents(listed, lines, counts, provenance, confirmed)
+
     try:
-        if os.path.isdir(given):
-            return _published_run(out, given, listed, limits, threads, tell)
-        contents = _contents(Input(given, VERDICTS), listed, Decided(tuple(passes)), limits, threads, tell)
-        return Published.of(out, contents)
+        if not os.path.isdir(given):
+            return Published.of(out, contents_of(given, Provenance(tuple(passes))))
+        with contextlib.closing(FinishedRun(given)) as run:
+            contents = contents_of(run.verdicts, _provenance_of(run))
+            run.require_verdicts(contents.verdicts.checksum, contents.counts.kinds)
+            return Published.of(out, contents)
     except FolderError as error:
         raise PublishError(str(error)) from None
     except FileExistsError:
-        raise PublishError("%s was made by another meanwhile, and stays as it is" % out) from None
+        raise PublishError("%s was made by another process meanwhile, and stays as it is" % out) from None
 
 
-def _published_run(
-    out: str, folder: str, listed: Optional[Input], limits: Limits, threads: int, tell: Callable[[int], None]
-) -> Published:
-    """Publishes the verdicts of a run. Raises PublishError, FolderError where summary, verdicts and journals
-    aren't of one run, OSError."""
-    with contextlib.closing(FinishedRun(folder)) as run:
-        lines = Input(run.verdicts, VERDICTS)
-        contents = _contents(lines, listed, _decision_of(run), limits, threads, tell)
-        run.require_verdicts(lines.checksum, contents.seen.kinds)
-        return Published.of(out, contents)
-
-
-def _contents(
-    lines: Input,
-    listed: Optional[Input],
-    decided: Decided,
-    limits: Limits,
-    threads: int,
-    tell: Callable[[int], None],
-) -> Contents:
-    """What an archive of these verdicts is made of. Raises PublishError, OSError."""
-    confirmed, free = _confirmed(lines, limits, threads, tell)
-    if confirmed + free == 0:
-        raise PublishError("%s has no line" % lines.path)
-    seen = _seen(lines) if listed is None else _seen_beside(listed, lines)
-    return Contents(listed, lines, seen, decided, confirmed)
+def _provenance_of(run: FinishedRun) -> Provenance:
+    """The provenance of a run's verdicts. Raises PublishError if it kept only some, FolderError if its journals
+    don't match."""
+    if run.summary.kept != str(Retention()):
+        raise PublishError(
+            "%s has only the verdicts that --keep %s kept, and all are published; decide the list without"
+            " --keep, in another folder" % (os.path.dirname(run.verdicts), run.summary.kept)
+        )
+    run.require_journals()
+    return Provenance(tuple(one.limits for one in run.summary.passes), run.summary.identity)

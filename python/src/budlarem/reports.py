@@ -20,57 +20,59 @@ from typing import Any, Counter, Dict, Iterable, Iterator, List, Optional, Seque
 from ._files import FileTarget, write_blocks
 from .counts import KINDS, VerdictCounts
 from .engine import Configuration
-from .growth import Grown, Growth, grown
+from .growth import Growth, GrowthSamples, measure_growth
 from .limits import Limits, in_range
-from .pictures import means, places, png, png_of_colours, spread
+from .pictures import mean_colours, png, png_of_colours, row_colours, sample_rows
 from .verdicts import Verdict, size_of, verdicts_of
 
-# The plots, and the numbers that each has.
+# The plots, and the numbers of each.
 _PLOTS = {
     "steps of halts, second steps of pairs": ("halt steps", "cycler second", "translated second"),
     "shifts of translated cyclers": ("translated shift",),
     "levels of backward trees": ("backward levels",),
 }
 _PLOTTED = {name: plot for plot, names in _PLOTS.items() for name in names}
-# How many pixels a diagram has at most, across and down.
+# The most pixels of a diagram, across and down.
 SIZE = 240
 _PAGE = pathlib.Path(__file__).with_name("report.html")
-# Colours that stand in a plot for those of the page, which differ in light and dark.
+# Colours of a plot, replaced by those of the page, which differ in light and dark.
 _INK, _BAR = "#010203", "#040506"
 
 
 class ReportError(RuntimeError):
-    """What a report needs isn't installed. The text says what would do."""
+    """matplotlib isn't installed. The text has advice."""
 
 
 @dataclasses.dataclass(frozen=True)
 class Report:
-    """A report that was written: the path of its file, its title, and its text. A notebook shows it."""
+    """A report: the path of its file, its title, and its text. A notebook shows it."""
 
     path: str
     title: str
     html: str = dataclasses.field(repr=False)
 
     def _repr_html_(self) -> str:
-        # In a frame, so that neither the page's styles nor the notebook's reach the other.
-        shown = html.escape(self.title), html.escape(self.html)
+        # A frame keeps the styles of the page and the notebook apart.
         return (
             '<iframe title="%s" srcdoc="%s" style="width:100%%;height:40rem;border:1px solid #8886"></iframe>'
-            % shown
+            % (html.escape(self.title), html.escape(self.html))
         )
 
 
-class Gathered(VerdictCounts):
-    """The counts of a list, distributions of its numbers, and the smallest undecided machines."""
+class Statistics(VerdictCounts):
+    """The counts of a list, the distributions of its numbers, and the `most` smallest undecided machines. Raises
+    ValueError with its place for a text that is no verdict line."""
 
-    def __init__(self, most: int) -> None:
+    def __init__(self, verdicts: Iterable[Union[str, Verdict]], most: int) -> None:
         super().__init__()
         self.bins: Dict[str, Counter[int]] = collections.defaultdict(collections.Counter)
         self.smallest: List[Tuple[int, str]] = []
         self._most = most
+        for verdict in verdicts_of(verdicts, "verdicts"):
+            self.add(str(verdict))
 
-    def _take(self, kind: str, numbers: Dict[str, int], line: str) -> None:
-        super()._take(kind, numbers, line)
+    def _add_numbers(self, kind: str, numbers: Dict[str, int], line: str) -> None:
+        super()._add_numbers(kind, numbers, line)
         for name, number in numbers.items():
             plot = _PLOTTED.get("%s %s" % (kind, name))
             if plot is not None:
@@ -82,26 +84,18 @@ class Gathered(VerdictCounts):
 
 
 def bin_of(number: int) -> int:
-    """The bar of a distribution that a number belongs to: each number up to 10, then ten for each power of
+    """The bar of a distribution that has a number: one for each number up to 10, then ten for each power of
     ten."""
     return number if number <= 10 else math.floor(10 * math.log10(number))
 
 
-def begin_of(place: int) -> float:
-    """Where a bar begins: half a number below the least one, for small ones."""
+def start_of(place: int) -> float:
+    """The start of a bar: half a number below a small one."""
     return place - 0.5 if place <= 10 else 10 ** (place / 10)
 
 
-def gathered(verdicts: Iterable[Union[str, Verdict]], most: int) -> Gathered:
-    """What a list has. Raises ValueError, with its place, for a text that is no verdict line."""
-    found = Gathered(most)
-    for verdict in verdicts_of(verdicts, "verdicts"):
-        found.add(str(verdict))
-    return found
-
-
-def _modules() -> Tuple[Any, Any, Any]:
-    """What is needed of matplotlib. Raises ReportError."""
+def _import_matplotlib() -> Tuple[Any, Any, Any]:
+    """The parts of matplotlib that a report uses. Raises ReportError."""
     try:
         from matplotlib import rc_context
         from matplotlib.figure import Figure
@@ -116,15 +110,15 @@ def _modules() -> Tuple[Any, Any, Any]:
 
 def plot(counts: Counter[int], name: str) -> str:
     """A distribution as an SVG image."""
-    rc_context, figure_of, locator_of = _modules()
+    rc_context, figure_of, locator_of = _import_matplotlib()
     with rc_context({"svg.hashsalt": name, "svg.fonttype": "none", "font.size": 9, "text.color": _INK}):
         figure = figure_of(figsize=(4.6, 2.4), layout="constrained")
         axes = figure.subplots()
-        begins = [begin_of(place) for place in sorted(counts)]
-        ends = [begin_of(place + 1) for place in sorted(counts)]
+        starts = [start_of(place) for place in sorted(counts)]
+        ends = [start_of(place + 1) for place in sorted(counts)]
         heights = [counts[place] for place in sorted(counts)]
-        widths = [0.9 * (end - begin) for begin, end in zip(begins, ends)]
-        lefts = [begin + width / 18 for begin, width in zip(begins, widths)]
+        widths = [0.9 * (end - start) for start, end in zip(starts, ends)]
+        lefts = [start + width / 18 for start, width in zip(starts, widths)]
         axes.bar(lefts, heights, widths, align="edge", color=_BAR)
         axes.set_yscale("log")
         axes.set_ylim(bottom=0.7)
@@ -132,7 +126,7 @@ def plot(counts: Counter[int], name: str) -> str:
             axes.set_xscale("symlog", linthresh=10, linscale=1)
         else:
             axes.xaxis.set_major_locator(locator_of(integer=True, min_n_ticks=1))
-        axes.set_xlim(begins[0] if max(counts) <= 10 else -0.5, ends[-1])
+        axes.set_xlim(starts[0] if max(counts) <= 10 else -0.5, ends[-1])
         axes.set_xlabel(name)
         axes.set_ylabel("machines")
         _colour(axes)
@@ -155,38 +149,37 @@ def _colour(axes: Any) -> None:
 
 
 def diagram(rows: Sequence[Configuration]) -> bytes:
-    """A space-time diagram of at most SIZE by SIZE pixels, as a PNG file. Where more positions were visited,
-    a pixel has the mean colour of some."""
+    """A space-time diagram of at most SIZE by SIZE pixels, as a PNG file. A wide one has the mean colours of
+    several positions."""
     low = min(row.low for row in rows)
     high = max(row.low + len(row.cells) for row in rows)
-    together = -(-(high - low) // SIZE)
-    wide = -(-(high - low) // together)
-    lines = [places(row, low, low + wide * together - 1, together == 1) for row in rows]
-    if together == 1:
+    across = -(-(high - low) // SIZE)
+    wide = -(-(high - low) // across)
+    lines = [row_colours(row, low, low + wide * across - 1, across == 1) for row in rows]
+    if across == 1:
         return png(lines, 1)
-    return png_of_colours(wide, len(rows), (means(line, together, False) for line in lines))
+    return png_of_colours(wide, len(rows), (mean_colours(line, across, False) for line in lines))
 
 
 @dataclasses.dataclass(frozen=True)
-class Shown:
-    """An undecided machine as the report shows it."""
+class MachineDiagram:
+    """An undecided machine of the report."""
 
     machine: str
-    grown: Grown
+    growth: GrowthSamples
     png: bytes
 
 
-def shown(machine: str, steps: int, cells: int) -> Shown:
-    """Traces a machine for the report."""
-    rows, _ = spread(machine, steps, cells, SIZE)
-    return Shown(machine, grown(machine, steps, cells), diagram(rows))
+def trace_all(machines: Sequence[str], steps: int, cells: int, threads: int) -> List[MachineDiagram]:
+    """Traces machines for the report, on so many threads, in order."""
 
+    def trace_machine(machine: str) -> MachineDiagram:
+        rows, _ = sample_rows(machine, steps, cells, SIZE)
+        return MachineDiagram(machine, measure_growth(machine, steps, cells), diagram(rows))
 
-def all_shown(machines: Sequence[str], steps: int, cells: int, threads: int) -> List[Shown]:
-    """The same of all, on so many threads, in order."""
     pool = concurrent.futures.ThreadPoolExecutor(threads)
     try:
-        return list(pool.map(lambda machine: shown(machine, steps, cells), machines))
+        return list(pool.map(trace_machine, machines))
     finally:
         pool.shutdown(wait=False, cancel_futures=True)
 
@@ -195,7 +188,7 @@ def _number(number: float) -> str:
     return "{:,}".format(number)
 
 
-def _counts(found: Gathered) -> Iterator[str]:
+def _counts(found: Statistics) -> Iterator[str]:
     total = sum(found.kinds.values())
     for name in KINDS:
         count = found.kinds[name]
@@ -208,13 +201,7 @@ def _counts(found: Gathered) -> Iterator[str]:
     yield '<tr class="all"><th scope="row">all</th><td>%s</td><td></td><td></td></tr>' % _number(total)
 
 
-def _plots(found: Gathered) -> Iterator[str]:
-    for name in _PLOTS:
-        if found.bins[name]:
-            yield "<figure>%s</figure>" % plot(found.bins[name], name)
-
-
-def _longest(found: Gathered) -> Iterator[str]:
+def _longest(found: Statistics) -> Iterator[str]:
     for kind in ("halt", "cycler", "translated"):
         runs = sorted(found.longest.get(kind, []), key=lambda run: (-run[0], run[1]))
         if runs:
@@ -222,32 +209,32 @@ def _longest(found: Gathered) -> Iterator[str]:
             yield "<h3>%s</h3><pre>%s</pre>" % (kind, lines)
 
 
-def _card(one: Shown) -> str:
-    """A diagram with what stands beside it."""
+def _card(one: MachineDiagram) -> str:
+    """A diagram with its caption."""
     image = base64.b64encode(one.png).decode()
-    said = "%s cells, last step %s" % (_number(one.grown.visited[-1]), _number(one.grown.steps))
+    caption = "%s cells, last step %s" % (_number(one.growth.visited[-1]), _number(one.growth.steps))
     machine = html.escape(one.machine)
     return (
         '<figure class="card"><img loading="lazy" alt="Space-time diagram of %s" '
         'src="data:image/png;base64,%s">'
-        "<figcaption><code>%s</code><br>%s</figcaption></figure>" % (machine, image, machine, said)
+        "<figcaption><code>%s</code><br>%s</figcaption></figure>" % (machine, image, machine, caption)
     )
 
 
-def _groups(machines: Sequence[Shown]) -> Iterator[str]:
-    """The diagrams by how the cells grow; in each group small machines first, then those of few cells."""
+def _groups(machines: Sequence[MachineDiagram]) -> Iterator[str]:
+    """The diagrams by growth; in each group small machines first, then those of few cells."""
     for kind in Growth:
-        group = [one for one in machines if one.grown.growth is kind]
-        group.sort(key=lambda one: (math.prod(size_of(one.machine)), one.grown.visited[-1], one.machine))
+        group = [one for one in machines if one.growth.growth is kind]
+        group.sort(key=lambda one: (math.prod(size_of(one.machine)), one.growth.visited[-1], one.machine))
         if group:
             cards = "".join(map(_card, group))
             yield '<h3>%s: %s</h3><div class="cards">%s</div>' % (_GROWTHS[kind], _number(len(group)), cards)
 
 
 _DIAGRAMS = (
-    "A row is a step, from the top down; a column is a position. The head is red. Where many positions were"
-    " visited, a pixel has the mean colour of some, and the head isn't shown. How the cells grow is a guess"
-    " from three looks at the run."
+    "A row is a step, from the top down; a column is a position. The head is red. In a diagram of many"
+    " positions, a pixel has the mean colour of several, and the head isn't shown. The growth of the cells is"
+    " estimated from three samples of the run."
 )
 _GROWTHS = {
     Growth.STAYS: "Cells stay",
@@ -258,24 +245,20 @@ _GROWTHS = {
 }
 
 
-def _left(count: int, left: int) -> str:
-    """What is said of so many diagrams of so many machines that are left."""
-    if not left:
-        return "No machine is left undecided."
-    sentence = "%s of %s undecided machines are shown." % (_number(count), _number(left))
-    return "%s %s" % (sentence, _DIAGRAMS) if count else sentence
-
-
-def _page(found: Gathered, machines: Sequence[Shown], title: str) -> str:
-    parts = {
-        "title": html.escape(title),
-        "counts": "".join(_counts(found)),
-        "plots": "".join(_plots(found)) or "<p>No verdict has numbers.</p>",
-        "longest": "".join(_longest(found)) or "<p>No run is known.</p>",
-        "left": _left(len(machines), found.left()),
-        "diagrams": "".join(_groups(machines)),
-    }
-    return string.Template(_PAGE.read_text(encoding="utf-8")).substitute(parts)
+def _page(found: Statistics, machines: Sequence[MachineDiagram], title: str) -> str:
+    undecided = "No machine is left undecided."
+    if found.undecided():
+        pair = _number(len(machines)), _number(found.undecided())
+        undecided = "%s of %s undecided machines are shown." % pair + (" " + _DIAGRAMS if machines else "")
+    plots = ("<figure>%s</figure>" % plot(found.bins[name], name) for name in _PLOTS if found.bins[name])
+    return string.Template(_PAGE.read_text(encoding="utf-8")).substitute(
+        title=html.escape(title),
+        counts="".join(_counts(found)),
+        plots="".join(plots) or "<p>No verdict has numbers.</p>",
+        longest="".join(_longest(found)) or "<p>No run is known.</p>",
+        left=undecided,
+        diagrams="".join(_groups(machines)),
+    )
 
 
 def report(
@@ -288,26 +271,25 @@ def report(
     threads: Optional[int] = None,
     title: str = "Verdicts",
 ) -> Report:
-    """Writes one HTML file on a list of verdicts or verdict lines: counts, distributions, the longest runs,
-    and a space-time diagram for undecided machines, smallest first, at most so many `diagrams`, grouped by
-    how their cells grow.
+    """Writes one HTML file on a list of verdicts or verdict lines: counts, distributions, the longest runs, and
+    space-time diagrams of at most `diagrams` undecided machines, smallest first, grouped by the growth of their
+    cells.
 
-    An undecided machine is run again, up to `steps` steps and `cells` cells, on so many `threads` (as many as
-    there are cores where not said). The list is read once and not held. The file that is at `path` when this
-    is called is replaced whole; a link there isn't followed. A notebook shows what is given back.
+    An undecided machine is run again, up to `steps` and `cells`, on `threads` (default: all cores). The list is
+    read once and not held. The file at `path` is replaced atomically; a link there isn't followed. A notebook
+    shows the result.
 
-    Raises ReportError where matplotlib is missing, before anything is read; ValueError with its
-    place for a text that is no verdict line; OSError where the file can't be written, where `path` is a link
-    or a folder, or where another file is made there meanwhile.
+    Raises ReportError without matplotlib, before anything is read; ValueError with its place for a text that is
+    no verdict line; OSError if the file can't be written, `path` is a link or a folder, or another file is made
+    there meanwhile.
     """
     in_range("diagrams", diagrams, 0, 1_000_000)
     in_range("steps", steps, 100, Limits.RANGES["steps"][1])
     in_range("cells", cells, *Limits.RANGES["cells"])
-    _modules()
+    _import_matplotlib()
     with contextlib.closing(FileTarget(os.fspath(path))) as target:
-        found = gathered(verdicts, diagrams)
+        found = Statistics(verdicts, diagrams)
         machines = [machine for _, machine in found.smallest]
-        pictured = all_shown(machines, steps, cells, threads or os.cpu_count() or 1)
-        page = _page(found, pictured, title)
+        page = _page(found, trace_all(machines, steps, cells, threads or os.cpu_count() or 1), title)
         target.write(lambda number: write_blocks(number, [page.encode("utf-8")]))
     return Report(os.fspath(path), title, page)

@@ -1,28 +1,28 @@
-"""What is said of a machine: verdicts, the answers of the checker, and their lines."""
+"""Verdicts on machines, the answers of the checker, and their lines."""
 
 from __future__ import annotations
 
 import dataclasses
 import functools
 import re
-from typing import Callable, ClassVar, Dict, Iterable, Iterator, List, Optional, Pattern, Tuple, Union
+from typing import Callable, ClassVar, Dict, Iterable, Iterator, Optional, Pattern, Tuple, Union
 
 from ._text import LONGEST_SHOWN, LONGEST_VALUE, Words
 from .limits import whole
 
 STATES = "ABCDEFGHIJKLMNOPQRSTUVWXY"
 MOST_SYMBOLS = 10
-# How many bytes the longest machine has.
+# The length of the longest machine.
 LONGEST = len(STATES) * (3 * MOST_SYMBOLS + 1) - 1
 _NUMBER = re.compile("0|[1-9][0-9]*")
 _TOO_GREAT = 2**64
 
 
 class Answer(Words):
-    """What the checker answers to a verdict line: the first of these that applies.
+    """The checker's answer to a verdict line: the first of these that applies.
 
-    `UNREAD`: it is no verdict line. `OPEN`: it claims nothing. `OVER`: it names more than the limits have, or
-    its run needs more cells. `OK`: its claim holds. `BAD`: its claim doesn't hold.
+    `UNREAD`: it is no verdict line. `OPEN`: it claims nothing. `OVER`: it exceeds the limits, or its run needs
+    more cells. `OK`: its claim holds. `BAD`: its claim doesn't hold.
     """
 
     OK = "ok"
@@ -34,7 +34,7 @@ class Answer(Words):
 
 @dataclasses.dataclass(frozen=True)
 class Halt:
-    """The machine halts after so many steps, with so many cells that aren't 0."""
+    """The machine halts after `steps` steps, with `score` cells that aren't 0."""
 
     machine: str
     steps: int
@@ -47,7 +47,7 @@ class Halt:
 
 @dataclasses.dataclass(frozen=True)
 class Cycler:
-    """The machine never halts: the configuration at step `first` comes again at step `second`."""
+    """The machine never halts: the configurations at steps `first` and `second` are the same."""
 
     machine: str
     first: int
@@ -60,7 +60,7 @@ class Cycler:
 
 @dataclasses.dataclass(frozen=True)
 class Extent:
-    """How two records lie: by how many cells the second is farther out, and how many cells agree."""
+    """The extent of two records: the second is `shift` cells farther out, and `length` cells agree."""
 
     shift: int
     length: int
@@ -68,8 +68,8 @@ class Extent:
 
 @dataclasses.dataclass(frozen=True)
 class Translated:
-    """The machine never halts: at steps `first` and `second` its head is farther out on `side` than ever
-    before, and the same pattern lies behind it. A line that somebody else wrote may have no extent."""
+    """The machine never halts: at steps `first` and `second` its head is farther out on `side` than ever before,
+    with the same pattern behind it. Lines of other origin may have no extent."""
 
     machine: str
     side: str
@@ -85,8 +85,8 @@ class Translated:
 
 @dataclasses.dataclass(frozen=True)
 class Backward:
-    """The machine never halts: what could come before a halt is a tree of so many levels and nodes, and the
-    start fits none of them."""
+    """The machine never halts: the configurations that can lead to a halt make a tree of so many levels and nodes,
+    and the start fits none of them."""
 
     machine: str
     levels: int
@@ -99,7 +99,7 @@ class Backward:
 
 @dataclasses.dataclass(frozen=True)
 class Undecided:
-    """No decider found anything; `reason` is the limit that ended the run, `steps` or `cells`."""
+    """No decider found anything. `reason` is the limit that ended the run, `steps` or `cells`."""
 
     machine: str
     reason: str
@@ -111,9 +111,8 @@ class Undecided:
 
 @dataclasses.dataclass(frozen=True)
 class Refused:
-    """A line that is no machine. `column` is 1 plus the length, in bytes, of its longest prefix that begins
-    a machine. `machine` is the text that `decide` was given; a verdict line doesn't have it, so it is None
-    after `parse`, and isn't compared."""
+    """A line that is no machine. `column` is 1 plus the length, in bytes, of its longest prefix that starts a
+    machine. `machine` is the input of `decide`, and None after `parse`; it isn't compared."""
 
     column: int
     machine: Optional[str] = dataclasses.field(default=None, compare=False)
@@ -123,9 +122,9 @@ class Refused:
         return "refused %d" % self.column
 
 
-# What is said of a machine that a line has.
-OfMachine = Union[Halt, Cycler, Translated, Backward, Undecided]
-Verdict = Union[OfMachine, Refused]
+# The verdicts that have a machine.
+MachineVerdict = Union[Halt, Cycler, Translated, Backward, Undecided]
+Verdict = Union[MachineVerdict, Refused]
 VERDICTS = (Halt, Cycler, Translated, Backward, Undecided, Refused)
 _OF_TWO_NUMBERS: Dict[str, Callable[[str, int, int], Verdict]] = {
     "halt": Halt,
@@ -134,9 +133,8 @@ _OF_TWO_NUMBERS: Dict[str, Callable[[str, int, int], Verdict]] = {
 }
 
 
-def hold_fields(name: str, verdict: Union[Verdict, Extent]) -> None:
-    """Raises TypeError where a field of a verdict, which is called so, has another type than it must have:
-    its line would say something else."""
+def require_field_types(name: str, verdict: Union[Verdict, Extent]) -> None:
+    """Raises TypeError if a field of the verdict `name` has the wrong type: its line would be another one."""
     for field in dataclasses.fields(verdict):
         given, kind = getattr(verdict, field.name), str(field.type)
         if kind == "int":
@@ -147,26 +145,25 @@ def hold_fields(name: str, verdict: Union[Verdict, Extent]) -> None:
     if isinstance(verdict, Translated) and verdict.extent is not None:
         if not isinstance(verdict.extent, Extent):
             raise TypeError("%s.extent is of type %s, not Extent" % (name, type(verdict.extent).__name__))
-        hold_fields(name + ".extent", verdict.extent)
+        require_field_types(name + ".extent", verdict.extent)
 
 
 @functools.lru_cache(maxsize=None)
 def _shape(states: int, symbols: int) -> Pattern[str]:
-    """What the text of each machine of so many states and symbols has to match."""
+    """The pattern of all machines of so many states and symbols."""
     entry = "(?:[0-%d][LR][%sZ]|---)" % (symbols - 1, STATES[:states])
     group = entry + "{%d}" % symbols
     return re.compile("%s(?:_%s){%d}" % (group, group, states - 1))
 
 
 def size_of(machine: str) -> Tuple[int, int]:
-    """How many states and symbols a machine's text has; for other texts any numbers."""
+    """The states and symbols of a machine; any numbers for another text."""
     states = machine.count("_") + 1
     return states, ((len(machine) + 1) // states - 1) // 3
 
 
 def is_machine(text: str) -> bool:
-    """Whether a text is a machine of 1 to 25 states and 2 to 10 symbols. Raises TypeError where it is no
-    text.
+    """Whether a text is a machine of 1 to 25 states and 2 to 10 symbols. Raises TypeError.
 
     >>> is_machine("1RB1LB_1LA1RZ"), is_machine("1RB1LC_1LA1RZ")
     (True, False)
@@ -180,7 +177,7 @@ def is_machine(text: str) -> bool:
 
 
 def whole_number(word: str) -> int:
-    """The number below 2^64 that a word is, without sign or leading zeros. Raises ValueError."""
+    """The number of a word: below 2^64, without sign or leading zeros. Raises ValueError."""
     if len(word) > 20 or not _NUMBER.fullmatch(word) or int(word) >= _TOO_GREAT:
         raise ValueError
     return int(word)
@@ -189,20 +186,15 @@ def whole_number(word: str) -> int:
 Reader = Callable[[str], int]
 
 
-def _translated(machine: str, words: List[str], number: Reader) -> Verdict:
-    side, first, second, *extent = words
-    if side not in ("L", "R") or len(extent) not in (0, 2):
-        raise ValueError
-    found = Extent(number(extent[0]), number(extent[1])) if extent else None
-    return Translated(machine, side, number(first), number(second), found)
-
-
 def verdict_of(machine: str, words: str, number: Reader = int) -> Verdict:
-    """The verdict on a machine whose line goes on with these words, of which `number` reads the numbers.
-    Raises ValueError."""
+    """The verdict on a machine with these words; `number` reads the numbers. Raises ValueError."""
     kind, *others = words.split(" ")
     if kind == "translated":
-        return _translated(machine, others, number)
+        side, first, second, *extent = others
+        if side not in ("L", "R") or len(extent) not in (0, 2):
+            raise ValueError
+        found = Extent(number(extent[0]), number(extent[1])) if extent else None
+        return Translated(machine, side, number(first), number(second), found)
     if kind in _OF_TWO_NUMBERS:
         first, second = others
         return _OF_TWO_NUMBERS[kind](machine, number(first), number(second))
@@ -211,18 +203,10 @@ def verdict_of(machine: str, words: str, number: Reader = int) -> Verdict:
     return Undecided(machine, others[0])
 
 
-def _refused(words: List[str]) -> Refused:
-    (column,) = words
-    number = whole_number(column)
-    if not 1 <= number <= LONGEST + 1:
-        raise ValueError
-    return Refused(number)
-
-
 def parse(line: str) -> Verdict:
-    """The verdict of a verdict line, without its newline; `str` of it is the line again.
+    """The verdict of a verdict line, without its newline; its `str` is the line.
 
-    Raises ValueError for each text that the checker calls `unread`, TypeError where it isn't a text.
+    Raises ValueError for each text that the checker calls `unread`, TypeError for anything but a text.
 
     >>> parse("1RB1LB_1LA1RZ halt 6 4")
     Halt(machine='1RB1LB_1LA1RZ', steps=6, score=4)
@@ -237,7 +221,10 @@ def parse(line: str) -> Verdict:
     machine, _, words = line.partition(" ")
     try:
         if machine == "refused":
-            return _refused(words.split(" "))
+            column = whole_number(words)
+            if not 1 <= column <= LONGEST + 1:
+                raise ValueError
+            return Refused(column)
         if not is_machine(machine):
             raise ValueError
         return verdict_of(machine, words, whole_number)
@@ -246,8 +233,8 @@ def parse(line: str) -> Verdict:
 
 
 def verdicts_of(items: Iterable[Union[str, Verdict]], name: str) -> Iterator[Verdict]:
-    """The verdicts of verdicts and lines, which may have fields behind a tab. Raises ValueError, TypeError,
-    with the place in the list, which is called so."""
+    """The verdicts of verdicts and lines, which may have fields behind a tab. Raises ValueError, TypeError, with
+    the place in the list `name`."""
     for place, item in enumerate(items):
         if not isinstance(item, VERDICTS):
             try:

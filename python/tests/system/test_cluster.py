@@ -9,7 +9,7 @@ import random
 import signal
 import subprocess
 import time
-from typing import Dict, Iterator, List, Tuple
+from typing import Iterator, Tuple
 
 import pytest
 from support.clusters import Cluster, changed_package, cluster
@@ -20,13 +20,13 @@ from support.runs import (
     PASSES,
     Case,
     Process,
-    decided,
-    expected,
+    decide_lines,
+    expected_verdicts,
     is_at_work,
     kill_often,
     random_list,
     require_interrupted,
-    seen,
+    wait_until,
 )
 
 pytestmark = pytest.mark.needs(modules=("distributed",))
@@ -39,22 +39,22 @@ QUICK_PASS = (300, 64, 3, 10)
 DEADLY = "    if %r in lines: import os; os._exit(9)\n" % LONG_MACHINE
 # How a worker answers the same to all verdicts, and how it says of a wrong one that it is right.
 KEEPS_ANSWERS = """
-def _kept_answer(limits: Numbers) -> PieceReply:
-    return _replied(question(CHECK, limits), checking(Limits(*limits)), b"1RZ--- halt 1 1\\n")
+def _kept_answer(limits: Numbers) -> ChunkReply:
+    return _make_reply(describe_task(CHECK, limits), check_call(Limits(*limits)), b"1RZ--- halt 1 1\\n")
 
 
 """
 LIES = [
-    ("room.reply().text", "_lie(asked, room.reply().text)"),
+    ("buffer.reply().text", "_lie(task, buffer.reply().text)"),
     (
-        "def _replied(",
+        "def _make_reply(",
         """def _lie(asked: str, written: bytes) -> bytes:
     if asked.startswith(CHECK):
         return b"ok\\n" * written.count(b"\\n")
     return written.replace(b" halt 1 1\\n", b" halt 1 0\\n")
 
 
-def _replied(""",
+def _make_reply(""",
     ),
 ]
 # What makes a process collect garbage all the time.
@@ -66,28 +66,28 @@ def collect():
 threading.Thread(target=collect, daemon=True).start()
 """
 # What is changed in the package of workers that can't decide anything rightly, and what the run says of them.
-WRONG_WORKERS: Dict[str, Tuple[str, List[Tuple[str, str]], str]] = {
+WRONG_WORKERS: dict[str, tuple[str, list[tuple[str, str]], str]] = {
     "another version": ("_version.py", [('VERSION = "', 'VERSION = "9.')], "it was decided by version 9."),
-    "garbage": ("runner/chunks.py", [("room.reply().text", 'b"x\\n"')], "came back for"),
+    "garbage": ("runner/chunks.py", [("buffer.reply().text", 'b"x\\n"')], "came back for"),
     "a byte that changes on its way": (
         "runner/chunks.py",
         [("return (written,", 'return (written[:-2] + b"7\\n",')],
-        "what came back was changed on its way",
+        "the reply was changed in transit",
     ),
     "answers to other verdicts": (
         "runner/chunks.py",
         [
             (
-                "    return _replied(question(CHECK",
-                "    return _kept_answer(limits) or _replied(question(CHECK",
+                "    return _make_reply(describe_task(CHECK",
+                "    return _kept_answer(limits) or _make_reply(describe_task(CHECK",
             ),
-            ("def check_piece", KEEPS_ANSWERS + "def check_piece"),
+            ("def check_chunk", KEEPS_ANSWERS + "def check_chunk"),
         ],
-        "what came back answers other lines",
+        "the reply answers other lines",
     ),
     "a reply that can't be read": (
         "runner/chunks.py",
-        [("_kept = ", "class Odd: pass\n_kept = "), ("return (written,", "return (Odd(),")],
+        [("_thread_state = ", "class Odd: pass\n_thread_state = "), ("return (written,", "return (Odd(),")],
         "AttributeError: ",
     ),
 }
@@ -100,17 +100,17 @@ Given = Tuple[bytes, bytes]
 @pytest.fixture(scope="module")
 def many(bb: str) -> Given:
     given = random_list(12_000, 1)
-    return given, expected(bb, given, PASSES)
+    return given, expected_verdicts(bb, given, PASSES)
 
 
 @pytest.fixture(scope="module")
 def few(bb: str) -> Given:
     given = random_list(300, 1)
-    return given, expected(bb, given, PASSES)
+    return given, expected_verdicts(bb, given, PASSES)
 
 
-def case_of(found: Cluster, name: str, given: bytes, passes: Tuple[Tuple[int, ...], ...] = PASSES) -> Case:
-    """A list that the cluster decides in small pieces."""
+def case_of(found: Cluster, name: str, given: bytes, passes: tuple[tuple[int, ...], ...] = PASSES) -> Case:
+    """A list that the cluster decides in small chunks."""
     case = Case(found.top / name, given, passes)
     case.words += ["--scheduler", found.address, "--piece", "100"]
     return case
@@ -119,27 +119,27 @@ def case_of(found: Cluster, name: str, given: bytes, passes: Tuple[Tuple[int, ..
 def quick_list(bb: str, count: int, seed: int) -> bytes:
     """Machines that small limits decide, and lines that are none."""
     given = random_list(count, seed).splitlines(keepends=True)
-    lines = decided(bb, b"".join(given), QUICK_PASS)
+    lines = decide_lines(bb, b"".join(given), QUICK_PASS)
     return b"".join(one for one, line in zip(given, lines) if b" undecided " not in line)
 
 
 def require_end(case: Case, status: int, right: bytes) -> None:
     """A run came to its end, with the right bytes."""
-    assert status == 1, case.said()
+    assert status == 1, case.output()
     assert case.verdicts() == right
 
 
 def require_sentence(case: Case, process: Process, text: str) -> None:
     """Waits until the run prints something."""
-    assert seen(process, lambda: text in case.said()), case.said()
+    assert wait_until(process, lambda: text in case.output()), case.output()
 
 
 @contextlib.contextmanager
-def stopped(case: Case, process: Process) -> Iterator[None]:
-    """Waits until some pieces stand, and stops the run meanwhile, so that it can't come to its end."""
-    was_seen = seen(process, lambda: case.pieces() >= 3)
+def stop(case: Case, process: Process) -> Iterator[None]:
+    """Waits until some chunks stand, and stops the run meanwhile, so that it can't come to its end."""
+    was_seen = wait_until(process, lambda: case.chunks() >= 3)
     process.send_signal(signal.SIGSTOP)
-    assert was_seen and not case.verdicts(), case.said()
+    assert was_seen and not case.verdicts(), case.output()
     try:
         yield
     finally:
@@ -153,19 +153,19 @@ def test_killed_worker(bb: str, tmp_path: pathlib.Path, lines: int) -> None:
     with cluster(2, tmp_path) as found:
         case = case_of(found, "killed", given + LONG_MACHINE + given, (QUICK_PASS, LONG_PASS))
         with case.start() as process:
-            at_work: List[Process] = []
+            at_work: list[Process] = []
 
             def is_one_at_work() -> bool:
                 at_work[:] = [worker for worker in found.workers if is_at_work(worker.pid)]
                 return bool(at_work)
 
-            assert seen(process, is_one_at_work), case.said()
+            assert wait_until(process, is_one_at_work), case.output()
             for worker in at_work[:1]:
                 worker.kill()
             status = process.wait()
-        right = expected(bb, case.list.read_bytes(), (QUICK_PASS, LONG_PASS))
+        right = expected_verdicts(bb, case.list.read_bytes(), (QUICK_PASS, LONG_PASS))
         require_end(case, status, right)
-        assert "page is at http://127.0.0.1:" in case.said(), case.said()
+        assert "page is at http://127.0.0.1:" in case.output(), case.output()
 
 
 @pytest.mark.slow
@@ -177,24 +177,29 @@ def test_five_kills(bb: str, tmp_path: pathlib.Path) -> None:
         with case.start() as process:
             for count in range(5):
                 worker = found.start_worker()
-                at_work = seen(process, lambda: is_at_work(worker.pid))
-                assert at_work, case.said()
+                at_work = wait_until(process, lambda: is_at_work(worker.pid))
+                assert at_work, case.output()
                 found.kill_workers()
             found.start_worker()
             status = process.wait()
-        assert "cut in halves" in case.said(), case.said()
-        require_end(case, status, expected(bb, case.list.read_bytes(), [LONG_PASS]))
+        assert "bisecting" in case.output(), case.output()
+        require_end(case, status, expected_verdicts(bb, case.list.read_bytes(), [LONG_PASS]))
 
 
 @pytest.mark.slow
 def test_deadly_line(bb: str, tmp_path: pathlib.Path) -> None:
-    """A line ends each worker that decides it: it is named, and all other pieces stand."""
+    """A line ends each worker that decides it: it is named, and all other chunks stand."""
     quick = quick_list(bb, 60, 4)
     with cluster(0, tmp_path) as found:
         deadly = changed_package(
             found.top,
             "runner/chunks.py",
-            [("    return _replied(question(DECIDE", DEADLY + "    return _replied(question(DECIDE")],
+            [
+                (
+                    "    return _make_reply(describe_task(DECIDE",
+                    DEADLY + "    return _make_reply(describe_task(DECIDE",
+                )
+            ],
         )
         case = case_of(found, "deadly", quick + LONG_MACHINE + quick, (QUICK_PASS,))
         with case.start(str(case.list), "--piece", "8") as process:
@@ -204,12 +209,12 @@ def test_deadly_line(bb: str, tmp_path: pathlib.Path) -> None:
                     found.start_worker(deadly)
                 time.sleep(0.02)
         number = quick.count(b"\n") + 1
-        named = "line %d: it ended the workers that decided it" % number in case.said()
-        is_one = "all but 1 pieces stand" in case.said() and process.returncode == 3
-        assert named and is_one, case.said()
+        named = "line %d: every worker that decided it died" % number in case.output()
+        is_one = "all but 1 chunks are stored" in case.output() and process.returncode == 3
+        assert named and is_one, case.output()
         found.kill_workers()
         found.start_worker()
-        right = expected(bb, case.list.read_bytes(), [QUICK_PASS])
+        right = expected_verdicts(bb, case.list.read_bytes(), [QUICK_PASS])
         require_end(case, case.run(), right)
 
 
@@ -220,7 +225,7 @@ def test_no_workers(many: Given, tmp_path: pathlib.Path) -> None:
     with cluster(2, tmp_path) as found:
         case = case_of(found, "none", given)
         with case.start() as process:
-            with stopped(case, process):
+            with stop(case, process):
                 found.kill_workers()
             require_sentence(case, process, "has no workers; waiting")
             found.start_worker()
@@ -237,7 +242,7 @@ def test_scheduler(many: Given, tmp_path: pathlib.Path, is_late: bool) -> None:
         case = case_of(found, "scheduler", given)
         timeout = {"DASK_DISTRIBUTED__COMM__TIMEOUTS__CONNECT": "2s" if is_late else "600s"}
         with case.start(variables=timeout) as process:
-            with stopped(case, process):
+            with stop(case, process):
                 found.end()
             require_sentence(case, process, "there is no scheduler" if is_late else "doesn't answer; waiting")
             found.start_scheduler()
@@ -246,7 +251,7 @@ def test_scheduler(many: Given, tmp_path: pathlib.Path, is_late: bool) -> None:
         require_end(case, status, right)
 
 
-def collecting(tmp_path: pathlib.Path) -> Dict[str, str]:
+def collect_garbage(tmp_path: pathlib.Path) -> dict[str, str]:
     """The environment of a run that collects garbage all the time, so that nothing is kept by chance."""
     site = tmp_path / "site"
     site.mkdir()
@@ -268,10 +273,10 @@ def test_wrong_worker(few: Given, tmp_path: pathlib.Path, what: str) -> None:
         found.start_worker(wrong)
         case = case_of(found, "wrong", given)
         more = ["--check"] if what == "answers to other verdicts" else []
-        status = case.run(str(case.list), *more, variables=collecting(found.top))
-        held = status == 3 and said in case.said() and "goes on" in case.said()
-        assert held, case.said()
-        assert "Traceback" not in case.said(), case.said()
+        status = case.run(str(case.list), *more, variables=collect_garbage(found.top))
+        held = status == 3 and said in case.output() and "resumes" in case.output()
+        assert held, case.output()
+        assert "Traceback" not in case.output(), case.output()
         found.kill_workers()
         found.start_worker()
         require_end(case, case.run(), right)
@@ -280,14 +285,14 @@ def test_wrong_worker(few: Given, tmp_path: pathlib.Path, what: str) -> None:
 @pytest.mark.slow
 @pytest.mark.parametrize("seconds", ["1e9", "1e308"])
 def test_claimed_seconds(bb: str, tmp_path: pathlib.Path, seconds: str) -> None:
-    """Workers that give seconds that didn't pass: pieces don't become small by it, nor does the run fail."""
+    """Workers that give seconds that didn't pass: chunks don't become small by it, nor does the run fail."""
     given = random_list(300, 1)
     with cluster(0, tmp_path) as found:
         change = ("return (written, seconds,", "return (written, %s," % seconds)
         found.start_worker(changed_package(found.top, "runner/chunks.py", [change]))
         case = case_of(found, "seconds", given, PASSES[:1])
-        require_end(case, case.run(), expected(bb, given, PASSES[:1]))
-        assert case.pieces() < given.count(b"\n") // 10
+        require_end(case, case.run(), expected_verdicts(bb, given, PASSES[:1]))
+        assert case.chunks() < given.count(b"\n") // 10
 
 
 @pytest.mark.slow
@@ -300,16 +305,16 @@ def test_lies(bb: str, tmp_path: pathlib.Path) -> None:
         case = case_of(found, "lies", given, (QUICK_PASS,))
         status = case.run(str(case.list), "--check")
         is_taken = b" halt 1 0\n" in case.verdicts()
-        assert status == 0 and is_taken, case.said()
+        assert status == 0 and is_taken, case.output()
         case.clear()
         status = case.run(str(case.list), "--check-here")
-        is_named = "line 1: the checker answers bad: 1RZ--- halt 1 0" in case.said()
-        assert status == 1 and is_named, case.said()
+        is_named = "line 1: the checker answers bad: 1RZ--- halt 1 0" in case.output()
+        assert status == 1 and is_named, case.output()
         found.kill_workers()
         found.start_worker()
         status = case.run(str(case.list), "--check-here")
-        assert status == 0, case.said()
-        right = expected(bb, given, (QUICK_PASS,))
+        assert status == 0, case.output()
+        right = expected_verdicts(bb, given, (QUICK_PASS,))
         assert case.verdicts() == right
 
 
@@ -318,14 +323,14 @@ def test_runner(bb: str, tmp_path: pathlib.Path, rng: random.Random) -> None:
     """The runner is killed at random moments, and interrupted."""
     with cluster(2, tmp_path) as found:
         case = case_of(found, "runner", random_list(20_000, 1))
-        right = expected(bb, case.list.read_bytes(), PASSES)
+        right = expected_verdicts(bb, case.list.read_bytes(), PASSES)
         kills = kill_often(case, 10, rng)
         assert kills == 10
         require_end(case, case.run(), right)
         case = case_of(found, "interruption", LONG_MACHINE, (ENDLESS_PASS,))
         with case.start() as process:
-            at_work = seen(process, lambda: any(is_at_work(worker.pid) for worker in found.workers))
-            assert at_work, case.said()
+            at_work = wait_until(process, lambda: any(is_at_work(worker.pid) for worker in found.workers))
+            assert at_work, case.output()
             require_interrupted(case, process)
 
 
@@ -344,17 +349,17 @@ def test_encryption(few: Given, tmp_path: pathlib.Path) -> None:
         case.clear()
         quickly = {"DASK_DISTRIBUTED__COMM__TIMEOUTS__CONNECT": "5s"}
         status = case.run(variables=quickly)
-        refused = status == 3 and "no scheduler answers" in case.said()
-        assert refused, case.said()
+        refused = status == 3 and "no scheduler answers" in case.output()
+        assert refused, case.output()
 
 
 @pytest.mark.slow
-def test_large_pieces(bb: str, tmp_path: pathlib.Path) -> None:
-    """Pieces as large as they may be, which are also checked; dask's warning of large tasks isn't printed."""
+def test_large_chunks(bb: str, tmp_path: pathlib.Path) -> None:
+    """Chunks as large as they may be, which are also checked; dask's warning of large tasks isn't printed."""
     given = as_lines([CHAMPION]) * 100_000
     with cluster(2, tmp_path) as found:
         case = case_of(found, "large", given, (QUICK_PASS,))
         status = case.run(str(case.list), "--piece", "20000", "--check")
-        said = case.said()
+        said = case.output()
         assert status == 0 and "arning" not in said, said
-        assert case.verdicts() == expected(bb, given, (QUICK_PASS,))
+        assert case.verdicts() == expected_verdicts(bb, given, (QUICK_PASS,))

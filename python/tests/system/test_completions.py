@@ -7,7 +7,7 @@ import pathlib
 import re
 import subprocess
 import sys
-from typing import List, Sequence, Set
+from typing import Sequence
 
 import pytest
 from support import TOP, require
@@ -36,21 +36,21 @@ complete_here "$@"
 """
 
 
-def helped(command: Sequence[str]) -> str:
+def help_of(command: Sequence[str]) -> str:
     """The help of a program or a command."""
     variables = {**os.environ, "COLUMNS": "200"}
     return subprocess.run([*command, "--help"], stdout=subprocess.PIPE, text=True, env=variables).stdout
 
 
-def commands_of(program: str, command: Sequence[str]) -> Set[str]:
+def commands_of(program: str, command: Sequence[str]) -> set[str]:
     """The commands that a program's help names."""
-    page = helped(command).partition("Commands:" if program == "bb" else "COMMAND\n")[2].partition("\n\n")[0]
+    page = help_of(command).partition("Commands:" if program == "bb" else "COMMAND\n")[2].partition("\n\n")[0]
     return {*re.findall(r"^ {2,4}([a-z]+) ", page, re.MULTILINE), "help"}
 
 
-def options_of(command: Sequence[str]) -> Set[str]:
+def options_of(command: Sequence[str]) -> set[str]:
     """The long options that a command's help begins a line with."""
-    return set(re.findall(r"^ +(?:-\w(?: [\w=,]+)?, +)?(--[a-z-]+)", helped(command), re.MULTILINE))
+    return set(re.findall(r"^ +(?:-\w(?: [\w=,]+)?, +)?(--[a-z-]+)", help_of(command), re.MULTILINE))
 
 
 class Shell:
@@ -59,7 +59,7 @@ class Shell:
     def __init__(self, name: str, files: pathlib.Path, cwd: pathlib.Path) -> None:
         self.name, self.files, self.cwd = name, files, cwd
 
-    def at(self, *line: str) -> List[str]:
+    def at(self, *line: str) -> list[str]:
         """What may stand there."""
         file = str(self.files / ("%s.%s" % (line[0], self.name)))
         if self.name == "fish":
@@ -72,7 +72,7 @@ class Shell:
         done = subprocess.run(command, capture_output=True, text=True, cwd=self.cwd)
         return done.stdout.splitlines() + [row for row in done.stderr.splitlines() if self.name != "fish"]
 
-    def words_at(self, *line: str) -> Set[str]:
+    def words_at(self, *line: str) -> set[str]:
         """The same, without the texts beside them."""
         return {re.split(r"[\t\[:]", row)[0] for row in self.at(*line)} - {""}
 

@@ -10,7 +10,7 @@ import runpy
 import signal
 import subprocess
 import time
-from typing import Any, Callable, Dict, Iterator, List, Tuple
+from typing import Any, Callable, Iterator
 
 import pytest
 from support import TOP, restore_signals
@@ -25,12 +25,12 @@ KINDS = ("halt", "cycler", "translated", "backward", "undecided steps", "undecid
 PASSES = [(181_381, (48_219, 17_984, 109_456, 3_424, 2_298, 0, 0)), (2_298, (0, 0, 2, 0, 2_296, 0, 0))]
 FOUR_STATES = (858_909, (249_693, 87_754, 500_902, 12_105, 8_455, 0, 0))
 FOUR_STATES_GREATEST = {"halt steps": 106, "cycler second": 102, "backward levels": 11, "backward nodes": 14}
-WRITTEN: Dict[str, Any] = json.loads((DOCUMENTS / "five-states.json").read_text())
+WRITTEN: dict[str, Any] = json.loads((DOCUMENTS / "five-states.json").read_text())
 Process = subprocess.Popen[bytes]
 
 
 @pytest.fixture(autouse=True)
-def lister(list_machines: Callable[..., List[str]]) -> None:
+def lister(list_machines: Callable[..., list[str]]) -> None:
     """The lister is built."""
 
 
@@ -42,18 +42,18 @@ def start(out: pathlib.Path, *asked: str) -> Process:
     )
 
 
-def ending(process: Process) -> Tuple[int, str]:
+def wait_for(process: Process) -> tuple[int, str]:
     """The status of a process, and what it printed."""
     output = process.communicate(timeout=600)[1].decode()
     return process.returncode, output
 
 
-def summary_in(out: pathlib.Path) -> Dict[str, Any]:
-    found: Dict[str, Any] = json.loads((out / "summary.json").read_text())
+def summary_in(out: pathlib.Path) -> dict[str, Any]:
+    found: dict[str, Any] = json.loads((out / "summary.json").read_text())
     return found
 
 
-def passes(summary: Dict[str, Any]) -> List[Tuple[int, Tuple[int, ...]]]:
+def passes(summary: dict[str, Any]) -> list[tuple[int, tuple[int, ...]]]:
     """The lines of each pass, and the counts by kind."""
     return [(one["lines"], tuple(one["counts"][kind] for kind in KINDS)) for one in summary["passes"]]
 
@@ -62,7 +62,7 @@ def passes(summary: Dict[str, Any]) -> List[Tuple[int, Tuple[int, ...]]]:
 def test_sample(bb: str, tmp_path: pathlib.Path) -> None:
     """Each thousandth machine: its counts, what is left of it, and the share of each kind, which is about
     that in the whole list."""
-    status, printed = ending(start(tmp_path / "out", "--every", "1000", "--parts", "8"))
+    status, printed = wait_for(start(tmp_path / "out", "--every", "1000", "--parts", "8"))
     assert status == 0, printed
     found = summary_in(tmp_path / "out")
     assert passes(found) == PASSES
@@ -75,7 +75,7 @@ def test_sample(bb: str, tmp_path: pathlib.Path) -> None:
         assert abs(sampled - share) <= allowed, kind
 
 
-def figures_of(summary: Dict[str, Any]) -> Iterator[str]:
+def figures_of(summary: dict[str, Any]) -> Iterator[str]:
     """What the document must state of a run, in its own words."""
     first, second = summary["passes"]
     for kind in KINDS:
@@ -111,18 +111,18 @@ def test_document() -> None:
 
 def test_halts_behind_which_the_list_would_go_on() -> None:
     """A later pass answers what the first left, but a halt on one of several `---`."""
-    settled = runpy.run_path(SCRIPT)["settled"]
+    settle_line = runpy.run_path(SCRIPT)["settle_line"]
     for line, right in (
         (b"1RB---_1LA1RA halt 5000 3\n", b"1RB---_1LA1RA halt 5000 3\n"),
         (b"1RB---_------ halt 1001 1\n", b"1RB---_------ undecided steps\n"),
         (b"1RB---_------ halt 1000 1\n", b"1RB---_------ halt 1000 1\n"),
         (b"1RB1LA_1LA1RA cycler 1 2\n", b"1RB1LA_1LA1RA cycler 1 2\n"),
     ):
-        assert settled(line) == right
+        assert settle_line(line) == right
 
 
-def pieces_in(out: pathlib.Path) -> int:
-    """How many pieces of the first pass stand."""
+def chunks_in(out: pathlib.Path) -> int:
+    """How many chunks of the first pass stand."""
     path = out / "pass-1" / "journal"
     lines = path.read_bytes().split(b"\n") if path.exists() else []
     return sum(line.startswith(b"checked") for line in lines)
@@ -142,23 +142,23 @@ def is_left(group: int) -> bool:
 
 @pytest.mark.slow
 def test_interruptions(tmp_path: pathlib.Path) -> None:
-    """It is ended by each of these signals after some pieces more, and all that it runs, which SIGKILL is
+    """It is ended by each of these signals after some chunks more, and all that it runs, which SIGKILL is
     sent to too; then it goes on, and gives what docs/four-states.md has."""
     out, asked = tmp_path / "out", ("--states", "4", "--parts", "20", "--threads", "1")
     for number, status in ((signal.SIGINT, 130), (signal.SIGTERM, 143), (signal.SIGKILL, -9)):
-        seen, until = pieces_in(out), time.monotonic() + 300
+        wait_until, until = chunks_in(out), time.monotonic() + 300
         process = start(out, *asked)
-        while pieces_in(out) == seen and time.monotonic() < until:
+        while chunks_in(out) == wait_until and time.monotonic() < until:
             time.sleep(0.02)
-        second, output = ending(start(out, *asked))
+        second, output = wait_for(start(out, *asked))
         assert second == 2 and "another run works in" in output
         (os.killpg if number == signal.SIGKILL else os.kill)(process.pid, number)
-        found, output = ending(process)
+        found, output = wait_for(process)
         assert found == status, output
-        is_announced = "interrupted; the same command goes on" in output
+        is_announced = "interrupted; the same command resumes" in output
         assert is_announced == (number == signal.SIGINT)
         assert number == signal.SIGKILL or not is_left(process.pid), "something that it ran is left"
-    status, output = ending(start(out, *asked))
+    status, output = wait_for(start(out, *asked))
     assert status == 0, output
     summary = summary_in(out)
     assert passes(summary)[0] == FOUR_STATES
@@ -172,7 +172,7 @@ def test_interruptions(tmp_path: pathlib.Path) -> None:
 def test_refusals(tmp_path: pathlib.Path) -> None:
     """Commands and folders that are refused, by a sentence; nothing is changed."""
     small = ("--states", "2", "--parts", "2")
-    status, output = ending(start(tmp_path / "small", *small))
+    status, output = wait_for(start(tmp_path / "small", *small))
     assert status == 0, output
     (tmp_path / "foreign").mkdir()
     (tmp_path / "foreign" / "letter.txt").write_text("Dear reader\n")
@@ -183,7 +183,7 @@ def test_refusals(tmp_path: pathlib.Path) -> None:
         ("none", ("--states", "6"), "--states is 6, but must be from 1 to 5"),
     ):
         before = sorted(tmp_path.rglob("*"))
-        status, output = ending(start(tmp_path / name, *asked))
+        status, output = wait_for(start(tmp_path / name, *asked))
         assert status == 2 and sentence in output
         assert sorted(tmp_path.rglob("*")) == before
 
@@ -192,7 +192,7 @@ def test_stream(bb: str, cover: str, tmp_path: pathlib.Path) -> None:
     """The verdicts that are kept come as one list, in order: `cover` finds that it covers its size."""
     small = ("--states", "3", "--parts", "5")
 
-    def streamed(name: str, *more: str) -> Tuple[int, bytes, bytes]:
+    def stream(name: str, *more: str) -> tuple[int, bytes, bytes]:
         command = [
             SCRIPT,
             "--library",
@@ -204,16 +204,16 @@ def test_stream(bb: str, cover: str, tmp_path: pathlib.Path) -> None:
         ]
         return ended([*command, "--stream"])
 
-    status, printed = ending(start(tmp_path / "three", *small))
+    status, printed = wait_for(start(tmp_path / "three", *small))
     assert status == 0, printed
-    status, _, error = streamed("three")
+    status, _, error = stream("three")
     assert status == 2 and b"aren't kept" in error
-    status, printed = ending(start(tmp_path / "kept", *small, "--keep"))
+    status, printed = wait_for(start(tmp_path / "kept", *small, "--keep"))
     assert status == 0, printed
-    status, verdicts, error = streamed("kept")
+    status, verdicts, error = stream("kept")
     assert status == 0, error
     assert ended([cover], verdicts).output.startswith(b"covers 3 states 2 symbols: 5417 lines,")
-    assert streamed("kept", "--every", "2")[0] == 2
+    assert stream("kept", "--every", "2")[0] == 2
     machines = as_lines(line.decode().split(" ")[0] for line in verdicts.splitlines())
     decided = ended([bb, "decide", *options_of_pass(WRITTEN["passes"][0]["limits"])], machines).output
     assert verdicts == decided, "no machine of three states needs the second pass"

@@ -6,14 +6,14 @@ import itertools
 import random
 import signal
 import sys
-from typing import Iterator, List, Sequence, Tuple
+from typing import Iterator, Sequence, Tuple
 
 import budlarem
 import pytest
 from budlarem import Limits, Plan
 from support.machines import mixed
 from support.program import PLANS, ROWS, SIMULATION, as_lines, ended, options
-from support.runs import WHERE, interrupted
+from support.runs import WHERE, interrupt
 
 Row = Tuple[int, int, int, int]
 MEMORY = """
@@ -28,7 +28,7 @@ print(resource.getrusage(resource.RUSAGE_SELF).ru_maxrss)
 """
 
 
-def printed_by(bb: str, asked: Sequence[str], given: bytes) -> bytes:
+def output_of(bb: str, asked: Sequence[str], given: bytes) -> bytes:
     """What the program writes."""
     return ended([bb, *asked], given).output
 
@@ -44,9 +44,9 @@ def random_row(source: random.Random) -> Row:
     return (source.choice((0, 1, 17, 300, 5_000)), cells, depth, source.choice((0, 3, 100, 2_000)))
 
 
-def require_deciding(bb: str, row: Row, switches: Sequence[str], lines: List[str], threads: int) -> List[str]:
+def require_deciding(bb: str, row: Row, switches: Sequence[str], lines: list[str], threads: int) -> list[str]:
     """The package's verdicts, as objects and as bytes, are the program's; gives their lines."""
-    expected = printed_by(bb, ["decide", *options(row), *switches], as_lines(lines))
+    expected = output_of(bb, ["decide", *options(row), *switches], as_lines(lines))
     limits, plan = Limits(*row), plan_of(switches)
     found = b"".join(budlarem.decide_bytes(as_lines(lines), limits, plan, threads=threads))
     assert found == expected
@@ -57,7 +57,7 @@ def require_deciding(bb: str, row: Row, switches: Sequence[str], lines: List[str
     return expected.decode().splitlines()
 
 
-def list_of(count: int) -> List[str]:
+def list_of(count: int) -> list[str]:
     return list(mixed(count, 1))
 
 
@@ -69,7 +69,7 @@ def test_rows_of_limits(bb: str, row: Row) -> None:
         require_deciding(bb, row, off, list_of(300), 1)
 
 
-def forged(source: random.Random, line: str) -> str:
+def forge(source: random.Random, line: str) -> str:
     """A line in which a number, or another part, is another."""
     fields = line.split(" ")
     place = source.randrange(1, len(fields)) if len(fields) > 1 else 0
@@ -80,10 +80,10 @@ def forged(source: random.Random, line: str) -> str:
     return " ".join(fields)
 
 
-def require_claims(bb: str, lines: List[str], row: Row, source: random.Random) -> None:
+def require_claims(bb: str, lines: list[str], row: Row, source: random.Random) -> None:
     """The answers to claims of which half are forged, and what `parse` takes of them."""
-    claims = [forged(source, line) if k % 2 else line for k, line in enumerate(lines)]
-    expected = printed_by(bb, ["check", *options(row)], as_lines(claims))
+    claims = [forge(source, line) if k % 2 else line for k, line in enumerate(lines)]
+    expected = output_of(bb, ["check", *options(row)], as_lines(claims))
     answers = expected.decode().splitlines()
     found = b"".join(budlarem.check_bytes(as_lines(claims), Limits(*row)))
     assert found == expected
@@ -94,13 +94,15 @@ def require_claims(bb: str, lines: List[str], row: Row, source: random.Random) -
 
 def require_parse(lines: Sequence[str], answers: Sequence[str]) -> None:
     """`parse` refuses just what the checker calls unread, and `str` gives back what it takes."""
-    wrong = [line for line, answer in zip(lines, answers) if (parsed(line) is None) != (answer == "unread")]
+    wrong = [
+        line for line, answer in zip(lines, answers) if (parse_line(line) is None) != (answer == "unread")
+    ]
     assert not wrong and len(lines) == len(answers), wrong[:3]
-    changed = [line for line in lines if parsed(line) not in (None, line)]
+    changed = [line for line in lines if parse_line(line) not in (None, line)]
     assert not changed, changed[:3]
 
 
-def parsed(line: str) -> object:
+def parse_line(line: str) -> object:
     """The line of what a line is parsed to; None where it isn't."""
     try:
         return str(budlarem.parse(line))
@@ -128,20 +130,20 @@ def noise(source: random.Random, count: int) -> Iterator[str]:
 @pytest.mark.parametrize("count", [2_000, pytest.param(20_000, marks=pytest.mark.slow)])
 def test_noise(bb: str, rng: random.Random, count: int) -> None:
     lines = [*noise(rng, count), "1RA1RA" * 200_000, "x" * 3_000_000]
-    expected = printed_by(bb, ["decide"], as_lines(lines)).decode().splitlines()
+    expected = output_of(bb, ["decide"], as_lines(lines)).decode().splitlines()
     found = list(budlarem.decide(lines))
     assert [str(verdict) for verdict in found] == expected
     assert all(one.machine == line for one, line in zip(found, lines)), "what was refused keeps its text"
-    answers = printed_by(bb, ["check"], as_lines(lines)).decode().splitlines()
+    answers = output_of(bb, ["check"], as_lines(lines)).decode().splitlines()
     assert [str(answer) for answer in budlarem.check(lines)] == answers
     require_parse(lines, answers)
     blob = rng.randbytes(1_000_000)
-    assert b"".join(budlarem.decide_bytes(blob)) == printed_by(bb, ["decide"], blob)
-    assert b"".join(budlarem.check_bytes(blob)) == printed_by(bb, ["check"], blob)
+    assert b"".join(budlarem.decide_bytes(blob)) == output_of(bb, ["decide"], blob)
+    assert b"".join(budlarem.check_bytes(blob)) == output_of(bb, ["check"], blob)
 
 
 @pytest.mark.parametrize("count", [20_000, pytest.param(1_000_000, marks=pytest.mark.slow)])
-def test_four_states(bb: str, four_states: List[str], count: int) -> None:
+def test_four_states(bb: str, four_states: list[str], count: int) -> None:
     for threads in (1, 4):
         require_deciding(bb, (200, 256, 20, 1_000), [], four_states[:count], threads)
 
@@ -200,7 +202,7 @@ def test_memory(how: str, count: int) -> None:
 @pytest.mark.parametrize("where", WHERE)
 def test_interruption(where: str) -> None:
     """SIGINT is heard at once, in a list, in one long machine and in a trace; the process ends by it."""
-    status, said, seconds = interrupted(where)
+    status, said, seconds = interrupt(where)
     assert status == -signal.SIGINT and b"KeyboardInterrupt" in said
     print("SIGINT in a %s was heard after %.3f s" % (where, seconds))
     assert seconds < 6

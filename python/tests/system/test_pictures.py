@@ -4,7 +4,7 @@ from __future__ import annotations
 
 import io
 import re
-from typing import Any, List, Tuple
+from typing import Any
 
 import budlarem
 import pytest
@@ -17,7 +17,7 @@ GOES_RIGHT = "1RA1RA"
 WHITE, BLACK, GREY, RED = (255, 255, 255), (20, 20, 20), (225, 225, 225), (220, 30, 30)
 
 
-def rows_of(picture: budlarem.Picture) -> List[List[Tuple[int, ...]]]:
+def rows_of(picture: budlarem.Picture) -> list[list[tuple[int, ...]]]:
     """The rows of a picture, each pixel as its colour."""
     image = Image.open(io.BytesIO(picture.png)).convert("RGB")
     pixels = list(image.getdata())
@@ -48,10 +48,7 @@ def test_sampled_steps() -> None:
 def test_chosen_positions() -> None:
     picture = budlarem.picture(GOES_RIGHT, 100, columns=11)
     rows = rows_of(picture)
-    assert (picture.left, picture.right) == (
-        45,
-        55,
-    ), "a wide picture is cut about its middle"
+    assert (picture.left, picture.right) == (45, 55), "a wide picture is cut about its middle"
     assert rows[50] == [BLACK] * 5 + [RED] + [GREY] * 5
     rows = rows_of(budlarem.picture(GOES_RIGHT, 3, left=-1, right=1))
     assert [row[0] for row in rows] == [GREY] * 4, "positions that aren't visited are grey"

@@ -14,13 +14,13 @@ import subprocess
 import sys
 import tarfile
 import time
-from typing import Any, Callable, Dict, List, Optional, Tuple
+from typing import Any, Callable
 
 import pytest
 from support import restore_signals
 from support.machines import mixed
 from support.program import as_lines, ended, options
-from support.runs import Case, is_at_work, seen
+from support.runs import Case, is_at_work, wait_until
 
 FIRST = (300, 64, 10, 100)
 PASS = "steps=300,cells=64,depth=10,nodes=100"
@@ -40,11 +40,11 @@ class Place:
         self.list.write_bytes(as_lines(lines))
         self.verdicts.write_bytes(ended([bb, "decide", *options(FIRST)], as_lines(lines)).output)
 
-    def words(self, *more: str, out: Optional[pathlib.Path] = None) -> List[str]:
+    def words(self, *more: str, out: pathlib.Path | None = None) -> list[str]:
         """A command that publishes."""
         return [sys.executable, "-m", "budlarem", "publish", str(out or self.out), *more]
 
-    def given(self) -> List[str]:
+    def given(self) -> list[str]:
         return ["--verdicts", str(self.verdicts), "--list", str(self.list)]
 
     def publish(self, *more: str, **how: Any) -> "subprocess.CompletedProcess[str]":
@@ -53,21 +53,21 @@ class Place:
         command = self.words(*(more or self.given()), out=out)
         return subprocess.run(command, capture_output=True, text=True, **how)
 
-    def left(self) -> List[str]:
+    def left(self) -> list[str]:
         """What stands beside list and verdicts."""
         return sorted(set(os.listdir(self.top)) - {"list.txt", "verdicts.txt"})
 
 
-def unpacked(path: pathlib.Path, into: pathlib.Path) -> pathlib.Path:
+def unpack(path: pathlib.Path, into: pathlib.Path) -> pathlib.Path:
     """The folder that an archive has, unpacked."""
     subprocess.run(["tar", "-x", "-f", str(path), "-C", str(into)], check=True)
     (made,) = into.iterdir()
     return made
 
 
-def commands_of(readme: str) -> List[List[str]]:
+def commands_of(readme: str) -> list[list[str]]:
     """The commands of a README, those of each numbered way together."""
-    ways: List[List[str]] = []
+    ways: list[list[str]] = []
     for line in readme.partition("How to check it again")[2].splitlines():
         if line[2:4] in ("1.", "2.", "3.", "4.", "5."):
             ways.append([])
@@ -91,7 +91,7 @@ class Ways:
         self._environment = {**os.environ, "PATH": "%s:%s" % (programs, os.environ["PATH"])}
 
     def run(self, command: str) -> "subprocess.CompletedProcess[str]":
-        how: Dict[str, Any] = {"cwd": self.folder, "env": self._environment, "errors": "replace"}
+        how: dict[str, Any] = {"cwd": self.folder, "env": self._environment, "errors": "replace"}
         return subprocess.run(["sh", "-c", command], capture_output=True, text=True, **how)
 
     def is_whole(self) -> bool:
@@ -134,7 +134,7 @@ def require_changes(ways: Ways, count: int, source: random.Random) -> None:
     assert ways.is_whole()
 
 
-def archive_of(bb: str, top: pathlib.Path) -> Tuple[Place, Ways]:
+def archive_of(bb: str, top: pathlib.Path) -> tuple[Place, Ways]:
     """An archive that was made, and what stands in its unpacked folder."""
     place = Place(bb, top / "archive", 3_000, 1)
     done = place.publish(*place.given(), "--pass", PASS)
@@ -142,7 +142,7 @@ def archive_of(bb: str, top: pathlib.Path) -> Tuple[Place, Ways]:
     assert done.stdout == "%s  %s\n" % (hashlib.sha256(place.out.read_bytes()).hexdigest(), place.out)
     assert place.left() == ["out.tar"]
     (top / "unpacked").mkdir()
-    return place, Ways(bb, unpacked(place.out, top / "unpacked"), top / "programs")
+    return place, Ways(bb, unpack(place.out, top / "unpacked"), top / "programs")
 
 
 @pytest.mark.parametrize("count", [100, pytest.param(1_000, marks=pytest.mark.slow)])
@@ -150,7 +150,7 @@ def test_archive(bb: str, tmp_path: pathlib.Path, rng: random.Random, count: int
     """What an archive has, and how it can be checked."""
     place, ways = archive_of(bb, tmp_path)
     made = ways.folder
-    names = {"README.txt", "list.txt", "verdicts.txt", "about.json", "again.py", "SHA256SUMS"}
+    names = {"README.txt", "list.txt", "verdicts.txt", "about.json", "recheck.py", "SHA256SUMS"}
     assert set(os.listdir(made)) == names
     for path in (place.list, place.verdicts):
         assert (made / path.name).read_bytes() == path.read_bytes()
@@ -239,8 +239,8 @@ def require_names(place: Place) -> None:
     """Names that an archive can't have, and files that aren't there."""
     place.out.write_bytes(b"mine")
     cases = [
-        (place.given(), place.out, 2, "out.tar is there already"),
-        (place.given(), place.top / "out.tar.gz", 2, "out.tar.gz: what is written is a tar archive"),
+        (place.given(), place.out, 2, "out.tar exists already"),
+        (place.given(), place.top / "out.tar.gz", 2, "out.tar.gz: the output is a tar archive"),
         (["--verdicts", str(place.top)], place.top / "new.tar", 2, "not of `budlarem run`"),
         (["--verdicts", "-"], place.top / "new.tar", 2, "standard input is read more than once"),
         (["--verdicts", str(place.top / "none")], place.top / "new.tar", 3, "none"),
@@ -296,11 +296,11 @@ def test_full_disk(bb: str, tmp_path: pathlib.Path) -> None:
         subprocess.run(["umount", str(disk)], check=True)
 
 
-def ended_by(
+def interrupt_publish(
     place: Place, number: int, ready: Callable[["subprocess.Popen[bytes]"], object]
 ) -> "tuple[int, str]":
     """The status and standard error of a process that is sent a signal once it is ready."""
-    how: Dict[str, Any] = {"stdout": subprocess.DEVNULL, "stderr": subprocess.PIPE}
+    how: dict[str, Any] = {"stdout": subprocess.DEVNULL, "stderr": subprocess.PIPE}
     with subprocess.Popen(place.words(*place.given()), preexec_fn=restore_signals, **how) as process:
         ready(process)
         process.send_signal(number)
@@ -319,7 +319,9 @@ def test_signals(bb: str, tmp_path: pathlib.Path, rng: random.Random, tries: int
     place.verdicts.write_bytes(verdicts + ENDLESS)
     place.list.write_bytes(machines + ENDLESS.split(b" ")[0] + b"\n")
     for number, status in ((signal.SIGINT, 130), (signal.SIGTERM, 143), (signal.SIGHUP, 129)):
-        began, error = ended_by(place, number, lambda process: seen(process, lambda: is_at_work(process.pid)))
+        began, error = interrupt_publish(
+            place, number, lambda process: wait_until(process, lambda: is_at_work(process.pid))
+        )
         assert began == status
         assert not place.left(), (number.name, place.left())
         assert "no archive is written" in error
@@ -331,10 +333,10 @@ def test_signals(bb: str, tmp_path: pathlib.Path, rng: random.Random, tries: int
         delay = rng.random() * 0.02
 
         def ready(process: "subprocess.Popen[bytes]") -> None:
-            seen(process, part.exists)
+            wait_until(process, part.exists)
             time.sleep(delay)
 
-        status, error = ended_by(place, (signal.SIGINT, signal.SIGTERM, signal.SIGHUP)[k % 3], ready)
+        status, error = interrupt_publish(place, (signal.SIGINT, signal.SIGTERM, signal.SIGHUP)[k % 3], ready)
         half += status != 0
         is_whole = place.left() in ([], ["out.tar"])
         assert is_whole, (status, place.left(), error)

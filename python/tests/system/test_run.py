@@ -12,7 +12,7 @@ import resource
 import signal
 import subprocess
 import time
-from typing import Callable, List, Tuple
+from typing import Callable
 
 import pytest
 from support.program import MAX_CELLS, MAX_STEPS
@@ -20,14 +20,14 @@ from support.runs import (
     LONG_MACHINE,
     PASSES,
     Case,
-    expected,
+    expected_verdicts,
     is_at_work,
     kill_often,
-    killed,
+    kill_after,
     most_memory,
     random_list,
     require_interrupted,
-    seen,
+    wait_until,
 )
 
 # Limits at which a line costs nothing to speak of.
@@ -47,11 +47,11 @@ def test_kills(bb: str, tmp_path: pathlib.Path, rng: random.Random, count: int, 
     """The runner is killed at random moments, all of them before its end; what it is run again for is
     checked."""
     case = Case(tmp_path / "kills", random_list(lines, rng.randrange(10**9)))
-    right = expected(bb, case.list.read_bytes(), PASSES)
+    right = expected_verdicts(bb, case.list.read_bytes(), PASSES)
     kills = kill_often(case, count, rng, "--threads", "2")
     assert kills == count
     status = case.run(str(case.list), "--check")
-    assert status == 1, case.said()
+    assert status == 1, case.output()
     assert case.verdicts() == right
     summary = json.loads((case.out / "summary.json").read_text())
     assert all(one["checked"] for one in summary["passes"]), summary
@@ -66,24 +66,24 @@ def test_interruption(tmp_path: pathlib.Path) -> None:
     case.words = ["--pass", LONG_PASS, "--threads", "2"]
     with case.start() as process:
         for _ in range(30):
-            seen(process, lambda: case.pieces() > 0)
-        at_work = seen(process, lambda: is_at_work(process.pid))
+            wait_until(process, lambda: case.chunks() > 0)
+        at_work = wait_until(process, lambda: is_at_work(process.pid))
         second = Case(tmp_path / "second", b"")
         second.list, second.out, second.words = case.list, case.out, case.words
         status = second.run()
-        refused = status == 2 and "another run works in" in second.said()
-        assert refused, second.said()
-        assert at_work, case.said()
+        refused = status == 2 and "another run works in" in second.output()
+        assert refused, second.output()
+        assert at_work, case.output()
         require_interrupted(case, process)
 
 
 def require_after_fault(case: Case, status: int, sentence: str, right: bytes) -> None:
     """A run ended with status 3 and a sentence, and goes on when it is run again."""
-    said = case.said()
+    said = case.output()
     assert status == 3 and sentence in said, said
     assert not case.verdicts()
     again = case.run()
-    assert again == 1, case.said()
+    assert again == 1, case.output()
     assert case.verdicts() == right
 
 
@@ -91,12 +91,12 @@ def require_after_fault(case: Case, status: int, sentence: str, right: bytes) ->
 def test_full_disk(bb: str, tmp_path: pathlib.Path) -> None:
     """A file that may not grow, and a file system without room."""
     given = random_list(6_000, 5)
-    right = expected(bb, given, PASSES)
+    right = expected_verdicts(bb, given, PASSES)
     case = Case(tmp_path / "sizes", given)
     for size in (10_000, len(right) - 1):
         case.clear()
-        limited = case.run(preexec_fn=lambda: resource.setrlimit(resource.RLIMIT_FSIZE, (size, size)))
-        require_after_fault(case, limited, "File too large", right)
+        limit_resources = case.run(preexec_fn=lambda: resource.setrlimit(resource.RLIMIT_FSIZE, (size, size)))
+        require_after_fault(case, limit_resources, "File too large", right)
     case = Case(tmp_path / "disk", given)
     case.out.mkdir()
     mount = ["mount", "-t", "tmpfs", "-o", "size=%dk" % (len(right) // 2_048), "tmpfs", str(case.out)]
@@ -104,7 +104,7 @@ def test_full_disk(bb: str, tmp_path: pathlib.Path) -> None:
         pytest.skip("a full disk: a file system can't be mounted here (it takes root)")
     try:
         status = case.run()
-        said, stood = case.said(), case.pieces()
+        said, stood = case.output(), case.chunks()
         subprocess.run(["mount", "-o", "remount,size=64m", str(case.out)], check=True)
         case.errors.write_text(said)
         require_after_fault(case, status, "No space left on device", right)
@@ -119,12 +119,12 @@ def test_list_that_changes(bb: str, tmp_path: pathlib.Path, grows: bool) -> None
     """The list grows while it is read, or other machines stand in its later half; then it is as it was. The
     process is stopped meanwhile, so that it can't be at the end."""
     given = random_list(60_000, 6)
-    right = expected(bb, given, [QUICK_PASS])
+    right = expected_verdicts(bb, given, [QUICK_PASS])
     case = Case(tmp_path / "changing", given, [QUICK_PASS])
     case.words += SLOWLY
     half = given.index(b"\n", len(given) // 2) + 1
     with case.start() as process:
-        was_seen = seen(process, lambda: case.pieces() > 0)
+        was_seen = wait_until(process, lambda: case.chunks() > 0)
         process.send_signal(signal.SIGSTOP)
         is_within = was_seen and not (case.out / "verdicts.txt").exists()
         with open(case.list, "r+b") as file:
@@ -137,38 +137,38 @@ def test_list_that_changes(bb: str, tmp_path: pathlib.Path, grows: bool) -> None
     require_after_fault(case, status, "changed while it was read", right)
     with open(case.list, "ab") as file:
         file.write(b"1RZ---\n")
-    assert case.run() == 2 and "bytes" in case.said()
+    assert case.run() == 2 and "bytes" in case.output()
 
 
 @pytest.mark.slow
 def test_lists(bb: str, tmp_path: pathlib.Path) -> None:
     """Standard input, a pipe, a compressed list; with and without lines that are no machines."""
     given = random_list(5_000, 7)
-    right = expected(bb, given, PASSES)
+    right = expected_verdicts(bb, given, PASSES)
     case = Case(tmp_path / "lists", given)
     packed = case.list.with_suffix(".gz")
     packed.write_bytes(gzip.compress(given))
     for path in (case.list, packed):
         case.clear()
         status = case.run(str(path))
-        assert status == 1 and case.verdicts() == right, case.said()
+        assert status == 1 and case.verdicts() == right, case.output()
     case.clear()
     with case.start("-", stdin=subprocess.PIPE) as process:
         process.communicate(given)
-    assert process.returncode == 1 and case.verdicts() == right, case.said()
+    assert process.returncode == 1 and case.verdicts() == right, case.output()
     with open(case.list, "rb") as file:
         status = case.run("-", stdin=file)
-    assert status == 1 and case.verdicts() == right, case.said()
+    assert status == 1 and case.verdicts() == right, case.output()
     clean = Case(tmp_path / "clean", b"1RB1LB_1LA1RZ\n1RA1RA")
     status = clean.run(words=[])
     lines = b"1RB1LB_1LA1RZ halt 6 4\n1RA1RA translated R 1 2 1 1\n"
-    assert status == 0 and clean.verdicts() == lines, clean.said()
+    assert status == 0 and clean.verdicts() == lines, clean.output()
 
 
 def test_folder_that_is_a_file(tmp_path: pathlib.Path) -> None:
     case = Case(tmp_path / "words", b"1RB1LB_1LA1RZ\n")
     case.out.write_bytes(b"mine")
-    assert case.run() == 2 and "is a file; give a folder" in case.said()
+    assert case.run() == 2 and "is a file; give a folder" in case.output()
 
 
 @pytest.mark.parametrize("number", [signal.SIGTERM, signal.SIGHUP])
@@ -177,14 +177,14 @@ def test_signals(tmp_path: pathlib.Path, number: signal.Signals) -> None:
     case = Case(tmp_path / "case", b"1RZ---\n" * 30 + LONG_MACHINE * 3)
     case.words = ["--pass", LONG_PASS, "--threads", "2"]
     with case.start() as process:
-        seen(process, lambda: case.pieces() > 0 and is_at_work(process.pid))
+        wait_until(process, lambda: case.chunks() > 0 and is_at_work(process.pid))
         process.send_signal(number)
         try:
             status = process.wait(60)
         finally:
             process.kill()
-    what = "ended by %s; the same command goes on after what stands in %s\n" % (number.name, case.out)
-    assert status == 128 + number and what in case.said()
+    what = "ended by %s; the same command resumes the run in %s\n" % (number.name, case.out)
+    assert status == 128 + number and what in case.output()
 
 
 @pytest.mark.slow
@@ -192,7 +192,7 @@ def test_slow_input(bb: str, tmp_path: pathlib.Path) -> None:
     """Standard input that is empty for a while, and says so (O_NONBLOCK); a compressed list by a pipe, whose
     first bytes come one by one."""
     given = random_list(400, 10)
-    right = expected(bb, given, PASSES)
+    right = expected_verdicts(bb, given, PASSES)
     packed = gzip.compress(given)
     parts = {
         "a slow pipe": [given[:1_000], given[1_000:1_001], given[1_001:]],
@@ -209,26 +209,26 @@ def test_slow_input(bb: str, tmp_path: pathlib.Path) -> None:
                 os.write(writing, part)
             os.close(writing)
             status = process.wait()
-        assert status == 1 and case.verdicts() == right, case.said()
+        assert status == 1 and case.verdicts() == right, case.output()
 
 
 @pytest.mark.slow
 def test_keep(bb: str, tmp_path: pathlib.Path, rng: random.Random) -> None:
-    """Only what is left is kept: killed and run again, and pieces that were dropped can't be checked."""
+    """Only what is left is kept: killed and run again, and chunks that were dropped can't be checked."""
     case = Case(tmp_path / "keep", random_list(20_000, rng.randrange(10**9)))
-    right = expected(bb, case.list.read_bytes(), PASSES).splitlines(keepends=True)
+    right = expected_verdicts(bb, case.list.read_bytes(), PASSES).splitlines(keepends=True)
     kept = b"".join(line for line in right if b" undecided " in line or line.startswith(b"refused "))
     case.words += ["--keep", "left"]
     kill_often(case, 5, rng, "--threads", "2")
     status = case.run()
-    assert status == 1, case.said()
+    assert status == 1, case.output()
     assert case.verdicts() == kept
     size = sum(path.stat().st_size for path in case.out.rglob("pieces"))
     assert size < len(b"".join(right)) // 2
     summary = json.loads((case.out / "summary.json").read_text())
     assert summary["lines"] == len(right) and summary["kept"] == "left", summary
     before = {path: path.read_bytes() for path in case.out.rglob("*") if path.is_file()}
-    assert case.run("--check", str(case.list)) == 2 and "before they were checked" in case.said()
+    assert case.run("--check", str(case.list)) == 2 and "before they were checked" in case.output()
     assert {path: path.read_bytes() for path in case.out.rglob("*") if path.is_file()} == before
 
 
@@ -240,10 +240,10 @@ def test_order(bb: str, tmp_path: pathlib.Path) -> None:
     given = b"1RB1LB_1LA1RZ\n" * 300 + LONG_MACHINE + b"1RB1LB_1LA1RZ\n" * 20_000
     case = Case(tmp_path / "order", given, passes)
     with case.start(str(case.list), "--threads", "2", "--piece", "100") as process:
-        stood = seen(process, lambda: case.pieces() > 100)
+        stood = wait_until(process, lambda: case.chunks() > 100)
         status = process.wait()
-    assert stood and status == 0, case.said()
-    right = expected(bb, given, passes)
+    assert stood and status == 0, case.output()
+    right = expected_verdicts(bb, given, passes)
     assert case.verdicts() == right
 
 
@@ -256,19 +256,19 @@ def test_slow_kill(bb: str, tmp_path: pathlib.Path) -> None:
     with case.start("-", "--piece", "1", stdin=reading) as process:
         os.close(reading)
         os.write(writing, given[:-14])
-        seen(process, lambda: case.pieces() > 0)
+        wait_until(process, lambda: case.chunks() > 0)
         time.sleep(2.0)
         process.kill()
         process.wait()
     os.close(writing)
-    assert case.pieces() == 39
+    assert case.chunks() == 39
     with open(case.list, "rb") as file:
         status = case.run("-", stdin=file)
-    right = expected(bb, given, PASSES[:1])
+    right = expected_verdicts(bb, given, PASSES[:1])
     assert status == 0 and case.verdicts() == right, status
 
 
-def limited(*limits: Tuple[int, int]) -> Callable[[], None]:
+def limit_resources(*limits: tuple[int, int]) -> Callable[[], None]:
     """What sets these limits of the system for a process, which isn't root's, for whom there are none."""
 
     def limit() -> None:
@@ -286,7 +286,7 @@ def limited(*limits: Tuple[int, int]) -> Callable[[], None]:
 def test_no_memory(tmp_path: pathlib.Path) -> None:
     """No memory, and no threads, also while a long machine is under way: the run ends at once, with status 3
     and a sentence, or the limit is enough and it is at work."""
-    faults: List[Tuple[str, Tuple[int, int]]] = [
+    faults: list[tuple[str, tuple[int, int]]] = [
         ("%d MB" % size, (resource.RLIMIT_AS, size << 20)) for size in (56, 80, 120, 160, 200, 280, 400)
     ]
     faults += [("%d threads" % count, (resource.RLIMIT_NPROC, count)) for count in range(1, 9)]
@@ -296,7 +296,7 @@ def test_no_memory(tmp_path: pathlib.Path) -> None:
         case.out.mkdir()
         os.chmod(case.out, 0o777)
         case.words = ["--pass", LONG_PASS, "--threads", "4"]
-        with case.start(preexec_fn=limited(limit)) as process:
+        with case.start(preexec_fn=limit_resources(limit)) as process:
             until = time.monotonic() + 20
             while process.poll() is None and time.monotonic() < until and not is_at_work(process.pid):
                 time.sleep(0.05)
@@ -304,7 +304,7 @@ def test_no_memory(tmp_path: pathlib.Path) -> None:
             is_ended, status = process.poll() is not None, process.poll()
             at_work = not is_ended and is_at_work(process.pid)
             process.kill()
-        said = case.said()
+        said = case.output()
         is_right_end = status == 3 and said.startswith("budlarem: ") and "Traceback" not in said
         assert at_work or is_right_end, said
 
@@ -316,15 +316,15 @@ def test_closed_files(tmp_path: pathlib.Path) -> None:
     for closed in ((0,), (1,), (2,), (1, 2), (0, 1, 2)):
         case = Case(tmp_path / ("closed-%s" % "".join(map(str, closed))), b"1RB1LB_1LA1RZ\n1RA1RA\n")
 
-        def close(numbers: Tuple[int, ...] = closed) -> None:
+        def close(numbers: tuple[int, ...] = closed) -> None:
             for number in numbers:
                 os.close(number)
 
         status = case.run(words=[], preexec_fn=close)
-        assert status == 0 and case.verdicts() == lines, case.said()
+        assert status == 0 and case.verdicts() == lines, case.output()
     case = Case(tmp_path / "closed-list", b"")
     status = case.run("-", preexec_fn=lambda: os.close(0))
-    assert status == 3 and "standard input is closed" in case.said(), case.said()
+    assert status == 3 and "standard input is closed" in case.output(), case.output()
 
 
 @pytest.mark.slow
@@ -335,7 +335,7 @@ def test_clock(tmp_path: pathlib.Path) -> None:
     places = os.pathsep.join([str(tmp_path / "clock"), os.environ["PYTHONPATH"]])
     status = case.run(variables={"PYTHONPATH": places})
     summary = json.loads((case.out / "summary.json").read_text()) if status == 0 else {}
-    assert status == 0, case.said()
+    assert status == 0, case.output()
     seconds = [summary.get("seconds", -1), *(one["work_seconds"] for one in summary.get("passes", []))]
     assert min(seconds) >= 0 and summary["began"] <= summary["ended"], summary
 

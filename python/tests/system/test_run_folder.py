@@ -9,10 +9,10 @@ import shutil
 import signal
 import subprocess
 import sys
-from typing import Callable, Dict, Iterator, Optional, Tuple
+from typing import Callable, Iterator
 
 import pytest
-from support.runs import PASSES, Case, expected, random_list, seen, words_of
+from support.runs import PASSES, Case, expected_verdicts, random_list, wait_until, words_of
 
 # Limits at which a line costs nothing to speak of, and words by which a list takes a second or more.
 QUICK_PASS = (50, 64, 3, 10)
@@ -23,10 +23,10 @@ MACHINE = b"1RB1LB_1LA1RZ\n"
 Fault = Callable[[Case], None]
 
 
-def snapshot(tmp_path: pathlib.Path) -> Dict[str, bytes]:
+def snapshot(tmp_path: pathlib.Path) -> dict[str, bytes]:
     """All that a folder has, by path: the bytes of files, where links lead, and the kind of what else is
     there."""
-    found: Dict[str, bytes] = {}
+    found: dict[str, bytes] = {}
     for path in sorted(tmp_path.rglob("*")):
         name = str(path.relative_to(tmp_path))
         if path.is_symlink():
@@ -39,11 +39,11 @@ def snapshot(tmp_path: pathlib.Path) -> Dict[str, bytes]:
 
 
 @contextlib.contextmanager
-def stopped_run(case: Case) -> Iterator[Tuple["subprocess.Popen[bytes]", bool]]:
+def stop_run(case: Case) -> Iterator[tuple["subprocess.Popen[bytes]", bool]]:
     """A run that is stopped in the middle, and whether it was at work by then. It goes on afterwards, to its
     end."""
     with case.start() as process:
-        was_seen = seen(process, lambda: case.pieces() > 3)
+        was_seen = wait_until(process, lambda: case.chunks() > 3)
         process.send_signal(signal.SIGSTOP)
         try:
             yield process, was_seen and not (case.out / "verdicts.txt").exists()
@@ -59,9 +59,9 @@ def slow_case(tmp_path: pathlib.Path, name: str, seed: int, passes: int = 1) -> 
     return case
 
 
-def require_moved_error(case: Case, status: int, before: Dict[str, bytes]) -> None:
+def require_moved_error(case: Case, status: int, before: dict[str, bytes]) -> None:
     """The run ended with status 3 and a sentence, and what stands at its path is as it was."""
-    said = case.said()
+    said = case.output()
     assert status == 3 and MOVED in said, said
     after = snapshot(case.out) if case.out.exists() else {}
     assert after == before
@@ -75,18 +75,22 @@ def test_moved(bb: str, tmp_path: pathlib.Path, passes: int) -> None:
     moved = case.out.with_name("out.old")
     second = Case(tmp_path / ("second-%d" % passes), random_list(2_000, 22), limits)
     second.out = case.out
-    with stopped_run(case) as (process, at_work):
+    with stop_run(case) as (process, at_work):
         os.rename(case.out, moved)
         status = second.run()
         before = snapshot(case.out)
-    assert at_work, case.said()
-    assert status == 1 and second.verdicts() == expected(bb, second.list.read_bytes(), limits), second.said()
+    assert at_work, case.output()
+    assert status == 1 and second.verdicts() == expected_verdicts(
+        bb, second.list.read_bytes(), limits
+    ), second.output()
     require_moved_error(case, process.returncode, before)
     assert not (moved / "verdicts.txt").exists()
     shutil.rmtree(case.out)
     os.rename(moved, case.out)
     status = case.run()
-    assert status == 1 and case.verdicts() == expected(bb, case.list.read_bytes(), limits), case.said()
+    assert status == 1 and case.verdicts() == expected_verdicts(
+        bb, case.list.read_bytes(), limits
+    ), case.output()
 
 
 @pytest.mark.slow
@@ -106,7 +110,7 @@ def test_replaced(tmp_path: pathlib.Path) -> None:
         os.unlink(case.out)
         case.out.symlink_to(elsewhere)
 
-    faults: Dict[str, Fault] = {
+    faults: dict[str, Fault] = {
         "removed": lambda case: shutil.rmtree(case.out),
         "replaced by own files": replace,
         "a link pointed elsewhere": point_elsewhere,
@@ -117,10 +121,10 @@ def test_replaced(tmp_path: pathlib.Path) -> None:
             if "link" in what:
                 case.out.with_name("real").mkdir()
                 case.out.symlink_to(case.out.with_name("real"))
-            with stopped_run(case) as (process, at_work):
+            with stop_run(case) as (process, at_work):
                 fault(case)
                 before = snapshot(case.out) if case.out.exists() else {}
-            assert at_work, case.said()
+            assert at_work, case.output()
             require_moved_error(case, process.returncode, before)
 
 
@@ -130,16 +134,16 @@ def test_replaced(tmp_path: pathlib.Path) -> None:
 def test_lock(bb: str, tmp_path: pathlib.Path, number: int) -> None:
     """All files at the top of a folder are removed while a run works in it: a second one is refused."""
     case = slow_case(tmp_path, "lock", 24 + number)
-    with stopped_run(case) as (process, at_work):
+    with stop_run(case) as (process, at_work):
         second = Case(tmp_path / "lock-second", random_list(300, 3), [QUICK_PASS])
         second.out = case.out
         (case.out / "lock").unlink(missing_ok=True)
         os.rename(case.out / "run.json", case.out.with_name("away"))
-        status, said = second.run(), second.said()
+        status, said = second.run(), second.output()
         os.rename(case.out.with_name("away"), case.out / "run.json")
     assert at_work
     assert status == 2 and "another run works in" in said
-    assert case.verdicts() == expected(bb, case.list.read_bytes(), [QUICK_PASS]), case.said()
+    assert case.verdicts() == expected_verdicts(bb, case.list.read_bytes(), [QUICK_PASS]), case.output()
 
 
 @pytest.mark.slow
@@ -147,25 +151,25 @@ def test_made_meanwhile(tmp_path: pathlib.Path) -> None:
     """Another makes a file of the run's name in its folder while it works: that file stays."""
     for name in ("verdicts.txt", "summary.json", "README.txt"):
         case = slow_case(tmp_path, "meanwhile-" + name, 31)
-        with stopped_run(case) as (process, at_work):
+        with stop_run(case) as (process, at_work):
             (case.out / name).unlink(missing_ok=True)
             (case.out / name).write_text("mine\n")
         assert at_work, name
         assert (case.out / name).read_text() == "mine\n"
-        assert process.returncode == (1 if name == "README.txt" else 3), case.said()
+        assert process.returncode == (1 if name == "README.txt" else 3), case.output()
 
 
 def test_verdicts(bb: str, tmp_path: pathlib.Path) -> None:
-    """Verdicts share no bytes with what a later run writes; a run that is begun again reads its pieces
+    """Verdicts share no bytes with what a later run writes; a run that is begun again reads its chunks
     there."""
     case = Case(tmp_path / "verdicts", random_list(3_000, 41), [QUICK_PASS])
-    right = expected(bb, case.list.read_bytes(), [QUICK_PASS])
+    right = expected_verdicts(bb, case.list.read_bytes(), [QUICK_PASS])
     case.run()
     verdicts, file = case.out / "verdicts.txt", (case.out / "verdicts.txt").stat()
     assert file.st_nlink == 1 and not (case.out / "pass-1" / "pieces").exists()
     journal = (case.out / "pass-1" / "journal").read_bytes()
     status = case.run()
-    assert "decided again" not in case.said(), case.said()
+    assert "decided again" not in case.output(), case.output()
     same = verdicts.stat().st_ino == file.st_ino and (case.out / "pass-1" / "journal").read_bytes() == journal
     assert same and case.verdicts() == right
     away = case.out.with_name("verdicts-of-mine.txt")
@@ -176,10 +180,10 @@ def test_verdicts(bb: str, tmp_path: pathlib.Path) -> None:
     other = Case(tmp_path / "verdicts-other", random_list(3_000, 42), [QUICK_PASS[:3] + (11,)])
     other.out = case.out
     status = other.run()
-    assert away.read_bytes() == right, other.said()
-    assert status == 1 and other.verdicts() == expected(
+    assert away.read_bytes() == right, other.output()
+    assert status == 1 and other.verdicts() == expected_verdicts(
         bb, other.list.read_bytes(), [QUICK_PASS[:3] + (11,)]
-    ), other.said()
+    ), other.output()
 
 
 def test_added_pass(bb: str, tmp_path: pathlib.Path) -> None:
@@ -190,13 +194,13 @@ def test_added_pass(bb: str, tmp_path: pathlib.Path) -> None:
     case.words = [word for limits in (QUICK_PASS, (60, 64, 3, 10)) for word in ("--pass", words_of(limits))]
     case.words += ["--threads", "1", "--piece", "1"]
     with case.start() as process:
-        was_seen = seen(process, lambda: (case.out / "pass-2" / "journal").exists())
+        was_seen = wait_until(process, lambda: (case.out / "pass-2" / "journal").exists())
         process.kill()
     assert was_seen and case.verdicts() == first
     status = case.run("--piece", "200", str(case.list))
-    right = expected(bb, case.list.read_bytes(), [QUICK_PASS, (60, 64, 3, 10)])
-    assert status == 1 and case.verdicts() == right, case.said()
-    assert "decided again" not in case.said()
+    right = expected_verdicts(bb, case.list.read_bytes(), [QUICK_PASS, (60, 64, 3, 10)])
+    assert status == 1 and case.verdicts() == right, case.output()
+    assert "decided again" not in case.output()
 
 
 def require_unchanged(case: Case, top: pathlib.Path) -> None:
@@ -207,12 +211,12 @@ def require_unchanged(case: Case, top: pathlib.Path) -> None:
             status = process.wait(30)
         finally:
             process.kill()
-    assert status == 2 and "Traceback" not in case.said(), case.said()
+    assert status == 2 and "Traceback" not in case.output(), case.output()
     assert {name: data for name, data in snapshot(top).items() if name != "errors.txt"} == before
 
 
 # What somebody else has in a folder that no run began: paths, and what is there.
-MINE: Dict[str, Dict[str, str]] = {
+MINE: dict[str, dict[str, str]] = {
     "a pass": {"pass-1/diary.txt": "mine"},
     "pieces": {"pass-1/pieces": "mine"},
     "a journal": {"pass-1/journal": "mine"},
@@ -232,7 +236,7 @@ LINKED = (
 
 
 @pytest.mark.parametrize("files", MINE.values(), ids=MINE)
-def test_files_of_somebody_else(tmp_path: pathlib.Path, files: Dict[str, str]) -> None:
+def test_files_of_somebody_else(tmp_path: pathlib.Path, files: dict[str, str]) -> None:
     """A folder of somebody else stays as it is."""
     case = Case(tmp_path / "foreign", MACHINE, [QUICK_PASS])
     for name, text in files.items():
@@ -301,8 +305,8 @@ def test_begun(bb: str, tmp_path: pathlib.Path) -> None:
     parts = {name: data for name, data in snapshot(case.out).items() if name.endswith(".part")}
     case.words += ["--pass", words_of((60, 64, 3, 10))]
     status = case.run()
-    right = expected(bb, case.list.read_bytes(), [QUICK_PASS, (60, 64, 3, 10)])
-    assert status == 1 and case.verdicts() == right, case.said()
+    right = expected_verdicts(bb, case.list.read_bytes(), [QUICK_PASS, (60, 64, 3, 10)])
+    assert status == 1 and case.verdicts() == right, case.output()
     after = {name: data for name, data in snapshot(case.out).items() if name.endswith(".part")}
     assert after == parts
     assert (case.out.parent / "precious").read_text() == "mine"
@@ -312,7 +316,7 @@ def test_begun(bb: str, tmp_path: pathlib.Path) -> None:
     require_unchanged(case, case.out)
 
 
-def command(*more: str, given: Optional[pathlib.Path] = None) -> Tuple[int, str]:
+def command(*more: str, given: pathlib.Path | None = None) -> tuple[int, str]:
     """The status of a command of the package, whose standard input is a file, and what it says."""
     with open(given or os.devnull, "rb") as file:
         done = subprocess.run(
@@ -345,7 +349,7 @@ def test_mixed(tmp_path: pathlib.Path, passes: int) -> None:
             shutil.copyfile(second / name, mixed / name)
         out = tmp_path / ("mixed-%d-%s.tar" % (passes, name))
         status, said = command("publish", str(out), "--verdicts", str(mixed))
-        assert status == 2 and "doesn't go with" in said and not out.exists()
+        assert status == 2 and "doesn't match" in said and not out.exists()
     out = tmp_path / ("whole-%d.tar" % passes)
     status, said = command("publish", str(out), "--verdicts", str(first), "--list", str(cases[0].list))
     assert status == 0, said
@@ -366,7 +370,7 @@ def test_other_counts(tmp_path: pathlib.Path) -> None:
     shutil.rmtree(cases[0].out / "pass-1")
     out = tmp_path / "counts.tar"
     status, said = command("publish", str(out), "--verdicts", str(cases[0].out))
-    assert status == 2 and "summary.json doesn't go with verdicts.txt" in said and not out.exists(), said
+    assert status == 2 and "summary.json doesn't match verdicts.txt" in said and not out.exists(), said
 
 
 def test_archive(tmp_path: pathlib.Path) -> None:
@@ -385,7 +389,7 @@ def test_archive(tmp_path: pathlib.Path) -> None:
     assert after == before
     (place / "new.tar").symlink_to(place / "nowhere")
     status, said = command("publish", str(place / "new.tar"), "--verdicts", str(place / "verdicts.txt"))
-    assert status == 2 and "is there already" in said and not (place / "nowhere").exists(), said
+    assert status == 2 and "exists already" in said and not (place / "nowhere").exists(), said
 
 
 @pytest.mark.needs(modules=("matplotlib",))

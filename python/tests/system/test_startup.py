@@ -10,7 +10,6 @@ import signal
 import subprocess
 import sys
 import time
-from typing import Dict, List, Optional, Tuple
 
 import pytest
 from support import restore_signals
@@ -27,13 +26,13 @@ QUIET, PATIENCE = 0.3, 60.0
 _STATUSES = {signal.SIGINT: 130, signal.SIGTERM: 143, signal.SIGHUP: 129}
 # What the command says that a signal ended, and whether SIGTERM and SIGHUP end it as other programs.
 _SENTENCES = {
-    "run": r"budlarem: (interrupted|ended by SIG\w+); the same command goes on after what stands.*\n",
+    "run": r"budlarem: (interrupted|ended by SIG\w+); the same command resumes the run.*\n",
     "publish": r"budlarem: SIG\w+: no archive is written\n",
     "check": r"",
 }
 
 
-def commands(tmp_path: pathlib.Path) -> Dict[str, List[str]]:
+def commands(tmp_path: pathlib.Path) -> dict[str, list[str]]:
     """Commands that take hours, by name."""
     listed, verdicts = tmp_path / "list.txt", tmp_path / "verdicts.txt"
     listed.write_bytes(LONG_MACHINE)
@@ -53,8 +52,8 @@ def imports_in(text: str) -> int:
 
 
 def result_after_signal(
-    more: List[str], number: int, imports: int, seconds: float, log: pathlib.Path
-) -> Tuple[int, str]:
+    more: list[str], number: int, imports: int, seconds: float, log: pathlib.Path
+) -> tuple[int, str]:
     """The status of a command that is sent a signal after so many imports, from the first one of the package
     on, or after the last one, and then so many seconds; and what it says."""
     command = [sys.executable, "-X", "importtime", "-m", "budlarem", *more]
@@ -90,7 +89,7 @@ def test_signals(tmp_path: pathlib.Path, name: str, number: signal.Signals, step
         assert status == _STATUSES[number] and re.fullmatch(_SENTENCES[name], said), (imports, seconds, said)
 
 
-def result_of(more: List[str], library: Optional[pathlib.Path] = None) -> Tuple[int, bytes]:
+def result_of(more: list[str], library: pathlib.Path | None = None) -> tuple[int, bytes]:
     """The status of a command over a library, and what it says and writes."""
     variables = dict(os.environ) if library is None else {**os.environ, "BB_LIBRARY": str(library)}
     how = subprocess.run([sys.executable, "-m", "budlarem", *more], env=variables, capture_output=True)

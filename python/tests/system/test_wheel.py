@@ -11,12 +11,12 @@ import re
 import shutil
 import subprocess
 import sys
-from typing import Dict, List, Mapping, Optional, Tuple
+from typing import Mapping
 
 import pytest
 from support import TOP
 from support.program import ended
-from support.runs import expected, words_of
+from support.runs import expected_verdicts, words_of
 
 PACKAGE = TOP / "python"
 WHEEL = re.compile(
@@ -53,11 +53,11 @@ PYTEST = ("pytest", "_pytest", "py", "pluggy", "iniconfig", "packaging", "attr",
 
 
 def run(
-    command: List[str],
-    variables: Optional[Mapping[str, str]] = None,
+    command: list[str],
+    variables: Mapping[str, str] | None = None,
     cwd: pathlib.Path = PACKAGE,
-    given: Optional[str] = None,
-) -> Tuple[int, str]:
+    given: str | None = None,
+) -> tuple[int, str]:
     """The status of a command and all that it writes, in an environment with these variables, in which
     nothing else says where the package or the library is."""
     hidden = ("PYTHONPATH", "BB_LIBRARY", "PYTHONHOME", "VIRTUAL_ENV")
@@ -75,11 +75,11 @@ def run(
     return done.returncode, done.stdout
 
 
-def pythons() -> List[str]:
+def pythons() -> list[str]:
     """A command for each version of Python from 3.9 on that starts, the oldest first."""
     asked = ["/usr/bin/python3", *("python3.%d" % minor for minor in range(9, 20))]
     folders = sorted(pathlib.Path.home().glob(".pyenv/versions/3.*/bin/python3"))
-    found: Dict[Tuple[int, int], str] = {}
+    found: dict[tuple[int, int], str] = {}
     for command in filter(shutil.which, [*asked, *map(str, folders)]):
         status, output = run([command, "-c", "import sys; print(sys.executable, *sys.version_info[:2])"])
         parts = output.split()
@@ -118,7 +118,9 @@ def test_types_and_layout() -> None:
 def test_examples_of_docstrings() -> None:
     names = sorted((PACKAGE / "src" / "budlarem").rglob("[a-z]*.py"))
     modules = [".".join(path.relative_to(PACKAGE / "src").with_suffix("").parts) for path in names]
-    found = [doctest.testmod(importlib.import_module(name)) for name in modules if not name.endswith("again")]
+    found = [
+        doctest.testmod(importlib.import_module(name)) for name in modules if not name.endswith("recheck")
+    ]
     assert sum(one.failed for one in found) == 0
     assert sum(one.attempted for one in found) > 15
 
@@ -185,7 +187,7 @@ def require_runner(bb: str, command: str, folder: pathlib.Path) -> None:
         words += ["--pass", words_of(RUN_PASSES[count - 1])]
         assert run(words, cwd=folder)[0] == 1
         found = (folder / "out" / "verdicts.txt").read_bytes()
-        assert found == expected(bb, RUN_LIST, RUN_PASSES[:count])
+        assert found == expected_verdicts(bb, RUN_LIST, RUN_PASSES[:count])
         assert found.count(b" undecided ") == left
 
 

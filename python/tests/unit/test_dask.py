@@ -9,19 +9,19 @@ import io
 import types
 import unittest.mock
 from concurrent.futures import CancelledError, Future
-from typing import Any, Dict, Iterator, List, Optional, Tuple
+from typing import Any, Iterator
 
 import pytest
 from budlarem import commands
 from budlarem.commands import run as command
 from budlarem.runner import chunks, dask, progress
-from budlarem.runner.errors import DeadlyError, RunError
+from budlarem.runner.errors import FatalLineError, RunError
 
 LIMITS = (30, 16, 3, 5)
 LINES = b"1RZ---\n1RA1RA\n0RZ---\n1LA1LA\n1LZ---\n"
 
 
-def reply_to(lines: bytes, limits: chunks.Numbers) -> chunks.PieceReply:
+def reply_to(lines: bytes, limits: chunks.Numbers) -> chunks.ChunkReply:
     """A reply that tells which lines it belongs to."""
     written, seconds = lines.upper(), float(lines.count(b"\n"))
     digests = (chunks.digest_of(lines), "asked", chunks.digest_of(written))
@@ -46,16 +46,16 @@ class DoubleClient:
         self.status, self.scheduler_comm, self.loop = "running", object(), object()
         self.how = how
         self.dashboard_link = "http://page"
-        self.workers: Dict[str, int] = {"one": 1}
-        self.futures: Dict[str, State] = {}
-        self.given: List[Any] = []
-        self.fetched: Dict[str, Any] = {}
+        self.workers: dict[str, int] = {"one": 1}
+        self.futures: dict[str, State] = {}
+        self.given: list[Any] = []
+        self.fetched: dict[str, Any] = {}
 
     def get_executor(self, pure: bool) -> DoubleClient:
         assert not pure
         return self
 
-    def nthreads(self, callback_timeout: float) -> Dict[str, int]:
+    def nthreads(self, callback_timeout: float) -> dict[str, int]:
         return self.workers
 
     def submit(self, task: Any, lines: bytes, limits: chunks.Numbers, key: str) -> Future[Any]:
@@ -104,8 +104,8 @@ class Dask:
     KilledWorker, Future = KilledWorker, DoubleFuture
 
     def __init__(self) -> None:
-        self.clients: List[DoubleClient] = []
-        self.refuses: Optional[Exception] = None
+        self.clients: list[DoubleClient] = []
+        self.refuses: Exception | None = None
 
     def Client(self, *address: str, **how: Any) -> DoubleClient:
         if self.refuses is not None:
@@ -113,7 +113,7 @@ class Dask:
         self.clients.append(DoubleClient(*address, **how))
         return self.clients[-1]
 
-    def Security(self, **files: Any) -> Dict[str, Any]:
+    def Security(self, **files: Any) -> dict[str, Any]:
         return files
 
 
@@ -122,7 +122,7 @@ class ClusterCase:
 
     def __init__(self, double: Dask) -> None:
         self.dask, self.sentences = double, [""]
-        self.place = dask.ClusterPlace("tcp://there:8786", {}, self.sentences.append)
+        self.place = dask.DaskBackend("tcp://there:8786", {}, self.sentences.append)
 
     @property
     def client(self) -> DoubleClient:
@@ -131,15 +131,15 @@ class ClusterCase:
     def submit(self, lines: bytes = LINES) -> Future[Any]:
         return self.place.submit(reply_to, lines, LIMITS)
 
-    def tend(self) -> None:
+    def maintain(self) -> None:
         """A look at the scheduler that is due."""
         self.place._next = 0.0
-        self.place.tend()
+        self.place.maintain()
 
     def is_right(self, future: Future[Any], lines: bytes = LINES) -> None:
         assert future.result(0) == reply_to(lines, LIMITS)
 
-    def killed_at(self, line: bytes, future: Future[Any]) -> int:
+    def kill_at(self, line: bytes, future: Future[Any]) -> int:
         """Each task with a line ends its workers, all others are answered; how many did."""
         count = 0
         while not future.done():
@@ -148,14 +148,14 @@ class ClusterCase:
                 count += 1
             else:
                 self.client.answer()
-            self.tend()
+            self.maintain()
         return count
 
 
 @pytest.fixture
 def double(monkeypatch: pytest.MonkeyPatch) -> ClusterCase:
     package = Dask()
-    monkeypatch.setattr(dask, "distributed", lambda: package)
+    monkeypatch.setattr(dask, "import_distributed", lambda: package)
     return ClusterCase(package)
 
 
@@ -164,13 +164,13 @@ def test_a_reply_comes_back(double: ClusterCase) -> None:
     double.client.answer()
     double.is_right(future)
     assert double.sentences[1:] == ["dask's page is at http://page"]
-    assert double.place._handed == {}
+    assert double.place._submissions == {}
 
 
 def test_what_was_cancelled_is_handed_over_again(double: ClusterCase) -> None:
     futures = [double.submit(), double.submit()]
     double.client.cancel()
-    double.tend()
+    double.maintain()
     assert len(double.client.given) == 2
     for future in futures:
         assert not future.done()
@@ -182,15 +182,15 @@ def test_a_broken_connection(double: ClusterCase) -> None:
     """Of what went by it nothing may ever come; what comes nevertheless is passed over."""
     future = double.submit()
     before = double.client.given.pop()
-    double.tend()
+    double.maintain()
     assert double.client.given == []
     double.client.status, double.client.scheduler_comm = "connecting", None
-    double.tend()
+    double.maintain()
     assert "doesn't answer" in double.sentences[-1]
     waiting = double.submit()
     assert double.client.given == []
     double.client.status, double.client.scheduler_comm = "running", object()
-    double.tend()
+    double.maintain()
     assert len(double.client.given) == 2
     before.future.set_result("of the connection before")
     assert not future.done()
@@ -206,11 +206,11 @@ def test_a_closed_client_is_made_anew(double: ClusterCase) -> None:
     first.status = "closed"
     double.dask.refuses = OSError("nobody there")
     for _ in range(3):
-        double.tend()
+        double.maintain()
     waiting = double.submit()
     assert [text for text in double.sentences if "no scheduler" in text] == double.sentences[-1:]
     double.dask.refuses = None
-    double.tend()
+    double.maintain()
     assert double.client is not first
     assert double.client.how["loop"] is first.loop
     assert len(double.client.given) == 2
@@ -224,17 +224,17 @@ def test_a_closed_client_is_made_anew(double: ClusterCase) -> None:
 def test_no_scheduler_at_all(double: ClusterCase) -> None:
     double.dask.refuses = OSError("nobody there")
     with pytest.raises(RunError, match="no scheduler answers at tcp://there:1: nobody there"):
-        dask.ClusterPlace("tcp://there:1", {}, double.sentences.append)
+        dask.DaskBackend("tcp://there:1", {}, double.sentences.append)
 
 
 def test_workers_that_go_and_come(double: ClusterCase) -> None:
     double.client.workers = {}
     for _ in range(3):
-        double.tend()
+        double.maintain()
     assert (double.sentences[2:], double.place.width()) == ([double.sentences[-1]], 4)
     assert "no workers" in double.sentences[-1]
     double.client.workers = {"one": 4, "two": 3}
-    double.tend()
+    double.maintain()
     assert "has 2 workers" in double.sentences[-1]
     assert (double.place.width(), double.place.status()) == (14, "2 workers")
 
@@ -242,8 +242,8 @@ def test_workers_that_go_and_come(double: ClusterCase) -> None:
 def test_a_line_that_ends_its_workers_is_named(double: ClusterCase) -> None:
     for place, line in enumerate(LINES.splitlines(keepends=True)):
         future = double.submit()
-        assert double.killed_at(line, future) <= 4
-        with pytest.raises(DeadlyError) as raised:
+        assert double.kill_at(line, future) <= 4
+        with pytest.raises(FatalLineError) as raised:
             future.result(0)
         assert raised.value.line == place
         double.client.given = []
@@ -260,8 +260,8 @@ def test_lines_that_stood_beside_it_are_not_named(double: ClusterCase) -> None:
                 double.client.kill()
             else:
                 double.client.answer()
-        double.tend()
-    with pytest.raises(DeadlyError) as raised:
+        double.maintain()
+    with pytest.raises(FatalLineError) as raised:
         futures[1].result(0)
     assert raised.value.line == 1
     double.is_right(futures[0], texts[0])
@@ -271,14 +271,14 @@ def test_lines_that_stood_beside_it_are_not_named(double: ClusterCase) -> None:
 def test_workers_that_were_killed_by_chance(double: ClusterCase) -> None:
     future = double.submit()
     double.client.kill()
-    double.tend()
+    double.maintain()
     for count in (2, 3):
         assert [given.lines.count(b"\n") for given in double.client.given] == [count]
         assert not future.done()
         double.client.answer()
-        double.tend()
+        double.maintain()
     double.is_right(future)
-    assert "5 lines ended their workers" in double.sentences[-1]
+    assert "5 lines killed their workers" in double.sentences[-1]
 
 
 def test_a_reply_that_cannot_be_read(double: ClusterCase, monkeypatch: pytest.MonkeyPatch) -> None:
@@ -287,11 +287,11 @@ def test_a_reply_that_cannot_be_read(double: ClusterCase, monkeypatch: pytest.Mo
     for given, reply in zip(double.client.given, (ImportError("no such class"), reply_to(LINES, LIMITS))):
         double.client.futures[given.key].status = "finished"
         double.client.fetched[given.key] = reply
-    double.tend()
-    double.tend()
+    double.maintain()
+    double.maintain()
     assert not (lost.done() or innocent.done())
     monkeypatch.setattr(dask, "_SILENT", -1.0)
-    double.tend()
+    double.maintain()
     with pytest.raises(ImportError, match="no such class"):
         lost.result(0)
     double.is_right(innocent)
@@ -302,13 +302,13 @@ def test_a_reply_that_dask_forgot(double: ClusterCase, monkeypatch: pytest.Monke
     """It is decided again; dask's own future is held meanwhile, so that it seldom forgets one."""
     future = double.submit()
     before = double.client.given.pop()
-    (handed,) = double.place._handed.values()
+    (handed,) = double.place._submissions.values()
     assert handed.own.key == before.key
     del double.client.futures[before.key]
-    double.tend()
+    double.maintain()
     assert double.client.given == []
     monkeypatch.setattr(dask, "_SILENT", -1.0)
-    double.tend()
+    double.maintain()
     double.client.answer()
     double.is_right(future)
 
@@ -321,11 +321,11 @@ def test_a_reply_that_comes_late(double: ClusterCase, monkeypatch: pytest.Monkey
     for error in (TimeoutError(), OSError("the connection broke")):
         double.client.fetched[key] = error
         for _ in range(4):
-            double.tend()
+            double.maintain()
         assert not future.done()
     double.client.fetched[key] = CancelledError()
     for _ in range(2):
-        double.tend()
+        double.maintain()
     assert not future.done()
     double.client.answer(1)
     double.is_right(future)
@@ -341,7 +341,7 @@ def test_replies_that_do_not_go_together() -> None:
     good = reply_to(LINES, LIMITS)
     other = (*good[:4], "another library", *good[5:])
     odd = reply_to(LINES[:-7], LIMITS)
-    cases: List[Tuple[List[Any], Any]] = [
+    cases: list[tuple[list[Any], Any]] = [
         ([good, good], (good[0] * 2, *reply_to(LINES * 2, LIMITS)[1:])),
         ([good, None], None),
         ([b"x", good], b"x"),
@@ -352,26 +352,26 @@ def test_replies_that_do_not_go_together() -> None:
         ([good, ("x", *good[1:])], ("x", *good[1:])),
     ]
     for replies, joined in cases:
-        assert chunks.reply_of_parts([LINES, LINES], replies) == joined
+        assert chunks.merge_replies([LINES, LINES], replies) == joined
 
 
 def test_an_error_of_a_half_is_that_of_the_whole() -> None:
     for place in (0, 1):
         job = chunks.Job(reply_to, LINES, LIMITS)
-        both = chunks.halved(job)
+        both = chunks.bisect_job(job)
         both[place].future.set_exception(ValueError("wrong"))
         both[1 - place].future.set_result(reply_to(LINES, LIMITS))
         assert isinstance(job.future.exception(0), ValueError)
 
 
-def asked(*words: str) -> argparse.Namespace:
+def parse_words(*words: str) -> argparse.Namespace:
     parser = argparse.ArgumentParser()
     command.add_command(parser.add_subparsers())
     return parser.parse_args(["run", "list", "--out", "folder", *words])
 
 
 def place(*words: str) -> Any:
-    return command._workplace(asked(*words), progress.Progress(io.StringIO()))
+    return command._make_backend(parse_words(*words), progress.Progress(io.StringIO()))
 
 
 def test_words_that_do_not_go_together() -> None:
@@ -385,26 +385,26 @@ def test_words_that_do_not_go_together() -> None:
 def test_options_of_tls() -> None:
     double = Dask()
     words = [word for name in command.TLS for word in ("--" + name, __file__)]
-    with unittest.mock.patch.object(dask, "distributed", lambda: double):
+    with unittest.mock.patch.object(dask, "import_distributed", lambda: double):
         place("--scheduler", "tls://there:8786", *words)
         with pytest.raises(ValueError, match="--tls-key missing/key.pem can't be read: No such file"):
             place("--scheduler", "tls://there:8786", *words, "--tls-key", "missing/key.pem")
-    files: Dict[str, Any] = {name: __file__ for name in ("tls_ca_file", "tls_client_cert", "tls_client_key")}
+    files: dict[str, Any] = {name: __file__ for name in ("tls_ca_file", "tls_client_cert", "tls_client_key")}
     assert double.clients[0].how["security"] == {**files, "require_encryption": True}
     assert len(double.clients) == 1
 
 
 def test_dask_is_not_installed() -> None:
     said = io.StringIO()
-    with hidden(), contextlib.redirect_stderr(said):
-        with unittest.mock.patch("budlarem.commands.run.end_at_interruption"):
+    with hide_distributed(), contextlib.redirect_stderr(said):
+        with unittest.mock.patch("budlarem.commands.run.install_signal_handlers"):
             status = commands.main(["run", "list", "--out", "folder", "--scheduler", "there:8786"])
     assert status == 3
     assert "dask isn't installed" in said.getvalue()
 
 
 @contextlib.contextmanager
-def hidden() -> Iterator[None]:
+def hide_distributed() -> Iterator[None]:
     """`distributed` isn't there."""
     with unittest.mock.patch.dict("sys.modules", {"distributed": None}):
         yield

@@ -9,12 +9,12 @@ import re
 import subprocess
 import sys
 import threading
-from typing import Any, Iterator, List, Tuple
+from typing import Any, Iterator
 
 import budlarem
 import pytest
 from budlarem import Answer, Limits, Plan
-from budlarem._library import CLEAN, Room
+from budlarem._library import CLEAN, ReplyBuffer
 
 CHAMPION = "1RB1LB_1LA1RZ"
 MACHINES = [CHAMPION, "0RB---_0LA---", "1RA1RA", "1rB1LB", ""]
@@ -29,14 +29,14 @@ LINES = [
 COUNTER = "1RB0RA_1LC1LB_1RA0LB"
 
 
-def decided(machines: Any, *given: Any, **more: Any) -> List[str]:
+def decide_lines(machines: Any, *given: Any, **more: Any) -> list[str]:
     return [str(verdict) for verdict in budlarem.decide(machines, *given, **more)]
 
 
 def test_lists_of_any_kind() -> None:
     for machines in (MACHINES, tuple(MACHINES), iter(MACHINES), dict.fromkeys(MACHINES)):
-        assert decided(machines) == LINES
-    assert decided([]) == []
+        assert decide_lines(machines) == LINES
+    assert decide_lines([]) == []
 
 
 def test_what_was_refused_is_kept() -> None:
@@ -46,17 +46,17 @@ def test_what_was_refused_is_kept() -> None:
 
 
 def test_limits_and_plans() -> None:
-    assert decided(["1RA1RA"], Limits(steps=10), Plan(translated=False)) == ["1RA1RA backward 0 0"]
+    assert decide_lines(["1RA1RA"], Limits(steps=10), Plan(translated=False)) == ["1RA1RA backward 0 0"]
     simulation = Plan(cyclers=False, translated=False, backward=False)
-    assert decided(["1RA1RA"], Limits(steps=10), simulation) == ["1RA1RA undecided steps"]
-    assert decided([CHAMPION], Limits(steps=5), simulation) == [CHAMPION + " undecided steps"]
+    assert decide_lines(["1RA1RA"], Limits(steps=10), simulation) == ["1RA1RA undecided steps"]
+    assert decide_lines([CHAMPION], Limits(steps=5), simulation) == [CHAMPION + " undecided steps"]
 
 
 def test_order_by_threads() -> None:
     machines = ["1RA1RA", CHAMPION] * 20_000
     expected = [LINES[2], LINES[0]] * 20_000
     for threads in (1, 4):
-        assert decided(machines, Limits(steps=10), threads=threads) == expected
+        assert decide_lines(machines, Limits(steps=10), threads=threads) == expected
 
 
 def test_endless_lists() -> None:
@@ -79,13 +79,13 @@ def test_an_item_that_is_no_text() -> None:
 def test_an_item_with_a_newline() -> None:
     for wrong in ("1RA1RA\n", "x" * 5_000 + "\n"):
         with pytest.raises(ValueError, match=r"machines\[1\] has a newline"):
-            decided([CHAMPION, wrong])
+            decide_lines([CHAMPION, wrong])
 
 
 def test_no_list() -> None:
     for wrong in (CHAMPION, b"1RA1RA", None, 7):
         with pytest.raises(TypeError):
-            decided(wrong)
+            decide_lines(wrong)
 
 
 def test_wrong_limits_and_threads_at_once() -> None:
@@ -101,7 +101,7 @@ def test_wrong_limits_and_threads_at_once() -> None:
 def test_texts_of_all_kinds() -> None:
     texts = ["\u00e9", "\ud800", "\0", "1RA1RA\0", "1RA1RA\r", " ", "1RA1RA ", "9" * 3_000_000]
     columns = [1, 1, 1, 7, 7, 1, 7, 2]
-    assert decided(texts) == ["refused %d" % column for column in columns]
+    assert decide_lines(texts) == ["refused %d" % column for column in columns]
 
 
 def test_an_error_of_the_list_itself() -> None:
@@ -116,12 +116,12 @@ def test_an_error_of_the_list_itself() -> None:
 
 def test_threads_end_with_the_list() -> None:
     before = threading.active_count()
-    decided(MACHINES, threads=3)
+    decide_lines(MACHINES, threads=3)
     assert threading.active_count() == before
 
 
 def test_lines_and_verdicts() -> None:
-    given: List[Any] = [LINES[0], budlarem.Halt(CHAMPION, 6, 5), "x", budlarem.Refused(3), LINES[2]]
+    given: list[Any] = [LINES[0], budlarem.Halt(CHAMPION, 6, 5), "x", budlarem.Refused(3), LINES[2]]
     answers = [Answer.OK, Answer.BAD, Answer.UNREAD, Answer.OPEN, Answer.OK]
     assert list(budlarem.check(given)) == answers
     assert list(budlarem.check(LINES[:1], Limits(steps=5))) == [Answer.OVER]
@@ -139,7 +139,7 @@ def test_a_verdict_with_a_field_of_another_type() -> None:
     half: Any = 6.0
     pair: Any = (1, 1)
     nothing: Any = None
-    cases: List[Tuple[budlarem.Verdict, str]] = [
+    cases: list[tuple[budlarem.Verdict, str]] = [
         (budlarem.Halt(CHAMPION, text, 4), "steps is '6' of type str, but must be a whole number"),
         (budlarem.Halt(CHAMPION, half, 4), "steps is 6.0 of type float"),
         (budlarem.Halt(CHAMPION, True, 4), "steps is True"),
@@ -160,7 +160,7 @@ def test_blocks_of_any_kind() -> None:
     given = "".join(line + "\n" for line in MACHINES).encode()
     expected = "".join(line + "\n" for line in LINES).encode()
     cut = [given[k : k + 3] for k in range(0, len(given), 3)]
-    kinds: List[Any] = [given, bytearray(given), memoryview(given), io.BytesIO(given), cut, iter([given])]
+    kinds: list[Any] = [given, bytearray(given), memoryview(given), io.BytesIO(given), cut, iter([given])]
     for blocks in kinds:
         assert b"".join(budlarem.decide_bytes(blocks)) == expected
     assert b"".join(budlarem.check_bytes(expected)) == b"ok\nok\nok\nopen\nopen\n"
@@ -182,7 +182,7 @@ def test_lines_without_an_end() -> None:
 def test_replies_longer_than_their_room() -> None:
     assert b"".join(budlarem.check_bytes(b"\n" * 1_000)) == b"unread\n" * 1_000
     asked = (*Limits().numbers(), *Plan().switches())
-    room = Room()
+    room = ReplyBuffer()
     for given in (1, 22, 23, 1_000_000):
         room.call("bb_decide", asked, b"1RB1LB_1LA1RZ\n", given)
         assert room.reply() == (CLEAN, 23, b"1RB1LB_1LA1RZ halt 6 4\n")

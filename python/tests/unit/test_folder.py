@@ -12,17 +12,17 @@ import random
 import shutil
 import unittest.mock
 import zlib
-from typing import Any, Callable, Dict, Iterator, List, Sequence, Tuple
+from typing import Any, Callable, Iterator, Sequence
 
 import budlarem
 import pytest
 from budlarem import Limits, _api, _files, _library, publish
-from budlarem.runner import chunks, folder, list_run
+from budlarem.runner import chunks, folder
 from budlarem.runner.errors import FolderError, MovedError, RunError
-from support.runner import LIST, PASSES, SMALL, Answering, RunCase, expected
+from support.runner import LIST, PASSES, SMALL, RunCase, act, expected_verdicts
 
 
-def contents(top: pathlib.Path) -> Dict[str, bytes]:
+def contents(top: pathlib.Path) -> dict[str, bytes]:
     """The bytes of all files below a folder."""
     return {str(path): path.read_bytes() for path in top.rglob("*") if path.is_file()}
 
@@ -42,7 +42,7 @@ class DirectoryCase(contextlib.ExitStack):
     def write(self, name: str, text: bytes) -> None:
         """Writes a file whole, over the one that is there."""
         over = self.directory.pin(name)
-        written = _files.write_at(self.directory, name, lambda number: fill(number, text), over)
+        written = _files.write_atomically(self.directory, name, lambda number: fill(number, text), over)
         for pin in (over, written):
             if pin is not None:
                 pin.close()
@@ -88,7 +88,7 @@ def test_a_file_of_another_is_not_replaced(place: DirectoryCase) -> None:
     (place.top / "in" / "a").unlink()
     (place.top / "in" / "a").write_bytes(b"mine")
     with pytest.raises(FileExistsError) as raised:
-        _files.write_at(place.directory, "a", lambda number: None, known)
+        _files.write_atomically(place.directory, "a", lambda number: None, known)
     assert raised.value.filename == str(place.top / "in" / "a")
     assert contents(place.top) == {str(place.top / "in" / "a"): b"mine"}
 
@@ -117,7 +117,7 @@ def test_nothing_is_left_after_an_error(place: DirectoryCase) -> None:
         raise OSError(errno.ENOSPC, "No space left on device")
 
     with pytest.raises(OSError) as raised:
-        _files.write_at(place.directory, "a", fail, None)
+        _files.write_atomically(place.directory, "a", fail, None)
     assert (raised.value.filename, contents(place.top)) == (str(place.top / "in" / "a"), {})
 
 
@@ -136,8 +136,8 @@ def test_parts_make_the_whole() -> None:
     for first, second in itertools.islice(itertools.permutations(sizes, 2), 0, None, 7):
         parts = chance.randbytes(first), chance.randbytes(second)
         whole = b"".join(parts)
-        found = [_files.Checksum().followed_by(part) for part in parts]
-        assert found[0].joined_with(found[1]) == _files.Checksum(len(whole), zlib.crc32(whole))
+        found = [_files.Checksum().add_bytes(part) for part in parts]
+        assert found[0].add(found[1]) == _files.Checksum(len(whole), zlib.crc32(whole))
 
 
 def test_the_folder_itself_is_locked(case: RunCase) -> None:
@@ -158,7 +158,7 @@ def test_a_file_where_folders_have_no_locks(case: RunCase) -> None:
 
     with unittest.mock.patch.object(fcntl, "flock", refuse):
         case.run_over()
-        assert case.verdicts() == expected(LIST)
+        assert case.verdicts() == expected_verdicts(LIST)
         first = folder.Folder(str(case.out))
         case.callback(first.close)
         with pytest.raises(FolderError, match="another run works in"):
@@ -199,7 +199,7 @@ def is_ended(case: RunCase, after: int, limits: Sequence[Limits]) -> bool:
 
 
 def test_each_call(case: RunCase) -> None:
-    cases: List[Tuple[List[Limits], List[Limits]]] = [([], [SMALL]), ([SMALL], [*PASSES]), ([], [*PASSES])]
+    cases: list[tuple[list[Limits], list[Limits]]] = [([], [SMALL]), ([SMALL], [*PASSES]), ([], [*PASSES])]
     for before, limits in cases:
         after, was_ended = 0, True
         while was_ended:
@@ -208,7 +208,7 @@ def test_each_call(case: RunCase) -> None:
                 case.run_over(limits=before, most=100)
             was_ended = is_ended(case, after, limits)
             case.run_over(limits=limits, most=100)
-            assert case.verdicts() == expected(LIST, limits), (after, limits)
+            assert case.verdicts() == expected_verdicts(LIST, limits), (after, limits)
             assert [path.name for path in case.out.rglob("*.part")] == []
             published = publish(case.top / ("%d-%d.tar" % (after, len(limits) + len(before))), case.out)
             assert published.confirmed + published.open == 370
@@ -250,22 +250,22 @@ def test_what_a_killed_run_left_is_removed(case: RunCase) -> None:
     for name, text in (("run.json", b""), ("summary.json", b'{\n  "li'), ("README.txt", b"Verdicts on the")):
         case.out.mkdir(exist_ok=True)
         (case.out / (name + ".part")).write_bytes(text)
-    (case.out / "verdicts.txt.2.part").write_bytes(expected(LIST)[:50])
+    (case.out / "verdicts.txt.2.part").write_bytes(expected_verdicts(LIST)[:50])
     case.run_over()
     assert [name for name in os.listdir(case.out) if name.endswith(".part")] == []
-    assert case.verdicts() == expected(LIST)
+    assert case.verdicts() == expected_verdicts(LIST)
 
 
-def test_a_copy_of_the_pieces_that_was_begun(case: RunCase) -> None:
+def test_a_copy_of_the_chunks_that_was_begun(case: RunCase) -> None:
     case.run_over(limits=[SMALL])
     for name in ("pieces.part", "pieces.2.part"):
-        (case.out / "pass-1" / name).write_bytes(expected(LIST)[:100])
+        (case.out / "pass-1" / name).write_bytes(expected_verdicts(LIST)[:100])
     case.run_over(limits=[SMALL])
     assert os.listdir(case.out / "pass-1") == ["journal"]
 
 
-def test_pieces_and_passes_that_are_replaced_meanwhile(case: RunCase) -> None:
-    def replace_pieces() -> None:
+def test_chunks_and_passes_that_are_replaced_meanwhile(case: RunCase) -> None:
+    def replace_chunks() -> None:
         os.rename(case.out / "pass-1" / "pieces", case.top / "away")
         (case.out / "pass-1" / "pieces").write_text("mine")
 
@@ -274,20 +274,14 @@ def test_pieces_and_passes_that_are_replaced_meanwhile(case: RunCase) -> None:
         (case.out / "pass-1").mkdir()
         (case.out / "pass-1" / "pieces").write_text("mine")
 
-    for number, replace in enumerate((replace_pieces, replace_pass)):
+    for number, replace in enumerate((replace_chunks, replace_pass)):
         case.out = case.top / str(number)
-
-        def change(reply: chunks.PieceReply, before: int) -> chunks.PieceReply:
-            if before == 3:
-                replace()
-            return reply
-
         if number == 0:
-            case.run_over(Answering(change), limits=[SMALL])
-            assert case.verdicts() == expected(LIST, [SMALL])
+            case.run_over(act(replace, 3), limits=[SMALL])
+            assert case.verdicts() == expected_verdicts(LIST, [SMALL])
         else:
             with pytest.raises(MovedError):
-                case.run_over(Answering(change), limits=[SMALL])
+                case.run_over(act(replace, 3), limits=[SMALL])
         assert (case.out / "pass-1" / "pieces").read_text() == "mine"
 
 
@@ -297,12 +291,12 @@ def test_folders_of_passes_that_are_not_asked_for(case: RunCase) -> None:
     (case.out / "pass-7" / "notes").write_text("mine")
     case.run_over(limits=[SMALL])
     case.run_over(limits=PASSES)
-    assert case.verdicts() == expected(LIST)
+    assert case.verdicts() == expected_verdicts(LIST)
     assert (case.out / "pass-7" / "notes").read_text() == "mine"
 
 
-def finished(case: RunCase) -> Iterator[list_run.FinishedRun]:
-    found = list_run.FinishedRun(str(case.out))
+def finished(case: RunCase) -> Iterator[folder.FinishedRun]:
+    found = folder.FinishedRun(str(case.out))
     try:
         yield found
     finally:
@@ -314,7 +308,7 @@ def test_a_summary_has_the_checksum_of_the_verdicts(case: RunCase) -> None:
         case.out = case.top / str(len(limits))
         case.run_over(limits=limits)
         for found in finished(case):
-            whole = _files.Checksum().followed_by(case.verdicts())
+            whole = _files.Checksum().add_bytes(case.verdicts())
             assert found.summary.checksum == whole
             assert (found.summary.identity, found.summary.lines) == (chunks.identity(), 370)
             found.require_journals()
@@ -330,7 +324,7 @@ def test_a_summary_of_an_earlier_version(case: RunCase) -> None:
     publish(case.top / "whole.tar", case.out)
     lines = case.verdicts().splitlines(keepends=True)
     (case.out / "verdicts.txt").write_bytes(b"".join(lines[:-1]))
-    with pytest.raises(budlarem.PublishError, match="doesn't go with verdicts.txt: it counts"):
+    with pytest.raises(budlarem.PublishError, match="doesn't match verdicts.txt: it counts"):
         publish(case.top / "cut.tar", case.out)
 
 
@@ -339,7 +333,7 @@ def test_journals_that_do_not_go_with_a_summary(case: RunCase) -> None:
     whole = (case.out / "pass-2" / "journal").read_bytes()
     for change in (whole[:200], whole.replace(b"decided", b"checked", 1), b""):
         (case.out / "pass-2" / "journal").write_bytes(change)
-        with pytest.raises(budlarem.PublishError, match="pass-2/journal doesn't go with summary.json"):
+        with pytest.raises(budlarem.PublishError, match="pass-2/journal doesn't match summary.json"):
             publish(case.top / "new.tar", case.out)
 
 
@@ -353,7 +347,7 @@ def test_all_names_are_there() -> None:
 
 
 def test_a_library_that_was_cut(tmp_path: pathlib.Path) -> None:
-    whole = pathlib.Path(_library.loaded()._name).read_bytes()
+    whole = pathlib.Path(_library.load_library()._name).read_bytes()
     path = tmp_path / "libbb.so"
     path.write_bytes(whole)
     _library.require_whole(path)
@@ -365,7 +359,7 @@ def test_a_library_that_was_cut(tmp_path: pathlib.Path) -> None:
 
 def test_a_library_of_another_length_than_the_wheel_says(tmp_path: pathlib.Path) -> None:
     path = tmp_path / "libbb.so"
-    path.write_bytes(pathlib.Path(_library.loaded()._name).read_bytes())
+    path.write_bytes(pathlib.Path(_library.load_library()._name).read_bytes())
     size = path.stat().st_size
     with unittest.mock.patch.object(_library, "_HERE", tmp_path):
         for said in (size, None):

@@ -6,15 +6,15 @@ import io
 import json
 import pathlib
 import random
-from typing import Iterable, List, Optional, Tuple
+from typing import Iterable
 from unittest import mock
 
 import budlarem
 import pytest
-from budlarem import WORDS, Columns, Form, Halt, Judgement, Limits, Said, Word
-from budlarem.claims import read_words, said_by
-from budlarem.judging import sources
-from budlarem.normal_forms import form_of
+from budlarem import WORDS, Columns, Form, Halt, Judgement, Limits, Claim, Word
+from budlarem.claims import read_words, claim_in
+from budlarem.judging import rereadable
+from budlarem.normal_forms import canonical_form
 from budlarem.numbers import number_of, numbers_in
 from budlarem.reading.files import Source
 from support import TOP
@@ -26,13 +26,13 @@ FORMS = TOP / "tests" / "support" / "forms.json"
 SMALL = Limits(1_000, 1_000, 30, 1_000)
 
 
-def said(line: str) -> Said:
-    found = said_by(1, line)
+def claim_of(line: str) -> Claim:
+    found = claim_in(1, line)
     assert found is not None
     return found
 
 
-def judged(lines: Iterable[str], undefined_steps: Optional[bool] = None) -> List[str]:
+def judgements(lines: Iterable[str], undefined_steps: bool | None = None) -> list[str]:
     judging = budlarem.judge(lines, limits=SMALL, undefined_steps=undefined_steps)
     return [str(one.judgement) for one in judging]
 
@@ -47,20 +47,20 @@ def test_verdicts_in_many_forms() -> None:
         "1rb1lb 1la1rh halt 6 4",
         "| %s | halt 6 4 |" % CHAMPION,
     ):
-        assert (said(line).claim, said(line).trouble) == (halt, None), line
-    assert str(said("1RA1RA, translated R 1 2").claim) == "1RA1RA translated R 1 2"
-    assert str(said("1RA1RA undecided cells").claim) == "1RA1RA undecided cells"
-    assert str(said("refused 3").claim) == "refused 3"
+        assert (claim_of(line).verdict, claim_of(line).trouble) == (halt, None), line
+    assert str(claim_of("1RA1RA, translated R 1 2").verdict) == "1RA1RA translated R 1 2"
+    assert str(claim_of("1RA1RA undecided cells").verdict) == "1RA1RA undecided cells"
+    assert str(claim_of("refused 3").verdict) == "refused 3"
 
 
 def test_numbers_with_groups_of_three_digits() -> None:
     for text, number in (("47,176,870", 47_176_870), ("1'000", 1_000), ("4 098", 4_098), ("1_000", 1_000)):
         assert number_of(text) == number
-        assert said("1RA1RA halt %s 7" % text).claim == Halt("1RA1RA", number, 7)
+        assert claim_of("1RA1RA halt %s 7" % text).verdict == Halt("1RA1RA", number, 7)
     for text in (">3932964", "1,00", "1,000'000", "07", "", "1.5", "-1", "1,0000", "0,100", "1e6"):
         with pytest.raises(ValueError, match="is no number"):
             number_of(text)
-        assert said("1RA1RA halt %s 7" % text).claim is None
+        assert claim_of("1RA1RA halt %s 7" % text).verdict is None
     assert numbers_in(["47", "176", "870", "4", "098"], (2,)) == [47_176_870, 4_098]
     with pytest.raises(ValueError, match="in 2 ways"):
         numbers_in(["6", "400", "200"], (2,))
@@ -86,11 +86,11 @@ def test_a_text_has_a_verdict_or_nothing() -> None:
         "halt 6 18446744073709551616",
     ):
         for line in ("%s, %s" % (CHAMPION, rest), "%s %s" % (CHAMPION, rest)):
-            found = said(line)
-            assert (found.claim, found.word) == (None, None), line
+            found = claim_of(line)
+            assert (found.verdict, found.word) == (None, None), line
             assert found.trouble == "the rest of the line is no verdict of ours: " + rest
-    assert said(CHAMPION).trouble == "nothing is said of the machine"
-    assert "two things" in (said(CHAMPION + " halt 6 4\tnonhalt").trouble or "")
+    assert claim_of(CHAMPION).trouble == "nothing is said of the machine"
+    assert "two things" in (claim_of(CHAMPION + " halt 6 4\tnonhalt").trouble or "")
 
 
 def test_words_are_written_as_they_are_looked_up() -> None:
@@ -155,7 +155,7 @@ def test_claims_and_words() -> None:
         ("x", "unreadable"),
         ("refused 3", "unreadable"),
     ):
-        assert judged([line]) == [judgement], line
+        assert judgements([line]) == [judgement], line
 
 
 def test_words_of_a_table() -> None:
@@ -176,7 +176,7 @@ def test_words_of_a_table() -> None:
         ("halt 6 5", CHAMPION, "contradicted"),
     ):
         lines = ["verdict\tmachine", "%s\t%s" % (word, machine)]
-        assert judged(lines) == [judgement], (word, machine)
+        assert judgements(lines) == [judgement], (word, machine)
 
 
 def test_numbers_beside_never_halting_are_named() -> None:
@@ -242,9 +242,9 @@ def test_steps_counted_for_undefined_entries() -> None:
     assert {one.judgement for one in judging} == {Judgement.CONFIRMED}
     mixed = theirs + [str(verdicts[1])]
     assert not budlarem.judge(mixed).undefined_steps
-    assert judged(mixed) == ["contradicted", "contradicted", "confirmed", "confirmed"]
-    assert judged(mixed, True) == ["confirmed"] * 3 + ["contradicted"]
-    assert judged(theirs, False)[1] == "contradicted"
+    assert judgements(mixed) == ["contradicted", "contradicted", "confirmed", "confirmed"]
+    assert judgements(mixed, True) == ["confirmed"] * 3 + ["contradicted"]
+    assert judgements(theirs, False)[1] == "contradicted"
     assert not budlarem.judge(map(str, verdicts)).undefined_steps
     forged = theirs + ["1RB1LB_1LA--- halt 9 4"]
     assert not budlarem.judge(forged).undefined_steps
@@ -263,7 +263,7 @@ def test_files_and_streams(tmp_path: pathlib.Path) -> None:
     path = str(tmp_path / "theirs.txt")
     with open(path, "w", encoding="utf-8") as file:
         file.write(CHAMPION + " halt 6 4\n")
-    assert judged(path) == ["confirmed"]
+    assert judgements(path) == ["confirmed"]
     with open(path, "rb") as stream:
         assert [str(one.judgement) for one in budlarem.judge(stream)] == ["confirmed"]
     with pytest.raises(FileNotFoundError):
@@ -278,21 +278,21 @@ def test_each_reading_has_the_same_lines(tmp_path: pathlib.Path) -> None:
     with open(path, "wb") as file:
         file.write(content)
     for kept in (10**6, 100, 0):
-        given: Tuple[Source, ...] = (path, io.BytesIO(content), iter(lines))
+        given: tuple[Source, ...] = (path, io.BytesIO(content), iter(lines))
         for source in given:
-            with mock.patch.object(sources, "_KEPT", kept):
-                twice = sources.Twice(source)
+            with mock.patch.object(rereadable, "_MOST_BUFFERED", kept):
+                twice = rereadable.RereadableList(source)
                 assert [list(twice.lines()), list(twice.lines())] == [right, right]
                 assert (list(twice.once()), twice.empty) == (right, 80)
-    once = sources.Twice(path)
+    once = rereadable.RereadableList(path)
     assert (list(once.once()), once.empty) == (right, 80)
 
 
 def test_changes_keep_the_form() -> None:
     source = random.Random(3)
     for _ in range(2_000):
-        machine, changed, mirrored = drawn(source)
-        forms = form_of(machine), form_of(changed)
+        machine, changed, mirrored = draw_machine(source)
+        forms = canonical_form(machine), canonical_form(changed)
         assert forms[0].text == forms[1].text, (machine, changed)
         if not machine.startswith("---"):
             assert (forms[0].mirrored != forms[1].mirrored) == mirrored, (machine, changed)
@@ -300,12 +300,12 @@ def test_changes_keep_the_form() -> None:
 
 def test_the_form_is_the_machine_with_other_names() -> None:
     for machine in ("1LC1RZ_1RB---_1RA1LA", "2LA1RB0RZ_0LB---1RA", "1RA1RA"):
-        verdicts = list(budlarem.decide([machine, form_of(machine).text]))
+        verdicts = list(budlarem.decide([machine, canonical_form(machine).text]))
         assert str(verdicts[0]).split(" ")[1] == str(verdicts[1]).split(" ")[1]
-    assert form_of("1RB1LB_1LA1RZ") != form_of("1RB1LA_1LA1RZ")
+    assert canonical_form("1RB1LB_1LA1RZ") != canonical_form("1RB1LA_1LA1RZ")
 
 
-def drawn(source: random.Random) -> Tuple[str, str, bool]:
+def draw_machine(source: random.Random) -> tuple[str, str, bool]:
     """A machine, the same with other names, and whether its left and right were exchanged."""
     states, symbols = source.randint(1, 5), source.randint(2, 4)
     names = [0, *source.sample(range(1, states), states - 1)]

@@ -8,15 +8,15 @@ import itertools
 import json
 import os
 import pathlib
-from typing import Any, Dict, Iterator, List, Set
+from typing import Any, Iterator
 
 import budlarem
 import hypothesis
 import pytest
-from budlarem import Columns, EncodingError, Form, Passed, Reading, Rewriting
+from budlarem import Columns, EncodingError, Form, Skipped, Reading, Rewriting
 from budlarem._text import LONGEST_LINE
 from budlarem.reading.files import find_encoding
-from budlarem.reading.values import ADVICE
+from budlarem.reading.readings import ADVICE
 from hypothesis import strategies as st
 from support import TOP
 
@@ -29,10 +29,10 @@ def one(line: str, form: Form = Form.TEXT) -> Reading:
     return reading
 
 
-LISTED: Dict[str, Any] = json.loads(FORMS.read_text(encoding="utf-8"))
+LISTED: dict[str, Any] = json.loads(FORMS.read_text(encoding="utf-8"))
 
 
-def expected(form: Dict[str, Any]) -> List[Any]:
+def expected(form: dict[str, Any]) -> list[Any]:
     """What a form says that has to be read."""
     if "nothing" in form:
         return []
@@ -42,7 +42,7 @@ def expected(form: Dict[str, Any]) -> List[Any]:
     return [form["machine"], rewritten, form.get("before", ""), form.get("behind", "")]
 
 
-def found(line: str, form: Form = Form.TEXT) -> List[Any]:
+def found(line: str, form: Form = Form.TEXT) -> list[Any]:
     """What is read of a line, in the same shape."""
     readings = list(budlarem.read([line], form))
     if not readings:
@@ -113,7 +113,7 @@ def test_a_refusal() -> None:
     assert "at character 9 (for bb column 2)" in str(reading)
 
 
-def machines(source: Any) -> List[Any]:
+def machines(source: Any) -> list[Any]:
     return [(reading.number, reading.machine) for reading in budlarem.read(source)]
 
 
@@ -181,15 +181,15 @@ def test_lines_that_are_passed_over_are_counted() -> None:
     lines = ["", "\r", "# c", "#17 1RA1RA", "```", "1RA1RA", "```", "|-", "| Machine | x |", "  "]
     readings = budlarem.read(lines)
     assert [reading.number for reading in readings] == [4, 6]
-    right = {Passed.EMPTY: 3, Passed.COMMENT: 1, Passed.FENCE: 2, Passed.RULE: 1, Passed.HEADER: 1}
-    assert dict(readings.passed) == right
+    right = {Skipped.EMPTY: 3, Skipped.COMMENT: 1, Skipped.FENCE: 2, Skipped.RULE: 1, Skipped.HEADER: 1}
+    assert dict(readings.skipped) == right
 
 
 def test_empty_lines_have_their_numbers() -> None:
     content = b"\n" * 2_000_000 + b"1RA1RA\n\r\n\n1RA1RA"
     readings = budlarem.read(io.BytesIO(content))
     assert [reading.number for reading in readings] == [2_000_001, 2_000_004]
-    assert readings.passed[Passed.EMPTY] == 2_000_002
+    assert readings.skipped[Skipped.EMPTY] == 2_000_002
 
 
 def test_bytes_that_are_no_utf_8_are_counted() -> None:
@@ -241,7 +241,7 @@ AROUND = ("%s", "17. %s", "%s halt 6 4", "a,%s,b", "`%s`", "[%s](https://x.org/y
     around=st.sampled_from(AROUND),
 )
 def test_a_machine_comes_back_as_it_was(
-    entries: List[str], between: str, changes: Set[str], around: str
+    entries: list[str], between: str, changes: set[str], around: str
 ) -> None:
     """Machines of up to seven states in any form are read as they were, or refused."""
     states = len(entries) // 2

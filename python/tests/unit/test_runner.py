@@ -16,13 +16,13 @@ import shutil
 import unittest.mock
 import zlib
 from concurrent.futures import Executor, Future
-from typing import Any, Callable, List, Sequence, Tuple
+from typing import Any, Callable, Sequence
 
 import budlarem
 import pytest
 from budlarem import Limits, _files, commands, counts
 from budlarem.runner import chunks, folder, input, journal, passes
-from budlarem.runner.errors import CheckError, FolderError, MovedError, RunError, WordsError
+from budlarem.runner.errors import CheckError, FolderError, MovedError, RunError, UsageError
 from support.runner import (
     KINDS,
     LIST,
@@ -33,9 +33,11 @@ from support.runner import (
     KeptProgress,
     Late,
     RunCase,
+    act,
+    answer_with,
     counts_of,
-    expected,
-    resealed,
+    expected_verdicts,
+    reseal,
 )
 
 
@@ -45,7 +47,7 @@ def test_lists_and_passes(case: RunCase) -> None:
         case.list.write_bytes(given)
         case.out = case.top / str(place)
         outcome = case.run_over(limits=limits)
-        assert case.verdicts() == expected(given, limits)
+        assert case.verdicts() == expected_verdicts(given, limits)
         lines = case.verdicts().count(b"\n")
         assert (outcome.lines, sum(outcome.counts.values())) == (lines, lines)
 
@@ -66,30 +68,34 @@ def test_the_summary(case: RunCase) -> None:
 
 def test_lines_keep_their_numbers(case: RunCase) -> None:
     case.run_over()
-    first, second = (case.opened(PASSES[:count]) for count in (1, 2))
+    first, second = (case.open_last_pass(PASSES[:count]) for count in (1, 2))
     for limits, before in (([SMALL], [first]), (PASSES, [first, second])):
-        left = [place for place, line in enumerate(expected(LIST, limits).splitlines(), 1) if b" und" in line]
-        found = [journal.number_in_list(before, line) for line in range(len(left))]
+        left = [
+            place
+            for place, line in enumerate(expected_verdicts(LIST, limits).splitlines(), 1)
+            if b" und" in line
+        ]
+        found = [journal.list_line_number(before, line) for line in range(len(left))]
         assert found == left
-    assert journal.number_in_list([], 7) == 8
+    assert journal.list_line_number([], 7) == 8
 
 
 def test_whole_passes_are_added(case: RunCase) -> None:
     case.run_over(limits=[SMALL])
     before = case.records([SMALL])
-    executor = Answering(lambda reply, before: reply)
+    executor = Answering()
     case.run_over(executor)
-    assert case.verdicts() == expected(LIST)
+    assert case.verdicts() == expected_verdicts(LIST)
     assert case.records([SMALL]) == before
     assert executor.count == len(case.records(PASSES))
 
 
 def test_what_stands_is_not_decided_again(case: RunCase) -> None:
     case.run_over()
-    executor = Answering(lambda reply, before: reply)
+    executor = Answering()
     (case.out / "verdicts.txt").write_bytes(b"changed")
     case.run_over(executor)
-    assert (executor.count, case.verdicts()) == (0, expected(LIST))
+    assert (executor.count, case.verdicts()) == (0, expected_verdicts(LIST))
     count = len(case.records([SMALL])) + len(case.records(PASSES))
     for _ in range(2):
         case.run_over(executor, check=True)
@@ -101,7 +107,7 @@ def test_the_same_list_compressed(case: RunCase) -> None:
     path = case.top / "list.txt.gz"
     path.write_bytes(gzip.compress(LIST))
     case.run_over(path=str(path))
-    assert case.verdicts() == expected(LIST)
+    assert case.verdicts() == expected_verdicts(LIST)
 
 
 def test_another_list(case: RunCase) -> None:
@@ -115,20 +121,20 @@ def test_another_list(case: RunCase) -> None:
                 case.run_over(path=str(path))
     case.list.write_bytes(LIST)
     case.run_over()
-    assert case.verdicts() == expected(LIST)
+    assert case.verdicts() == expected_verdicts(LIST)
 
 
 def test_changed_passes_and_libraries(case: RunCase) -> None:
     case.run_over()
     for limits in ([SMALL], [MIDDLE, SMALL], [MIDDLE], [SMALL, SMALL, MIDDLE]):
-        with pytest.raises(FolderError, match="begun with other passes"):
+        with pytest.raises(FolderError, match="started with other passes"):
             case.run_over(limits=limits)
     path = case.out / "run.json"
     written = path.read_text()
-    begun = folder.Begun.read(written)
-    assert begun is not None
-    other = dataclasses.replace(begun.identity, library="0" * 64)
-    path.write_text(dataclasses.replace(begun, identity=other).text())
+    config = folder.RunConfig.read(written)
+    assert config is not None
+    other = dataclasses.replace(config.identity, library="0" * 64)
+    path.write_text(dataclasses.replace(config, identity=other).text())
     with pytest.raises(FolderError, match="another library"):
         case.run_over()
     for text in (written.replace('"format": 3', '"format": 1'), '{"format": 1, "passes": []}\n'):
@@ -138,20 +144,20 @@ def test_changed_passes_and_libraries(case: RunCase) -> None:
 
 
 def test_what_a_folder_was_begun_with() -> None:
-    keep = chunks.Keep(True, 7)
-    begun = folder.Begun(list(PASSES), keep, chunks.identity(), "\udcff list \u1234", 5, None)
-    text = begun.text()
-    assert folder.Begun.read(text) == begun
+    keep = chunks.Retention(True, 7)
+    config = folder.RunConfig(list(PASSES), keep, chunks.identity(), "\udcff list \u1234", 5, None)
+    text = config.text()
+    assert folder.RunConfig.read(text) == config
     assert json.loads(text)["list"]["bytes"] == 5
     for size in range(len(text)):
-        assert folder.Begun.read(text[:size]) is None
+        assert folder.RunConfig.read(text[:size]) is None
     for place, bit in itertools.product(range(len(text)), range(8)):
         changed = text[:place] + chr(ord(text[place]) ^ 1 << bit) + text[place + 1 :]
         with pytest.raises(FolderError):
-            folder.Begun.read(changed)
+            folder.RunConfig.read(changed)
     for other in (text + " ", "hello", "[" * 10_000, "5\n", "{}\n"):
         with pytest.raises(FolderError):
-            folder.Begun.read(other)
+            folder.RunConfig.read(other)
 
 
 def test_two_runs_in_a_folder(case: RunCase) -> None:
@@ -181,7 +187,7 @@ def test_a_list_that_would_be_overwritten(case: RunCase) -> None:
             before = name.read_bytes()
             listed = input.ListFile(str(name))
             with pytest.raises(FolderError, match="the list is .*%s" % path):
-                folder.Folder(str(case.out), listed.place)
+                folder.Folder(str(case.out), listed.id)
             listed.close()
             assert name.read_bytes() == before
         other.unlink()
@@ -208,10 +214,10 @@ def test_files_that_were_cut_or_changed(case: RunCase) -> None:
             assert path.name == "run.json"
             path.write_bytes(data)
             case.run_over(most=60)
-        assert case.verdicts() == expected(LIST), (path, how)
+        assert case.verdicts() == expected_verdicts(LIST), (path, how)
 
 
-def test_pieces_that_are_missing_in_the_middle(case: RunCase) -> None:
+def test_chunks_that_are_missing_in_the_middle(case: RunCase) -> None:
     case.run_over(most=3)
     for most in (1, 3, 1_000):
         for number in (1, 2):
@@ -222,19 +228,14 @@ def test_pieces_that_are_missing_in_the_middle(case: RunCase) -> None:
                 data[place * journal.WIDTH : (place + 1) * journal.WIDTH] = bytes(journal.WIDTH)
             path.write_bytes(data)
         case.run_over(most=most)
-        assert case.verdicts() == expected(LIST)
+        assert case.verdicts() == expected_verdicts(LIST)
 
 
-def test_a_changed_piece_while_passes_are_joined(case: RunCase) -> None:
-    def change(reply: chunks.PieceReply, before: int) -> chunks.PieceReply:
-        os.truncate(case.out / "verdicts.txt", 100)
-        return reply
-
+def test_a_changed_chunk_while_passes_are_merged(case: RunCase) -> None:
     case.run_over(limits=[SMALL])
     with pytest.raises(RunError, match="was cut or changed"):
-        case.run_over(Answering(change))
-    case.run_over()
-    assert case.verdicts() == expected(LIST)
+        case.run_over(act(lambda: os.truncate(case.out / "verdicts.txt", 100)))
+    require_resumed(case)
 
 
 def test_a_folder_of_an_older_version(case: RunCase) -> None:
@@ -245,17 +246,17 @@ def test_a_folder_of_an_older_version(case: RunCase) -> None:
 
 
 def test_one_pass_is_written_once(case: RunCase) -> None:
-    """The file of the pieces becomes the verdicts, and a later run reads the pieces there."""
+    """The file of the chunks becomes the verdicts, and a later run reads the chunks there."""
     case.run_over(limits=[SMALL])
-    pieces, verdicts = case.out / "pass-1" / "pieces", case.out / "verdicts.txt"
+    chunks, verdicts = case.out / "pass-1" / "pieces", case.out / "verdicts.txt"
     first = verdicts.stat()
-    assert (pieces.exists(), first.st_nlink) == (False, 1)
-    assert case.opened([SMALL]).journal.rename_mark() == len(case.records([SMALL]))
-    executor = Answering(lambda reply, before: reply)
+    assert (chunks.exists(), first.st_nlink) == (False, 1)
+    assert case.open_last_pass([SMALL]).journal.rename_mark() == len(case.records([SMALL]))
+    executor = Answering()
     for _ in range(2):
         case.run_over(executor, limits=[SMALL], check=True)
-        assert case.verdicts() == expected(LIST, [SMALL])
-        assert (pieces.exists(), verdicts.stat().st_ino) == (False, first.st_ino)
+        assert case.verdicts() == expected_verdicts(LIST, [SMALL])
+        assert (chunks.exists(), verdicts.stat().st_ino) == (False, first.st_ino)
     assert executor.count == len(case.records([SMALL]))
     assert sorted(case.out.rglob("*.part")) == []
 
@@ -265,45 +266,43 @@ def test_verdicts_share_no_bytes_with_a_later_run(case: RunCase) -> None:
     next run decides."""
     for is_moved in (False, True):
         case.out = case.top / str(is_moved)
-        kept = case.top / ("kept-%s" % is_moved)
+        kept_lines = case.top / ("kept-%s" % is_moved)
         case.run_over(limits=[SMALL])
-        os.link(case.out / "verdicts.txt", kept)
+        os.link(case.out / "verdicts.txt", kept_lines)
         if is_moved:
             (case.out / "verdicts.txt").unlink()
         for path in case.out.rglob("*"):
             if path.is_file() and (is_moved or path.name == "journal"):
                 path.unlink()
         case.run_over(limits=[SMALL], most=3)
-        assert case.verdicts() == expected(LIST, [SMALL])
-        assert not kept.samefile(case.out / "verdicts.txt")
-        assert kept.read_bytes() == expected(LIST, [SMALL])
+        assert case.verdicts() == expected_verdicts(LIST, [SMALL])
+        assert not kept_lines.samefile(case.out / "verdicts.txt")
+        assert kept_lines.read_bytes() == expected_verdicts(LIST, [SMALL])
 
 
 def test_a_pass_is_added_to_verdicts_that_were_renamed(case: RunCase) -> None:
     case.run_over(limits=[SMALL])
-    kept = case.top / "kept"
-    os.link(case.out / "verdicts.txt", kept)
-    executor = Answering(lambda reply, before: reply)
+    kept_lines = case.top / "kept"
+    os.link(case.out / "verdicts.txt", kept_lines)
+    executor = Answering()
     case.run_over(executor, limits=PASSES)
-    assert (kept.read_bytes(), case.verdicts()) == (expected(LIST, [SMALL]), expected(LIST))
-    assert (case.out / "pass-1" / "pieces").read_bytes() == expected(LIST, [SMALL])
+    assert (kept_lines.read_bytes(), case.verdicts()) == (
+        expected_verdicts(LIST, [SMALL]),
+        expected_verdicts(LIST),
+    )
+    assert (case.out / "pass-1" / "pieces").read_bytes() == expected_verdicts(LIST, [SMALL])
     assert executor.count == len(case.records(PASSES))
-    assert case.opened([SMALL]).journal.rename_mark() is None
+    assert case.open_last_pass([SMALL]).journal.rename_mark() is None
     case.run_over(executor, limits=PASSES)
-    assert (executor.count, case.verdicts()) == (len(case.records(PASSES)), expected(LIST))
+    assert (executor.count, case.verdicts()) == (len(case.records(PASSES)), expected_verdicts(LIST))
 
 
 def test_verdicts_that_are_moved_away_while_a_pass_is_added(case: RunCase) -> None:
-    def change(reply: chunks.PieceReply, before: int) -> chunks.PieceReply:
-        if before == 0:
-            os.rename(case.out / "verdicts.txt", case.top / "kept")
-        return reply
-
     case.run_over(limits=[SMALL])
-    case.run_over(Answering(change))
-    assert case.verdicts() == expected(LIST)
+    case.run_over(act(lambda: os.rename(case.out / "verdicts.txt", case.top / "kept"), 0))
+    assert case.verdicts() == expected_verdicts(LIST)
     for name in ("kept", "out/pass-1/pieces"):
-        assert (case.top / name).read_bytes() == expected(LIST, [SMALL])
+        assert (case.top / name).read_bytes() == expected_verdicts(LIST, [SMALL])
 
 
 def test_verdicts_that_were_changed_in_place(case: RunCase) -> None:
@@ -312,109 +311,100 @@ def test_verdicts_that_were_changed_in_place(case: RunCase) -> None:
         file.write(b"x" * 100)
     case.run_over(limits=[SMALL])
     assert "is decided again: it was cut or changed" in case.progress.kept.getvalue()
-    assert case.verdicts() == expected(LIST, [SMALL])
+    assert case.verdicts() == expected_verdicts(LIST, [SMALL])
     case.run_over(limits=[SMALL])
-    assert case.verdicts() == expected(LIST, [SMALL])
+    assert case.verdicts() == expected_verdicts(LIST, [SMALL])
 
 
 def test_a_folder_whose_verdicts_are_a_second_name(case: RunCase) -> None:
     """So an earlier version of this package left it."""
     case.run_over(limits=[SMALL])
-    pieces, verdicts, kept = (case.out / "pass-1" / "pieces", case.out / "verdicts.txt", case.top / "kept")
+    chunks, verdicts, kept_lines = (
+        case.out / "pass-1" / "pieces",
+        case.out / "verdicts.txt",
+        case.top / "kept",
+    )
     for change in (None, b"x" * 100):
-        os.link(verdicts, pieces)
-        os.link(verdicts, kept)
+        os.link(verdicts, chunks)
+        os.link(verdicts, kept_lines)
         if change is not None:
-            with open(kept, "r+b") as file:
+            with open(kept_lines, "r+b") as file:
                 file.write(change)
-        before = kept.read_bytes()
+        before = kept_lines.read_bytes()
         case.run_over(limits=[SMALL])
-        assert (case.verdicts(), kept.read_bytes()) == (expected(LIST, [SMALL]), before)
-        for path in (pieces, kept):
+        assert (case.verdicts(), kept_lines.read_bytes()) == (expected_verdicts(LIST, [SMALL]), before)
+        for path in (chunks, kept_lines):
             path.unlink(missing_ok=True)
 
 
 def test_a_folder_that_is_moved_removed_or_replaced(case: RunCase) -> None:
-    """Nothing is written where another folder is then, and what stands is gone on with."""
+    """Nothing is written into the other folder, and the run can be resumed."""
     others = {"verdicts.txt": "mine", "run.json": "mine", "README.txt": "mine", "pass-2": "mine"}
 
-    def change(reply: chunks.PieceReply, before: int) -> chunks.PieceReply:
-        if before == 5:
-            os.rename(case.out, case.top / "moved")
-            case.out.mkdir()
-            for name, text in others.items():
-                (case.out / name).write_text(text)
-        return reply
+    def replace() -> None:
+        os.rename(case.out, case.top / "moved")
+        case.out.mkdir()
+        for name, text in others.items():
+            (case.out / name).write_text(text)
 
     with pytest.raises(MovedError, match="isn't the folder that was opened any more"):
-        case.run_over(Answering(change))
+        case.run_over(act(replace, 5))
     assert {path.name: path.read_text() for path in case.out.iterdir()} == others
     case.out = case.top / "moved"
-    executor = Answering(lambda reply, before: reply)
+    executor = Answering()
     case.run_over(executor)
-    assert case.verdicts() == expected(LIST)
+    assert case.verdicts() == expected_verdicts(LIST)
     assert executor.count < len(case.records([SMALL])) + len(case.records(PASSES))
 
 
 def test_a_folder_that_is_removed(case: RunCase) -> None:
-    def change(reply: chunks.PieceReply, before: int) -> chunks.PieceReply:
-        shutil.rmtree(case.out, ignore_errors=True)
-        return reply
-
     with pytest.raises(MovedError):
-        case.run_over(Answering(change))
+        case.run_over(act(lambda: shutil.rmtree(case.out, ignore_errors=True)))
     assert not case.out.exists()
 
 
-def test_a_file_that_another_makes_meanwhile(case: RunCase) -> None:
-    for name in ("verdicts.txt", "summary.json"):
-
-        def change(reply: chunks.PieceReply, before: int) -> chunks.PieceReply:
-            (case.out / name).write_text("mine")
-            return reply
-
-        case.out = case.top / ("out-" + name)
-        with pytest.raises(RunError, match=name + " was made or replaced by another"):
-            case.run_over(Answering(change))
-        assert (case.out / name).read_text() == "mine"
-        (case.out / name).unlink()
-        case.run_over()
-        assert case.verdicts() == expected(LIST)
+@pytest.mark.parametrize("name", ["verdicts.txt", "summary.json"])
+def test_a_file_that_another_makes_meanwhile(case: RunCase, name: str) -> None:
+    with pytest.raises(RunError, match=name + " was made or replaced by another"):
+        case.run_over(act(lambda: (case.out / name).write_text("mine")))
+    assert (case.out / name).read_text() == "mine"
+    (case.out / name).unlink()
+    require_resumed(case)
 
 
 class WriterCase:
-    """Pieces come in any order; none is lost, and the whole is in the list's order."""
+    """Chunks come in any order; none is lost, and the whole is in the list's order."""
 
     def __init__(self, case: RunCase) -> None:
         self.top_folder = folder.Folder(str(case.out))
         case.callback(self.top_folder.close)
-        self.folder = self.top_folder.open_pass([SMALL], chunks.Keep(), chunks.identity())
+        self.folder = self.top_folder.open_pass([SMALL], chunks.Retention(), chunks.identity())
         case.callback(self.folder.close)
         self.verdicts = case.verdicts
 
-    def piece(self, index: int) -> passes.Piece:
+    def chunk(self, index: int) -> passes.Chunk:
         text = b"%d\n" % index * (index % 7 + 1)
         none = dict.fromkeys(counts.KINDS, 0)
         record = journal.Record.of(index, 1, b"", text, 0.0, none)
-        return passes.Piece(index, index, b"given", 1, record, kept=text)
+        return passes.Chunk(index, index, b"given", 1, record, kept=text)
 
     def whole(self, order: Sequence[int], most: int) -> bool:
-        """Writes pieces in an order; whether the file of the pieces is the whole then."""
-        kept = [self.piece(index).kept or b"" for index in range(len(order))]
+        """Writes chunks in an order; whether the file of the chunks is the whole then."""
+        kept_lines = [self.chunk(index).kept or b"" for index in range(len(order))]
         writer = passes.Writer(self.folder, most)
         for index in order:
-            writer.add(self.piece(index))
-            writer.hurry()
-        writer.end()
-        writer.add(self.piece(len(order)))
-        written = writer.written()
-        assert sorted(piece.index for piece in written) == list(range(len(order)))
-        for piece in written:
-            assert piece.record is not None
-            self.folder.journal.put(piece.index, piece.record)
-        self.folder.pieces = len(order)
+            writer.add(self.chunk(index))
+            writer.flush_late()
+        writer.close()
+        writer.add(self.chunk(len(order)))
+        written = writer.pop_written()
+        assert sorted(chunk.index for chunk in written) == list(range(len(order)))
+        for chunk in written:
+            assert chunk.record is not None
+            self.folder.journal.write(chunk.index, chunk.record)
+        self.folder.chunks = len(order)
         self.top_folder.write_verdicts(self.folder)
-        whole = b"".join(kept)
+        whole = b"".join(kept_lines)
         assert self.verdicts() == whole
         assert self.folder.checksum() == _files.Checksum(len(whole), zlib.crc32(whole))
         return not os.path.exists(self.folder.kept)
@@ -456,8 +446,8 @@ def test_nothing(writer: WriterCase) -> None:
     assert not writer.whole([], 20)
 
 
-def kept(limits: Sequence[Limits], halts: int) -> bytes:
-    lines = expected(LIST, limits).splitlines(keepends=True)
+def kept_lines(limits: Sequence[Limits], halts: int) -> bytes:
+    lines = expected_verdicts(LIST, limits).splitlines(keepends=True)
     long = [line for line in lines if b" halt " in line and int(line.split()[2]) > halts]
     return b"".join(line for line in lines if b"undecided" in line or b"refused" in line or line in long)
 
@@ -465,34 +455,34 @@ def kept(limits: Sequence[Limits], halts: int) -> bytes:
 def test_what_is_kept(case: RunCase) -> None:
     for place, (limits, halts) in enumerate(itertools.product(([SMALL], PASSES), (None, 0, 5, 9, 10**9))):
         case.out = case.top / str(place)
-        keep = chunks.Keep(True, halts)
+        keep = chunks.Retention(True, halts)
         for _ in range(2):
             outcome = case.run_over(limits=limits, keep=keep)
-            assert case.verdicts() == kept(limits, 10**12 if halts is None else halts)
-            assert outcome.counts == counts_of(expected(LIST, limits))
+            assert case.verdicts() == kept_lines(limits, 10**12 if halts is None else halts)
+            assert outcome.counts == counts_of(expected_verdicts(LIST, limits))
         summary = json.loads((case.out / "summary.json").read_text())
         assert (summary["lines"], summary["kept"]) == (370, str(keep))
         with pytest.raises(FolderError, match="dropped before they were checked"):
             case.run_over(limits=limits, keep=keep, check=True)
-        with pytest.raises(FolderError, match="begun with --keep left"):
+        with pytest.raises(FolderError, match="started with --keep left"):
             case.run_over(limits=limits)
 
 
 def test_all_are_seen_before_they_are_dropped(case: RunCase) -> None:
-    for place, executor in enumerate((None, Answering(lambda reply, before: reply))):
+    for place, executor in enumerate((None, Answering())):
         case.out, case.seen = case.top / str(place), []
         for _ in range(2):
-            case.run_over(executor, limits=[SMALL], keep=chunks.Keep(True), check=True)
+            case.run_over(executor, limits=[SMALL], keep=chunks.Retention(True), check=True)
             seen = b"".join(case.seen).splitlines()
-            assert sorted(seen) == sorted(expected(LIST, [SMALL]).splitlines())
-        assert case.verdicts() == kept([SMALL], 10**12)
+            assert sorted(seen) == sorted(expected_verdicts(LIST, [SMALL]).splitlines())
+        assert case.verdicts() == kept_lines([SMALL], 10**12)
 
 
 def test_keep_passes_are_added(case: RunCase) -> None:
-    keep = chunks.Keep(True)
+    keep = chunks.Retention(True)
     case.run_over(limits=[SMALL], keep=keep, check=True)
     case.run_over(keep=keep, check=True)
-    assert case.verdicts() == kept(PASSES, 10**12)
+    assert case.verdicts() == kept_lines(PASSES, 10**12)
     other = LIST.replace(b"------", b"1RZ---", 1)
     case.list.write_bytes(other)
     with pytest.raises(FolderError, match="isn't the list that"):
@@ -500,36 +490,33 @@ def test_keep_passes_are_added(case: RunCase) -> None:
 
 
 def test_a_line_of_a_later_pass_is_named(case: RunCase) -> None:
-    def change(reply: chunks.PieceReply, before: int) -> chunks.PieceReply:
-        return resealed(reply, reply[0].replace(b" undecided steps", b" unknown steps"))
-
-    keep = chunks.Keep(True)
+    keep = chunks.Retention(True)
     case.run_over(limits=[SMALL], keep=keep)
-    with pytest.raises(RunError, match="pass 2, line [0-9]+ of those that pass 1 left: "):
-        case.run_over(Answering(change), keep=keep)
+    with pytest.raises(RunError, match="pass 2, line [0-9]+ of the holdouts of pass 1: "):
+        case.run_over(answer_with(b" undecided steps", b" unknown steps"), keep=keep)
 
 
 def test_words() -> None:
     given = {"left": (True, None), "halts=9": (True, 9), "left,halts=0": (True, 0), "all": (False, None)}
-    for words, (only_left, halts) in given.items():
-        keep = chunks.Keep(only_left, halts)
-        assert chunks.keep_of([words]) == keep
-        assert chunks.keep_of([str(keep)]) == keep
-    assert chunks.keep_of(["left", "halts=7"]) == chunks.Keep(True, 7)
-    assert chunks.keep_of(None) == chunks.Keep()
+    for words, (only_holdouts, halts) in given.items():
+        keep = chunks.Retention(only_holdouts, halts)
+        assert chunks.parse_retention([words]) == keep
+        assert chunks.parse_retention([str(keep)]) == keep
+    assert chunks.parse_retention(["left", "halts=7"]) == chunks.Retention(True, 7)
+    assert chunks.parse_retention(None) == chunks.Retention()
     for wrong in (["right"], [""], ["halts="], ["halts=-1"], ["all,left"], ["left", "all"]):
-        with pytest.raises(WordsError):
-            chunks.keep_of(wrong)
+        with pytest.raises(UsageError):
+            chunks.parse_retention(wrong)
 
 
-def goes_on(case: RunCase) -> None:
+def require_resumed(case: RunCase) -> None:
     """A run again, by threads, has the right bytes."""
     case.run_over()
-    assert case.verdicts() == expected(LIST)
+    assert case.verdicts() == expected_verdicts(LIST)
 
 
 def test_wrong_answers_now_and_then(case: RunCase) -> None:
-    answers: List[Callable[[chunks.PieceReply], Any]] = [
+    answers: list[Callable[[chunks.ChunkReply], Any]] = [
         lambda reply: None,
         lambda reply: (b"", *reply[1:]),
         lambda reply: (reply[0][:-1], *reply[1:]),
@@ -544,53 +531,45 @@ def test_wrong_answers_now_and_then(case: RunCase) -> None:
         case.out = case.top / str(place)
         executor = Answering(lambda reply, before: answer(reply) if before in (1, 30) else reply)
         case.run_over(executor)
-        assert case.verdicts() == expected(LIST)
-        assert "it is tried again" in case.progress.kept.getvalue()
+        assert case.verdicts() == expected_verdicts(LIST)
+        assert "trying again" in case.progress.kept.getvalue()
 
 
 def test_wrong_answers_each_time(case: RunCase) -> None:
     for begin in (0, 5, 60):
         case.out = case.top / str(begin)
         executor = Answering(lambda reply, before: reply if before < begin else (b"x\n", *reply[1:]))
-        with pytest.raises(RunError, match="pass [12], lines? .* so it was 3 times"):
+        with pytest.raises(RunError, match="pass [12], lines? .* tried 3 times"):
             case.run_over(executor)
         assert not (case.out / "verdicts.txt").exists()
-        goes_on(case)
+        require_resumed(case)
 
 
 def test_the_line_is_named(case: RunCase) -> None:
-    def change(reply: chunks.PieceReply, before: int) -> chunks.PieceReply:
-        return resealed(
-            reply,
-            reply[0].replace(
-                b"0RB1LD_0RC1RD_0RD---_1LA0RB undecided", b"0RB1LD_0RC1RD_0RD---_1LA0RB unknown"
-            ),
-        )
-
     with pytest.raises(RunError, match="pass 1, line [0-9]*9: '0RB1LD_0RC1RD_0RD---_1LA0RB unknown steps'"):
-        case.run_over(Answering(change))
-    goes_on(case)
+        case.run_over(answer_with(b"_0RD---_1LA0RB undecided", b"_0RD---_1LA0RB unknown"))
+    require_resumed(case)
 
 
 def test_late_answers_in_another_order(case: RunCase) -> None:
     given = b"".join(KINDS.splitlines(keepends=True)[:8])
     case.list.write_bytes(given)
     case.run_over(Late(4), most=1, limits=[SMALL])
-    assert case.verdicts() == expected(given, [SMALL])
+    assert case.verdicts() == expected_verdicts(given, [SMALL])
     assert len(case.records([SMALL])) == 8
 
 
-def test_one_answer_for_two_pieces(case: RunCase) -> None:
-    kept: List[Future[Any]] = []
+def test_one_answer_for_two_chunks(case: RunCase) -> None:
+    kept_lines: list[Future[Any]] = []
 
     class Same(Answering):
         def submit(case, function: Any, /, *given: Any, **named: Any) -> Any:
-            kept.append(super().submit(function, *given, **named))
-            return kept[0]
+            kept_lines.append(super().submit(function, *given, **named))
+            return kept_lines[0]
 
-    with pytest.raises(RunError, match="pass 1, lines? .* so it was 3 times|one future"):
+    with pytest.raises(RunError, match="pass 1, lines? .* tried 3 times|one future"):
         case.run_over(Same(lambda reply, before: reply))
-    goes_on(case)
+    require_resumed(case)
 
 
 def test_an_executor_that_takes_or_answers_nothing(case: RunCase) -> None:
@@ -606,31 +585,27 @@ def test_an_executor_that_takes_or_answers_nothing(case: RunCase) -> None:
 
     with pytest.raises(RunError, match="it was closed"):
         case.run_over(Closed())
-    with pytest.raises(RunError, match="it was cancelled; so it was 3 times"):
+    with pytest.raises(RunError, match="it was cancelled; tried 3 times"):
         case.run_over(Cancelling())
-    goes_on(case)
+    require_resumed(case)
 
 
 def test_a_verdict_that_the_checker_refuses(case: RunCase) -> None:
-    def change(reply: chunks.PieceReply, before: int) -> chunks.PieceReply:
-        wrong = reply[0].replace(b"_1RZ0LA undecided steps", b"_1RZ0LA cycler 5 9")
-        return resealed(reply, wrong)
-
-    for limits, numbers in (([SMALL], (5,)), (PASSES, (5, 15))):
+    executor = answer_with(b"_1RZ0LA undecided steps", b"_1RZ0LA cycler 5 9")
+    for limits in ([SMALL], PASSES):
         case.out = case.top / str(len(limits))
-        with pytest.raises(CheckError) as raised:
-            case.run_over(Answering(change), limits=limits, check=True)
-        assert re.search("^line (5|15|25): the checker answers bad: 1RB1LC_1RC1RB", str(raised.value))
-    goes_on(case)
+        with pytest.raises(CheckError, match="^line (5|15|25): the checker answers bad: 1RB1LC_1RC1RB"):
+            case.run_over(executor, limits=limits, check=True)
+    require_resumed(case)
 
 
 def test_a_lying_worker_is_found_here(case: RunCase) -> None:
     """It says that its wrong verdict is right, and of all others that they are undecided."""
 
-    def lie(reply: chunks.PieceReply, before: int) -> chunks.PieceReply:
+    def lie(reply: chunks.ChunkReply, before: int) -> chunks.ChunkReply:
         if reply[6].startswith(chunks.CHECK):
-            return resealed(reply, b"ok\n" * reply[0].count(b"\n"))
-        return resealed(reply, reply[0].replace(b"_1RZ0LA undecided steps", b"_1RZ0LA cycler 5 9"))
+            return reseal(reply, b"ok\n" * reply[0].count(b"\n"))
+        return reseal(reply, reply[0].replace(b"_1RZ0LA undecided steps", b"_1RZ0LA cycler 5 9"))
 
     case.run_over(Answering(lie), limits=[SMALL], check=True)
     assert b"cycler 5 9" in case.verdicts()
@@ -643,53 +618,51 @@ def test_a_lying_worker_is_found_here(case: RunCase) -> None:
 
 
 def test_answers_to_other_verdicts(case: RunCase) -> None:
-    kept: List[chunks.PieceReply] = []
+    kept_lines: list[chunks.ChunkReply] = []
 
-    def swap(reply: chunks.PieceReply, before: int) -> chunks.PieceReply:
-        kept.append(reply)
+    def swap(reply: chunks.ChunkReply, before: int) -> chunks.ChunkReply:
+        kept_lines.append(reply)
         is_check = reply[6].startswith(chunks.CHECK)
-        return next(one for one in kept if one[6] == reply[6]) if is_check else reply
+        return next(one for one in kept_lines if one[6] == reply[6]) if is_check else reply
 
-    with pytest.raises(RunError, match="answers other lines; so it was 3 times"):
+    with pytest.raises(RunError, match="answers other lines; tried 3 times"):
         case.run_over(Answering(swap), check=True)
-    goes_on(case)
+    require_resumed(case)
 
 
 def test_seconds_that_did_not_pass(case: RunCase) -> None:
     for seconds in (1e9, 1e308):
         case.out = case.top / str(seconds)
         case.run_over(Answering(lambda reply, before: (reply[0], seconds, *reply[2:])), most=1_000)
-        assert case.verdicts() == expected(LIST)
+        assert case.verdicts() == expected_verdicts(LIST)
         assert len(case.records([SMALL])) < 20
         summary = json.loads((case.out / "summary.json").read_text())
         assert summary["passes"][0]["work_seconds"] < 600
 
 
-def called(case: RunCase, *arguments: str) -> Tuple[int, str]:
+def call(case: RunCase, *arguments: str) -> tuple[int, str]:
     """The status of the command, and what it writes to standard error."""
     said = io.StringIO()
     with contextlib.redirect_stderr(said):
-        with unittest.mock.patch("budlarem.commands.run.end_at_interruption"):
+        with unittest.mock.patch("budlarem.commands.run.install_signal_handlers"):
             status = commands.main(["run", str(case.list), "--out", str(case.out), *arguments])
     return status, said.getvalue()
 
 
 def test_statuses(case: RunCase) -> None:
     small = "steps=30,cells=16,depth=3,nodes=5"
-    assert called(case, "--pass", small)[0] == 1
-    assert case.verdicts() == expected(LIST, [SMALL])
-    status, said = called(
-        case, "--pass", small, "--pass", "steps=1000,cells=128,depth=20,nodes=100", "--check"
-    )
-    assert (status, case.verdicts()) == (1, expected(LIST))
+    assert call(case, "--pass", small)[0] == 1
+    assert case.verdicts() == expected_verdicts(LIST, [SMALL])
+    status, said = call(case, "--pass", small, "--pass", "steps=1000,cells=128,depth=20,nodes=100", "--check")
+    assert (status, case.verdicts()) == (1, expected_verdicts(LIST))
     assert "370 lines: " in said
     case.list.write_bytes(b"1RZ---\n")
-    status, said = called(case, "--pass", small)
+    status, said = call(case, "--pass", small)
     assert status == 2
     case.out = case.top / "other"
-    assert called(case)[0] == 0
+    assert call(case)[0] == 0
     case.list.unlink()
-    assert called(case)[0] == 3
+    assert call(case)[0] == 3
 
 
 def test_what_is_refused(case: RunCase) -> None:
@@ -703,7 +676,7 @@ def test_what_is_refused(case: RunCase) -> None:
         ["--threads", "0"],
         ["--piece", "0"],
     ):
-        status, said = called(case, *words)
+        status, said = call(case, *words)
         assert (status, case.out.exists()) == (2, False), words
         assert said.startswith("budlarem: ")
 
@@ -711,13 +684,13 @@ def test_what_is_refused(case: RunCase) -> None:
 def test_a_terminal() -> None:
     shown = KeptProgress()
     shown._is_terminal = True
-    shown.begin(1, 2, lambda lines: 88_664_064)
-    shown.decided(20_000)
+    shown.start(1, 2, lambda lines: 88_664_064)
+    shown.add_decided(20_000)
     shown._next = 0.0
     shown.tick("3 workers")
     text = shown.kept.getvalue()
     assert re.search(
-        r"^\rpass 1 of 2, 1 pieces, 20k lines, 0%, \d+[kM]? lines/s, [0-9.]+ \w+ left, 3 work", text
+        r"^\rpass 1 of 2, 1 chunks, 20k lines, 0%, \d+[kM]? lines/s, [0-9.]+ \w+ left, 3 work", text
     )
     assert len(text) < 81
     shown.print_line("a sentence")
@@ -726,9 +699,9 @@ def test_a_terminal() -> None:
 
 def test_a_long_pass_is_announced_once() -> None:
     shown = KeptProgress()
-    shown.begin(2, 2, lambda lines: 10**9)
-    shown._began -= 10
-    shown.decided(5)
+    shown.start(2, 2, lambda lines: 10**9)
+    shown._started -= 10
+    shown.add_decided(5)
     for _ in range(2):
         shown._next = 0.0
         shown.tick()

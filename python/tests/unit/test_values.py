@@ -6,11 +6,12 @@ import dataclasses
 import pickle
 import pydoc
 import re
-from typing import Any, List
+from typing import Any
 
 import budlarem
 import pytest
 from budlarem import Limits, LimitsError, Plan, _api
+from budlarem._text import escape_controls
 
 CHAMPION = "1RB1LB_1LA1RZ"
 LINES = [
@@ -59,22 +60,19 @@ def test_are_the_programs_where_nothing_is_said() -> None:
     assert Plan().switches() == (True, True, True)
 
 
-def test_refuse_what_is_out_of_range() -> None:
-    for name, given in (
-        ("steps", -1),
-        ("steps", 10**12 + 1),
-        ("cells", 0),
-        ("cells", 67_108_865),
-        ("depth", 10_001),
+@pytest.mark.parametrize(
+    "name, given",
+    [
+        *(("steps", -1), ("steps", 10**12 + 1), ("cells", 0), ("cells", 67_108_865), ("depth", 10_001)),
         ("nodes", 2**64),
-    ):
-        with pytest.raises(LimitsError) as raised:
-            Limits(**{name: given})
-        lowest, highest = Limits.RANGES[name]
-        error = raised.value
-        found = (error.limit, error.lowest, error.highest, error.given)
-        assert found == (name, lowest, highest, given)
-        assert "{:,}".format(highest) in str(error)
+    ],
+)
+def test_numbers_out_of_range(name: str, given: int) -> None:
+    with pytest.raises(LimitsError) as raised:
+        Limits(**{name: given})
+    error, (lowest, highest) = raised.value, Limits.RANGES[name]
+    assert (error.limit, error.lowest, error.highest, error.given) == (name, lowest, highest, given)
+    assert "{:,}".format(highest) in str(error)
 
 
 def test_refuse_a_depth_that_does_not_fit() -> None:
@@ -83,18 +81,16 @@ def test_refuse_a_depth_that_does_not_fit() -> None:
         Limits(cells=598)
 
 
-def test_refuse_what_is_no_whole_number() -> None:
-    for given in (1e6, "7", None, True, b"1"):
-        with pytest.raises(TypeError, match="^steps is .*whole number"):
-            wrong: Any = given
-            Limits(steps=wrong)
+@pytest.mark.parametrize("wrong", [1e6, "7", None, True, b"1"])
+def test_limits_are_whole_numbers(wrong: Any) -> None:
+    with pytest.raises(TypeError, match="^steps is .*whole number"):
+        Limits(steps=wrong)
 
 
-def test_plans_refuse_what_is_no_switch() -> None:
-    for given in ("no", 1, None):
-        with pytest.raises(TypeError, match="^cyclers .*True or False"):
-            wrong: Any = given
-            Plan(cyclers=wrong)
+@pytest.mark.parametrize("wrong", ["no", 1, None])
+def test_switches_are_true_or_false(wrong: Any) -> None:
+    with pytest.raises(TypeError, match="^cyclers .*True or False"):
+        Plan(cyclers=wrong)
 
 
 def test_stay_as_they_are() -> None:
@@ -107,25 +103,26 @@ def test_errors_go_from_process_to_process() -> None:
     assert str(pickle.loads(pickle.dumps(error))) == str(error)
 
 
-def test_lines_are_read_and_written() -> None:
-    for line in LINES:
-        verdict = budlarem.parse(line)
-        assert str(verdict) == line
-        assert budlarem.parse(str(verdict)) == verdict
-        assert pickle.loads(pickle.dumps(verdict)) == verdict
+@pytest.mark.parametrize("line", LINES)
+def test_lines_are_read_and_written(line: str) -> None:
+    verdict = budlarem.parse(line)
+    assert str(verdict) == line
+    assert budlarem.parse(str(verdict)) == verdict
+    assert pickle.loads(pickle.dumps(verdict)) == verdict
 
 
-def test_other_lines_are_refused() -> None:
-    for line in UNREAD:
-        with pytest.raises(ValueError, match="no verdict line"):
-            budlarem.parse(line)
+@pytest.mark.parametrize("line", UNREAD)
+def test_other_lines_are_refused(line: str) -> None:
+    with pytest.raises(ValueError, match="no verdict line"):
+        budlarem.parse(line)
 
 
-def test_only_texts_are_read() -> None:
-    wrongs: List[Any] = [b"refused 1", None, 1, []]
-    for wrong in wrongs:
-        with pytest.raises(TypeError):
-            budlarem.parse(wrong)
+@pytest.mark.parametrize("wrong", [b"refused 1", None, 1, []])
+def test_only_texts_are_read(wrong: Any) -> None:
+    with pytest.raises(TypeError):
+        budlarem.parse(wrong)
+    with pytest.raises(TypeError, match="^text is of type .*, not str$"):
+        budlarem.is_machine(wrong)
 
 
 def test_parts_have_names() -> None:
@@ -146,13 +143,6 @@ def test_machines_are_of_1_to_25_states_and_2_to_10_symbols() -> None:
         assert not budlarem.is_machine(text), text
 
 
-def test_only_texts_are_machines_or_not() -> None:
-    wrongs: List[Any] = [None, 1, b"------"]
-    for wrong in wrongs:
-        with pytest.raises(TypeError, match="^text is of type .*, not str$"):
-            budlarem.is_machine(wrong)
-
-
 def test_the_calls_come_first() -> None:
     page = pydoc.plain(pydoc.render_doc(budlarem))
     first = page[: page.index("PACKAGE CONTENTS")]
@@ -160,3 +150,23 @@ def test_the_calls_come_first() -> None:
     assert len(calls) > 15
     for name in calls:
         assert re.search(r"\b%s\b" % name, first)
+
+
+@pytest.mark.parametrize(
+    "text, escaped",
+    [
+        ("a\x1b[31mb\r\x00\x7f", r"a\x1b[31mb\x0d\x00\x7f"),
+        ("\x80\x9b\x9f\xa0", r"\x80\x9b\x9f" + "\xa0"),
+        (b"\x80\x9b\x9f\xa0".decode("utf-8", "surrogateescape"), r"\x80\x9b\x9f" + "\udca0"),
+        ("1RB1LB_1LA1RZ\thalt 6 4\nGrüße, 中\u200b", "1RB1LB_1LA1RZ\thalt 6 4\nGrüße, 中\u200b"),
+    ],
+)
+def test_controls_are_escaped(text: str, escaped: str) -> None:
+    assert escape_controls(text) == escaped
+
+
+def test_no_control_is_left() -> None:
+    controls = "".join(map(chr, [*range(0x20), *range(0x7F, 0xA0)])).replace("\t", "").replace("\n", "")
+    escaped = escape_controls(controls)
+    assert escaped.isprintable(), escaped
+    assert escaped.encode().decode("unicode_escape") == controls

@@ -1,7 +1,7 @@
-"""The command `budlarem`: what people do with lists.
+"""The command `budlarem`: lists of machines and verdicts.
 
-Its statuses: 0, 1 where a line was refused or two lists contradict each other, 2 for a command line, limits
-or a line that can't be read, 3 for a fault of files, memory or what is installed, 130 after an interruption.
+Exit status: 0; 1 if a line was refused or two lists contradict each other; 2 for a command line, limits or a
+line that can't be read; 3 for a fault of files, memory or the installation; 130 after an interruption.
 """
 
 from __future__ import annotations
@@ -17,39 +17,37 @@ from typing import List, NoReturn, Optional
 from .._text import escape_controls
 from .._version import VERSION
 from ..reports import ReportError
-from .checking import add_check, add_publish
-from .claims import add_claims, add_judge
+from .check_publish import add_check, add_publish
+from .lists import add_claims, add_judge
 from .machines import add_machines, add_runs
 from .run import add_command as add_run
 
+# Errors without a file name that standard output has.
+_OUTPUT_ERRORS = (errno.ENOSPC, errno.EFBIG, errno.EDQUOT, errno.EIO)
 
-def words() -> argparse.ArgumentParser:
-    """The reader of the command line."""
-    parser = argparse.ArgumentParser(prog="budlarem", description="What people do with lists of machines.")
+
+def build_parser() -> argparse.ArgumentParser:
+    """The parser of the command line."""
+    parser = argparse.ArgumentParser(prog="budlarem", description="Works on lists of machines and verdicts.")
     parser.add_argument("--version", action="version", version="budlarem " + VERSION)
     commands = parser.add_subparsers(required=True, metavar="COMMAND")
-    add_machines(commands)
-    add_check(commands)
-    add_claims(commands)
-    add_judge(commands)
-    add_runs(commands)
-    add_publish(commands)
-    add_run(commands)
-    asked = commands.add_parser("help", help="what a command does, as its --help")
+    for add in (add_machines, add_check, add_claims, add_judge, add_runs, add_publish, add_run):
+        add(commands)
+    asked = commands.add_parser("help", help="print the help of a command, as its --help")
     asked.add_argument("command", nargs="?", metavar="COMMAND", choices=list(commands.choices))
     asked.set_defaults(do=lambda given: do_help(parser, given.command))
     return parser
 
 
 def do_help(parser: argparse.ArgumentParser, command: Optional[str]) -> int:
-    """Writes the help of a command, or of all."""
+    """Prints the help of a command, or of all."""
     parser.parse_args(["--help"] if command is None else [command, "--help"])
     return 0
 
 
 def main(arguments: Optional[List[str]] = None) -> int:
-    """Does what the words ask for; gives the status."""
-    asked = words().parse_args(arguments)
+    """Runs a command; returns the exit status."""
+    asked = build_parser().parse_args(arguments)
     if isinstance(sys.stdout, io.TextIOWrapper):
         sys.stdout.reconfigure(encoding="utf-8", errors="surrogateescape", newline="\n")
     try:
@@ -64,26 +62,20 @@ def main(arguments: Optional[List[str]] = None) -> int:
     except MemoryError as error:
         _print_error("out of memory: %s" % error)
     except OSError as error:
-        # What is written to a file has its name in its errors; what is left is standard output.
-        is_output = error.filename is None and error.errno in (
-            errno.ENOSPC,
-            errno.EFBIG,
-            errno.EDQUOT,
-            errno.EIO,
-        )
+        is_output = error.filename is None and error.errno in _OUTPUT_ERRORS
         _print_error("%s%s" % ("standard output: " if is_output else "", error))
     except ReportError as error:
         _print_error(str(error))
     return 3
 
 
-def _print_error(sentence: str) -> None:
-    """Prints why the command ended, its control characters escaped."""
-    print("budlarem: %s" % escape_controls(sentence), file=sys.stderr)
+def _print_error(text: str) -> None:
+    """Prints an error message, its control characters escaped."""
+    print("budlarem: %s" % escape_controls(text), file=sys.stderr)
 
 
 def run_and_exit() -> NoReturn:
-    """The command: ends the process. What a thread is at then ends with it."""
+    """Runs a command and ends the process, with all its threads."""
     try:
         status = main()
     except BrokenPipeError:

@@ -5,44 +5,32 @@ from __future__ import annotations
 import argparse
 import sys
 
+from ..decide_list import decide_readings
 from ..engine import MachineError, trace
 from ..limits import Limits, Plan
-from ..lists import carried
 from ..normal_forms import distinct
 from ..numbers import option_number
 from ..pictures import picture
 from .shared import (
     LIST_HELP,
     ListReader,
+    Subcommands,
     add_command,
     add_file,
     add_form,
     add_limits,
     add_number,
-    columns_of,
-    form_of,
-    limits_of,
 )
+from .shared import columns_of, form_of, limits_of
 
-_READ = (
-    """Writes the machine of each line of a list, as bb reads it.
+_READ = "Writes the machine of each line of a list, as bb reads it.\n\n%s Status 1 if a line was refused."
+_DECIDE = """Decides the machine of each line of a list, and copies the other fields of the line.
 
-%s Status 1 where a line was refused."""
-    % LIST_HELP
-)
-_DECIDE = (
-    """Decides the machine of each line of a list, and carries along what else stands there.
+%s The verdict of a refused line is `refused` and the column at which bb refuses it; status 1 then."""
+_NORMAL = """Writes the normal form of each machine of a list: states in the order of their first use, and
+mirrored so that the first move is to the right.
 
-%s A refused line is answered by `refused` and the column where bb refuses it; status 1 then."""
-    % LIST_HELP
-)
-_NORMAL = (
-    """Writes the normal form of each machine of a list: states in the order of their first use, and
-mirrored, so that the first move is to the right.
-
-%s Status 1 where a line was refused."""
-    % LIST_HELP
-)
+%s Status 1 if a line was refused."""
 
 
 def reader_of(asked: argparse.Namespace) -> ListReader:
@@ -62,10 +50,10 @@ def do_read(asked: argparse.Namespace) -> int:
 
 
 def do_decide(asked: argparse.Namespace) -> int:
-    """Decides the machine of each line, and carries along what else stands there."""
+    """Decides the machine of each line."""
     plan = Plan(not asked.no_cyclers, not asked.no_translated, not asked.no_backward)
     reader = reader_of(asked)
-    for found in carried(reader.readings(), limits_of(asked), plan, threads=asked.threads):
+    for found in decide_readings(reader.readings(), limits_of(asked), plan, threads=asked.threads):
         sys.stdout.write("%s\n" % found)
     return reader.status
 
@@ -79,45 +67,36 @@ def do_normal(asked: argparse.Namespace) -> int:
     return reader.status
 
 
-def add_machines(commands: "argparse._SubParsersAction[argparse.ArgumentParser]") -> None:
-    """Adds these commands to a reader of command lines."""
+def add_machines(commands: Subcommands) -> None:
+    """Adds `read`, `decide` and `normal` to a parser."""
     columns = [("machine", "as bb reads it")]
-    reading = add_command(
-        commands, "read", do_read, "machines out of a list as people have them", _READ, columns
-    )
-    add_file(reading)
-    add_form(reading)
-    columns = [("verdict", "the line of bb decide"), ("fields", "what stood before the machine")]
-    columns += [("fields", "what stood behind it; a field is left out where nothing stood there")]
-    decide = add_command(
-        commands, "decide", do_decide, "decide machines, other fields carried along", _DECIDE, columns
-    )
-    add_file(decide)
-    add_form(decide)
+    read = add_command(commands, "read", do_read, "machines of a list", _READ % LIST_HELP, columns)
+    columns = [("verdict", "the line of bb decide"), ("fields", "the text before the machine, if any")]
+    columns += [("fields", "the text behind it, if any")]
+    help = "decide machines, and copy other fields"
+    decide = add_command(commands, "decide", do_decide, help, _DECIDE % LIST_HELP, columns)
+    columns = [("normal form", "of the machine"), ("machine", "as it was read")]
+    columns += [("states", "the state of the machine for each state of the normal form")]
+    columns += [("L or R", "L if left and right were exchanged")]
+    help = "machines in normal form"
+    normal = add_command(commands, "normal", do_normal, help, _NORMAL % LIST_HELP, columns)
+    for parser in (read, decide, normal):
+        add_file(parser)
+        add_form(parser)
     add_limits(decide, Limits.RANGES)
     for name in ("cyclers", "translated", "backward"):
         decide.add_argument("--no-" + name, action="store_true", help="leave this decider out")
     add_number(decide, "--threads", "cores used", 1)
-    _add_forms(commands)
-
-
-def _add_forms(commands: "argparse._SubParsersAction[argparse.ArgumentParser]") -> None:
-    columns = [("normal form", "of the machine"), ("machine", "as it was read")]
-    columns += [("states", "for each state of the normal form, which state of the machine it is")]
-    columns += [("L or R", "L where left and right were exchanged")]
-    normal = add_command(commands, "normal", do_normal, "machines in normal form", _NORMAL, columns)
-    add_file(normal)
-    add_form(normal)
     normal.add_argument("--distinct", action="store_true", help="only the first machine of each normal form")
     add_number(normal, "--steps", "of the run", 10_000)
     add_limits(normal, ["cells"])
 
 
-_TRACE = """Writes a line for each step of a run up to N, the bytes of bb trace. Status 1 where the cells
-ended the run before, and where MACHINE is refused."""
+_TRACE = """Writes a line for each step of a run up to N, the bytes of bb trace. Status 1 if the cells ended the
+run before, or MACHINE is refused."""
 _PICTURE = """Writes a space-time picture of a run, as a PNG file: a row for each step, a column for each
-position; 0 is white, 1 black, the head red, what isn't visited yet grey. A run of more than 2,000 positions
-is scaled down: a pixel has the mean colour of its cells, and the head isn't seen."""
+position; 0 is white, 1 black, the head red, unvisited cells grey. A run of more than 2,000 positions is scaled
+down: a pixel has the mean colour of its cells, and the head isn't shown."""
 
 
 def do_trace(asked: argparse.Namespace) -> int:
@@ -147,21 +126,19 @@ def do_picture(asked: argparse.Namespace) -> int:
     return 0
 
 
-def add_runs(commands: "argparse._SubParsersAction[argparse.ArgumentParser]") -> None:
-    """Adds these commands to a reader of command lines."""
-    columns = [("step", "from 0 on"), ("state", "A to Y, or Z once it halted there")]
+def add_runs(commands: Subcommands) -> None:
+    """Adds `trace` and `picture` to a parser."""
+    columns = [("step", "from 0 on"), ("state", "A to Y, or Z after a step into it")]
     columns += [("position", "of the head, 0 at the start"), ("cells", "visited so far, a digit each")]
     steps = add_command(commands, "trace", do_trace, "the steps of a run", _TRACE, columns, "a space")
-    steps.add_argument("machine", metavar="MACHINE")
-    steps.add_argument("--upto", type=option_number, required=True, metavar="N", help="steps of the run")
-    add_limits(steps, ["cells"])
     image = add_command(commands, "picture", do_picture, "a space-time picture of a run", _PICTURE)
-    image.add_argument("machine", metavar="MACHINE")
-    image.add_argument("--upto", type=option_number, required=True, metavar="N", help="steps of the run")
+    for parser in (steps, image):
+        parser.add_argument("machine", metavar="MACHINE")
+        parser.add_argument("--upto", type=option_number, required=True, metavar="N", help="steps of the run")
+        add_limits(parser, ["cells"])
     image.add_argument("--out", required=True, metavar="PICTURE.png")
     add_number(image, "--every", "show each Nth step")
     add_number(image, "--left", "the first position (default: the lowest)", metavar="P")
     add_number(image, "--right", "the last position (default: the highest)", metavar="P")
     add_number(image, "--columns", "cut to N positions about the middle")
     add_number(image, "--scale", "pixels of a place", 1)
-    add_limits(image, ["cells"])

@@ -1,31 +1,34 @@
-"""What several commands take: lists, limits, and what they print of lists on standard error."""
+"""The options that several commands share, and what they print of a list on standard error."""
 
 from __future__ import annotations
 
 import argparse
 import sys
 import textwrap
-from typing import BinaryIO, Callable, Iterable, Iterator, Mapping, Optional, Sequence, Tuple, Union
+from typing import TYPE_CHECKING, BinaryIO, Callable, Iterable, Iterator, Mapping, Optional, Tuple, Union
 
-from .._text import counted, escape_controls
+from .._text import escape_controls, pluralize
 from ..limits import Limits
 from ..numbers import option_number
-from ..reading import Columns, Form, ListForm, Passed, Reading, Readings
+from ..reading import Columns, Form, ListForm, Reading, Readings, Skipped
 from ..runner.progress import TerminalLine
 
-# So wide are the lines of a help.
+if TYPE_CHECKING:
+    Subcommands = argparse._SubParsersAction[argparse.ArgumentParser]
+else:
+    Subcommands = argparse._SubParsersAction
+# The width of a help page.
 WIDTH = 79
-# What a list of machines may be, for the help of the commands that read one.
-LIST_HELP = """FILE is a list as people have them, in one of four forms. machines: a machine a line, and
-nothing else. verdicts: verdict lines. table: CSV or TSV with a column of machines. text: a machine a line,
-alone, beside other fields, in backticks or in a link. The form is found out from the first hundred lines and
-printed on standard error; --form settles it.
+# The forms of a list, for the help of the commands that read one.
+LIST_HELP = """FILE is a list in one of four forms. machines: a machine a line, and nothing else. verdicts: verdict
+lines. table: CSV or TSV with a column of machines. text: a machine a line, alone, beside other fields, in
+backticks or in a link. The form is detected in the first hundred lines and printed on standard error; --form
+overrides it.
 
-A machine is taken only where one reading of its line is possible. Standard error gets each rewritten or
-refused line with file and number, and a count of the lines that were passed over: empty lines, comments
-(which begin with # or // and have no machine), code fences, rules and headers of tables. Gzip is known by its
-first bytes."""
-# The columns of a table: for each the option that names it, and what it holds.
+A machine is read only if its line has one possible reading. Each rewritten or refused line is printed on
+standard error with file and number, as is a count of the skipped lines: empty lines, comments (which begin with
+# or // and have no machine), code fences, rules and headers of tables. Gzip is detected by its first bytes."""
+# The columns of a table: the option for each, and its help.
 _ROLES = {
     "machine": ("--machine", "the column of machines"),
     "verdict": ("--verdict", "the column of verdicts, or of words such as halt and nonhalt"),
@@ -35,13 +38,13 @@ _ROLES = {
 
 
 def source_of(path: Optional[str]) -> Union[str, BinaryIO]:
-    """What a FILE names: a path, or standard input."""
+    """The path of a FILE, or standard input."""
     return sys.stdin.buffer if path is None or path == "-" else path
 
 
 class ListReader:
-    """Reads a list. Prints on standard error its form, the rewritten and refused lines, which it counts, and
-    how many lines were passed over."""
+    """Reads a list. Prints its form, its rewritten and refused lines, and the number of skipped lines on
+    standard error."""
 
     def __init__(
         self,
@@ -57,8 +60,19 @@ class ListReader:
         self.taken, self.rewritten, self.refused = 0, 0, 0
 
     def readings(self) -> Readings:
-        """The reading of each line that isn't passed over. Raises OSError, ValueError."""
+        """The reading of each line that isn't skipped. Raises OSError, ValueError."""
         return _PrintedReadings(self)
+
+    def machines(self) -> Iterator[str]:
+        """The machines alone."""
+        return (reading.machine for reading in self.readings() if reading.machine is not None)
+
+    def print_line(self, text: str, number: Optional[int] = None) -> None:
+        """Prints a message on the list, or on a line of it."""
+        if self._progress is not None:
+            self._progress.clear()
+        place = "" if number is None else ":%d" % number
+        print("%s%s: %s" % (self.name, place, escape_controls(text)), file=sys.stderr)
 
     def print_reading(self, reading: Reading) -> None:
         """Prints a rewritten or refused line, and counts it."""
@@ -66,66 +80,47 @@ class ListReader:
             self.refuse(reading.number, str(reading))
         else:
             self.taken += 1
-            self.tell_rewritten(reading)
-
-    def machines(self) -> Iterator[str]:
-        """The machines alone."""
-        return (reading.machine for reading in self.readings() if reading.machine is not None)
-
-    def print_line(self, text: str) -> None:
-        """Prints something of the list."""
-        if self._progress is not None:
-            self._progress.clear()
-        print("%s: %s" % (self.name, escape_controls(text)), file=sys.stderr)
+            self.print_rewritten(reading)
 
     def print_form(self, form: ListForm) -> None:
-        """Prints the form of the list, where it was found out."""
+        """Prints the form of the list if it was detected."""
         if form.is_found:
             is_given = self.form is not None or self.columns != Columns()
-            self.print_line(str(form) if is_given else "%s; --form settles it" % form)
+            self.print_line(str(form) if is_given else "%s; --form overrides it" % form)
 
     def print_unused_words(self, form: ListForm, words: Optional[str]) -> None:
-        """Prints that the words which `--words` names aren't used, where the list is no table."""
+        """Prints that the file of `--words` isn't used, if the list is no table."""
         if words is not None and form.layout is None:
             self.print_line("--words is for tables; nothing is translated in the form %s" % form.form)
 
-    def print_passed(self, passed: Mapping[Passed, int], undecoded: int) -> None:
-        """Prints how many lines were passed over, and how many have bytes that are no UTF-8, where there are
-        some."""
-        counts = ", ".join("%s %d" % (kind, passed[kind]) for kind in Passed if passed.get(kind))
+    def print_skipped(self, skipped: Mapping[Skipped, int], undecoded: int) -> None:
+        """Prints the number of skipped lines, and of lines that aren't UTF-8."""
+        counts = ", ".join("%s %d" % (kind, skipped[kind]) for kind in Skipped if skipped.get(kind))
         if counts:
-            total = counted(sum(passed.values()), "line", "lines")
-            self.print_line("%s passed over: %s" % (total, counts))
+            self.print_line("%s skipped: %s" % (pluralize(sum(skipped.values()), "line", "lines"), counts))
         if undecoded:
-            total = counted(undecoded, "line", "lines")
+            total = pluralize(undecoded, "line", "lines")
             self.print_line("%s with bytes that are no UTF-8; iconv converts a list" % total)
 
-    def tell(self, number: int, text: str) -> None:
-        """Says something of a line."""
-        if self._progress is not None:
-            self._progress.clear()
-        print("%s:%d: %s" % (self.name, number, escape_controls(text)), file=sys.stderr)
-
-    def tell_rewritten(self, reading: Reading) -> None:
-        """Says what of a line was rewritten, where something was."""
+    def print_rewritten(self, reading: Reading) -> None:
+        """Prints what was rewritten in a line, if anything."""
         if reading.rewritten:
             self.rewritten += 1
-            self.tell(reading.number, str(reading))
+            self.print_line(str(reading), reading.number)
 
     def refuse(self, number: int, text: str) -> None:
-        """Says why a line was refused."""
+        """Prints why a line was refused."""
         self.refused += 1
-        self.tell(number, text)
+        self.print_line(text, number)
 
     @property
     def status(self) -> int:
-        """1 where a line was refused."""
+        """1 if a line was refused, else 0."""
         return 1 if self.refused else 0
 
 
 class _PrintedReadings(Readings):
-    """The readings of a list, each printed by the reader of the list as it comes, with the form before and
-    the counts behind them."""
+    """The readings of a list, each printed by its reader, between the form and the counts."""
 
     def __init__(self, reader: ListReader) -> None:
         super().__init__(reader.source, reader.form, reader.columns)
@@ -136,22 +131,22 @@ class _PrintedReadings(Readings):
         for reading in super().__iter__():
             self._reader.print_reading(reading)
             yield reading
-        self._reader.print_passed(self.passed, self.undecoded)
+        self._reader.print_skipped(self.skipped, self.undecoded)
 
 
 def form_of(asked: argparse.Namespace) -> Optional[Form]:
-    """The form that `--form` names; None where it isn't given."""
+    """The form of `--form`, or None."""
     return None if asked.form is None else Form(asked.form)
 
 
 def columns_of(asked: argparse.Namespace) -> Columns:
-    """The columns that the options of a table name."""
+    """The columns of the options of a table."""
     return Columns(**{role: getattr(asked, "column_" + role, None) for role in _ROLES})
 
 
 def add_form(parser: argparse.ArgumentParser, roles: Iterable[str] = ("machine",)) -> None:
-    """Options that say the form of a list, and the columns of a table. `--steps` is a limit of most
-    commands, so the column is named by `--steps-column`."""
+    """Adds the options for the form of a list and the columns of a table. `--steps` is a limit of most
+    commands, so that column has `--steps-column`."""
     forms = [str(form) for form in Form]
     parser.add_argument("--form", choices=forms, help="the list's form (default: by its first lines)")
     for role in roles:
@@ -161,7 +156,7 @@ def add_form(parser: argparse.ArgumentParser, roles: Iterable[str] = ("machine",
 
 
 def add_claims_form(parser: argparse.ArgumentParser) -> None:
-    """Options that say the form of a list of claims, and how the words of a table are translated."""
+    """Adds the options for the form of a list of claims, and the words of a table."""
     add_form(parser, _ROLES)
     parser.add_argument(
         "--words",
@@ -177,7 +172,7 @@ def limits_of(asked: argparse.Namespace) -> Limits:
 def add_number(
     parser: argparse.ArgumentParser, name: str, help: str, default: Optional[int] = None, metavar: str = "N"
 ) -> None:
-    """An option of a whole number, and its default, where that is a number."""
+    """Adds an option of a whole number."""
     help += "" if default is None else " (default: {:,})".format(default)
     parser.add_argument(name, type=option_number, default=default, metavar=metavar, help=help)
 
@@ -188,14 +183,13 @@ def add_limits(parser: argparse.ArgumentParser, names: Iterable[str]) -> None:
 
 
 def add_greatest_limits(parser: argparse.ArgumentParser) -> None:
-    """Options of limits that are the greatest where they aren't given."""
+    """Adds the options of limits whose defaults are the greatest."""
     for name, bounds in Limits.RANGES.items():
         add_number(parser, "--" + name, "{:,} to {:,} (default: the greatest)".format(*bounds))
 
 
 def greatest_limits(asked: argparse.Namespace) -> Limits:
-    """The limits that were given; the greatest, or the greatest that go with the cells, in place of others.
-    Raises LimitsError."""
+    """The given limits; the others are the greatest that go with the cells. Raises LimitsError."""
     given = {name: getattr(asked, name) for name in Limits.RANGES}
     highest = {name: most for name, (_, most) in Limits.RANGES.items()}
     cells = highest["cells"] if given["cells"] is None else given["cells"]
@@ -208,33 +202,25 @@ def add_file(parser: argparse.ArgumentParser) -> None:
 
 
 def add_command(
-    commands: "argparse._SubParsersAction[argparse.ArgumentParser]",
+    commands: Subcommands,
     name: str,
     do: Callable[[argparse.Namespace], int],
     help: str,
-    what: str,
+    text: str,
     columns: Iterable[Tuple[str, str]] = (),
-    between: str = "a tab",
+    separator: str = "a tab",
 ) -> argparse.ArgumentParser:
-    """Adds a command: what is called for it, a line of help, what it does, the columns of what it writes, and
-    what is between them."""
-    shape, text = argparse.RawDescriptionHelpFormatter, described(what, list(columns), between)
-    parser = commands.add_parser(name, help=help, description=text, formatter_class=shape)
+    """Adds a command: its function, a line of help, a description, and the columns of its output with their
+    separator. The help page fits a terminal of 80 characters."""
+    texts, rows = [textwrap.fill(" ".join(part.split()), WIDTH) for part in text.split("\n\n")], list(columns)
+    if rows:
+        width = max(len(column) for column, _ in rows) + 4
+        lines = ["Columns, with %s between them:" % separator if len(rows) > 1 else "Column:"]
+        for column, holds in rows:
+            start = ("  %s" % column).ljust(width)
+            lines.append(textwrap.fill(holds, WIDTH, initial_indent=start, subsequent_indent=" " * width))
+        texts.append("\n".join(lines))
+    shape, description = argparse.RawDescriptionHelpFormatter, "\n\n".join(texts)
+    parser = commands.add_parser(name, help=help, description=description, formatter_class=shape)
     parser.set_defaults(do=do)
     return parser
-
-
-def described(what: str, columns: Sequence[Tuple[str, str]], between: str) -> str:
-    """What a command does, and a line for each column that it writes, for a terminal of 80 characters."""
-    texts = [textwrap.fill(" ".join(part.split()), WIDTH) for part in what.split("\n\n")]
-    if columns:
-        width = max(len(name) for name, _ in columns) + 4
-        head = "Columns, with %s between them:" % between if len(columns) > 1 else "Column:"
-        rows = (_row(name, text, width) for name, text in columns)
-        texts.append("\n".join([head, *rows]))
-    return "\n\n".join(texts)
-
-
-def _row(name: str, text: str, width: int) -> str:
-    begin = "  %s" % name.ljust(width - 2)
-    return textwrap.fill(text, WIDTH, initial_indent=begin, subsequent_indent=" " * width)

@@ -1,4 +1,4 @@
-"""Judging the claims of others, beside the checker's answers and our verdicts."""
+"""Judges the claims of others by our verdicts and the checker's answers."""
 
 from __future__ import annotations
 
@@ -6,25 +6,23 @@ import collections
 import time
 from typing import Counter, Deque, Dict, Iterator, List, Optional, Tuple, Union
 
-from .._text import shown
-from ..checking import answers_of
-from ..claims import Said, Sayings, Translation, WORDS, Word, translation_of
+from .._text import quote
+from ..claims import WORDS, Claim, Claims, Translation, Word, translation_of
+from ..comparison import Agreement, agreement
 from ..engine import decide
 from ..limits import GREATEST, Limits, Plan
-from ..lists import Agreement, agreement
-from ..reading import Columns, Form, ListForm, Passed, Readings, read
+from ..reading import Columns, Form, ListForm, Readings, Skipped, read
 from ..reading.files import Source
 from ..verdicts import Answer, Halt, Refused, Undecided, Verdict
-from .sources import Twice
-from .undefined import as_steps, counts_undefined_steps, stepped_halt
-from .values import Judged, Judgement, Lists, Tell, counted
+from ..verification import answers_of
+from .judgements import Judged, Judgement, ListOverlap, ProgressCallback, count_progress
+from .rereadable import RereadableList
+from .undefined_steps import counts_undefined_steps, halt_with_steps, with_steps
 
 __all__ = ["Judged", "Judgement", "Judging", "judge"]
 
-# So many lines are judged together at most, and so many seconds the first of them waits.
+# The most lines of a batch, and the most seconds that its first one waits.
 _TOGETHER, _SECONDS = 4_096, 1.0
-# A line, our verdict, and what is said of them where no claim has to be checked.
-_Seen = Tuple[Said, Optional[Verdict], Optional[Judged]]
 
 
 def judge(
@@ -36,27 +34,26 @@ def judge(
     checker: Limits = GREATEST,
     undefined_steps: Optional[bool] = None,
     threads: int = 1,
-    tell: Tell = lambda what, lines: None,
+    progress: ProgressCallback = lambda what, lines: None,
     form: Optional[Form] = None,
     columns: Columns = Columns(),
     words: Optional[Dict[str, Word]] = None,
 ) -> Judging:
-    """Judges what each line of a list claims of its machine, by the form of the list.
+    """Judges the claim of each line of a list, by the form of the list.
 
-    A verdict line claims its verdict. A record of a table claims what its columns have: a word, by the
-    translation `words` (`WORDS` where not given), and for halting the numbers of steps and score. A line of
-    a text claims something where the rest of it is one verdict. Nothing else is judged.
+    A verdict line claims its verdict. A record of a table claims the words and numbers of its columns, by the
+    translation `words` (default: `WORDS`). A line of a text makes a claim if its other words are one verdict.
+    Nothing else is judged.
 
     Each machine is decided within `limits` by `plan`, and each claim that our verdict doesn't settle is
-    checked within `checker`. `undefined_steps` says whether they count a step for an undefined entry. Where
-    it isn't said, their halts tell: it is so where each halt of theirs at such an entry is true of the
-    machine with `1RZ` there, and one is. With `listed`, a list of machines, `missing` and `foreign` tell
-    which of them have no line, and which lines are of none.
+    checked within `checker`. `undefined_steps`: they count a step for an undefined transition. By default
+    their halts show it: each halt of theirs at such a transition is true of the machine with `1RZ` there, and
+    there is one. `listed` is a list of machines; then `missing` and `foreign` of the result compare the two.
 
-    Both lists are what `read` takes, and `listed` may be what it gives. Their list is read twice. A long one
-    that isn't a regular file is copied to the disk first. `tell` is called with what is done beside judging,
-    and with how many lines it was done. Raises what `read` and `decide` do, and ValueError for a table of
-    which two columns may have the verdicts, the steps or the scores.
+    Both lists are what `read` takes; `listed` may be its result. Their list is read twice; a long one that
+    isn't a regular file is copied to the disk first. `progress` is called with a description of work other
+    than judging, and the lines done. Raises what `read` and `decide` do, and ValueError for a table with two
+    columns that may have the verdicts, the steps or the scores.
 
     >>> lines = ["1RB1LB_1LA1RZ halt 6 4", "1LB1RB_1RA1LZ halt 7 4", "1RA1RA undecided steps"]
     >>> for judged in judge(lines):
@@ -65,63 +62,64 @@ def judge(
     contradicted 1LB1RB_1RA1LZ halt 6 4
     not-judged 1RA1RA translated R 1 2 1 1
     """
-    source = Twice(theirs, form, columns)
+    source = RereadableList(theirs, form, columns)
     words = WORDS if words is None else words
-    translation = translation_in(source, words, tell)
+    translation = translation_in(source, words, progress)
     if undefined_steps is None:
-        sayings = counted(Sayings(source.lines(), source.form, words), "looked at for steps at ---", tell)
-        undefined_steps = counts_undefined_steps(sayings, limits, checker, threads)
+        claims = Claims(source.lines(), source.form, words)
+        counted = count_progress(claims, "looked at for steps at ---", progress)
+        undefined_steps = counts_undefined_steps(counted, limits, checker, threads)
     readings = listed if listed is None or isinstance(listed, Readings) else read(listed)
-    lists = None if readings is None else Lists(readings, tell)
-    said = Sayings(source.once(), source.form, words)
-    decided = _decided(said, limits, plan, threads)
-    return Judging(decided, lists, checker, undefined_steps, threads, TheirList(source, said, translation))
+    lists = None if readings is None else ListOverlap(readings, progress)
+    claims = Claims(source.once(), source.form, words)
+    decided = _decide_claims(claims, limits, plan, threads)
+    return Judging(decided, lists, checker, undefined_steps, threads, JudgedList(source, claims, translation))
 
 
-def translation_in(source: Twice, words: Dict[str, Word], tell: Tell) -> Optional[Translation]:
-    """The translation of a table's words; None where the list has none. Raises ValueError where two columns
-    may have the verdicts or their numbers."""
+def translation_in(
+    source: RereadableList, words: Dict[str, Word], progress: ProgressCallback
+) -> Optional[Translation]:
+    """The translation of a table's words, if there are any. Raises ValueError if two columns may have the
+    verdicts or their numbers."""
     layout = source.form.layout
     if layout is not None and layout.doubts:
         raise ValueError("%s: say which" % layout.doubts[0])
     if layout is None or "verdict" not in layout.columns:
         return None
-    sayings = counted(Sayings(source.lines(), source.form, words), "looked at for their words", tell)
-    return translation_of(sayings, layout, words)
+    claims = Claims(source.lines(), source.form, words)
+    return translation_of(count_progress(claims, "looked at for their words", progress), layout, words)
 
 
-class TheirList:
-    """The list that is judged: its form, the translation of a table's words, and how many lines so far were
-    passed over, or have bytes that are no UTF-8."""
+class JudgedList:
+    """The list that is judged: its form, the translation of a table's words, and so far the number of skipped
+    lines of each kind, and of lines that aren't UTF-8."""
 
-    def __init__(self, source: Twice, said: Sayings, translation: Optional[Translation]) -> None:
+    def __init__(self, source: RereadableList, claims: Claims, translation: Optional[Translation]) -> None:
         self.form: ListForm = source.form
         self.translation = translation
-        self._source, self._said = source, said
+        self._source, self._claims = source, claims
 
     @property
-    def passed(self) -> Counter[Passed]:
-        """The counts of the lines that were passed over, by their kinds."""
+    def skipped(self) -> Counter[Skipped]:
         empty = self._source.empty
-        return self._said.passed + collections.Counter({Passed.EMPTY: empty} if empty else {})
+        return self._claims.skipped + collections.Counter({Skipped.EMPTY: empty} if empty else {})
 
     @property
     def undecoded(self) -> int:
-        """How many lines have bytes that are no UTF-8."""
         return self._source.undecoded
 
 
-def _decided(
-    said: Iterator[Said], limits: Limits, plan: Plan, threads: int
-) -> Iterator[Tuple[Said, Optional[Verdict]]]:
-    """Each line with our verdict on its machine, where it has one."""
-    waiting: Deque[Said] = collections.deque()
+def _decide_claims(
+    claims: Iterator[Claim], limits: Limits, plan: Plan, threads: int
+) -> Iterator[Tuple[Claim, Optional[Verdict]]]:
+    """Each claim with our verdict on its machine, if it has one."""
+    waiting: Deque[Claim] = collections.deque()
 
     def machines() -> Iterator[str]:
-        for one in said:
-            waiting.append(one)
-            if one.reading.machine is not None:
-                yield one.reading.machine
+        for claim in claims:
+            waiting.append(claim)
+            if claim.reading.machine is not None:
+                yield claim.reading.machine
 
     for verdict in decide(machines(), limits, plan, threads=threads):
         while waiting[0].reading.machine is None:
@@ -132,18 +130,18 @@ def _decided(
 
 
 class Judging(Iterator[Judged]):
-    """The lines, judged one after another. `undefined_steps` says whether a step was taken to be counted for
-    an undefined entry; `theirs` describes the list. Once all lines are judged, `missing` and `foreign`
-    compare it with the list that was given."""
+    """The judgements, one after another. `undefined_steps` says whether a step is counted for an undefined
+    transition; `theirs` describes the list. At the end `missing` and `foreign` compare it with the other
+    list."""
 
     def __init__(
         self,
-        decided: Iterator[Tuple[Said, Optional[Verdict]]],
-        lists: Optional[Lists],
+        decided: Iterator[Tuple[Claim, Optional[Verdict]]],
+        lists: Optional[ListOverlap],
         checker: Limits,
         undefined_steps: bool,
         threads: int,
-        theirs: TheirList,
+        theirs: JudgedList,
     ) -> None:
         self.undefined_steps, self.theirs = undefined_steps, theirs
         self._decided, self._lists = decided, lists
@@ -156,98 +154,94 @@ class Judging(Iterator[Judged]):
     def __next__(self) -> Judged:
         judged = next(self._held, None)
         if judged is None:
-            self._held = iter(self._judged_together())
+            self._held = iter(self._judge_batch())
             judged = next(self._held)
         return judged
 
     def missing(self) -> List[Tuple[int, str]]:
-        """The machines of the list that have no line, each with the number of its line there."""
+        """The machines of the other list that have no line, each with the number of its line there."""
         return [] if self._lists is None else self._lists.missing()
 
     def foreign(self) -> List[Tuple[int, str]]:
-        """The lines whose machines aren't of the list, each number with its machine."""
+        """The lines whose machines aren't in the other list: number and machine."""
         return [] if self._lists is None else self._lists.foreign()
 
-    def _judged_together(self) -> List[Judged]:
-        """The next lines."""
-        began = time.monotonic()
-        seen: List[_Seen] = []
-        for said, ours in self._decided:
+    def _judge_batch(self) -> List[Judged]:
+        started = time.monotonic()
+        batch: List[Tuple[Claim, Optional[Verdict], Optional[Judged]]] = []
+        for claim, ours in self._decided:
             if self._lists is not None:
-                self._lists.add(said.reading)
-            seen.append((said, ours, self._settled(said, ours)))
-            if len(seen) == _TOGETHER or time.monotonic() - began > _SECONDS:
+                self._lists.add(claim.reading)
+            batch.append((claim, ours, self._judge_without_checker(claim, ours)))
+            if len(batch) == _TOGETHER or time.monotonic() - started > _SECONDS:
                 break
-        claims = [self._claim(said) for said, _, judged in seen if judged is None]
-        answers = iter(answers_of(claims, self._checker, self._threads) if claims else [])
-        return [judged or self._answered(said, ours, next(answers)) for said, ours, judged in seen]
+        verdicts = [self._checked_claim(claim) for claim, _, judged in batch if judged is None]
+        answers = iter(answers_of(verdicts, self._checker, self._threads) if verdicts else [])
+        return [judged or self._judge_by_answer(claim, ours, next(answers)) for claim, ours, judged in batch]
 
-    def _claim(self, said: Said) -> Verdict:
-        """What of a line is checked."""
-        assert said.claim is not None
-        if self.undefined_steps and isinstance(said.claim, Halt):
-            return as_steps(said.claim)
-        return said.claim
+    def _checked_claim(self, claim: Claim) -> Verdict:
+        """The verdict of a claim for the checker."""
+        assert claim.verdict is not None
+        if self.undefined_steps and isinstance(claim.verdict, Halt):
+            return with_steps(claim.verdict)
+        return claim.verdict
 
-    def _settled(self, said: Said, ours: Optional[Verdict]) -> Optional[Judged]:
-        """What is said of a line without the checker; None where that has to be asked."""
+    def _judge_without_checker(self, claim: Claim, ours: Optional[Verdict]) -> Optional[Judged]:
+        """The judgement of a claim, or None if it needs the checker."""
         if ours is None:
-            sentence = str(said.reading.reason or "a refusal names no machine")
-            return Judged(Judgement.UNREADABLE, said, ours, sentence)
-        if said.trouble is not None:
-            return Judged(Judgement.NOT_JUDGED, said, ours, said.trouble)
-        if said.claim is None or isinstance(said.claim, (Undecided, Refused)):
-            return self._by_word(said, ours)
+            text = str(claim.reading.reason or "a refusal names no machine")
+            return Judged(Judgement.UNREADABLE, claim, ours, text)
+        if claim.trouble is not None:
+            return Judged(Judgement.NOT_JUDGED, claim, ours, claim.trouble)
+        if claim.verdict is None or isinstance(claim.verdict, (Undecided, Refused)):
+            return self._judge_word(claim, ours)
         if isinstance(ours, Undecided):
             return None
-        claim = self._claim(said)
-        if claim == ours:
-            return Judged(Judgement.CONFIRMED, said, ours, "our verdict is the same")
-        is_halt = isinstance(claim, Halt) and isinstance(ours, Halt)
-        if agreement(claim, ours) is Agreement.CONTRADICT and not (is_halt and claim != said.claim):
-            return Judged(Judgement.CONTRADICTED, said, ours, _other(said, ours))
+        verdict = self._checked_claim(claim)
+        if verdict == ours:
+            return Judged(Judgement.CONFIRMED, claim, ours, "our verdict is the same")
+        is_halt = isinstance(verdict, Halt) and isinstance(ours, Halt)
+        if agreement(verdict, ours) is Agreement.CONTRADICT and not (is_halt and verdict != claim.verdict):
+            return Judged(Judgement.CONTRADICTED, claim, ours, _disagreement(claim, ours))
         return None
 
-    def _by_word(self, said: Said, ours: Verdict) -> Judged:
-        """The judgement of a line that has a word and no claim."""
-        word = Word.UNDECIDED if said.claim is not None else said.word
+    def _judge_word(self, claim: Claim, ours: Verdict) -> Judged:
+        """The judgement of a line with a word and no verdict."""
+        word = Word.UNDECIDED if claim.verdict is not None else claim.word
         if word not in (Word.HALTS, Word.NEVER_HALTS):
-            sentence = "no word says whether it halts" if word is None else "%s says neither" % word
-            return Judged(Judgement.NOT_JUDGED, said, ours, sentence)
+            text = "no word says whether it halts" if word is None else "%s says neither" % word
+            return Judged(Judgement.NOT_JUDGED, claim, ours, text)
         if isinstance(ours, Undecided):
-            return Judged(Judgement.NOT_JUDGED, said, ours, "%s; undecided here" % word)
+            return Judged(Judgement.NOT_JUDGED, claim, ours, "%s; undecided here" % word)
         if isinstance(ours, Halt) != (word is Word.HALTS):
-            return Judged(Judgement.CONTRADICTED, said, ours, _other(said, ours))
-        if said.steps is None and said.score is None:
-            more = "; not judged: %s" % shown(", ".join(said.unjudged)) if said.unjudged else ""
-            return Judged(Judgement.CONFIRMED, said, ours, "%s, as ours says%s" % (word, more))
+            return Judged(Judgement.CONTRADICTED, claim, ours, _disagreement(claim, ours))
+        if claim.steps is None and claim.score is None:
+            more = "; not judged: %s" % quote(", ".join(claim.unjudged)) if claim.unjudged else ""
+            return Judged(Judgement.CONFIRMED, claim, ours, "%s, as ours says%s" % (word, more))
         assert isinstance(ours, Halt)
-        stepped = stepped_halt(ours) if self.undefined_steps else ours
-        is_so = said.steps in (None, stepped.steps) and said.score in (None, stepped.score)
-        if not is_so:
-            return Judged(Judgement.CONTRADICTED, said, ours, _other(said, ours))
-        counted = " with 1RZ for ---" if stepped.machine != ours.machine else ""
-        return Judged(Judgement.CONFIRMED, said, ours, "%s, as ours says%s" % (_words_of(said), counted))
+        halt = halt_with_steps(ours) if self.undefined_steps else ours
+        if claim.steps not in (None, halt.steps) or claim.score not in (None, halt.score):
+            return Judged(Judgement.CONTRADICTED, claim, ours, _disagreement(claim, ours))
+        suffix = " with 1RZ for ---" if halt.machine != ours.machine else ""
+        return Judged(Judgement.CONFIRMED, claim, ours, "%s, as ours says%s" % (_words_of(claim), suffix))
 
-    def _answered(self, said: Said, ours: Optional[Verdict], answer: Answer) -> Judged:
-        """What is said of a line by the checker's answer to its claim."""
-        counted = " with 1RZ for ---" if self._claim(said) != said.claim else ""
-        claim = str(said.claim).partition(" ")[2]
+    def _judge_by_answer(self, claim: Claim, ours: Optional[Verdict], answer: Answer) -> Judged:
+        suffix = " with 1RZ for ---" if self._checked_claim(claim) != claim.verdict else ""
+        words = str(claim.verdict).partition(" ")[2]
         if answer is Answer.OK:
-            return Judged(Judgement.CONFIRMED, said, ours, "the checker confirms %s%s" % (claim, counted))
+            return Judged(Judgement.CONFIRMED, claim, ours, "the checker confirms %s%s" % (words, suffix))
         if answer is Answer.BAD:
-            return Judged(Judgement.CONTRADICTED, said, ours, "the checker refutes %s%s" % (claim, counted))
-        return Judged(Judgement.NOT_JUDGED, said, ours, "%s: over the checker's limits" % claim)
+            return Judged(Judgement.CONTRADICTED, claim, ours, "the checker refutes %s%s" % (words, suffix))
+        return Judged(Judgement.NOT_JUDGED, claim, ours, "%s: over the checker's limits" % words)
 
 
-def _other(said: Said, ours: Verdict) -> str:
-    """What a line says, and that our verdict says another thing."""
-    sentence = _words_of(said) if said.claim is None else str(said.claim).partition(" ")[2]
-    return "%s; ours is %s" % (sentence, str(ours).partition(" ")[2])
+def _disagreement(claim: Claim, ours: Verdict) -> str:
+    text = _words_of(claim) if claim.verdict is None else str(claim.verdict).partition(" ")[2]
+    return "%s; ours is %s" % (text, str(ours).partition(" ")[2])
 
 
-def _words_of(said: Said) -> str:
-    """The word of a record, with the numbers that stand beside it."""
-    steps = [] if said.steps is None else ["after {:,} steps".format(said.steps)]
-    score = [] if said.score is None else ["with a score of {:,}".format(said.score)]
-    return " ".join([str(said.word), *steps, *score])
+def _words_of(claim: Claim) -> str:
+    """The word of a record, with its numbers."""
+    steps = [] if claim.steps is None else ["after {:,} steps".format(claim.steps)]
+    score = [] if claim.score is None else ["with a score of {:,}".format(claim.score)]
+    return " ".join([str(claim.word), *steps, *score])

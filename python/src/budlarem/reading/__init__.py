@@ -1,8 +1,7 @@
-"""Reading lists as people have them: of each line the one machine, in the form that `bb` reads.
+"""Reads lists: the one machine of each line, as `bb` reads it.
 
-A list has a form, and a machine is taken only where one reading of its line is possible. Every rewriting is
-named, lines that are passed over are counted, and nothing is guessed. `tests/support/forms.json` of the
-repository has lines with what must become of them.
+A list has a form, and a machine is read only if its line has one possible reading. Every rewriting is named, and
+skipped lines are counted. `tests/support/forms.json` of the repository has examples of lines.
 """
 
 from __future__ import annotations
@@ -11,40 +10,32 @@ from typing import Optional
 
 from .files import EncodingError, EndlessLineError, Source
 from .forms import ListForm, Readings
+from .readings import Form, Reading, Reason, Rewriting, Skipped
 from .tables import Columns, Layout
-from .values import Form, Passed, Reading, Reason, Rewriting
 
+# fmt: off
 __all__ = [
-    "Columns",
-    "EncodingError",
-    "EndlessLineError",
-    "Form",
-    "Layout",
-    "ListForm",
-    "Passed",
-    "Reading",
-    "Readings",
-    "Reason",
-    "Rewriting",
-    "read",
+    "Columns", "EncodingError", "EndlessLineError", "Form", "Layout", "ListForm", "Reading", "Readings", "Reason",
+    "Rewriting", "Skipped", "read",
 ]
+# fmt: on
 
 
 def read(lines: Source, form: Optional[Form] = None, columns: Columns = Columns()) -> Readings:
-    """The reading of each line that isn't passed over, as empty lines and comments are.
+    """The reading of each line; empty lines, comments and the like are skipped.
 
     `lines` is a path, a file that is open for reading bytes, or an iterable of lines, with or without their
-    newlines. What is compressed by gzip is known by its first two bytes. Bytes are read as UTF-8; those that
-    aren't stay as they are, and are no part of a machine.
+    newlines. Gzip is detected by its first two bytes. Bytes that aren't UTF-8 stay as they are, and are no part
+    of a machine.
 
-    Without `form` the first hundred lines are read to find it out: `machines` where each is a machine and
-    nothing else, `verdicts` where each is a verdict line, `table` where the first one is a header that names
-    a column of machines, else `text`. With `columns` it is a table. Later lines are read when they are
-    needed. The result has the list's `form`, and counts in `passed` what was passed over.
+    Without `form` the first hundred lines decide it: `machines` if each is a machine and nothing else,
+    `verdicts` if each is a verdict line, `table` if the first one is a header that names a column of machines,
+    else `text`. With `columns` it is a table. Later lines are read when needed. The result has the list's
+    `form`, and counts skipped lines in `skipped`.
 
-    Raises OSError where a path can't be opened or read, or isn't whole as gzip; EncodingError where the bytes
-    are UTF-16 or no text; TypeError where `lines` or an item isn't what it has to be; ValueError where an
-    item has a newline within, or the columns of a table aren't known.
+    Raises OSError if a path can't be opened or read, or a gzip is cut; EncodingError for UTF-16 and formats that
+    are no text; TypeError if `lines` or an item has the wrong type; ValueError for an item with a newline
+    inside, and for a table whose columns aren't known.
 
     >>> for reading in read(["17. 1rb1lb 1la1rh, the champion", "1RB1LC_1LA1RZ"]):
     ...     print(reading.machine, reading.before, reading.behind, reading.reason)

@@ -1,5 +1,5 @@
-"""The lines of what a list may be: a path, a file of bytes, or an iterable of lines. Other encodings and
-formats than text in UTF-8 are known by their first bytes."""
+"""The lines of a list: a path, a file of bytes, or an iterable of lines. Other encodings and formats than UTF-8
+text are detected by their first bytes."""
 
 from __future__ import annotations
 
@@ -12,8 +12,7 @@ from typing import Any, BinaryIO, Callable, Iterable, Iterator, Optional, Tuple,
 
 from .._text import BYTES_KEPT, LONGEST_UNENDED, LONGEST_VALUE
 
-# The first bytes of encodings and formats, and their names. UTF-32 comes before UTF-16, whose mark begins
-# that of UTF-32.
+# The first bytes of encodings and formats. UTF-32 comes before UTF-16, whose mark is a prefix of its own.
 _MARKS = (
     (b"\xff\xfe\x00\x00", "UTF-32 text"),
     (b"\x00\x00\xfe\xff", "UTF-32 text"),
@@ -26,20 +25,23 @@ _MARKS = (
     (b"7z\xbc\xaf\x27\x1c", "a 7z archive"),
     (b"%PDF-", "a PDF document"),
 )
-# So many bytes tell whether every other one is a zero.
-_LOOKED_AT = 256
+# The bytes that are examined for zeros.
+_EXAMINED = 256
 
 
 class EncodingError(ValueError):
-    """A list's bytes are no text in UTF-8. `encoding` names their encoding or format."""
+    """A list isn't UTF-8 text. `encoding` names its encoding or format."""
 
     def __init__(self, name: object, encoding: str) -> None:
-        super().__init__("%s is %s: %s" % (name, encoding, _advice(encoding)))
+        advice = "give the text of the list; gzip alone is unpacked"
+        if encoding.endswith(" text"):
+            advice = "convert it by iconv -f %s -t UTF-8" % encoding.partition(" ")[0]
+        super().__init__("%s is %s: %s" % (name, encoding, advice))
         self.encoding = encoding
 
 
 class EndlessLineError(ValueError):
-    """A line of a list goes on for more than LONGEST_UNENDED bytes. `number` is its number, from 1 on."""
+    """A line of a list has more than LONGEST_UNENDED bytes. `number` is its number, from 1 on."""
 
     def __init__(self, name: object, number: int) -> None:
         super().__init__(
@@ -49,31 +51,17 @@ class EndlessLineError(ValueError):
         self.number = number
 
 
-def _advice(encoding: str) -> str:
-    """The advice for a person."""
-    if encoding.endswith(" text"):
-        return "convert it by iconv -f %s -t UTF-8" % encoding.partition(" ")[0]
-    return "give the text of the list; gzip alone is unpacked"
-
-
-def find_encoding(begin: bytes) -> Optional[str]:
-    """The name of the encoding or format that begins so; None for bytes that may be UTF-8."""
+def find_encoding(start: bytes) -> Optional[str]:
+    """The encoding or format of a file by its first bytes; None if it may be UTF-8."""
     for mark, name in _MARKS:
-        if begin.startswith(mark):
+        if start.startswith(mark):
             return name
-    begin = begin[:_LOOKED_AT]
+    start = start[:_EXAMINED]
+    zeros = start.count(0)
     # Zeros alone are no text of any encoding.
-    if len(begin) < 4 or begin.count(0) * 3 < len(begin) or begin.count(0) == len(begin):
+    if len(start) < 4 or zeros * 3 < len(start) or zeros == len(start):
         return None
-    is_wide = begin.count(0) * 3 > 2 * len(begin)
-    return "UTF-32 text" if is_wide else "UTF-16 text"
-
-
-def require_utf8(begin: bytes, name: object) -> None:
-    """Raises EncodingError where bytes that begin so are no text in UTF-8."""
-    found = find_encoding(begin)
-    if found is not None:
-        raise EncodingError(name, found)
+    return "UTF-32 text" if zeros * 3 > 2 * len(start) else "UTF-16 text"
 
 
 GZIP = b"\x1f\x8b"
@@ -84,9 +72,9 @@ Numbered = Tuple[int, str]
 Source = Union[str, "os.PathLike[str]", BinaryIO, Iterable[str], Iterable[bytes]]
 
 
-class Blocks(io.RawIOBase):
-    """Bytes as a file that can be buffered: `more` gives the next ones, about as many as it is asked for, and
-    none at the end. `held` are those that are to be read yet."""
+class BlockReader(io.RawIOBase):
+    """Bytes as a file that can be buffered: `more` returns the next ones, about as many as asked for, and none
+    at the end. `held` are read before them."""
 
     def __init__(self, more: Callable[[int], bytes]) -> None:
         self._more, self.held = more, b""
@@ -95,7 +83,7 @@ class Blocks(io.RawIOBase):
         return True
 
     def first(self, size: int) -> bytes:
-        """So many bytes from the begin on, or all where there are fewer. They are read again."""
+        """The first bytes, fewer only at the end. They are read again."""
         while len(self.held) < size:
             block = self._more(size - len(self.held))
             if not block:
@@ -111,12 +99,11 @@ class Blocks(io.RawIOBase):
 
 
 class Lines(Iterator[Numbered]):
-    """The lines of a list that aren't empty, as texts without newlines, each with its number from 1 on.
-    `empty` counts the others so far, `undecoded` those with bytes that are no UTF-8.
+    """The lines of a list that aren't empty, as texts without newlines, numbered from 1 on. `empty` counts the
+    others so far, `undecoded` those that aren't UTF-8.
 
-    Raises OSError where a path can't be opened or read, EncodingError where the bytes are UTF-16 or no text,
-    EndlessLineError where a line never ends, TypeError where the source is no list, ValueError
-    where it is the text of one.
+    Raises OSError if a path can't be opened or read, EncodingError for UTF-16 and formats that are no text,
+    EndlessLineError, TypeError if the source is no list, ValueError if it is the text of one.
     """
 
     def __init__(self, source: Source) -> None:
@@ -153,23 +140,21 @@ class Lines(Iterator[Numbered]):
                 yield place + 1, line
 
     def _of_file(self, file: BytesFile) -> Iterator[Numbered]:
-        """The lines of a file. Raises OSError, EncodingError."""
+        """The lines of a file; bytes that aren't UTF-8 stay. Raises OSError, EncodingError."""
         with contextlib.closing(file):
-            for number, line in self._cut(file):
-                yield number, self._decoded(line)
+            for number, line in self._split_lines(file):
+                text = line.decode("utf-8", "surrogateescape")
+                if not text.isascii() and any("\udc80" <= character <= "\udcff" for character in text):
+                    self.undecoded += 1
+                yield number, text
 
-    def _decoded(self, line: bytes) -> str:
-        """The text of a line; bytes that are no UTF-8 stay, and are counted."""
-        text = line.decode("utf-8", "surrogateescape")
-        if not text.isascii() and any("\udc80" <= character <= "\udcff" for character in text):
-            self.undecoded += 1
-        return text
-
-    def _cut(self, file: BytesFile) -> Iterator[Tuple[int, bytes]]:
-        """The lines of a file, none longer than BYTES_KEPT bytes. Raises EndlessLineError."""
+    def _split_lines(self, file: BytesFile) -> Iterator[Tuple[int, bytes]]:
+        """The lines of a file, each cut to BYTES_KEPT bytes. Raises EncodingError, EndlessLineError."""
         number, rest, unended = 1, b"", 0
-        block = file.begin(4)
-        require_utf8(block, file.name)
+        block = file.first(4)
+        encoding = find_encoding(block)
+        if encoding is not None:
+            raise EncodingError(file.name, encoding)
         while block:
             if not rest and not block.strip(b"\n"):
                 self.empty += len(block)
@@ -191,39 +176,33 @@ class Lines(Iterator[Numbered]):
             yield number, rest
 
 
-def _name_of(file: Any) -> Any:
-    """The name of an open file."""
-    name = getattr(file, "name", "the file")
-    return "standard input" if name in ("<stdin>", 0) else name
-
-
 class BytesFile:
-    """A path or a file of bytes, uncompressed where it is gzip. Raises OSError where it can't be opened or
-    read."""
+    """A path or a file of bytes, uncompressed if it is a gzip. Raises OSError."""
 
     def __init__(self, source: Any) -> None:
         self._is_ours = isinstance(source, (str, os.PathLike))
-        self.name = os.fspath(source) if self._is_ours else _name_of(source)
-        raw: Any = (
-            io.FileIO(self.name) if self._is_ours else Blocks(getattr(source, "read1", None) or source.read)
-        )
+        if self._is_ours:
+            self.name, raw = os.fspath(source), io.FileIO(source)
+        else:
+            name = getattr(source, "name", "the file")
+            self.name = "standard input" if name in ("<stdin>", 0) else name
+            raw = BlockReader(getattr(source, "read1", None) or source.read)  # type: ignore[assignment]
         self._file: Any = io.BufferedReader(raw, BLOCK)
         self._opened: Any = None
-        # Newlines that `read` has given, and bytes since the last one.
+        # The newlines that `read` has returned, and the bytes since the last one.
         self._newlines, self._unended = 0, 0
 
-    def _reader(self) -> BinaryIO:
-        """What the bytes are read from: looked for when they are asked for, since a pipe may wait."""
+    def _reader(self) -> Any:
+        """The uncompressed file, opened when bytes are asked for, since a pipe may wait."""
         if self._opened is None:
             is_compressed = self._file.peek(2)[:2] == GZIP
             unpacked: Any = gzip.GzipFile(fileobj=self._file) if is_compressed else None
             self._opened = io.BufferedReader(unpacked, BLOCK) if is_compressed else self._file
-        opened: BinaryIO = self._opened
-        return opened
+        return self._opened
 
     def read(self, size: int = -1) -> bytes:
-        """The next bytes: so many, but for the end. Raises EndlessLineError."""
-        block = self._tried(lambda: self._reader().read(size))
+        """The next bytes, fewer only at the end. Raises EndlessLineError."""
+        block = self._wrap_errors(lambda: self._reader().read(size))
         last = block.rfind(b"\n")
         self._newlines += block.count(b"\n")
         self._unended = self._unended + len(block) if last < 0 else len(block) - last - 1
@@ -232,11 +211,11 @@ class BytesFile:
         return block
 
     def read1(self, size: int) -> bytes:
-        """The next bytes, at most so many, as soon as there are some; none at the end."""
-        return self._tried(lambda: self._read1(size))
+        """The next bytes, at most `size`, once there are some; none at the end."""
+        return self._wrap_errors(lambda: self._reader().read1(size))
 
-    def begin(self, size: int) -> bytes:
-        """The first bytes: so many or more, but for the end."""
+    def first(self, size: int) -> bytes:
+        """The first bytes: `size` or more, fewer only at the end."""
         block = self.read1(BLOCK)
         while 0 < len(block) < size:
             more = self.read1(BLOCK)
@@ -245,17 +224,11 @@ class BytesFile:
             block += more
         return block
 
-    def _read1(self, size: int) -> bytes:
-        found: bytes = self._reader().read1(size)  # type: ignore[attr-defined]
-        return found
-
-    def readline(self, size: int = -1) -> bytes:
-        """The next line with its newline, or so many bytes of it."""
-        return self._tried(lambda: self._reader().readline(size))
-
-    def _tried(self, call: Callable[[], bytes]) -> bytes:
+    def _wrap_errors(self, call: Callable[[], Any]) -> bytes:
+        """Raises OSError for a gzip that is cut or changed."""
         try:
-            return call()
+            block: bytes = call()
+            return block
         except (EOFError, zlib.error, gzip.BadGzipFile) as error:
             raise OSError("%s can't be read as gzip: %s" % (self.name, error)) from None
 

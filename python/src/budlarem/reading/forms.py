@@ -1,4 +1,4 @@
-"""The form of a list: given, or found out from its first lines; and the readings of its lines by it."""
+"""The form of a list, given or detected, and the readings of its lines."""
 
 from __future__ import annotations
 
@@ -10,17 +10,17 @@ from typing import Counter, Iterator, List, Optional
 from ..verdicts import is_machine
 from .files import Lines, Numbered, Source
 from .lines import OF_MACHINES, read_line, verdict_in
+from .readings import Form, Reading, Skipped
 from .tables import Columns, Layout, find_header, find_layout, read_row
-from .values import Form, Passed, Reading
-from .words import SPACES, passed_over
+from .tokens import SPACES, skip_reason
 
-# So many lines that aren't passed over settle the form of a list.
+# The lines that decide the form of a list; skipped lines don't count.
 FIRST_LINES = 100
 
 
 @dataclasses.dataclass(frozen=True)
 class ListForm:
-    """The form of a list, the layout where it is a table, and whether the form was found out."""
+    """The form of a list, the layout of a table, and whether the form was detected."""
 
     form: Form
     layout: Optional[Layout] = None
@@ -31,8 +31,7 @@ class ListForm:
 
 
 def find_form(lines: Iterator[Numbered], ahead: List[Numbered]) -> Optional[Form]:
-    """The form that the first lines have; None where there are none. Adds the lines that it reads to
-    `ahead`."""
+    """The form of the first lines, which are added to `ahead`; None if there are none."""
     alone: List[str] = []
     verdicts = 0
     for number, line in lines:
@@ -40,7 +39,7 @@ def find_form(lines: Iterator[Numbered], ahead: List[Numbered]) -> Optional[Form
         bare = line.lstrip("\ufeff").strip(SPACES)
         if not alone and not verdicts and find_header(bare) is not None:
             return Form.TABLE
-        if passed_over(bare) is not None:
+        if skip_reason(bare) is not None:
             continue
         if _is_alone(number, bare):
             alone.append(bare)
@@ -52,9 +51,12 @@ def find_form(lines: Iterator[Numbered], ahead: List[Numbered]) -> Optional[Form
             return Form.TEXT
         if len(alone) + verdicts == FIRST_LINES:
             break
-    if verdicts:
-        return Form.VERDICTS
-    return _of_machines(alone) if alone else None
+    if verdicts or not alone:
+        return Form.VERDICTS if verdicts else None
+    # Rows of dashes among machines of another length are rules.
+    lengths = {len(bare) for bare in alone if bare.strip("-")}
+    rows = {len(bare) for bare in alone if not bare.strip("-")}
+    return Form.TEXT if lengths and rows - lengths else Form.MACHINES
 
 
 def _is_alone(number: int, bare: str) -> bool:
@@ -67,19 +69,11 @@ def _is_alone(number: int, bare: str) -> bool:
     return reading is not None and reading.machine is not None
 
 
-def _of_machines(alone: List[str]) -> Form:
-    """The form of a list whose lines are machines: where rows of dashes are among others of another length,
-    they are rules."""
-    lengths = {len(bare) for bare in alone if bare.strip("-")}
-    rows = {len(bare) for bare in alone if not bare.strip("-")}
-    return Form.TEXT if lengths and rows - lengths else Form.MACHINES
-
-
 def form_of(
     lines: Iterator[Numbered], ahead: List[Numbered], form: Optional[Form], columns: Columns
 ) -> ListForm:
-    """The form of a list: the one that is given, that of a table where a column is, or the one that its
-    first lines have. Raises ValueError where the layout of a table isn't known."""
+    """The form of a list: the given one, a table if a column is given, or that of its first lines. Raises
+    ValueError if the layout of a table isn't known."""
     given = form
     if form is None and columns != Columns():
         form = Form.TABLE
@@ -96,22 +90,22 @@ def form_of(
 
 
 def reading_of(number: int, line: str, form: ListForm) -> Optional[Reading]:
-    """The reading of a line of a list in this form; None where it is passed over."""
+    """The reading of a line of a list in this form; None for a skipped line."""
     if form.layout is not None:
         return read_row(number, line, form.layout)
     return read_line(number, line, form.form)
 
 
 class Readings(Iterator[Reading]):
-    """The readings of a list's lines. `form` is that of the list, and `passed` counts so far the lines that
-    were passed over; `undecoded` counts those with bytes that are no UTF-8."""
+    """The readings of a list's lines. `form` is the list's; `skipped` counts so far the skipped lines, and
+    `undecoded` those that aren't UTF-8."""
 
     def __init__(self, lines: Source, form: Optional[Form] = None, columns: Columns = Columns()) -> None:
         self._source = Lines(lines)
         self._given = form, columns
         self._form: Optional[ListForm] = None
         self._ahead: List[Numbered] = []
-        self._passed: Counter[Passed] = collections.Counter()
+        self._skipped: Counter[Skipped] = collections.Counter()
         self._readings = self._read()
 
     @property
@@ -122,14 +116,14 @@ class Readings(Iterator[Reading]):
         return self._form
 
     @property
-    def passed(self) -> Counter[Passed]:
-        """How many lines were passed over so far, by their kinds."""
+    def skipped(self) -> Counter[Skipped]:
+        """The number of skipped lines of each kind so far."""
         empty = self._source.empty
-        return self._passed + collections.Counter({Passed.EMPTY: empty} if empty else {})
+        return self._skipped + collections.Counter({Skipped.EMPTY: empty} if empty else {})
 
     @property
     def undecoded(self) -> int:
-        """How many lines so far have bytes that are no UTF-8."""
+        """The number of lines so far that aren't UTF-8."""
         return self._source.undecoded
 
     def __iter__(self) -> Iterator[Reading]:
@@ -145,9 +139,9 @@ class Readings(Iterator[Reading]):
             if reading is not None:
                 yield reading
             else:
-                self._passed[passed_kind(line)] += 1
+                self._skipped[skip_kind(line)] += 1
 
 
-def passed_kind(line: str) -> Passed:
-    """The kind of a line that was passed over."""
-    return passed_over(line.lstrip("\ufeff").strip(SPACES)) or Passed.HEADER
+def skip_kind(line: str) -> Skipped:
+    """The kind of a skipped line."""
+    return skip_reason(line.lstrip("\ufeff").strip(SPACES)) or Skipped.HEADER

@@ -1,4 +1,4 @@
-"""A line of a list: its one machine, what else stands there, or why there is none."""
+"""Reads a line of a list: its one machine and other texts, or why there is none."""
 
 from __future__ import annotations
 
@@ -6,68 +6,68 @@ import re
 import string
 from typing import List, Optional, Sequence, Tuple
 
-from .._text import LONGEST_LINE, is_hidden, name_of, shown
+from .._text import LONGEST_LINE, code_point, is_hidden, quote
 from ..verdicts import Refused, Verdict, is_machine, parse
-from .texts import Found, Outcome, Word, read_arrays, read_entries, read_words
-from .values import Form, Reading, Reason, Rewriting
-from .words import SPACES, Parts, Text, is_comment_of_machine, parts_of, passed_over, row_beside
+from .entries import Found, Outcome, Word, read_arrays, read_entries, read_words
+from .readings import Form, Reading, Reason, Rewriting
+from .tokens import SPACES, Parts, Text, is_comment_of_machine, parts_of, row_beside, skip_reason
 
 _PAIRS = (
     "``", '""', "''", "()", "[]", "{}", "<>", "**", "~~", "\u201c\u201d", "\u2018\u2019", "\u00ab\u00bb"
 )  # fmt: skip
 _BESIDE = SPACES + ",;"
-# The letter of a state that stands alone before a group; a small one only where the line begins, before
-# small letters.
+# The letter of a state that stands alone before a group; a small one only at the start of a line, before small
+# letters.
 _BEHIND_STATE = re.escape(SPACES + ":|=).,;>*`\"'-]")
 _STATE = re.compile(
     "(?:(?:^|[^A-Za-z0-9_'\u2019-])([A-Y])|^[%s]*([a-y]))[%s]*$" % (re.escape(SPACES), _BEHIND_STATE)
 )
 # The characters of machines, in any spelling.
 OF_MACHINES = frozenset(string.ascii_letters + string.digits + "_-.\\" + SPACES)
-# A text of the line, and what it was read as.
+# A text of the line, and its machine or reason.
 Read = Tuple[Text, Outcome]
 
 
 def read_line(number: int, line: str, form: Form = Form.TEXT) -> Optional[Reading]:
-    """The reading of a line without its newline, in a form other than that of a table; None where the line is
-    passed over."""
-    if is_machine(line) and form is not Form.VERDICTS and not _is_rule(line, form):
+    """The reading of a line without its newline, in a form other than that of a table; None for a skipped
+    line."""
+
+    def is_rule(text: str) -> bool:
+        """Whether a row of dashes is a rule in this form."""
+        return form is not Form.MACHINES and not text.strip("-")
+
+    if is_machine(line) and form is not Form.VERDICTS and not is_rule(line):
         return Reading(number, line, line)
     line = line.lstrip("\ufeff").rstrip("\r")
     if len(line) > LONGEST_LINE:
-        sentence = "the line has more than {:,} characters".format(LONGEST_LINE)
-        return Reading(number, line, None, reason=Reason("long", sentence, LONGEST_LINE + 1))
+        text = "the line has more than {:,} characters".format(LONGEST_LINE)
+        return Reading(number, line, None, reason=Reason("long", text, LONGEST_LINE + 1))
     bare = line.strip(SPACES)
     if form is Form.VERDICTS:
-        return _of_verdict(number, line, bare)
-    if is_machine(bare) and not _is_rule(bare, form):
+        return _read_verdict(number, line, bare)
+    if is_machine(bare) and not is_rule(bare):
         return Reading(number, line, bare)
     verdict = verdict_in(bare) if form is Form.TEXT and bare.count(" ") > 1 else None
     if verdict is not None and verdict.machine is not None and "_" in verdict.machine:
         return Reading(number, line, verdict.machine, behind=bare[len(verdict.machine) + 1 :])
-    if passed_over(bare) is not None:
+    if skip_reason(bare) is not None:
         return None
     reading = _read_plain(number, line)
-    return _alone(reading, bare) if form is Form.MACHINES else reading
-
-
-def _is_rule(text: str, form: Form) -> bool:
-    """Whether a text is a row of dashes, in a form in which that is a rule."""
-    return form is not Form.MACHINES and not text.strip("-")
+    return _require_alone(reading, bare) if form is Form.MACHINES else reading
 
 
 def verdict_in(bare: str) -> Optional[Verdict]:
-    """The verdict of a line that is a verdict line, and may have fields behind a tab; None of another."""
+    """The verdict of a verdict line, which may have fields behind a tab; None of another line."""
     try:
         return parse(bare.partition("\t")[0])
     except ValueError:
         return None
 
 
-def _of_verdict(number: int, line: str, bare: str) -> Optional[Reading]:
-    """The reading of a line of the form of verdicts."""
+def _read_verdict(number: int, line: str, bare: str) -> Optional[Reading]:
+    """The reading of a line in the form of verdicts."""
     verdict = verdict_in(bare)
-    if verdict is None and passed_over(bare) is not None:
+    if verdict is None and skip_reason(bare) is not None:
         return None
     place = len(line) - len(line.lstrip(SPACES)) + 1
     if verdict is None:
@@ -77,39 +77,35 @@ def _of_verdict(number: int, line: str, bare: str) -> Optional[Reading]:
     return Reading(number, line, verdict.machine, behind=bare[len(verdict.machine) + 1 :])
 
 
-def _alone(reading: Reading, bare: str) -> Reading:
-    """The reading of a line whose machine has to stand alone."""
-    if reading.machine is None or not (reading.before or reading.behind or _has_more(bare)):
+def _require_alone(reading: Reading, bare: str) -> Reading:
+    """The reading of a line whose machine has to stand alone, without signs around it."""
+    has_more = reading.before or reading.behind or not OF_MACHINES.issuperset(bare)
+    if reading.machine is None or not has_more:
         return reading
-    reason = Reason("beside", "the line has more than the machine %s" % shown(reading.machine), 1)
+    reason = Reason("beside", "the line has more than the machine %s" % quote(reading.machine), 1)
     return Reading(reading.number, reading.line, None, reason=reason)
 
 
-def _has_more(bare: str) -> bool:
-    """Whether signs stand about the words of entries, as those of a link."""
-    return not OF_MACHINES.issuperset(bare)
-
-
 def _read_plain(number: int, line: str) -> Reading:
-    """The reading of a line that isn't passed over."""
-    plain, places = _unescaped(line)
+    """The reading of a line that isn't skipped."""
+    plain, places = _unescape(line)
     read = _read(plain, parts_of(plain))
     if isinstance(read, Reason):
         reason = Reason(read.kind, read.text, places[read.place - 1] + 1)
         return Reading(number, line, None, reason=reason)
-    begin, end = (places[place] for place in _span(plain, read))
-    before, behind = line[:begin].strip(_BESIDE), line[end:].strip(_BESIDE)
+    start, end = (places[place] for place in _span(plain, read))
+    before, behind = line[:start].strip(_BESIDE), line[end:].strip(_BESIDE)
     found = read[0][1]
     assert isinstance(found, Found)
     rewritten = set(found.rewritten)
-    if "\\_" in line[begin:end]:
+    if "\\_" in line[start:end]:
         rewritten.add(Rewriting.ESCAPES)
     kinds = tuple(kind for kind in Rewriting if kind in rewritten)
     return Reading(number, line, found.machine, kinds, before, behind)
 
 
-def _unescaped(line: str) -> Tuple[str, Sequence[int]]:
-    r"""The line with `_` for `\_`, and for each place of it, its end too, the place in the line."""
+def _unescape(line: str) -> Tuple[str, Sequence[int]]:
+    r"""The line with `_` for `\_`, and the place in the line of each of its places, its end too."""
     if "\\_" not in line:
         return line, range(len(line) + 1)
     kept = [place for place, _ in enumerate(line) if line[place : place + 2] != "\\_"]
@@ -123,7 +119,7 @@ def _read(line: str, parts: Parts) -> "List[Read] | Reason":
         return Reason("comment", "a machine in a line that begins as a comment", place)
     found: List[Read] = []
     for text in parts.texts:
-        read = _of_state(line, text) or _read_text(text)
+        read = _state_line(line, text) or _read_text(text)
         if isinstance(read, Reason):
             found.append((text, read))
         else:
@@ -135,14 +131,13 @@ def _read(line: str, parts: Parts) -> "List[Read] | Reason":
             return outcome
         row = row_beside(line, text, parts.rows) if isinstance(outcome, Found) else None
         if row is not None and "_" not in text.written:
-            return Reason(
-                "rule-or-group", "%s may be a rule or a group of the machine" % shown(row.text), row.begin + 1
-            )
-    return _one(found)
+            sentence = "%s may be a rule or a group of the machine" % quote(row.text)
+            return Reason("rule-or-group", sentence, row.begin + 1)
+    return _single_machine(found)
 
 
-def _of_state(line: str, text: Text) -> Optional[Reason]:
-    """Why a text is no machine before which the letter of a state stands: it is the line of that state."""
+def _state_line(line: str, text: Text) -> Optional[Reason]:
+    """Why a text behind the letter of a state is no machine: it is the line of that state."""
     if "_" in text.written or text.arrays or text.is_address:
         return None
     letter = _STATE.search(line[: text.begin])
@@ -152,12 +147,12 @@ def _of_state(line: str, text: Text) -> Optional[Reason]:
     if group == 2 and text.written == text.written.upper():
         return None
     sentence = "%s before %s: a machine of a state a line isn't read"
-    words = (letter.group(group), shown(text.written))
+    words = (letter.group(group), quote(text.written))
     return Reason("state-line", sentence % words, letter.start(group) + 1)
 
 
 def _no_text(line: str, parts: Parts) -> Reason:
-    """Why there is no machine where there are no entries."""
+    """Why a line without entries has no machine."""
     for row in parts.rows:
         if len(row.text) >= 6 or row.text == line.strip(SPACES):
             what = "dashes" if "-" in row.text else "dots"
@@ -165,21 +160,22 @@ def _no_text(line: str, parts: Parts) -> Reason:
     bare = line.strip(SPACES)
     place = line.index(bare) + 1
     if all(map(is_hidden, bare)):
-        return Reason("hidden", "%s in this line, a character that doesn't show" % name_of(bare[0]), place)
+        return Reason("hidden", "%s in this line, a character that doesn't show" % code_point(bare[0]), place)
     return Reason("none", "no machine in this line", place)
 
 
 def _read_text(text: Text) -> "List[Read] | Reason":
-    """What a text is read as; its words by themselves where each is a machine and the text can't be one."""
+    """The machine of a text; its words by themselves if each is a machine and the text can't be one."""
     if not text.is_last:
         return Reason("none", "no machine in this line", text.words[0].begin + 1)
     if text.arrays:
         return [(text, read_arrays(text.arrays))]
     if len(text.words) == 1:
-        return _dotted(text.words[0]) or [(text, read_words(text.words))]
+        return _ambiguous_dots(text.words[0]) or [(text, read_words(text.words))]
     if text.is_of_entries:
         return [(text, read_entries(text.words))]
-    alone = [(word, read_words(word.words)) for word in text.apart()]
+    words = [Text((word,), word.begin, word.end) for word in text.words]
+    alone = [(word, read_words(word.words)) for word in words]
     machines = {outcome.machine for _, outcome in alone if isinstance(outcome, Found)}
     is_each = all(isinstance(outcome, Found) for _, outcome in alone)
     second = text.words[1].begin + 1
@@ -188,28 +184,28 @@ def _read_text(text: Text) -> "List[Read] | Reason":
         return alone if is_each else mixed
     together = read_words(text.words)
     if is_each and isinstance(together, Found):
-        return _each(len(alone), second)
+        return _several_machines(len(alone), second)
     return alone if is_each and len(machines) > 1 else [(text, together)]
 
 
-def _dotted(word: Word) -> Optional[Reason]:
+def _ambiguous_dots(word: Word) -> Optional[Reason]:
     """Why a word is no machine that is one with the dots at an end, and without them too."""
-    for begin, end in ((0, len(word.text) - 3), (3, len(word.text))):
-        dots = word.begin + (end if begin == 0 else 0)
-        rest = Word(word.begin + begin, word.text[begin:end])
-        if word.text[:begin] + word.text[end:] != "..." or not rest.text:
+    for start, end in ((0, len(word.text) - 3), (3, len(word.text))):
+        dots = word.begin + (end if start == 0 else 0)
+        rest = Word(word.begin + start, word.text[start:end])
+        if word.text[:start] + word.text[end:] != "..." or not rest.text:
             continue
         if isinstance(read_words([rest]), Found) and isinstance(read_words([word]), Found):
             return Reason("dots", "... may be an undefined entry, or no part of the machine", dots + 1)
     return None
 
 
-def _each(count: int, place: int) -> Reason:
+def _several_machines(count: int, place: int) -> Reason:
     sentence = "each of %d words is a machine by itself, and they may be one together" % count
     return Reason("words", sentence, place)
 
 
-def _one(found: List[Read]) -> "List[Read] | Reason":
+def _single_machine(found: List[Read]) -> "List[Read] | Reason":
     """The texts that are one machine, or why they aren't."""
     read = [(text, outcome) for text, outcome in found if isinstance(outcome, Found)]
     is_set_apart = all("_" in text.written for text, _ in read)
@@ -225,31 +221,26 @@ def _one(found: List[Read]) -> "List[Read] | Reason":
     machine = read[0][1].machine
     if others:
         other = others[0][0]
-        sentence = "%s beside the machine %s may be a part of it" % (shown(other.written), shown(machine))
+        sentence = "%s beside the machine %s may be a part of it" % (quote(other.written), quote(machine))
         return Reason("part", sentence, other.words[0].begin + 1)
     for text, outcome in read:
         if outcome.machine != machine:
-            sentence = "two different machines: %s and %s" % (shown(machine), shown(outcome.machine))
+            sentence = "two different machines: %s and %s" % (quote(machine), quote(outcome.machine))
             return Reason("two", sentence, text.words[0].begin + 1)
     plain = [text for text, _ in read if not text.is_address and "_" not in text.written]
     if len(plain) > 1:
-        return _each(len(plain), plain[1].begin + 1)
+        return _several_machines(len(plain), plain[1].begin + 1)
     return [(text, outcome) for text, outcome in read]
 
 
 def _span(line: str, read: List[Read]) -> Tuple[int, int]:
-    """Where the machine stands in a line, with what encloses it, and with the address of a link whose text it
-    is."""
-    begin, end = _enclosed(line, read[0][0].begin, read[0][0].end)
-    if len(read) > 1 and read[1][0].is_address and line[begin : begin + 1] == "[":
+    """The place of the machine in a line, with enclosing pairs of characters, and with the address of a link
+    whose text it is."""
+    start, end = read[0][0].begin, read[0][0].end
+    while start > 0 and end < len(line) and line[start - 1] + line[end] in _PAIRS:
+        start, end = start - 1, end + 1
+    if len(read) > 1 and read[1][0].is_address and line[start : start + 1] == "[":
         address = read[1][0]
         if line[end : address.begin] == "(" and line[address.end : address.end + 1] == ")":
             end = address.end + 1
-    return begin, end
-
-
-def _enclosed(line: str, begin: int, end: int) -> Tuple[int, int]:
-    """A stretch of a line with the pairs of characters right around it."""
-    while begin > 0 and end < len(line) and line[begin - 1] + line[end] in _PAIRS:
-        begin, end = begin - 1, end + 1
-    return begin, end
+    return start, end

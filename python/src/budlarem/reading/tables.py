@@ -8,11 +8,11 @@ import dataclasses
 import re
 from typing import Dict, FrozenSet, List, Optional, Sequence, Tuple
 
-from .._text import counted, shown
+from .._text import pluralize, quote
 from ..verdicts import is_machine
 from .lines import read_line
-from .values import Passed, Reading, Reason
-from .words import MACHINE_NAMES, SPACES, passed_over, plain_name
+from .readings import Skipped, Reading, Reason
+from .tokens import MACHINE_NAMES, SPACES, skip_reason, plain_name
 
 # The separators of cells; a space only where nothing else separates.
 SEPARATORS = ("\t", ",", ";", "|")
@@ -29,8 +29,7 @@ Numbered = Tuple[int, str]
 
 @dataclasses.dataclass(frozen=True)
 class Columns:
-    """The columns of a table, each by its name or its number from 1 on. One that is None is looked for in the
-    table's header."""
+    """The columns of a table, each by its name or its number from 1 on; None is looked up in the header."""
 
     machine: Optional[str] = None
     verdict: Optional[str] = None
@@ -40,9 +39,9 @@ class Columns:
 
 @dataclasses.dataclass(frozen=True)
 class Layout:
-    """How a table is laid out: its separator, how many cells a record has, the names of the columns, none
-    where it has no header, and the index of each column that is known, by its role. `doubts` has a sentence
-    for each role that several columns may have."""
+    """The layout of a table: its separator, the cells of a record, the names of the columns, none without a
+    header, and the index of each known column by its role. `doubts` has a sentence for each role that several
+    columns may have."""
 
     separator: str
     width: int
@@ -54,7 +53,7 @@ class Layout:
     def __str__(self) -> str:
         parts = ["separator %s" % _SEPARATOR_NAMES[self.separator]]
         for role, place in self.columns.items():
-            name = " (%s)" % shown(self.names[place]) if self.names else ""
+            name = " (%s)" % quote(self.names[place]) if self.names else ""
             parts.append("%s in column %d%s" % (role, place + 1, name))
         return ", ".join(parts)
 
@@ -70,8 +69,7 @@ def cells_of(bare: str, separator: str) -> Tuple[str, ...]:
 
 
 def find_header(bare: str) -> Optional[str]:
-    """The separator of a line that names a column of machines, behind # too; None where the line is no such
-    header."""
+    """The separator of a header that names a column of machines, behind # too; None for another line."""
     bare = bare.lstrip("#").strip(SPACES)
     if plain_name(bare) in MACHINE_NAMES:
         return ""
@@ -88,9 +86,9 @@ def find_header(bare: str) -> Optional[str]:
 
 
 def find_layout(lines: Sequence[Numbered], columns: Columns) -> Layout:
-    """The layout of the table that begins with these lines. Raises ValueError where it isn't known."""
+    """The layout of the table with these first lines. Raises ValueError if it isn't known."""
     records = [(number, line.strip(SPACES)) for number, line in lines]
-    while records and passed_over(records[0][1]) is not None and find_header(records[0][1]) is None:
+    while records and skip_reason(records[0][1]) is not None and find_header(records[0][1]) is None:
         del records[0]
     if not records:
         return Layout(",", 0, (), {"machine": 0})
@@ -111,8 +109,8 @@ def find_layout(lines: Sequence[Numbered], columns: Columns) -> Layout:
 
 
 def _fits(records: Sequence[Numbered], separator: str, columns: Columns) -> bool:
-    """Whether a separator gives the first records the columns that are named, and machines in that of
-    machines, the header's aside. Records that differ in their number of cells are refused one by one."""
+    """Whether a separator gives the first records the named columns, and machines in that of machines, except in
+    the header. Records of another number of cells are refused one by one."""
     rows = []
     for _, bare in records:
         with contextlib.suppress(csv.Error):
@@ -124,17 +122,12 @@ def _fits(records: Sequence[Numbered], separator: str, columns: Columns) -> bool
         place = [_place_of(one, rows[0]) for one in given][0]
     except ValueError:
         return False
-    return any(_is_alone(row[place]) for row in rows if len(row) == len(rows[0]))
-
-
-def _is_alone(cell: str) -> bool:
-    """Whether a cell is a machine and nothing else."""
-    found = _machine_in(0, cell)
-    return found.machine is not None and not (found.before or found.behind)
+    found = [_machine_in(0, row[place]) for row in rows if len(row) == len(rows[0])]
+    return any(one.machine is not None and not (one.before or one.behind) for one in found)
 
 
 def _without_names(records: Sequence[Numbered], separator: str, columns: Columns) -> Layout:
-    """The layout of a table whose header, where it has one, doesn't name the machines. Raises ValueError."""
+    """The layout of a table without a header that names the machines. Raises ValueError."""
     row = cells_of(records[0][1], separator)
     place = _place_of(columns.machine or "", row)
     if _machine_in(0, row[place]).machine is None:
@@ -161,13 +154,13 @@ def _with_header(header: Numbered, separator: str, columns: Columns) -> Layout:
         if len(places) == 1:
             found[role] = places[0]
         elif places:
-            both = " and ".join(shown(names[place]) for place in places)
+            both = " and ".join(quote(names[place]) for place in places)
             doubts.append("the columns %s may each be that of the %s" % (both, role))
     return Layout(separator, len(names), names, found, number, tuple(doubts))
 
 
 def _place_of(given: str, row: Sequence[str]) -> int:
-    """The index of a column that is given by its number or its name. Raises ValueError."""
+    """The index of a column with this number or name. Raises ValueError."""
     if re.fullmatch("[0-9]+", given):
         place = int(given) - 1
         if 0 <= place < len(row):
@@ -176,15 +169,15 @@ def _place_of(given: str, row: Sequence[str]) -> int:
     places = [place for place, name in enumerate(row) if plain_name(name) == plain_name(given)]
     if len(places) == 1:
         return places[0]
-    raise ValueError("%s columns have the name %s" % (len(places) or "no", shown(given)))
+    raise ValueError("%s columns have the name %s" % (len(places) or "no", quote(given)))
 
 
 def _cells(count: int) -> str:
-    return counted(count, "cell", "cells")
+    return pluralize(count, "cell", "cells")
 
 
 def _machine_in(number: int, cell: str) -> Reading:
-    """The reading of a cell that has to be a machine."""
+    """The reading of a cell of the column of machines."""
     if is_machine(cell):
         return Reading(number, cell, cell)
     reading = read_line(number, cell)
@@ -194,10 +187,10 @@ def _machine_in(number: int, cell: str) -> Reading:
 
 
 def read_row(number: int, line: str, layout: Layout) -> Optional[Reading]:
-    """The reading of a record; None where the line is passed over."""
+    """The reading of a record; None for a skipped line."""
     line = line.lstrip("\ufeff").rstrip("\r")
     bare = line.strip(SPACES if layout.separator != "\t" else SPACES.replace("\t", ""))
-    if number == layout.header or passed_over(bare.strip(SPACES)) not in (None, Passed.HEADER):
+    if number == layout.header or skip_reason(bare.strip(SPACES)) not in (None, Skipped.HEADER):
         return None
     place = len(line) - len(line.lstrip(SPACES)) + 1
     if bare.startswith("#"):

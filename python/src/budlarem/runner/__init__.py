@@ -1,9 +1,7 @@
-"""Lists of any length, decided in pieces: `budlarem run`.
+"""Lists of any length, decided in chunks: `budlarem run`.
 
-A list is read and cut between lines (`input`, `passes`). Threads of this process decide the pieces
-(`local`), or an executor of `concurrent.futures` (`remote`), as that of dask (`dask`); what comes back is
-looked at (`chunks`). What is kept of each piece is written behind the one before it, and put into the
-journal once it is on the disk (`journal`). A pass decides what the pass before left undecided (`list_run`);
-at the end the pieces are put together in the run's folder (`folder`). Pieces, journal and output know
-nothing of where a piece is decided.
+`input` reads a list. `passes` cuts it into chunks between lines, and runs one pass after another: a later pass
+decides the holdouts of the earlier one. `local` decides chunks in threads of this process, `remote` by an
+executor of `concurrent.futures`, and `dask` by a cluster. `chunks` validates replies. `folder` stores the
+output of each chunk, and a journal entry once the output is on the disk, and merges the passes at the end.
 """

@@ -1,9 +1,8 @@
-"""Pieces of a list, wherever they are decided: what is asked, what is answered, and what of it is kept.
+"""Chunks of a list: the tasks that decide and check them, the validation of replies, and retention.
 
-The functions that an executor is given take and give plain values, so that a process with another version of
-the package is known by what it answers, and stand in a module, so that they are sent by their names. Nothing
-that comes back is believed: a reply has digests of what it belongs to, and has a line of the right form for
-each line of its piece. That a verdict is right isn't seen here; the checker says that.
+Tasks take and return plain values, so that a worker with another version of the package is recognized by its
+reply. Replies aren't trusted: each has digests of its input and output, and a line of the right form for each
+line of the chunk. Validation doesn't show that a verdict is right; the checker does.
 """
 
 from __future__ import annotations
@@ -19,30 +18,30 @@ import zlib
 from concurrent.futures import Future
 from typing import Any, Callable, Dict, Iterator, List, Optional, Sequence, Tuple
 
-from .._library import Room, loaded, look
+from .._library import ReplyBuffer, load_library, validate_replies
 from .._text import LONGEST_OF_REPLY
 from .._version import COMMIT, VERSION
 from ..counts import KINDS
-from ..engine import Call, checking, deciding
+from ..engine import Call, check_call, decide_call
 from ..limits import Limits, Plan
-from .errors import DeadlyError, ReplyError, WordsError
+from .errors import FatalLineError, ReplyError, UsageError
 
 Numbers = Tuple[int, int, int, int]
-# What was written for the lines, the seconds that it took, the version, the commit and the library's sha256;
-# and then the digest of the lines, what was done within which limits, and the digest of what was written.
-PieceReply = Tuple[bytes, float, str, str, str, str, str, str]
-Task = Callable[[bytes, Numbers], PieceReply]
+# Output, seconds, version, commit and sha256 of the library; then the digest of the input, the description of
+# the task, and the digest of the output.
+ChunkReply = Tuple[bytes, float, str, str, str, str, str, str]
+Task = Callable[[bytes, Numbers], ChunkReply]
 Counts = Dict[str, int]
 
 DECIDE, CHECK = "decide", "check"
 _LEFT, _HALTS = "left", "halts="
-_WORDS = (b" undecided ", b"refused ")
-_kept = threading.local()
+_KEPT_WORDS = (b" undecided ", b"refused ")
+_thread_state = threading.local()
 
 
 @dataclasses.dataclass(frozen=True)
 class Identity:
-    """Which package it is, and which library: the sha256 of its file, in hexadecimal digits."""
+    """The version and commit of a package, and the sha256 of its library in hexadecimal digits."""
 
     version: str
     commit: str
@@ -51,67 +50,67 @@ class Identity:
     def __str__(self) -> str:
         return "version %s, commit %s, library %s" % (self.version, self.commit, self.library[:16])
 
+    @classmethod
+    def of_fields(cls, fields: Dict[str, Any]) -> Identity:
+        return cls(*(str(fields[name]) for name in ("version", "commit", "library")))
+
 
 @functools.lru_cache(maxsize=None)
 def identity() -> Identity:
-    """What this process has. Raises LibraryError, OSError."""
-    digest = hashlib.sha256()
-    with open(loaded()._name, "rb") as file:
-        for block in iter(lambda: file.read(1 << 20), b""):
-            digest.update(block)
-    return Identity(VERSION, COMMIT, digest.hexdigest())
+    """The identity of this process. Raises LibraryError, OSError."""
+    with open(load_library()._name, "rb") as file:
+        return Identity(VERSION, COMMIT, hashlib.sha256(file.read()).hexdigest())
 
 
 def hash_of(data: bytes) -> str:
-    """The hash of some bytes, in 64 hexadecimal digits: BLAKE2b, the fastest one that is everywhere."""
+    """The BLAKE2b hash of some bytes, in 64 hexadecimal digits."""
     return hashlib.blake2b(data, digest_size=32).hexdigest()
 
 
 def digest_of(data: bytes) -> str:
-    """The CRC-32 of bytes that are sent, in 8 hexadecimal digits. It finds accidents; who changes bytes on
-    purpose can change their digest too, which is what encryption is for."""
+    """The CRC-32 of bytes in transit, in 8 hexadecimal digits. It detects accidents, not attacks: use TLS
+    against those."""
     return "%08x" % zlib.crc32(data)
 
 
-def question(what: str, limits: Numbers) -> str:
-    """What is asked of some lines, as a reply has it."""
+def describe_task(what: str, limits: Numbers) -> str:
+    """The description of a task in its reply."""
     return "%s steps=%d,cells=%d,depth=%d,nodes=%d" % (what, *limits)
 
 
-def reply_of(asked: str, lines: bytes, written: bytes, seconds: float) -> PieceReply:
-    """The reply to some lines, of which this was asked and for which this was written."""
-    about = (digest_of(lines), asked, digest_of(written))
-    ours = identity()
-    return (written, seconds, ours.version, ours.commit, ours.library, *about)
+def reply_of(task: str, lines: bytes, written: bytes, seconds: float) -> ChunkReply:
+    """The reply to some lines with this output."""
+    digests, ours = (digest_of(lines), task, digest_of(written)), identity()
+    return (written, seconds, ours.version, ours.commit, ours.library, *digests)
 
 
-def _replied(asked: str, call: Call, lines: bytes) -> PieceReply:
-    """The reply that a call gives, in the buffer of this thread, which each of its pieces uses again."""
-    began, room = time.monotonic(), getattr(_kept, "room", None)
-    if not isinstance(room, Room):
-        room = _kept.room = Room()
-    call(room, lines)
-    return reply_of(asked, lines, room.reply().text, time.monotonic() - began)
+def _make_reply(task: str, call: Call, lines: bytes) -> ChunkReply:
+    """Makes a call into the buffer of this thread, which all its chunks share."""
+    started, buffer = time.monotonic(), getattr(_thread_state, "buffer", None)
+    if not isinstance(buffer, ReplyBuffer):
+        buffer = _thread_state.buffer = ReplyBuffer()
+    call(buffer, lines)
+    return reply_of(task, lines, buffer.reply().text, time.monotonic() - started)
 
 
-def decide_piece(lines: bytes, limits: Numbers) -> PieceReply:
+def decide_chunk(lines: bytes, limits: Numbers) -> ChunkReply:
     """The verdict lines of these lines. Raises what `budlarem.decide` does."""
-    return _replied(question(DECIDE, limits), deciding(Limits(*limits), Plan()), lines)
+    return _make_reply(describe_task(DECIDE, limits), decide_call(Limits(*limits), Plan()), lines)
 
 
-def check_piece(lines: bytes, limits: Numbers) -> PieceReply:
+def check_chunk(lines: bytes, limits: Numbers) -> ChunkReply:
     """The checker's answers to these verdict lines. Raises what `budlarem.check` does."""
-    return _replied(question(CHECK, limits), checking(Limits(*limits)), lines)
+    return _make_reply(describe_task(CHECK, limits), check_call(Limits(*limits)), lines)
 
 
-def shown(line: bytes) -> str:
-    """A line as a sentence has it: cut, and with what isn't printable spelled out."""
+def quote_line(line: bytes) -> str:
+    """A line for a message: cut, with unprintable characters escaped."""
     end = "..." if len(line) > LONGEST_OF_REPLY else ""
     return ascii(line[:LONGEST_OF_REPLY].decode("latin-1")) + end
 
 
 def _split(lines: bytes, count: int, what: str) -> List[bytes]:
-    """So many whole lines, without their newlines. Raises ReplyError."""
+    """These lines without their newlines. Raises ReplyError unless there are `count` whole ones."""
     parts = lines.split(b"\n")
     if parts.pop() != b"":
         raise ReplyError("the last of the %s has no newline" % what)
@@ -120,105 +119,104 @@ def _split(lines: bytes, count: int, what: str) -> List[bytes]:
     return parts
 
 
-def look_at_verdicts(given: bytes, verdicts: bytes) -> Counts:
-    """Looks at the verdict lines of a piece: each is one on its line's machine, or that line's refusal. Gives
-    how many there are of each kind. Raises ReplyError."""
-    found = look(given, verdicts)
+def validate_verdicts(given: bytes, verdicts: bytes) -> Counts:
+    """Validates the verdict lines of a chunk: each names the machine of its line, or refuses it. Returns the
+    count of each kind. Raises ReplyError."""
+    found = validate_replies(given, verdicts)
     if not found.fits:
         lines = given.split(b"\n")[:-1]
-        replies = _split(verdicts, len(lines), "verdict lines")
-        both = (shown(replies[found.lines]), shown(lines[found.lines]))
-        raise ReplyError("%s came back for the line %s" % both, found.lines)
+        reply = _split(verdicts, len(lines), "verdict lines")[found.lines]
+        text = "%s came back for the line %s" % (quote_line(reply), quote_line(lines[found.lines]))
+        raise ReplyError(text, found.lines)
     return dict(zip(KINDS, found.counts))
 
 
-def look_at_answers(verdicts: bytes, answers: bytes) -> None:
-    """Looks at the checker's answers to the verdict lines of a piece. Raises ReplyError where they are no
-    such answers; its `line` is set where one is an answer that doesn't confirm."""
+def validate_answers(verdicts: bytes, answers: bytes) -> None:
+    """Validates the checker's answers to the verdict lines of a chunk. Raises ReplyError; its `line` is set
+    for an answer that doesn't confirm a verdict."""
     lines = _split(answers, verdicts.count(b"\n"), "answers")
     place = next((place for place, line in enumerate(lines) if line not in (b"ok", b"open")), None)
     if place is None:
         return
     if lines[place] not in (b"bad", b"over", b"unread"):
-        raise ReplyError("%s is no answer of the checker" % shown(lines[place]))
+        raise ReplyError("%s is no answer of the checker" % quote_line(lines[place]))
     raise ReplyError(lines[place].decode(), place)
 
 
-def opened(reply: object, ours: Identity, asked: str, lines: bytes) -> Tuple[bytes, float]:
-    """The bytes and seconds of a reply that has its form, from the same package and library as this one, to
-    what was asked of these lines. Raises ReplyError."""
+def open_reply(reply: object, ours: Identity, task: str, lines: bytes) -> Tuple[bytes, float]:
+    """The output and seconds of a reply. Raises ReplyError unless package, library, task and input are the
+    expected ones and the digests match."""
     if not (isinstance(reply, tuple) and len(reply) >= 5 and isinstance(reply[0], bytes)):
-        raise ReplyError("what came back is no reply, but of type %s" % type(reply).__name__)
+        raise ReplyError("the reply has type %s" % type(reply).__name__)
     theirs = Identity(*(str(part) for part in reply[2:5]))
     if theirs != ours:
         raise ReplyError("it was decided by %s; here is %s" % (theirs, ours))
     written, seconds = reply[:2]
     if not (isinstance(seconds, float) and math.isfinite(seconds) and seconds >= 0):
-        raise ReplyError("%.50r came back as its seconds" % (seconds,))
+        raise ReplyError("the reply reports %.50r seconds" % (seconds,))
     if reply[5:6] != (digest_of(lines),):
-        raise ReplyError("what came back answers other lines")
-    if reply[6:7] != (asked,):
-        raise ReplyError("what came back answers something else: %.200r, not %r" % (reply[6:7], asked))
+        raise ReplyError("the reply answers other lines")
+    if reply[6:7] != (task,):
+        raise ReplyError("the reply answers another task: %.200r, not %r" % (reply[6:7], task))
     if reply[7:] != (digest_of(written),):
-        raise ReplyError("what came back was changed on its way: its digest is another one's")
+        raise ReplyError("the reply was changed in transit: its digest differs")
     return written, seconds
 
 
 @dataclasses.dataclass(frozen=True)
-class Keep:
-    """All verdict lines, or those of what is left and of what was refused alone; then also those of halts
-    after more than `halts_after` steps, where that is a number."""
+class Retention:
+    """Which verdict lines are kept: all, or those of holdouts and refusals, and of halts after more than
+    `halts_after` steps where that is a number."""
 
-    only_left: bool = False
+    only_holdouts: bool = False
     halts_after: Optional[int] = None
 
     def __str__(self) -> str:
-        if not self.only_left:
+        if not self.only_holdouts:
             return "all"
         return _LEFT if self.halts_after is None else "%s,%s%d" % (_LEFT, _HALTS, self.halts_after)
 
-    def kept_of(self, verdicts: bytes) -> bytes:
-        """Those of some verdict lines that are kept."""
-        if not self.only_left:
+    def select(self, verdicts: bytes) -> bytes:
+        """The verdict lines that are kept."""
+        if not self.only_holdouts:
             return verdicts
-        begins = {verdicts.rfind(b"\n", 0, place) + 1 for place in self._places(verdicts)}
-        return b"".join(verdicts[begin : verdicts.index(b"\n", begin) + 1] for begin in sorted(begins))
+        starts = {verdicts.rfind(b"\n", 0, place) + 1 for place in self._places(verdicts)}
+        return b"".join(verdicts[start : verdicts.index(b"\n", start) + 1] for start in sorted(starts))
 
     def _places(self, verdicts: bytes) -> Iterator[int]:
-        """A place in each line that is kept."""
-        for word in _WORDS:
-            yield from places_of(word, verdicts)
+        """An index in each line that is kept."""
+        for word in _KEPT_WORDS:
+            yield from find_all(word, verdicts)
         if self.halts_after is not None:
-            digits = len(str(self.halts_after))
-            for found in re.finditer(b" halt ([0-9]{%d,}) " % digits, verdicts):
+            for found in re.finditer(b" halt ([0-9]{%d,}) " % len(str(self.halts_after)), verdicts):
                 if int(found.group(1)) > self.halts_after:
                     yield found.start()
 
 
-def places_of(word: bytes, lines: bytes) -> Iterator[int]:
-    """Where a word stands in some lines."""
+def find_all(word: bytes, lines: bytes) -> Iterator[int]:
+    """The indices of a word in some lines."""
     place = lines.find(word)
     while place >= 0:
         yield place
         place = lines.find(word, place + 1)
 
 
-def keep_of(words: Optional[Sequence[str]]) -> Keep:
-    """What words as `left` and `halts=1000` ask for. Raises WordsError."""
-    parts: List[str] = [part for word in words or () for part in word.split(",")]
+def parse_retention(words: Optional[Sequence[str]]) -> Retention:
+    """The retention that words such as `left` and `halts=1000` name. Raises UsageError."""
+    parts = [part for word in words or () for part in word.split(",")]
     halts: Optional[int] = None
     for part in parts:
         if part.startswith(_HALTS) and re.fullmatch("[0-9]{1,15}", part[len(_HALTS) :]):
             halts = int(part[len(_HALTS) :])
         elif part not in (_LEFT, "all") or (part == "all" and len(parts) > 1):
-            raise WordsError("--keep %s: it is left, halts=N, left,halts=N or all" % ",".join(parts))
-    return Keep(bool(parts) and parts != ["all"], halts)
+            raise UsageError("--keep %s: give left, halts=N, left,halts=N or all" % ",".join(parts))
+    return Retention(bool(parts) and parts != ["all"], halts)
 
 
 @dataclasses.dataclass(eq=False)
 class Job:
-    """A task that is handed over: its lines, of which there are `first` before it in the whole task, the
-    future of what comes back, and how often it was handed over or lost."""
+    """A submitted task. `first` lines of the whole task come before its lines; `turn` counts how often it was
+    submitted or lost."""
 
     task: Task
     lines: bytes
@@ -228,60 +226,48 @@ class Job:
     turn: int = 0
 
 
-def halved(job: Job) -> List[Job]:
-    """Two jobs for the halves of a job's lines; the job ends when both do. A job of one line ends here, by a
-    DeadlyError, and there are none."""
+def bisect_job(job: Job) -> List[Job]:
+    """Two jobs for the halves of a job's lines, which end the job once both are done. A job of one line fails
+    here with FatalLineError, and has no halves."""
     lines = [line + b"\n" for line in job.lines.split(b"\n")[:-1]]
     if len(lines) < 2:
-        job.future.set_exception(DeadlyError(job.first))
+        job.future.set_exception(FatalLineError(job.first))
         return []
     middle = len(lines) // 2
     parts = ((lines[:middle], job.first), (lines[middle:], job.first + middle))
     halves = [Job(job.task, b"".join(part), job.limits, first) for part, first in parts]
-    left = list(halves)
+    pending = list(halves)
 
     def end_one(half: Job, _: Future[Any]) -> None:
-        left.remove(half)
-        if not left:
-            _end_both(job, halves)
+        pending.remove(half)
+        if pending:
+            return
+        error = next(filter(None, (half.future.exception() for half in halves)), None)
+        if error is not None:
+            job.future.set_exception(error)
+        else:
+            replies = [half.future.result() for half in halves]
+            job.future.set_result(merge_replies([half.lines for half in halves], replies))
 
     for half in halves:
         half.future.add_done_callback(functools.partial(end_one, half))
     return halves
 
 
-def _end_both(job: Job, halves: List[Job]) -> None:
-    """Ends a job by what its halves came to."""
-    errors = [half.future.exception() for half in halves]
-    error = next((error for error in errors if error is not None), None)
-    if error is not None:
-        job.future.set_exception(error)
-    else:
-        replies = [half.future.result() for half in halves]
-        job.future.set_result(reply_of_parts([half.lines for half in halves], replies))
+def merge_replies(parts: List[bytes], replies: List[Any]) -> Any:
+    """The reply to lines whose parts had these replies. An invalid reply, or one of another library or task
+    than the first, is returned as it is; `open_reply` refuses it."""
 
+    def origin_of(reply: Any) -> Tuple[Any, ...]:
+        return (*reply[2:5], reply[6])
 
-def reply_of_parts(parts: List[bytes], replies: List[Any]) -> Any:
-    """The reply to lines whose parts had these replies. One that hasn't a reply's form, isn't that of its
-    part, or is of another library than the others, is given as it is; `opened` refuses it."""
     for lines, reply in zip(parts, replies):
-        if not _has_form(reply, lines) or _made_by(reply) != _made_by(replies[0]):
+        has_form = isinstance(reply, tuple) and len(reply) == 8 and isinstance(reply[0], bytes)
+        if not has_form or not isinstance(reply[1], float) or origin_of(reply) != origin_of(replies[0]):
+            return reply
+        if (reply[5], reply[7]) != (digest_of(lines), digest_of(reply[0])):
             return reply
     written: bytes = b"".join(reply[0] for reply in replies)
     seconds: float = sum(reply[1] for reply in replies)
-    *ours, asked = _made_by(replies[0])
-    return (written, seconds, *ours, digest_of(b"".join(parts)), asked, digest_of(written))
-
-
-def _made_by(reply: Any) -> Tuple[Any, ...]:
-    """By what a reply was made, and what it answers."""
-    return (*reply[2:5], reply[6])
-
-
-def _has_form(reply: Any, lines: bytes) -> bool:
-    is_reply = isinstance(reply, tuple) and len(reply) == 8 and isinstance(reply[0], bytes)
-    return (
-        is_reply
-        and isinstance(reply[1], float)
-        and (reply[5], reply[7]) == (digest_of(lines), digest_of(reply[0]))
-    )
+    *ours, task = origin_of(replies[0])
+    return (written, seconds, *ours, digest_of(b"".join(parts)), task, digest_of(written))

@@ -1,9 +1,9 @@
-"""Pieces decided by dask's workers, through a scheduler.
+"""Chunks decided by the workers of a dask cluster.
 
-The workers need this package, and the same Python and dask as the runner; the scheduler needs nothing. What
-dask's executor loses is handed over again or fetched: futures that were cancelled since the scheduler went
-away, those that never end since the connection broke or a reply can't be read, and a task that ended its
-workers, which is cut in halves.
+The workers need this package, and the same Python and dask as the runner; the scheduler needs nothing. Tasks
+that dask's executor loses are submitted again or their replies fetched: futures that were cancelled since the
+scheduler left, futures that never finish since the connection broke or a reply can't be read, and a task that
+killed its workers, whose lines are bisected.
 """
 
 from __future__ import annotations
@@ -21,23 +21,24 @@ import warnings
 from concurrent.futures import CancelledError, Future
 from typing import Any, Callable, Deque, Dict, Mapping, Optional
 
-from .chunks import Job, Numbers, Task, halved
+from .chunks import Job, Numbers, Task, bisect_job
 from .errors import RunError
+from .remote import ExecutorBackend
 
-# Seconds between two looks at the scheduler, and how many it has to answer one.
+# Seconds between two inquiries, and the timeout of one.
 _OFTEN, _PATIENCE = 1.0, 10.0
-# Seconds after which a reply that dask has, and its executor doesn't give, is fetched, and a job of which
-# dask knows nothing is handed over again.
+# Seconds after which a reply that dask has, and its executor doesn't give, is fetched, and an unknown job is
+# submitted again.
 _SILENT = 5.0
-# Pieces under way where no worker is known.
+# Chunks in flight while no worker is known.
 _LEAST = 4
-# What these log is printed in sentences, or is of no use to whoever runs the command.
+# Loggers whose messages are reported otherwise, or are of no use to the user.
 _LOGGERS = ("distributed", "distributed.client", "tornado", "tornado.application")
-# dask warns of a task of more than a million bytes, as verdict lines that are checked may be.
+# dask warns of tasks of more than a million bytes, such as verdict lines to check.
 _LARGE = "Large object of size"
 
 
-def distributed() -> Any:
+def import_distributed() -> Any:
     """The package `distributed`. Raises RunError."""
     try:
         return importlib.import_module("distributed")
@@ -48,9 +49,9 @@ def distributed() -> Any:
 
 
 @dataclasses.dataclass
-class Handed:
-    """By which connection a job was handed over, and under which key; dask's own future, without which dask
-    may forget a reply that its executor couldn't read; and since when the job is no more under way there."""
+class Submission:
+    """The connection and key of a submitted job; dask's own future, without which dask may forget a reply that
+    its executor can't read; and since when the job isn't pending there."""
 
     connection: Any
     key: str
@@ -58,24 +59,24 @@ class Handed:
     since: Optional[float] = None
 
 
-class ClusterPlace:
-    """The workers of a scheduler. `security` has the files of dask's TLS options, `tell` prints a sentence.
-    Raises RunError where no scheduler answers."""
+class DaskBackend(ExecutorBackend):
+    """The workers of a scheduler. `security` has the files of dask's TLS options, `report` prints a sentence.
+    Raises RunError if no scheduler answers."""
 
-    def __init__(self, address: str, security: Mapping[str, str], tell: Callable[[str], None]) -> None:
-        self._address, self._tell = address, tell
-        self._dask = distributed()
+    def __init__(self, address: str, security: Mapping[str, str], report: Callable[[str], None]) -> None:
+        self._address, self._report = address, report
+        self._dask = import_distributed()
         for name in _LOGGERS:
             logging.getLogger(name).setLevel(logging.CRITICAL + 1)
         warnings.filterwarnings("ignore", _LARGE, UserWarning)
         self._security = self._dask.Security(**security, require_encryption=True) if security else None
         # It guards the jobs, which dask's thread ends.
         self._lock = threading.RLock()
-        # Jobs that dask has, and those that have to be handed over again.
-        self._handed: Dict[Job, Handed] = {}
+        # Jobs that dask has, and jobs to submit again.
+        self._submissions: Dict[Job, Submission] = {}
         self._lost: Deque[Job] = collections.deque()
-        # Jobs whose workers ended, and their halves, of which one at a time is handed over: dask says the
-        # same of all that a worker had, and only one of them ended it.
+        # Jobs whose workers died, and their halves. One half at a time is submitted: dask blames all tasks of
+        # a dead worker, and only one killed it.
         self._killed: Deque[Job] = collections.deque()
         self._halves: Deque[Job] = collections.deque()
         self._suspect: Optional[Job] = None
@@ -86,11 +87,14 @@ class ClusterPlace:
         error = self._connect()
         if error is not None:
             raise RunError("no scheduler answers at %s: %s" % (address, error))
-        self._tell_page()
+        try:
+            self._report("dask's page is at %s" % self._client.dashboard_link)
+        except Exception:
+            self._report("the scheduler at %s has no page" % self._address)
 
     def _connect(self) -> Optional[Exception]:
-        """Makes the client anew; what is wrong where that fails. A client that can't be made leaves its
-        thread behind, so all use the thread of the first one."""
+        """Makes a new client; returns the error, if any. A failed client leaves its thread behind, so all use
+        the thread of the first one."""
         loop = None if self._client is None else self._client.loop
         try:
             self._client = self._dask.Client(
@@ -101,12 +105,6 @@ class ClusterPlace:
         self._executor = self._client.get_executor(pure=False)
         return None
 
-    def _tell_page(self) -> None:
-        try:
-            self._tell("dask's page is at %s" % self._client.dashboard_link)
-        except Exception:
-            self._tell("the scheduler at %s has no page" % self._address)
-
     def width(self) -> int:
         return max(2 * self._threads, _LEAST)
 
@@ -115,55 +113,55 @@ class ClusterPlace:
 
     def submit(self, task: Task, lines: bytes, limits: Numbers) -> Future[Any]:
         job = Job(task, lines, limits)
-        self._hand_over(job)
+        self._submit(job)
         return job.future
 
     def _connection(self) -> Any:
-        """An object that each connection to the scheduler has of its own; None where there is none."""
+        """The object of the present connection to the scheduler; None without one."""
         return self._client.scheduler_comm if self._client.status == "running" else None
 
-    def _hand_over(self, job: Job) -> None:
-        """Hands a job over, now or when the scheduler is there."""
-        handed = Handed(self._connection(), "budlarem-" + uuid.uuid4().hex)
+    def _submit(self, job: Job) -> None:
+        """Submits a job, now or once there is a scheduler."""
+        submission = Submission(self._connection(), "budlarem-" + uuid.uuid4().hex)
         with self._lock:
             job.turn += 1
-            self._handed[job] = handed
+            self._submissions[job] = submission
         try:
-            if handed.connection is None:
+            if submission.connection is None:
                 raise RunError("there is no scheduler")
-            inner = self._executor.submit(job.task, job.lines, job.limits, key=handed.key)
-            handed.own = self._dask.Future(handed.key, self._client)
+            inner = self._executor.submit(job.task, job.lines, job.limits, key=submission.key)
+            submission.own = self._dask.Future(submission.key, self._client)
         except Exception:
-            # What a closed client raises is a bare Exception.
-            self._lose(job)
+            # A closed client raises a bare Exception.
+            self._requeue(job)
             return
-        inner.add_done_callback(functools.partial(self._ended, job, job.turn))
+        inner.add_done_callback(functools.partial(self._on_done, job, job.turn))
 
-    def _lose(self, job: Job) -> None:
-        """Has a job handed over again; what is still said of it is passed over."""
+    def _requeue(self, job: Job) -> None:
+        """Has a job submitted again; later news of this turn are ignored."""
         with self._lock:
             job.turn += 1
-            self._handed.pop(job, None)
+            self._submissions.pop(job, None)
             self._lost.append(job)
 
-    def _ended(self, job: Job, turn: int, inner: Future[Any]) -> None:
-        """Takes what dask's executor says of a job. It is called in dask's thread."""
+    def _on_done(self, job: Job, turn: int, inner: Future[Any]) -> None:
+        """Handles a finished future of dask's executor, in dask's thread."""
         try:
             error = inner.exception()
         except CancelledError as cancelled:
             error = cancelled
-        self._take(job, turn, None if error else inner.result(), error)
+        self._finish(job, turn, None if error else inner.result(), error)
 
-    def _take(self, job: Job, turn: int, reply: object, error: Optional[BaseException]) -> None:
-        """Takes what came of a job, if nothing did before."""
+    def _finish(self, job: Job, turn: int, reply: object, error: Optional[BaseException]) -> None:
+        """Ends a job, unless its turn is over."""
         with self._lock:
             if turn != job.turn:
                 return
             if isinstance(error, (CancelledError, asyncio.CancelledError)):
-                self._lose(job)
+                self._requeue(job)
                 return
             job.turn += 1
-            self._handed.pop(job, None)
+            self._submissions.pop(job, None)
             if job is self._suspect:
                 self._suspect = None
             if isinstance(error, self._dask.KilledWorker):
@@ -173,103 +171,95 @@ class ClusterPlace:
             else:
                 job.future.set_result(reply)
 
-    def tend(self) -> None:
-        """Looks now and then whether the scheduler and its workers are there, and hands over again what was
-        lost."""
-        self._hand_over_halves()
+    def maintain(self) -> None:
+        """Inquires now and then about scheduler and workers, and submits lost jobs again."""
+        self._submit_halves()
         if time.monotonic() < self._next:
             return
         if self._client.status == "closed":
-            self._miss("there is no scheduler at %s; waiting for one" % self._address)
+            self._report_missing("there is no scheduler at %s; waiting for one" % self._address)
             self._connect()
         if self._client.status == "running":
             self._count_workers()
-            self._lose_silent()
-            self._fetch_silent()
-            self._hand_over_again()
+            self._requeue_stale()
+            self._fetch_stuck()
+            for _ in range(len(self._lost)):
+                self._submit(self._lost.popleft())
         elif self._client.status != "closed":
-            self._miss_answer()
+            self._report_silence()
         self._next = time.monotonic() + _OFTEN
 
     def _count_workers(self) -> None:
         try:
             threads = self._client.nthreads(callback_timeout=_PATIENCE)
         except Exception:
-            self._miss_answer()
+            self._report_silence()
             return
         self._workers, self._threads = len(threads), sum(threads.values())
         if not self._workers:
-            self._miss("the scheduler at %s has no workers; waiting for them" % self._address)
+            self._report_missing("the scheduler at %s has no workers; waiting for them" % self._address)
         elif self._missing:
-            self._tell("the scheduler at %s has %d workers" % (self._address, self._workers))
+            self._report("the scheduler at %s has %d workers" % (self._address, self._workers))
             self._missing = ""
 
-    def _miss_answer(self) -> None:
-        self._miss("the scheduler at %s doesn't answer; waiting for it" % self._address)
+    def _report_silence(self) -> None:
+        self._report_missing("the scheduler at %s doesn't answer; waiting for it" % self._address)
 
-    def _miss(self, text: str) -> None:
-        """Prints once what is missing."""
+    def _report_missing(self, text: str) -> None:
+        """Reports once what is missing."""
         if text != self._missing:
             self._missing, self._workers = text, 0
-            self._tell(text)
+            self._report(text)
 
-    def _lose_silent(self) -> None:
-        """Has jobs handed over again that went by another connection: dask's executor never ends those whose
-        replies were on their way when that broke."""
+    def _requeue_stale(self) -> None:
+        """Requeues jobs of another connection: dask's executor never ends those whose replies were in transit
+        when it broke."""
         connection = self._connection()
         with self._lock:
-            for job in [job for job, handed in self._handed.items() if handed.connection is not connection]:
-                self._lose(job)
+            for job in [job for job, one in self._submissions.items() if one.connection is not connection]:
+                self._requeue(job)
 
-    def _fetch_silent(self) -> None:
-        """Fetches replies that dask has, and its executor doesn't give: it never ends a future whose reply
-        can't be read, nor those that came with it. What dask has forgotten is handed over again."""
+    def _fetch_stuck(self) -> None:
+        """Fetches replies that dask has and its executor doesn't give: it never ends a future whose reply it
+        can't read, nor those that came with it. Requeues jobs that dask has forgotten."""
         now = time.monotonic()
         with self._lock:
-            under_way = [(job, job.turn, handed) for job, handed in self._handed.items()]
-        for job, turn, handed in under_way:
-            state = self._client.futures.get(handed.key)
+            pending = [(job, job.turn, submission) for job, submission in self._submissions.items()]
+        for job, turn, submission in pending:
+            state = self._client.futures.get(submission.key)
             status = "lost" if state is None else state.status
             if status == "pending":
-                handed.since = None
-            elif handed.since is None:
-                handed.since = now
-            elif now - handed.since > _SILENT:
+                submission.since = None
+            elif submission.since is None:
+                submission.since = now
+            elif now - submission.since > _SILENT:
                 if status in ("finished", "error"):
-                    self._fetch(job, turn, handed)
-                else:
-                    self._lose_if_same(job, turn)
+                    self._fetch(job, turn, submission)
+                    continue
+                with self._lock:
+                    if turn == job.turn:
+                        self._requeue(job)
 
-    def _lose_if_same(self, job: Job, turn: int) -> None:
-        """Has a job handed over again, if nothing was said of it meanwhile."""
-        with self._lock:
-            if turn == job.turn:
-                self._lose(job)
-
-    def _fetch(self, job: Job, turn: int, handed: Handed) -> None:
-        """Fetches the reply to a job; where it doesn't come in time, later again."""
-        handed.since = None
+    def _fetch(self, job: Job, turn: int, submission: Submission) -> None:
+        """Fetches the reply to a job; after a timeout it is tried again later."""
+        submission.since = None
         try:
-            reply = self._dask.Future(handed.key, self._client).result(_PATIENCE)
+            reply = self._dask.Future(submission.key, self._client).result(_PATIENCE)
         except (TimeoutError, asyncio.TimeoutError, OSError):
             return
         except (Exception, asyncio.CancelledError) as error:
-            self._take(job, turn, None, error)
+            self._finish(job, turn, None, error)
         else:
-            self._take(job, turn, reply, None)
+            self._finish(job, turn, reply, None)
 
-    def _hand_over_again(self) -> None:
-        for _ in range(len(self._lost)):
-            self._hand_over(self._lost.popleft())
-
-    def _hand_over_halves(self) -> None:
+    def _submit_halves(self) -> None:
         while self._killed:
             job = self._killed.popleft()
             with self._lock:
-                halves = halved(job)
+                halves = bisect_job(job)
             self._halves.extend(halves)
             if halves:
-                self._tell("%d lines ended their workers; they are cut in halves" % job.lines.count(b"\n"))
+                self._report("%d lines killed their workers; bisecting them" % job.lines.count(b"\n"))
         if self._halves and self._suspect is None:
             self._suspect = self._halves.popleft()
-            self._hand_over(self._suspect)
+            self._submit(self._suspect)

@@ -1,4 +1,4 @@
-"""How a run ends where it doesn't end well."""
+"""The errors that end a run, each with its exit status."""
 
 from __future__ import annotations
 
@@ -8,23 +8,23 @@ from .._text import LONGEST_OF_ERROR
 
 
 class FolderError(ValueError):
-    """The folder, the list or the words don't go together; nothing was changed. Status 2."""
+    """Folder, list and options contradict each other; nothing was changed. Status 2."""
+
+
+class UsageError(ValueError):
+    """The options contradict each other. Status 2."""
 
 
 class ListError(Exception):
-    """The list can't be opened, so nothing was begun. Status 3."""
-
-
-class WordsError(ValueError):
-    """The words of the command don't go together. Status 2."""
+    """The list can't be opened; nothing was started. Status 3."""
 
 
 class RunError(Exception):
-    """A fault: what stands is kept, and the same command goes on after it. Status 3."""
+    """A fault. Finished chunks are kept, and the same command resumes the run. Status 3."""
 
 
 class MovedError(RunError):
-    """The path of a folder leads nowhere or elsewhere, so nothing more is written. Status 3."""
+    """The folder was moved or replaced; nothing more is written. Status 3."""
 
 
 class CheckError(Exception):
@@ -32,27 +32,26 @@ class CheckError(Exception):
 
 
 class ReplyError(Exception):
-    """The reply for a chunk isn't one that belongs there. `line` is the line of the chunk, from 0 on; None
-    where it is no single line."""
+    """The reply for a chunk is invalid. `line` is the index of the line in the chunk, or None."""
 
     def __init__(self, text: str, line: Optional[int] = None) -> None:
         super().__init__(text)
         self.line = line
 
 
-class DeadlyError(Exception):
-    """A line ended each process that decided it. `line` is the line of the chunk."""
+class FatalLineError(Exception):
+    """Every worker that decided a line died. `line` is its index in the chunk."""
 
     def __init__(self, line: int) -> None:
         super().__init__(line)
         self.line = line
 
     def __str__(self) -> str:
-        return "it ended the workers that decided it, as often as it was tried"
+        return "every worker that decided it died"
 
 
-def sentence_of(error: BaseException) -> str:
-    """An error as a sentence has it."""
+def describe_error(error: BaseException) -> str:
+    """The type and text of an error, cut to a bounded length; the text alone for a ReplyError."""
     if isinstance(error, ReplyError):
         return str(error)
     name, text = type(error).__name__, str(error)[:LONGEST_OF_ERROR]

@@ -1,5 +1,5 @@
-"""The folder of a run: its lock, what it was begun with, and which of its files are the run's own. Other
-files are somebody else's, and no run changes them."""
+"""The folder of a run: its lock, its configuration, its results, and which files in it belong to the run. A run
+never changes foreign files."""
 
 from __future__ import annotations
 
@@ -13,72 +13,73 @@ import re
 import shlex
 import stat
 import string
-from typing import Any, Callable, Dict, Iterable, Iterator, List, Optional, Sequence
+from typing import Any, Callable, Dict, Iterable, Iterator, List, Optional, Sequence, Tuple
 
-from .._files import Checksum, Directory, FileId, Pin, id_of, kind_of, write_at, write_blocks
+from .._files import (
+    Checksum,
+    Directory,
+    FileId,
+    KindError,
+    Pin,
+    id_of,
+    kind_of,
+    write_atomically,
+    write_blocks,
+)
 from .._text import escape_controls
+from ..counts import KINDS
 from ..limits import Limits, limits_of, words_of
-from .chunks import Identity, Keep, hash_of, keep_of
+from .chunks import Counts, Identity, Retention, hash_of, parse_retention
 from .errors import FolderError, RunError
 from .input import STANDARD_INPUT
-from .journal import JOURNAL, KEPT, VERDICTS, PassFolder, has_records, joined
+from .journal import JOURNAL, KEPT, VERDICTS, Journal, PassFolder, has_records, merge_passes
 
 LOCK, RUN, README, SUMMARY = "lock", "run.json", "README.txt", "summary.json"
-# The first lines of these files, in each version that writes this format.
-RUN_BEGIN, PAGE_BEGIN, SUMMARY_BEGIN = '{\n  "format": ', "Verdicts on the machines of ", '{\n  "list": '
 FILES = (RUN, README, VERDICTS, SUMMARY)
-_PASS_BEGIN = "pass-"
-PASS = re.compile(_PASS_BEGIN + "[0-9]+")
+# How these files start in each version that writes this format.
+PAGE_BEGIN = "Verdicts on the machines of "
+_STARTS = {RUN: '{\n  "format": ', README: PAGE_BEGIN, SUMMARY: '{\n  "list": ', LOCK: ""}
+_PASS_PREFIX = "pass-"
+PASS = re.compile(_PASS_PREFIX + "[0-9]+")
 _PART = re.compile("(%s)(?:[.][0-9]+)?[.]part" % "|".join((*FILES, KEPT)))
-# A piece as earlier versions of this package wrote it.
-_OLD_PIECE = "000000001.txt"
-# So many bytes of a file are looked at: more than a verdict line has.
-_LOOKED_AT = 1_024
+# A chunk as earlier versions of this package wrote it.
+_OLD_CHUNK = "000000001.txt"
+# Bytes of a file that are examined: more than a verdict line has.
+_EXAMINED = 1_024
 _LINE = re.compile(
     rb"(?:refused [0-9]+|[0-9A-Z_-]+ (?:halt|cycler|translated|backward|undecided) [^\n]*)\n"
     rb"|[0-9A-Za-z_ -]*\Z"
 )
 
 
-_BEGINNINGS = {RUN: RUN_BEGIN, README: PAGE_BEGIN, SUMMARY: SUMMARY_BEGIN, LOCK: ""}
-
-
-def _is_begin(found: bytes, kind: str) -> bool:
-    """Whether bytes are the begin of a file of this kind; those of verdicts begin with a line of them."""
-    if kind in (VERDICTS, KEPT):
-        return _LINE.match(found) is not None
-    begin = _BEGINNINGS[kind].encode()
-    return not found if kind == LOCK else found[: len(begin)] == begin[: len(found)]
-
-
-def _has_begin(directory: Directory, name: str, kind: str) -> bool:
-    """Whether a file begins as those of this kind do; false where it is no regular file."""
+def _has_start(directory: Directory, name: str, kind: str) -> bool:
+    """Whether a name leads to a regular file that starts like the run's file `kind`."""
     status = directory.status(name)
     if status is None or not stat.S_ISREG(status.st_mode):
         return False
-    number = directory.open_file(name, os.O_RDONLY)
-    try:
-        return _is_begin(os.pread(number, _LOOKED_AT, 0), kind)
-    finally:
-        os.close(number)
+    with open(directory.open_file(name, os.O_RDONLY), "rb") as file:
+        found = file.read(_EXAMINED)
+    if kind in (VERDICTS, KEPT):
+        return _LINE.match(found) is not None
+    start = _STARTS[kind].encode()
+    return not found if kind == LOCK else found[: len(start)] == start[: len(found)]
 
 
 def _is_leftover(directory: Directory, name: str) -> bool:
     """Whether a file was being written here when a run was ended."""
     found = _PART.fullmatch(name)
-    return found is not None and _has_begin(directory, name, found.group(1))
+    return found is not None and _has_start(directory, name, found.group(1))
 
 
 def remove_leftovers(directory: Directory) -> None:
-    """Removes files that were being written here when a run was ended. Raises OSError."""
+    """Removes files that were being written when a run was ended. Raises OSError."""
     for name in directory.names():
         if _is_leftover(directory, name):
             directory.remove(name)
 
 
-def _require(directory: Directory, name: str, kind: int) -> None:
-    """Raises FolderError where a name is there, and leads to something else than a regular file or a folder,
-    of which `kind` is one."""
+def _require_kind(directory: Directory, name: str, kind: int) -> None:
+    """Raises FolderError for a name that leads to something else than `kind`, a regular file or a folder."""
     status = directory.status(name)
     if status is not None and stat.S_IFMT(status.st_mode) != kind:
         raise FolderError(
@@ -88,100 +89,81 @@ def _require(directory: Directory, name: str, kind: int) -> None:
 
 
 def require_regular(directory: Directory, names: Sequence[str]) -> None:
-    """Raises FolderError where one of these names is there, and leads to no regular file."""
+    """Raises FolderError for a name that leads to something else than a regular file."""
     for name in names:
-        _require(directory, name, stat.S_IFREG)
+        _require_kind(directory, name, stat.S_IFREG)
 
 
 @contextlib.contextmanager
-def _opened_pass(top: Directory, name: str) -> Iterator[Directory]:
-    """The folder of a pass. Raises FolderError where it is a link, or no folder."""
-    _require(top, name, stat.S_IFDIR)
+def _open_pass(top: Directory, name: str) -> Iterator[Directory]:
+    """The folder of a pass. Raises FolderError for a link or a file."""
+    _require_kind(top, name, stat.S_IFDIR)
     with contextlib.closing(top.subdirectory(name)) as inside:
         yield inside
 
 
 def require_own(top: Directory, known_passes: Optional[int]) -> None:
-    """Raises FolderError where something in a folder isn't a run's own. `known_passes` is how many passes it
-    was begun with; None where nothing says that it was begun, and each file has to show that it is a run's.
-    Nothing is changed."""
+    """Raises FolderError for anything foreign in a folder. `known_passes` is the number of its passes; None
+    without a configuration, when each file has to show that it is a run's."""
     names = top.names()
     passes = [name for name in names if PASS.fullmatch(name)]
     if known_passes is None:
-        foreign = next(_foreign(top, names, bool(passes)), None)
+        foreign = next(_foreign_names(top, names, bool(passes)), None)
         if foreign is not None:
             raise FolderError("%s has other files in it, as %s; give an empty folder" % (top.path, foreign))
     require_regular(top, (*FILES, LOCK))
     for name in passes:
         if known_passes is None:
             require_own_pass(top, name)
-        elif int(name[len(_PASS_BEGIN) :]) <= known_passes:
-            with _opened_pass(top, name) as inside:
+        elif int(name[len(_PASS_PREFIX) :]) <= known_passes:
+            with _open_pass(top, name) as inside:
                 require_regular(inside, (KEPT, JOURNAL))
 
 
-def _foreign(top: Directory, names: Sequence[str], has_passes: bool) -> Iterator[str]:
+def _foreign_names(top: Directory, names: Sequence[str], has_passes: bool) -> Iterator[str]:
     """The names of files that no run left here."""
+    checked = (README, VERDICTS, SUMMARY, LOCK) if has_passes else (LOCK,)
     for name in names:
-        if PASS.fullmatch(name) or _is_leftover(top, name):
-            continue
-        if name not in (*FILES, LOCK):
-            yield name
-        elif name in (README, VERDICTS, SUMMARY) and not (has_passes and _has_begin(top, name, name)):
-            yield name
-        elif name == LOCK and not _has_begin(top, name, name):
+        is_own = name in checked and _has_start(top, name, name)
+        if not (is_own or name == RUN or PASS.fullmatch(name) or _is_leftover(top, name)):
             yield name
 
 
 def require_own_pass(top: Directory, name: str) -> None:
-    """Raises FolderError where the folder of a pass has anything that no run left there."""
-    with _opened_pass(top, name) as inside:
+    """Raises FolderError for anything foreign in the folder of a pass."""
+    with _open_pass(top, name) as inside:
         names = inside.names()
-        if _OLD_PIECE in names:
+        if _OLD_CHUNK in names:
             raise FolderError(
-                "%s has pieces that another version of this package wrote; give another folder" % top.path
+                "%s has chunks that another version of this package wrote; give another folder" % top.path
             )
         require_regular(inside, (KEPT, JOURNAL))
-        _require_own_pieces(inside, names)
-
-
-def _require_own_pieces(inside: Directory, names: Sequence[str]) -> None:
-    """Raises FolderError where one of these names in the folder of a pass isn't a run's."""
-    foreign = [name for name in names if name not in (KEPT, JOURNAL) and not _is_leftover(inside, name)]
-    if JOURNAL in names and not has_records(inside):
-        foreign.append(JOURNAL)
-    elif KEPT in names and not _is_journaled(inside):
-        foreign.append(KEPT)
-    if foreign:
-        raise FolderError("%s has other files in it, as %s; give an empty folder" % (inside.path, foreign[0]))
-
-
-def _is_journaled(inside: Directory) -> bool:
-    """Whether the pieces of a pass are empty, or have a journal beside them."""
-    status = inside.status(KEPT)
-    return status is None or not status.st_size or has_records(inside)
+        foreign = [one for one in names if one not in (KEPT, JOURNAL) and not _is_leftover(inside, one)]
+        output = inside.status(KEPT)
+        if JOURNAL in names and not has_records(inside):
+            foreign.append(JOURNAL)
+        elif JOURNAL not in names and output is not None and output.st_size:
+            foreign.append(KEPT)
+        if foreign:
+            text = "%s has other files in it, as %s; give an empty folder"
+            raise FolderError(text % (inside.path, foreign[0]))
 
 
 def require_other_list(top: Directory, listed: Optional[FileId]) -> None:
-    """Raises FolderError where a file that a run writes here is the list itself, where that is a file."""
-    if listed is None:
-        return
-    for name in top.names():
+    """Raises FolderError if the list is a file that a run writes here."""
+    for name in top.names() if listed is not None else ():
         if name in (*FILES, LOCK) or _PART.fullmatch(name):
             _require_other(top, name, listed)
-        elif PASS.fullmatch(name) and _is_folder(top, name):
-            with _opened_pass(top, name) as inside:
+            continue
+        status = top.status(name) if PASS.fullmatch(name) else None
+        if status is not None and stat.S_ISDIR(status.st_mode):
+            with _open_pass(top, name) as inside:
                 for inner in inside.names():
                     _require_other(inside, inner, listed)
 
 
-def _is_folder(top: Directory, name: str) -> bool:
-    status = top.status(name)
-    return status is not None and stat.S_ISDIR(status.st_mode)
-
-
-def _require_other(directory: Directory, name: str, listed: FileId) -> None:
-    """Raises FolderError where a name leads to the list, by a link too."""
+def _require_other(directory: Directory, name: str, listed: Optional[FileId]) -> None:
+    """Raises FolderError if a name leads to the list, by a link too."""
     with contextlib.suppress(OSError):
         if id_of(os.stat(name, dir_fd=directory.handle)) == listed:
             raise FolderError(
@@ -189,18 +171,24 @@ def _require_other(directory: Directory, name: str, listed: FileId) -> None:
             )
 
 
+def require_separate_list(path: str, list_id: Optional[FileId]) -> None:
+    """Raises FolderError if the list is a file that a run in this folder writes."""
+    if os.path.isdir(path):
+        with contextlib.closing(Directory.open(path)) as top:
+            require_other_list(top, list_id)
+
+
 def pass_name(number: int) -> str:
     """The name of the folder of a pass."""
-    return "%s%d" % (_PASS_BEGIN, number)
+    return "%s%d" % (_PASS_PREFIX, number)
 
 
 FORMAT = 3
-# How what a folder was begun with begins and ends, around its seal. It tells how many bytes it has, so that a
-# file that was cut is known.
-_HEAD = RUN_BEGIN + '%d,\n  "bytes": "' % FORMAT
+# Head and end of the configuration, around its seal. It has its own length, which exposes a truncated file.
+_HEAD = _STARTS[RUN] + '%d,\n  "bytes": "' % FORMAT
 _SIZE = 8
 _SEALED = ',\n  "seal": "%s"\n}\n'
-# Errors of file systems that lock no directories: NFS asks that a locked file be open for writing.
+# Errors of file systems that lock no directories: NFS wants a locked file to be open for writing.
 _NO_LOCKS = (errno.EBADF, errno.EINVAL, errno.EISDIR, errno.ENOLCK, errno.ENOSYS, errno.EOPNOTSUPP)
 _PAGE = string.Template(
     PAGE_BEGIN
@@ -209,44 +197,44 @@ _PAGE = string.Template(
 `budlarem run` made this folder (version $version, commit $commit).
 
   verdicts.txt  $verdicts,
-                once the run is at its end
-  summary.json  counts, limits and times, from then on
-  run.json      what the run was begun with, and a seal over it
-  pass-1, ..    of each pass `pieces`, the verdict lines so far, and `journal`,
-                which says where each piece of them stands. Of one pass alone
-                `pieces` becomes verdicts.txt at the end. These folders may be
-                removed when no pass will be added
+                written at the end of the run
+  summary.json  counts, limits and times, written at the end too
+  run.json      the configuration of the run, with a seal over it
+  pass-1, ..    for each pass `pieces`, its verdict lines so far, and `journal`,
+                the index of the chunks in it. A run of one pass renames
+                `pieces` to verdicts.txt. Unless passes will be added, these
+                folders may be removed
   README.txt    this page
 
-Whatever ended the run, it goes on by the same command, where it was begun$same.
-More passes may be added at its end; they decide what is left.
+The same command resumes the run after any interruption, in the same directory$same.
+More passes may be added at its end; they decide the holdouts.
 
-    $go_on
+    $resume
 
-$again
+$check
 """
 )
 
 
-def as_word(path: str) -> str:
-    """A path as a command line takes it: one that begins with `-` is no option there."""
+def as_argument(path: str) -> str:
+    """A path for a command line: one that begins with `-` gets `./`."""
     return os.path.join(os.curdir, path) if path.startswith("-") else path
 
 
 @dataclasses.dataclass
-class Begun:
-    """What a folder was begun with. Of the list is known how many bytes its file has, where it is an
-    uncompressed one, and when the first pass has seen its end how many lines it has."""
+class RunConfig:
+    """The configuration of a run. `list_bytes` is known for an uncompressed file, `list_lines` once the first
+    pass has seen the end."""
 
     passes: List[Limits]
-    keep: Keep
+    keep: Retention
     identity: Identity
     list_name: str
     list_bytes: Optional[int] = None
     list_lines: Optional[int] = None
 
     def text(self) -> str:
-        """The text of the file that says it."""
+        """The text of `run.json`."""
         fields = {
             "passes": [words_of(limits) for limits in self.passes],
             "keep": str(self.keep),
@@ -258,147 +246,130 @@ class Begun:
         text = '%s%0*d",%s' % (_HEAD, _SIZE, size, body)
         return text + _SEALED % hash_of(text.encode())
 
-    def page(self, folder: str) -> str:
-        """What the files of the folder are, and with which commands it goes on."""
+    def readme(self, folder: str) -> str:
+        """The text of `README.txt`: the files of the folder and the commands for it."""
         is_piped = self.list_name == STANDARD_INPUT
-        listed = "-" if is_piped else as_word(self.list_name)
-        words = ["budlarem", "run", listed, "--out", as_word(folder)]
+        listed = "-" if is_piped else as_argument(self.list_name)
+        words = ["budlarem", "run", listed, "--out", as_argument(folder)]
         for limits in self.passes:
             words += ["--pass", words_of(limits)]
-        if self.keep.only_left:
+        verdicts = "a verdict for each line of the list, in its order"
+        if self.keep.only_holdouts:
             words += ["--keep", str(self.keep)]
-        fields = {
-            "list": escape_controls(self.list_name),
-            "same": ", with the same list on standard input" if is_piped else "",
-            "verdicts": "a verdict for each line of the list, in its order",
-            "go_on": shlex.join(words),
-            "again": self._again(as_word(folder), [] if is_piped else ["--list", listed]),
-            "version": self.identity.version,
-            "commit": self.identity.commit,
-        }
-        if self.keep.only_left:
-            fields["verdicts"] = "the verdicts that are kept (%s), in order" % self.keep
-        return _PAGE.substitute(fields)
+            verdicts = "the verdicts that are kept (%s), in order" % self.keep
+        return _PAGE.substitute(
+            list=escape_controls(self.list_name),
+            same=",\nwith the same list on standard input" if is_piped else "",
+            verdicts=verdicts,
+            resume=shlex.join(words),
+            check=self._check_commands(as_argument(folder), [] if is_piped else ["--list", listed]),
+            version=self.identity.version,
+            commit=self.identity.commit,
+        )
 
-    def _again(self, folder: str, listed: Sequence[str]) -> str:
-        """With which commands the verdicts are checked again, and published where all are kept."""
+    def _check_commands(self, folder: str, listed: Sequence[str]) -> str:
+        """The commands that check the verdicts again, and publish them if all are kept."""
         check = "    " + shlex.join(["budlarem", "check", os.path.join(folder, VERDICTS)])
-        if self.keep.only_left:
-            return "The verdicts that are kept are checked again by\n\n%s" % check
-        archive = as_word(os.path.basename(os.path.abspath(folder)) + ".tar")
+        if self.keep.only_holdouts:
+            return "To check the verdicts that are kept again:\n\n%s" % check
+        archive = as_argument(os.path.basename(os.path.abspath(folder)) + ".tar")
         publish = shlex.join(["budlarem", "publish", archive, "--verdicts", folder, *listed])
-        return "The verdicts are checked again, and published, by\n\n%s\n    %s" % (check, publish)
+        return "To check the verdicts again, and to publish them:\n\n%s\n    %s" % (check, publish)
 
     @classmethod
-    def read(cls, text: str) -> Optional[Begun]:
-        """What a text says; None where it is the begin of one that was cut. Raises FolderError where it is
-        anything else than what `text` gives."""
-        if _is_cut(text):
+    def read(cls, text: str) -> Optional[RunConfig]:
+        """The configuration of a text; None if it is truncated. Raises FolderError unless `text` could have
+        returned it."""
+        if _is_truncated(text):
             return None
         fields: Any = None
         try:
             fields = json.loads(text)
-            begun = cls._of(fields)
-            if begun.text() == text:
-                return begun
+            listed = fields["list"]
+            config = cls(
+                [limits_of(words) for words in fields["passes"]],
+                parse_retention([fields["keep"]]),
+                Identity.of_fields(fields),
+                str(listed["name"]),
+                listed["bytes"],
+                listed["lines"],
+            )
+            if config.text() == text:
+                return config
         except (ValueError, TypeError, KeyError, AttributeError, RecursionError):
             pass
         other = fields.get("format", FORMAT) if isinstance(fields, dict) else FORMAT
         if other != FORMAT:
             raise FolderError("it has format %.20s, which another version of this package writes" % other)
-        raise FolderError("it was changed: its seal doesn't fit; put it back as it was, or remove it")
-
-    @classmethod
-    def _of(cls, fields: Dict[str, Any]) -> Begun:
-        passes = [limits_of(words) for words in fields["passes"]]
-        identity = Identity(*(str(fields[name]) for name in ("version", "commit", "library")))
-        listed = fields["list"]
-        keep = keep_of([fields["keep"]])
-        return cls(passes, keep, identity, str(listed["name"]), listed["bytes"], listed["lines"])
+        raise FolderError("it was changed: its seal doesn't fit; restore or remove it")
 
 
-def _is_cut(text: str) -> bool:
-    """Whether a text is the begin of what a folder was begun with, and no more."""
-    if len(text) < len(_HEAD) + _SIZE:
-        begin, digits = text[: len(_HEAD)], text[len(_HEAD) :]
-        return begin == _HEAD[: len(begin)] and (not digits or digits.isdecimal())
+def _is_truncated(text: str) -> bool:
+    """Whether a text is the start of a configuration, and no more."""
     size = text[len(_HEAD) : len(_HEAD) + _SIZE]
+    if len(text) < len(_HEAD) + _SIZE:
+        return _HEAD.startswith(text[: len(_HEAD)]) and (not size or size.isdecimal())
     is_short = text.startswith(_HEAD) and size.isdecimal() and len(text) < int(size)
     return is_short and not text.endswith('"\n}\n')
 
 
-def key_of(passes: Sequence[Limits], keep: Keep, library: str) -> str:
-    """What the journal of the last of these passes is sealed with."""
-    key = "%d %s %s %s" % (FORMAT, " ".join(map(words_of, passes)), keep, library)
-    return hash_of(key.encode())
-
-
-def hold_apart(path: str, list_place: Optional[FileId]) -> None:
-    """Raises FolderError where a file that a run in this folder writes is the list itself, where that is a
-    file."""
-    if os.path.isdir(path):
-        with contextlib.closing(Directory.open(path)) as top:
-            require_other_list(top, list_place)
+def key_of(passes: Sequence[Limits], keep: Retention, library: str) -> str:
+    """The key that seals the journal of the last of these passes."""
+    return hash_of(("%d %s %s %s" % (FORMAT, " ".join(map(words_of, passes)), keep, library)).encode())
 
 
 class Folder:
-    """A folder that this process alone works in, by the handle of the directory that was opened. `list_place`
-    is the device and the inode of the list, where that is a file. Raises FolderError where another process
-    works in it, where it holds something else, or where the list is one of the files that are written;
-    OSError."""
+    """The folder of a run, locked for this process, by the handle of the opened directory. `list_id` is the
+    list's file, if it is one. Raises FolderError if another process has the lock, the folder has foreign
+    files, or the run would write the list; OSError."""
 
-    def __init__(self, path: str, list_place: Optional[FileId] = None) -> None:
+    def __init__(self, path: str, list_id: Optional[FileId] = None) -> None:
         self.path = path
         if os.path.exists(path) and not os.path.isdir(path):
-            raise FolderError("%s is a file; give a folder, which may be one that isn't there yet" % path)
+            raise FolderError("%s is a file; give a folder, which need not exist yet" % path)
         os.makedirs(path, exist_ok=True)
         self._top = Directory.open(path)
         self._locked: List[int] = []
-        # Files that give way to what is written.
-        self._own: Dict[str, Pin] = {}
+        # The files that may be replaced.
+        self._pins: Dict[str, Pin] = {}
         try:
             self._lock()
-            require_other_list(self._top, list_place)
-            begun = self.begun()
-            require_own(self._top, None if begun is None else len(begun.passes))
+            require_other_list(self._top, list_id)
+            config = self.read_config()
+            require_own(self._top, None if config is None else len(config.passes))
             found = {name: self._top.pin(name) for name in FILES}
-            self._own = {name: pin for name, pin in found.items() if pin is not None}
+            self._pins = {name: pin for name, pin in found.items() if pin is not None}
         except BaseException:
             self.close()
             raise
 
     def _lock(self) -> None:
-        """Locks the directory itself; on file systems that can't, a file in it. Raises FolderError where
-        another process has the lock, OSError."""
+        """Locks the directory, or a file in it where the file system locks none. Raises FolderError if another
+        process has the lock, OSError."""
         try:
-            fcntl.flock(self._top.handle, fcntl.LOCK_EX | fcntl.LOCK_NB)
-        except BlockingIOError:
-            raise self._is_locked() from None
-        except OSError as error:
-            if error.errno not in _NO_LOCKS:
-                raise
-            self._locked.append(self._top.open_or_create(LOCK))
             try:
+                fcntl.flock(self._top.handle, fcntl.LOCK_EX | fcntl.LOCK_NB)
+            except OSError as error:
+                if error.errno not in _NO_LOCKS:
+                    raise
+                self._locked.append(self._top.open_or_create(LOCK))
                 fcntl.flock(self._locked[0], fcntl.LOCK_EX | fcntl.LOCK_NB)
-            except BlockingIOError:
-                raise self._is_locked() from None
-
-    def _is_locked(self) -> FolderError:
-        return FolderError("another run works in %s; wait for its end, or end it" % self.path)
+        except BlockingIOError:
+            raise FolderError("another run works in %s; wait for its end, or end it" % self.path) from None
 
     def require_named(self) -> None:
-        """Raises MovedError where its path leads nowhere or elsewhere, or where its lock is lost."""
+        """Raises MovedError if its path leads elsewhere, RunError if its lock is lost."""
         self._top.require_named()
         if self._locked and self._top.id_at(LOCK) != id_of(os.fstat(self._locked[0])):
             raise RunError("%s was removed or replaced while the run worked" % self.at(LOCK))
 
     def at(self, name: str) -> str:
-        """The path of a file in it, for sentences."""
+        """The path of a file in it, for messages."""
         return self._top.at(name)
 
-    def begun(self) -> Optional[Begun]:
-        """What it was begun with; None where it is new, or what says so was cut. Raises FolderError where
-        that was changed, is no file, or another version of this package wrote it."""
+    def read_config(self) -> Optional[RunConfig]:
+        """Its configuration; None if missing or truncated. Raises FolderError if it was changed, is no file,
+        or another version of this package wrote it."""
         require_regular(self._top, (RUN,))
         try:
             number = self._top.open_file(RUN, os.O_RDONLY)
@@ -406,68 +377,68 @@ class Folder:
             return None
         with open(number, encoding="latin-1", newline="") as file:
             try:
-                return Begun.read(file.read())
+                return RunConfig.read(file.read())
             except FolderError as error:
                 raise FolderError("%s: %s" % (self.at(RUN), error)) from None
 
     def require_free(self, numbers: Iterable[int]) -> None:
-        """Raises FolderError where the folder of one of these passes, which are new, is somebody else's."""
+        """Raises FolderError if the folder of a new pass has foreign files."""
         for name in map(pass_name, numbers):
             if self._top.status(name) is not None:
                 require_own_pass(self._top, name)
 
-    def begin(self, begun: Begun) -> None:
-        """Writes down what it is begun with."""
-        self.write(RUN, begun.text())
+    def write_config(self, config: RunConfig) -> None:
+        self.write(RUN, config.text())
 
     def write(self, name: str, text: str) -> None:
-        """Writes one of its files whole."""
+        """Writes one of its files atomically."""
         remove_leftovers(self._top)
-        self._put(name, lambda number: write_blocks(number, [text.encode("utf-8", "surrogateescape")]))
+        data = text.encode("utf-8", "surrogateescape")
+        self._write_file(name, lambda number: write_blocks(number, [data]))
 
-    def _put(self, name: str, fill: Callable[[int], None]) -> None:
-        """Writes a file whole or not at all. Raises RunError where another made one of that name meanwhile,
-        what `fill` does, OSError."""
+    def _write_file(self, name: str, fill: Callable[[int], None]) -> None:
+        """Writes a file atomically. Raises RunError if a foreign file has the name by now, what `fill` does,
+        OSError."""
         with self._error_for_others(name):
-            written = write_at(self._top, name, fill, self._own.get(name))
-        if name in self._own:
-            self._own[name].close()
-        self._own[name] = written
+            written = write_atomically(self._top, name, fill, self._pins.get(name))
+        if name in self._pins:
+            self._pins[name].close()
+        self._pins[name] = written
 
     @contextlib.contextmanager
     def _error_for_others(self, name: str) -> Iterator[None]:
-        """Raises RunError where a name was taken by another meanwhile."""
+        """Raises RunError in place of FileExistsError."""
         try:
             yield
         except FileExistsError:
             raise RunError(
-                "%s was made or replaced by another while the run worked, and stays as it is; take it away"
-                % self.at(name)
+                "%s was made or replaced by another process while the run worked, and stays as it is;"
+                " take it away" % self.at(name)
             ) from None
 
     def write_verdicts(self, only: PassFolder) -> None:
         """Writes the verdicts of a run of one pass. Raises RunError, OSError."""
         if only.is_in_order() and only.has_name():
             with self._error_for_others(VERDICTS):
-                only.rename_to_verdicts(self._own.get(VERDICTS))
+                only.rename_to_verdicts(self._pins.get(VERDICTS))
         else:
-            self._put(VERDICTS, only.copy_whole)
+            self._write_file(VERDICTS, only.copy_all)
 
-    def join_verdicts(self, passes: Sequence[PassFolder]) -> Checksum:
-        """Writes the verdicts of several passes, and gives their checksum. Raises RunError, OSError."""
+    def merge_verdicts(self, passes: Sequence[PassFolder]) -> Checksum:
+        """Writes the verdicts of several passes, and returns their checksum. Raises RunError, OSError."""
         total = Checksum()
 
         def fill(number: int) -> None:
             nonlocal total
-            for block in joined(passes):
+            for block in merge_passes(passes):
                 write_blocks(number, [block])
-                total = total.followed_by(block)
-            passes[0].take_back()
+                total = total.add_bytes(block)
+            passes[0].restore()
 
-        self._put(VERDICTS, fill)
+        self._write_file(VERDICTS, fill)
         return total
 
-    def open_pass(self, passes: Sequence[Limits], keep: Keep, identity: Identity) -> PassFolder:
+    def open_pass(self, passes: Sequence[Limits], keep: Retention, identity: Identity) -> PassFolder:
         """The folder of the last of these passes."""
         number, key = len(passes), key_of(passes, keep, identity.library)
         inside = self._top.subdirectory(pass_name(number))
@@ -476,8 +447,142 @@ class Folder:
         return PassFolder(self._top, inside, number, key)
 
     def close(self) -> None:
-        for pin in self._own.values():
+        for pin in self._pins.values():
             pin.close()
         for number in self._locked:
             os.close(number)
         self._top.close()
+
+
+def _counts_of(fields: Dict[str, Any]) -> Counts:
+    return {kind: int(fields["counts"][kind]) for kind in KINDS}
+
+
+def _checksum_of(fields: Dict[str, Any]) -> Optional[Checksum]:
+    """The checksum of verdicts in a summary; None in one of an earlier version of this package."""
+    return None if "verdicts" not in fields else Checksum.of_fields(fields["verdicts"])
+
+
+@dataclasses.dataclass(frozen=True)
+class PassSummary:
+    """A pass in a summary. `checksum` covers the output of its chunks."""
+
+    limits: Limits
+    lines: int
+    chunks: int
+    counts: Counts
+    checksum: Optional[Checksum]
+
+
+@dataclasses.dataclass(frozen=True)
+class RunSummary:
+    """The summary of a run. `checksum` covers the verdicts."""
+
+    passes: Tuple[PassSummary, ...]
+    identity: Identity
+    kept: str
+    lines: int
+    counts: Counts
+    checksum: Optional[Checksum]
+
+    @classmethod
+    def read(cls, text: str) -> RunSummary:
+        """The summary of a text. Raises ValueError, KeyError, TypeError."""
+        fields = json.loads(text)
+        passes = tuple(
+            PassSummary(
+                Limits(**one["limits"]),
+                int(one["lines"]),
+                int(one["pieces"]),
+                _counts_of(one),
+                _checksum_of(one),
+            )
+            for one in fields["passes"]
+        )
+        kept, lines = str(parse_retention([fields["kept"]])), int(fields["lines"])
+        return cls(passes, Identity.of_fields(fields), kept, lines, _counts_of(fields), _checksum_of(fields))
+
+
+class FinishedRun:
+    """The folder of a finished run, by the handle of the opened directory. Raises FolderError, OSError."""
+
+    def __init__(self, path: str) -> None:
+        self._top = Directory.open(path)
+        try:
+            self.verdicts = self._top.at(VERDICTS)
+            self.summary = self._read()
+        except BaseException:
+            self._top.close()
+            raise
+
+    def close(self) -> None:
+        self._top.close()
+
+    def _read(self) -> RunSummary:
+        path = self._top.path
+        if self._top.status(RUN) is None:
+            raise FolderError(
+                "%s is a folder, but not of `budlarem run`; give a file of verdict lines" % path
+            )
+        for name in (SUMMARY, VERDICTS):
+            if self._top.status(name) is None:
+                raise FolderError("%s has no %s: that run isn't finished; resume it" % (path, name))
+        try:
+            os.close(self._top.open_file(VERDICTS, os.O_RDONLY))
+            with open(self._top.open_file(SUMMARY, os.O_RDONLY), encoding="utf-8") as file:
+                return RunSummary.read(file.read())
+        except KindError as error:
+            raise FolderError(str(error)) from None
+        except (ValueError, KeyError, TypeError) as error:
+            raise FolderError(
+                "%s isn't as a run writes it: %s; run its command again" % (self._top.at(SUMMARY), error)
+            ) from None
+
+    def require_journals(self) -> None:
+        """Raises FolderError if the journal of a pass is there, and isn't of this run; OSError."""
+        for number, one in enumerate(self.summary.passes, 1):
+            name = pass_name(number)
+            if self._top.status(name) is None:
+                continue
+            limits = [before.limits for before in self.summary.passes[:number]]
+            key = key_of(limits, parse_retention([self.summary.kept]), self.summary.identity.library)
+            with contextlib.closing(self._top.subdirectory(name)) as inside:
+                if inside.status(JOURNAL) is not None:
+                    with contextlib.closing(Journal(inside, key, is_read_only=True)) as journal:
+                        self._require_records(number, one, journal)
+
+    def _require_records(self, number: int, one: PassSummary, journal: Journal) -> None:
+        """Raises FolderError unless the records of a pass add up to its summary."""
+        lines, checksum, counts, why = 0, Checksum(), dict.fromkeys(KINDS, 0), ""
+        for index in range(one.chunks):
+            record = journal.read(index)
+            if record is None or record.first != lines:
+                why = "chunk %d isn't of the run in the summary" % (index + 1)
+                break
+            lines += record.lines
+            checksum = checksum.add(Checksum(*record.kept))
+            for kind, count in record.counts_by_kind().items():
+                counts[kind] += count
+        if not why and (lines, counts) != (one.lines, one.counts):
+            why = "it has %d lines, and the summary has %d" % (lines, one.lines)
+        elif not why and one.checksum not in (None, checksum):
+            why = "its chunks aren't those of the summary"
+        if why:
+            raise self._mismatch(os.path.join(self._top.at(pass_name(number)), JOURNAL), SUMMARY, why)
+
+    def _mismatch(self, path: str, name: str, why: str) -> FolderError:
+        text = "%s doesn't match %s: %s; run that folder's command again, which writes both"
+        return FolderError(text % (path, name, why))
+
+    def require_verdicts(self, checksum: Checksum, counts: Dict[str, int]) -> None:
+        """Raises FolderError unless verdicts with this checksum and these counts are those of the summary."""
+        known = self.summary.counts
+        other = next((kind for kind in known if known[kind] != counts.get(kind, 0)), None)
+        why = ""
+        if other is not None:
+            why = "it counts %d %s, and there are %d" % (known[other], other, counts.get(other, 0))
+        elif self.summary.checksum not in (None, checksum):
+            why = "the bytes differ"
+        if why:
+            raise self._mismatch(self._top.at(SUMMARY), VERDICTS, why)
+        self._top.require_named()

@@ -1,77 +1,47 @@
-"""One pass: how its lines are cut, which pieces of it stand, and what all ways to decide them share.
-
-Each piece is looked at, kept, written behind the one before it, and put down as standing once it is on the
-disk.
-"""
+"""A run, its passes, and the parts that all backends share: cutting the list into chunks, storing their output
+and journal entries, and the summary."""
 
 from __future__ import annotations
 
 import collections
+import contextlib
 import dataclasses
+import datetime
+import json
 import threading
 import time
-from concurrent.futures import Future
 from typing import Any, Callable, Counter, Dict, Iterator, List, NamedTuple, Optional, Protocol, Sequence, Set
-from typing import Tuple, Union
+from typing import Tuple
 
 from .._files import Checksum
-from ..limits import Limits
-from .chunks import Counts, Identity, Keep, Numbers, Task, look_at_answers, look_at_verdicts
+from ..counts import KINDS, UNDECIDED
+from ..limits import Limits, words_of
+from .chunks import Counts, Identity, Retention, validate_answers, validate_verdicts
 from .errors import CheckError, FolderError, ReplyError
-from .input import Cuttable
-from .journal import PassFolder, Record, number_in_list
+from .folder import README, SUMMARY, Folder, RunConfig
+from .input import LineSource, ListFile, StreamLines
+from .journal import PassFolder, Record, holdouts_of, list_line_number
 from .progress import Progress
 
-
-@dataclasses.dataclass(frozen=True)
-class Threads:
-    """So many threads of this process."""
-
-    count: int
-
-    def width(self) -> int:
-        """How many pieces are under way at most."""
-        return 2 * self.count
-
-
-class Executing(Protocol):
-    """What the runner asks of others who decide pieces."""
-
-    def width(self) -> int:
-        """How many pieces are under way at most."""
-
-    def submit(self, task: Task, lines: bytes, limits: Numbers) -> Future[Any]:
-        """Hands over a piece."""
-
-    def tend(self) -> None:
-        """Is called now and then, for what has to be done beside handing over. Raises RunError."""
-
-    def status(self) -> str:
-        """What a person may want to know of it besides; empty where that is nothing."""
-
-
-Workplace = Union[Threads, Executing]
-
-
-# A piece that was cut before is cut so again, whatever it has.
+# A chunk that was cut before is cut so again, whatever its size.
 _ANY_SIZE = 1 << 62
 
 
-class PieceSize(NamedTuple):
-    """How many lines and bytes a piece has at most."""
+class ChunkSize(NamedTuple):
+    """The most lines and bytes of a chunk."""
 
     lines: int
     bytes: int
 
 
-# Larger pieces gain nothing here; those that are sent elsewhere cost something each.
-HERE, SENT = PieceSize(20_000, 560_000), PieceSize(80_000, 2_000_000)
+# Larger chunks gain nothing in this process; elsewhere each costs a round trip.
+HERE, SENT = ChunkSize(20_000, 560_000), ChunkSize(80_000, 2_000_000)
 
 
-class PiecePace:
-    """How many lines a piece gets, such that it lasts about so many seconds: one at first, and not many more
-    than a piece that was decided had. It lasts longer where so many are under way, half of which wait, that
-    more than RATE would come back in a second."""
+class ChunkPace:
+    """The lines of the next chunk, so that it takes about SECONDS: one at first, and at most GROWTH times
+    those of any earlier chunk. It takes longer if with `width` chunks in flight, half of which wait, more than
+    RATE would be done in a second."""
 
     SECONDS, GROWTH, MEMORY, RATE = 2.0, 8, 0.7, 50
 
@@ -79,22 +49,21 @@ class PiecePace:
         self.now, self._most, self._largest = 1, most, 0
         self._lines, self._seconds = 0.0, 0.0
 
-    def took(self, lines: int, seconds: float, width: int) -> None:
-        """Takes in how long a piece took, where so many are under way."""
+    def update(self, lines: int, seconds: float, width: int) -> None:
+        """Records the time of a chunk."""
         self._lines = self.MEMORY * self._lines + lines
         self._seconds = self.MEMORY * self._seconds + seconds
         self._largest = max(self._largest, lines)
-        lasting = max(self.SECONDS, width / 2 / self.RATE)
-        fitting = self._lines * lasting / max(self._seconds, 1e-9)
+        target = max(self.SECONDS, width / 2 / self.RATE)
+        fitting = self._lines * target / max(self._seconds, 1e-9)
         self.now = max(int(min(fitting, self._most, self.GROWTH * self._largest)), 1)
 
 
 @dataclasses.dataclass
-class Piece:
-    """Lines of a pass: the piece's number and how many lines come before it, both from 0 on; `record` is the
-    journal's, `written` what was decided, and `kept` what of it is still to be written, each once there is
-    one; `stood` says that it was decided before this run; `handed_over` is when it was, by the clock that
-    never goes back, and `is_timed` says that the pace knows of it."""
+class Chunk:
+    """Lines of a pass: its number and the lines before it, both from 0 on; then the journal's `record`, the
+    output `written`, and the part of it, `kept`, that is still to be stored. `is_resumed` marks a chunk of an
+    earlier run, `is_timed` one that the pace knows; `submitted` is a time of the monotonic clock."""
 
     index: int
     first: int
@@ -103,130 +72,120 @@ class Piece:
     record: Optional[Record] = None
     written: Optional[bytes] = None
     kept: Optional[bytes] = None
-    stood: bool = False
+    is_resumed: bool = False
     seconds: float = 0.0
-    handed_over: float = 0.0
+    submitted: float = 0.0
     is_timed: bool = False
     tries: int = 0
     is_confirmed: bool = False
     counts: Counts = dataclasses.field(default_factory=dict)
 
     def drop(self) -> None:
-        """Drops its bytes, once they are written."""
+        """Drops its bytes once they are stored."""
         self.given, self.written, self.kept = b"", None, None
 
 
-class Cutter:
-    """Cuts the lines of a pass: those pieces that the journal has as it has them, the others by the pace.
-    `list_name` is for sentences; `known` is how many lines there are, where that is known."""
+class Chunker:
+    """Cuts the lines of a pass: chunks of the journal as they are there, others by the pace. `known` is the
+    number of lines, if known."""
 
-    def __init__(self, folder: PassFolder, list_name: str, most: PieceSize, known: Optional[int]) -> None:
+    def __init__(self, folder: PassFolder, list_name: str, most: ChunkSize, known: Optional[int]) -> None:
         self._folder, self._list_name, self._known = folder, list_name, known
         self._most_bytes = most.bytes
-        self.pace = PiecePace(most.lines)
+        self.pace = ChunkPace(most.lines)
 
-    def pieces(self, lines: Cuttable) -> Iterator[Piece]:
-        """The pieces. Raises FolderError where they aren't those that the journal was written for, RunError,
-        OSError."""
+    def chunks(self, lines: LineSource) -> Iterator[Chunk]:
+        """The chunks. Raises FolderError if they aren't those of the journal, RunError, OSError."""
         index, first = 0, 0
         while True:
             record = self._folder.journal.read(index)
             if record is not None and record.first != first:
                 record = None
-            count, size, is_begun = self._room_of(record, index, first)
-            before = lines.taken_lines
+            count, size, is_fixed = self._room_of(record, index, first)
+            before = lines.lines_taken
             given = lines.take(count, size)
-            found = lines.taken_lines - before
-            if (record is not None and not record.fits(given)) or (is_begun and found != count):
-                raise self._differs(first, count, found)
-            self._hold_length(first, found)
+            found = lines.lines_taken - before
+            if (record is not None and not record.fits(given)) or (is_fixed and found != count):
+                raise self._mismatch(first, count, found)
+            known = self._known
+            if known is not None and (first + found > known or (not found and first < known)):
+                raise self._other_list("that one had %d lines" % known)
             if not given:
                 return
-            yield Piece(index, first, given, found, record)
+            yield Chunk(index, first, given, found, record)
             index, first = index + 1, first + found
 
-    def _hold_length(self, first: int, found: int) -> None:
-        """Raises FolderError where there are more lines than are known of, or fewer at their end."""
-        known = self._known
-        if known is not None and (first + found > known or (not found and first < known)):
-            raise FolderError(self._other_list() + "that one had %d lines" % known)
-
     def _room_of(self, record: Optional[Record], index: int, first: int) -> Tuple[int, int, bool]:
-        """How many lines and bytes a piece gets, and whether there must be so many lines."""
+        """The lines and bytes of the next chunk, and whether there must be so many lines."""
         if record is not None:
             return record.lines, _ANY_SIZE, True
-        gap = self._folder.journal.gap(index, first)
+        gap = self._folder.journal.find_gap(index, first)
         if gap is None:
             return self.pace.now, self._most_bytes, False
-        pieces, count = gap
-        return -(-count // pieces), _ANY_SIZE, True
+        chunks, count = gap
+        return -(-count // chunks), _ANY_SIZE, True
 
-    def _other_list(self) -> str:
-        return "%s isn't the list that this folder was begun with; give that list, or another folder: " % (
-            self._list_name
-        )
+    def _other_list(self, why: str) -> FolderError:
+        text = "%s isn't the list that this folder was started with; give that list, or another folder: %s"
+        return FolderError(text % (self._list_name, why))
 
-    def _differs(self, first: int, count: int, found: int) -> FolderError:
-        """The error that says which lines aren't those that were decided."""
+    def _mismatch(self, first: int, count: int, found: int) -> FolderError:
         if self._folder.number > 1:
-            return FolderError(
-                "%s was decided from other lines than the pass before leaves; remove it, and run again"
-                % self._folder.path
-            )
+            text = "%s was decided from other lines than the holdouts of the pass before; remove it and run again"
+            return FolderError(text % self._folder.path)
         if found < count:
-            return FolderError(self._other_list() + "it ends after line %d" % (first + found))
-        return FolderError(self._other_list() + "lines %d to %d differ" % (first + 1, first + count))
+            return self._other_list("it ends after line %d" % (first + found))
+        return self._other_list("lines %d to %d differ" % (first + 1, first + count))
 
 
-# Pieces wait for those before them for so many seconds at most, and so many bytes of them.
+# Chunks wait for earlier ones at most so many seconds, and so many bytes of them.
 _SOON, MOST_BYTES = 1.0, 1 << 24
 
 
 class Writer:
-    """Writes pieces one behind another in the list's order, as long as none comes much later than those
-    behind it: `most` bytes of these wait at most, and no longer than a second. Else they are written
-    ahead."""
+    """Writes chunks one behind another in the list's order, unless one comes much later than those behind it:
+    at most `most` bytes wait, and at most a second. Then they are written ahead of it."""
 
     def __init__(self, folder: PassFolder, most: int = MOST_BYTES) -> None:
         self._folder, self._most = folder, most
         self._changed = threading.Condition()
-        # Pieces that wait, and how many bytes of them are to be written.
-        self._waiting: Dict[int, Piece] = {}
+        # Chunks that wait, and the bytes of them to be written.
+        self._waiting: Dict[int, Chunk] = {}
         self._size = 0
-        # The piece that is waited for, since when, and those behind it that were written ahead.
+        # The next chunk in order, since when it is missing, and later ones that were written ahead.
         self._next, self._since = 0, time.monotonic()
         self._ahead: Set[int] = set()
-        # Pieces that are written, and not yet put down as standing; how many threads are writing.
-        self._written: List[Piece] = []
+        # Chunks written and not yet synced; the threads that are writing.
+        self._written: List[Chunk] = []
         self._writing, self._is_closed = 0, False
 
-    def add(self, piece: Piece) -> None:
-        """Takes a piece that is done, and writes what may be written by then."""
+    def add(self, chunk: Chunk) -> None:
+        """Takes a finished chunk, and writes all chunks that are due."""
         with self._changed:
             if self._is_closed:
                 return
-            self._waiting[piece.index] = piece
-            self._size += len(piece.kept or b"")
-            due = self._in_turn()
+            self._waiting[chunk.index] = chunk
+            self._size += len(chunk.kept or b"")
+            due = self._pop_ready()
             if self._size > self._most:
-                due += self._out_of_turn()
+                due += self._pop_all()
             self._writing += 1
         self._write(due)
 
-    def hurry(self) -> None:
-        """Writes what has waited for long."""
+    def flush_late(self) -> None:
+        """Writes chunks that have waited for long."""
         with self._changed:
             if self._is_closed or not self._waiting or time.monotonic() - self._since < _SOON:
                 return
-            due = self._out_of_turn()
+            due = self._pop_all()
             self._writing += 1
         self._write(due)
 
-    def end(self) -> None:
-        """Writes what waits, and takes no more. Returns when nobody is writing."""
+    def close(self) -> None:
+        """Writes all chunks, and returns once no thread is writing. Later chunks are ignored."""
         with self._changed:
             self._is_closed = True
-            due = self._out_of_turn()
+            due = self._pop_all()
             self._writing += 1
         try:
             self._write(due)
@@ -235,44 +194,43 @@ class Writer:
                 while self._writing:
                     self._changed.wait()
 
-    def written(self) -> List[Piece]:
-        """The pieces that were written since this was asked."""
+    def pop_written(self) -> List[Chunk]:
+        """The chunks written since the last call."""
         with self._changed:
-            pieces, self._written = self._written, []
-        return pieces
+            chunks, self._written = self._written, []
+        return chunks
 
-    def _in_turn(self) -> List[Piece]:
-        """What may be written in order, its places reserved."""
-        due: List[Piece] = []
+    def _pop_ready(self) -> List[Chunk]:
+        """The chunks whose turn it is, with places."""
+        due: List[Chunk] = []
         while self._next in self._waiting or self._next in self._ahead:
             self._ahead.discard(self._next)
             if self._next in self._waiting:
-                due.append(self._placed(self._waiting.pop(self._next)))
+                due.append(self._assign_place(self._waiting.pop(self._next)))
             self._next, self._since = self._next + 1, time.monotonic()
         return due
 
-    def _out_of_turn(self) -> List[Piece]:
-        """All that waits, its places reserved."""
-        due = [self._placed(self._waiting[index]) for index in sorted(self._waiting)]
+    def _pop_all(self) -> List[Chunk]:
+        """All waiting chunks, with places."""
+        due = [self._assign_place(self._waiting[index]) for index in sorted(self._waiting)]
         self._ahead.update(self._waiting)
         self._waiting = {}
         return due
 
-    def _placed(self, piece: Piece) -> Piece:
-        """A piece, with a place for what is kept of it where that isn't there yet."""
-        self._size -= len(piece.kept or b"")
-        if piece.kept is not None and piece.record is not None:
-            self._folder.journal.make_room(piece.index)
-            place = self._folder.reserve(len(piece.kept))
-            piece.record = dataclasses.replace(piece.record, place=place)
-        return piece
+    def _assign_place(self, chunk: Chunk) -> Chunk:
+        """Reserves the place of a chunk's output, if that isn't stored yet."""
+        self._size -= len(chunk.kept or b"")
+        if chunk.kept is not None and chunk.record is not None:
+            self._folder.journal.reserve_room(chunk.index)
+            chunk.record = dataclasses.replace(chunk.record, place=self._folder.reserve(len(chunk.kept)))
+        return chunk
 
-    def _write(self, due: List[Piece]) -> None:
+    def _write(self, due: List[Chunk]) -> None:
         try:
-            for piece in due:
-                if piece.kept is not None and piece.record is not None:
-                    self._folder.write(piece.record.place, piece.kept)
-                piece.drop()
+            for chunk in due:
+                if chunk.kept is not None and chunk.record is not None:
+                    self._folder.write(chunk.record.place, chunk.kept)
+                chunk.drop()
         finally:
             with self._changed:
                 self._writing -= 1
@@ -281,18 +239,14 @@ class Writer:
             self._written += due
 
 
-# Pieces are put down as standing within a second; sooner where that takes a tenth of the time or less.
-_SOONEST, _LATEST, _SHARE = 0.1, 1.0, 10.0
-
-
 @dataclasses.dataclass
 class PassResult:
-    """What a pass came to. `milliseconds` is what deciding its pieces took, one after another; `checksum` is
-    that of what is kept of all pieces, in the list's order."""
+    """The result of a pass. `milliseconds` sums the times of its chunks; `checksum` covers their output in the
+    list's order."""
 
     limits: Limits
     lines: int = 0
-    pieces: int = 0
+    chunks: int = 0
     milliseconds: int = 0
     is_checked: bool = True
     checksum: Checksum = Checksum()
@@ -300,176 +254,348 @@ class PassResult:
 
     def add(self, record: Record) -> None:
         self.lines += record.lines
-        self.pieces += 1
+        self.chunks += 1
         self.milliseconds += record.milliseconds
         self.is_checked = self.is_checked and record.is_checked
         self.counts.update(record.counts_by_kind())
 
+    def fields(self) -> Dict[str, Any]:
+        """The fields of a summary."""
+        return {
+            "limits": dict(zip(Limits.RANGES, self.limits.numbers())),
+            "lines": self.lines,
+            "counts": {kind: self.counts[kind] for kind in KINDS},
+            "pieces": self.chunks,
+            "verdicts": self.checksum.fields(),
+            "checked": self.is_checked,
+            "work_seconds": self.milliseconds / 1_000,
+        }
+
+
+class Backend(Protocol):
+    """Decides the chunks of a pass."""
+
+    def run_pass(self, task: Pass, lines: LineSource) -> PassResult:
+        """Raises FolderError if the lines aren't those of the journal, CheckError, RunError, OSError."""
+
 
 @dataclasses.dataclass(frozen=True)
-class Manner:
-    """How the pieces of each pass are decided. `list_name` is for sentences; `hold_list` raises where the
-    list isn't as it was, and is called before a piece is put down; `is_checked_here` has the checker of this
-    process confirm each verdict; `most_lines` says how many lines a piece has at most, where a person said
-    so; `keep` says which verdict lines are kept; `seen` is given the verdict lines
-    of each piece that is decided, before any of them is dropped, by whichever thread has them."""
+class RunOptions:
+    """How the passes of a run are decided. `list_name` is for messages; `require_list` raises if the list has
+    changed, and is called before chunks are recorded; `most_lines` bounds a chunk; `is_checked_here` has the
+    checker of this process confirm each verdict. `on_verdicts` is called with the verdict lines of each
+    decided chunk before any is dropped, from any thread."""
 
-    place: Workplace
+    backend: Backend
     identity: Identity
     progress: Progress
     list_name: str
     most_lines: Optional[int] = None
     is_checked: bool = False
     is_checked_here: bool = False
-    keep: Keep = Keep()
-    hold_list: Callable[[], None] = lambda: None
-    seen: Callable[[bytes], None] = lambda verdicts: None
+    keep: Retention = Retention()
+    require_list: Callable[[], None] = lambda: None
+    on_verdicts: Callable[[bytes], None] = lambda verdicts: None
 
 
 @dataclasses.dataclass(frozen=True)
 class Pass:
-    """A pass that is to be run: where, with which limits and how. `before` are the passes before it; `known`
-    is how many lines there are, where that is known."""
+    """A pass to be run, after the passes `before`. `known` is the number of its lines, if known."""
 
     folder: PassFolder
     limits: Limits
-    manner: Manner
+    options: RunOptions
     before: Sequence[PassFolder]
     known: Optional[int]
 
 
+# Bounds of the seconds between two syncs, and the least ratio to the time that one takes.
+_SOONEST, _LATEST, _SHARE = 0.1, 1.0, 10.0
+
+
 class PassRun:
-    """Decides a pass. A piece has at most `PIECE_SIZE`."""
+    """Runs a pass. A subclass decides its chunks."""
 
-    PIECE_SIZE: PieceSize = HERE
+    CHUNK_SIZE: ChunkSize = HERE
 
-    def __init__(self, asked: Pass) -> None:
-        self._folder, self._limits, self._manner = asked.folder, asked.limits, asked.manner
-        self._before = asked.before
-        most = self.PIECE_SIZE._replace(lines=asked.manner.most_lines or self.PIECE_SIZE.lines)
-        self._cutter = Cutter(asked.folder, asked.manner.list_name, most, asked.known)
-        self._writer = Writer(asked.folder)
-        self._result = PassResult(asked.limits)
-        self._next, self._took = 0.0, 0.0
+    def __init__(self, task: Pass) -> None:
+        self._folder, self._limits, self._options = task.folder, task.limits, task.options
+        self._before = task.before
+        most = self.CHUNK_SIZE._replace(lines=task.options.most_lines or self.CHUNK_SIZE.lines)
+        self._chunker = Chunker(task.folder, task.options.list_name, most, task.known)
+        self._writer = Writer(task.folder)
+        self._result = PassResult(task.limits)
+        self._next = 0.0
 
-    def run(self, lines: Cuttable) -> PassResult:
-        """Decides the lines, but for the pieces that stand. Raises FolderError where they aren't those that
-        the journal was written for, CheckError, RunError, OSError."""
+    def run(self, lines: LineSource) -> PassResult:
+        """Decides the lines of all chunks that aren't stored. Raises what `Backend.run_pass` does."""
         try:
             self._decide(lines)
         finally:
             try:
-                self._end()
-                self._writer.end()
+                self._stop()
+                self._writer.close()
             finally:
-                self._put_down()
-        self._folder.pieces = self._result.pieces
+                self._sync()
+        self._folder.chunks = self._result.chunks
         self._result.checksum = self._folder.checksum()
         return self._result
 
-    def _decide(self, lines: Cuttable) -> None:
-        """Has each piece taken on and kept."""
+    def _decide(self, lines: LineSource) -> None:
+        """Decides and stores each chunk."""
         raise NotImplementedError
 
-    def _end(self) -> None:
-        """Has nothing more begun."""
+    def _stop(self) -> None:
+        """Starts no more work."""
 
-    def _stands(self, piece: Piece) -> bool:
-        """Whether what is kept of a piece is there, as the journal says and as it must look. It is read then
-        where it is still to be checked. Raises FolderError where it can't be checked any more."""
-        record = piece.record
+    def _is_stored(self, chunk: Chunk) -> bool:
+        """Whether the output of a chunk is stored and valid; reads it if it has to be checked. Raises
+        FolderError if it can't be checked any more."""
+        record = chunk.record
         if record is None:
             return False
         kept = self._folder.read(record)
         try:
             if kept is None:
                 raise ReplyError("it was cut or changed")
-            if not self._manner.keep.only_left:
-                look_at_verdicts(piece.given, kept)
+            if not self._options.keep.only_holdouts:
+                validate_verdicts(chunk.given, kept)
         except ReplyError as error:
-            where = "piece %d of pass %d" % (piece.index + 1, self._folder.number)
-            self._manner.progress.print_line("%s is decided again: %s" % (where, error))
-            piece.record = None
+            where = "chunk %d of pass %d" % (chunk.index + 1, self._folder.number)
+            self._options.progress.print_line("%s is decided again: %s" % (where, error))
+            chunk.record = None
             return False
-        piece.counts = record.counts_by_kind()
-        piece.is_confirmed, piece.stood, piece.is_timed = record.is_checked, True, True
-        piece.seconds = record.milliseconds / 1_000
-        if self._is_to_be_checked(piece):
-            if self._manner.keep.only_left:
+        chunk.counts = record.counts_by_kind()
+        chunk.is_confirmed, chunk.is_resumed, chunk.is_timed = record.is_checked, True, True
+        chunk.seconds = record.milliseconds / 1_000
+        if self._needs_check(chunk):
+            if self._options.keep.only_holdouts:
                 raise FolderError(
-                    "%s: verdicts were dropped before they were checked; go on without --check, or check from"
-                    " the begin, in another folder" % self._folder.path
+                    "%s: verdicts were dropped before they were checked; resume without --check, or start"
+                    " again with it in another folder" % self._folder.path
                 )
-            piece.written = kept
+            chunk.written = kept
         return True
 
-    def _is_to_be_checked(self, piece: Piece) -> bool:
-        return self._manner.is_checked and not piece.is_confirmed
+    def _needs_check(self, chunk: Chunk) -> bool:
+        return self._options.is_checked and not chunk.is_confirmed
 
-    def _keep(self, piece: Piece) -> None:
-        """Keeps what a piece came to, or that it is confirmed now."""
-        if piece.record is None and piece.written is not None:
-            self._manner.seen(piece.written)
-            piece.kept = self._manner.keep.kept_of(piece.written)
-            piece.record = Record.of(
-                piece.first, piece.lines, piece.given, piece.kept, piece.seconds, piece.counts
+    def _store(self, chunk: Chunk) -> None:
+        """Stores the output of a chunk, or that it is confirmed now."""
+        if chunk.record is None and chunk.written is not None:
+            self._options.on_verdicts(chunk.written)
+            chunk.kept = self._options.keep.select(chunk.written)
+            chunk.record = Record.of(
+                chunk.first, chunk.lines, chunk.given, chunk.kept, chunk.seconds, chunk.counts
             )
-        if piece.record is not None:
-            piece.record = dataclasses.replace(piece.record, is_checked=piece.is_confirmed)
-        self._writer.add(piece)
+        if chunk.record is not None:
+            chunk.record = dataclasses.replace(chunk.record, is_checked=chunk.is_confirmed)
+        self._writer.add(chunk)
 
-    def _look_at_check(self, piece: Piece, verdicts: bytes, answers: bytes) -> None:
-        """Looks at the answers to a piece's verdicts. Raises ReplyError, CheckError."""
+    def _validate_check(self, chunk: Chunk, verdicts: bytes, answers: bytes) -> None:
+        """Validates the answers to a chunk's verdicts. Raises ReplyError, CheckError."""
         try:
-            look_at_answers(verdicts, answers)
+            validate_answers(verdicts, answers)
         except ReplyError as error:
             if error.line is None:
                 raise
             line = verdicts.split(b"\n")[error.line].decode()
-            place = piece.first + error.line
-            raise CheckError("%s: the checker answers %s: %s" % (self._where(place), error, line)) from None
-        piece.is_confirmed = True
+            where = self._describe_lines(chunk.first + error.line)
+            raise CheckError("%s: the checker answers %s: %s" % (where, error, line)) from None
+        chunk.is_confirmed = True
 
-    def _where(self, first: int, last: Optional[int] = None) -> str:
-        """Which lines of the list these lines of the pass are, both ends included, in words."""
-        ends, behind = [first, first if last is None else last], ""
-        if self._before and self._manner.keep.only_left:
-            ends, behind = [end + 1 for end in ends], " of those that pass %d left" % len(self._before)
+    def _describe_lines(self, first: int, last: Optional[int] = None) -> str:
+        """The numbers in the list of some lines of the pass, in words; both ends are included."""
+        ends, suffix = [first, first if last is None else last], ""
+        if self._before and self._options.keep.only_holdouts:
+            ends, suffix = [end + 1 for end in ends], " of the holdouts of pass %d" % len(self._before)
         else:
-            ends = [number_in_list(self._before, end) for end in ends]
-        where = "line %d" % ends[0] if ends[0] == ends[1] else "lines %d to %d" % (ends[0], ends[1])
-        return where + behind
+            ends = [list_line_number(self._before, end) for end in ends]
+        return ("line %d" % ends[0] if ends[0] == ends[1] else "lines %d to %d" % (ends[0], ends[1])) + suffix
 
-    def _put_down_if_due(self) -> None:
-        """Puts down what is written, where it is time for it."""
-        self._writer.hurry()
+    def _sync_if_due(self) -> None:
+        self._writer.flush_late()
         now = time.monotonic()
         if now >= self._next:
-            self._put_down()
+            self._sync()
             took = time.monotonic() - now
             self._next = now + min(max(_SOONEST, _SHARE * took), _LATEST)
 
-    def _put_down(self) -> None:
-        """Puts what is written onto the disk, and then that it stands. Raises RunError where the list
-        changed: what was read of another one doesn't stand."""
-        pieces = self._writer.written()
-        changed = [piece for piece in pieces if not piece.stood or self._is_newly_checked(piece)]
+    def _sync(self) -> None:
+        """Syncs the written chunks, and then their journal entries. Raises RunError if the list has changed:
+        its chunks aren't recorded then."""
+        chunks = self._writer.pop_written()
+        changed = [chunk for chunk in chunks if not chunk.is_resumed or self._is_newly_checked(chunk)]
         if changed:
-            self._manner.hold_list()
-            self._folder.settle()
-        for piece in changed:
-            if piece.record is not None:
-                self._folder.journal.put(piece.index, piece.record)
-        if changed:
-            self._folder.journal.settle()
+            self._options.require_list()
+            self._folder.sync()
+            for chunk in changed:
+                if chunk.record is not None:
+                    self._folder.journal.write(chunk.index, chunk.record)
+            self._folder.journal.sync()
             self._folder.require_named()
-        for piece in pieces:
-            if piece.record is not None:
-                self._result.add(piece.record)
-            tell = self._manner.progress.stood if piece.stood else self._manner.progress.decided
-            tell(piece.lines)
+        progress = self._options.progress
+        for chunk in chunks:
+            if chunk.record is not None:
+                self._result.add(chunk.record)
+            (progress.add_resumed if chunk.is_resumed else progress.add_decided)(chunk.lines)
 
-    def _is_newly_checked(self, piece: Piece) -> bool:
-        """Whether the journal doesn't say yet that a piece is confirmed."""
-        record = self._folder.journal.read(piece.index)
-        return piece.is_confirmed and (record is None or not record.is_checked)
+    def _is_newly_checked(self, chunk: Chunk) -> bool:
+        record = self._folder.journal.read(chunk.index)
+        return chunk.is_confirmed and (record is None or not record.is_checked)
+
+
+@dataclasses.dataclass(frozen=True)
+class Outcome:
+    """The lines of a list, and the count of each kind."""
+
+    lines: int
+    counts: Counter[str]
+
+    @classmethod
+    def of(cls, results: Sequence[PassResult]) -> Outcome:
+        """The outcome of all passes."""
+        counts: Counter[str] = collections.Counter()
+        for result in results:
+            for kind in UNDECIDED:
+                counts[kind] = 0
+            counts.update(result.counts)
+        return cls(results[0].lines, counts)
+
+    def __str__(self) -> str:
+        undecided, refused = sum(self.counts[kind] for kind in UNDECIDED), self.counts["refused"]
+        return "{:,} lines: {:,} decided, {:,} undecided, {:,} refused".format(
+            self.lines, self.lines - undecided - refused, undecided, refused
+        )
+
+
+def run(folder: Folder, source: ListFile, passes: Sequence[Limits], options: RunOptions) -> Outcome:
+    """Decides a list, and writes verdicts and summary into a folder. Raises FolderError, CheckError, RunError,
+    OSError, and MovedError if the folder was moved before a pass or at the end."""
+    try:
+        return _run_passes(folder, source, passes, options)
+    except OSError:
+        # Nothing can be made in a folder that was removed.
+        folder.require_named()
+        raise
+
+
+def _run_passes(folder: Folder, source: ListFile, passes: Sequence[Limits], options: RunOptions) -> Outcome:
+    started = time.time(), time.monotonic()
+    config = start_or_resume(folder, source, passes, options)
+    folder.write(README, config.readme(folder.path))
+    results: List[PassResult] = []
+    folders: List[PassFolder] = []
+    with contextlib.ExitStack() as stack:
+        for number, limits in enumerate(passes, 1):
+            folder.require_named()
+            found = folder.open_pass(passes[:number], options.keep, options.identity)
+            stack.callback(found.close)
+            lines: LineSource = StreamLines(holdouts_of(folders[-1])) if results else source.lines()
+            known = sum(results[-1].counts[kind] for kind in UNDECIDED) if results else config.list_lines
+            options.progress.start(number, len(passes), _total_estimator(source, lines, known))
+            task = Pass(found, limits, options, tuple(folders), known)
+            results.append(options.backend.run_pass(task, lines))
+            folders.append(found)
+            if config.list_lines is None:
+                config.list_lines = results[0].lines
+                folder.write_config(config)
+        folder.require_named()
+        checksum = results[0].checksum
+        if len(folders) == 1:
+            folder.write_verdicts(folders[0])
+        else:
+            checksum = folder.merge_verdicts(folders)
+    outcome = Outcome.of(results)
+    fields = summary_of(source.name, results, outcome, options, started, checksum)
+    folder.write(SUMMARY, json.dumps(fields, indent=2) + "\n")
+    folder.require_named()
+    options.progress.clear()
+    return outcome
+
+
+def _total_estimator(
+    source: ListFile, lines: LineSource, known: Optional[int]
+) -> Callable[[int], Optional[float]]:
+    """A function that estimates the total number of lines from those done."""
+
+    def total(done: int) -> Optional[float]:
+        if known is not None:
+            return known
+        fraction = source.fraction(lines.bytes_taken)
+        return lines.lines_taken / fraction if fraction else None
+
+    return total
+
+
+def start_or_resume(
+    folder: Folder, source: ListFile, passes: Sequence[Limits], options: RunOptions
+) -> RunConfig:
+    """The configuration of a folder, written or extended by new passes. Raises FolderError if the folder was
+    started with another one."""
+    size = None if source.is_compressed else source.size
+    config = folder.read_config()
+    if config is None:
+        config = RunConfig(list(passes), options.keep, options.identity, source.name, size)
+        folder.write_config(config)
+        return config
+    _require_same(folder, config, passes, options)
+    if size is not None and config.list_bytes is not None and size != config.list_bytes:
+        raise FolderError(
+            "%s isn't the list that %s was started with; give that list, or another folder:"
+            " it has %d bytes, and that one had %d" % (source.name, folder.path, size, config.list_bytes)
+        )
+    folder.require_free(range(len(config.passes) + 1, len(passes) + 1))
+    if list(passes) != config.passes:
+        config.passes = list(passes)
+        folder.write_config(config)
+    return config
+
+
+def _require_same(folder: Folder, config: RunConfig, passes: Sequence[Limits], options: RunOptions) -> None:
+    """Raises FolderError if the folder was started with another library, other passes or another --keep."""
+
+    def text_of(passes: Sequence[Limits]) -> str:
+        return " ".join("--pass " + words_of(limits) for limits in passes)
+
+    sentence = ""
+    if config.identity.library != options.identity.library:
+        sentence = "another library: %s; here is %s; install that one, or give another folder"
+        sentence %= (config.identity, options.identity)
+    elif list(passes[: len(config.passes)]) != config.passes:
+        sentence = (
+            "other passes: %s; here are %s; give the same ones, and more behind them, or another folder"
+        )
+        sentence %= (text_of(config.passes), text_of(passes))
+    elif config.keep != options.keep:
+        sentence = "--keep %s; here is --keep %s; give the same, or another folder"
+        sentence %= (config.keep, options.keep)
+    if sentence:
+        raise FolderError("%s was started with %s" % (folder.path, sentence))
+
+
+def summary_of(
+    list_name: str,
+    results: Sequence[PassResult],
+    outcome: Outcome,
+    options: RunOptions,
+    started: Tuple[float, float],
+    checksum: Checksum,
+) -> Dict[str, Any]:
+    """The fields of the summary. `started` is a time of the wall clock and of the monotonic clock, by which the
+    seconds are counted; `checksum` covers the verdicts."""
+    seconds = time.monotonic() - started[1]
+    utc = datetime.timezone.utc
+    times = [datetime.datetime.fromtimestamp(started[0] + after, utc) for after in (0, seconds)]
+    return {
+        "list": list_name,
+        "lines": outcome.lines,
+        "counts": {kind: outcome.counts[kind] for kind in KINDS},
+        "kept": str(options.keep),
+        "verdicts": checksum.fields(),
+        "passes": [result.fields() for result in results],
+        "began": times[0].isoformat(timespec="seconds"),
+        "ended": times[1].isoformat(timespec="seconds"),
+        "seconds": round(seconds, 3),
+        **dataclasses.asdict(options.identity),
+    }

@@ -1,4 +1,4 @@
-"""What commands print while they are at work: a line on a terminal, or for a run one a minute elsewhere."""
+"""Progress on standard error: a line on a terminal, and one line a minute of a run elsewhere."""
 
 from __future__ import annotations
 
@@ -12,8 +12,8 @@ from .._text import escape_controls
 
 # Seconds between two lines, on a terminal and elsewhere.
 _OFTEN, _SELDOM = 0.5, 60.0
-# A pass of more seconds than this is announced, once so many pieces or seconds are there to reckon it from.
-_LONG, _PIECES, _ENOUGH = 3_600.0, 16, 5.0
+# A pass of more seconds than this is announced, once there are so many chunks or seconds to estimate from.
+_LONG, _CHUNKS, _ENOUGH = 3_600.0, 16, 5.0
 
 
 def duration(seconds: float) -> str:
@@ -26,15 +26,13 @@ def duration(seconds: float) -> str:
         return "%.0f s" % seconds
     if seconds < 7_200:
         return "%.0f min" % (seconds / 60)
-    if seconds < 48 * 3_600:
-        return "%.1f h" % (seconds / 3_600)
-    return "%.1f days" % (seconds / 86_400)
+    return "%.1f h" % (seconds / 3_600) if seconds < 48 * 3_600 else "%.1f days" % (seconds / 86_400)
 
 
-def count_of(number: float) -> str:
+def short_count(number: float) -> str:
     """A count in few characters.
 
-    >>> count_of(9_999), count_of(858_909), count_of(88_664_064)
+    >>> short_count(9_999), short_count(858_909), short_count(88_664_064)
     ('9999', '858k', '88M')
     """
     if number < 10_000:
@@ -43,7 +41,7 @@ def count_of(number: float) -> str:
 
 
 class Progress:
-    """Prints how a run goes, on standard error or another stream."""
+    """The progress of a run, on standard error or another stream."""
 
     def __init__(self, stream: Optional[TextIO] = None) -> None:
         self._stream = sys.stderr if stream is None else stream
@@ -52,59 +50,59 @@ class Progress:
         self._next = 0.0
         self._pass, self._passes = 0, 0
         self._total: Callable[[int], Optional[float]] = lambda lines: None
-        self._clear()
+        self._reset()
 
-    def _clear(self) -> None:
-        self._began = time.monotonic()
-        self._standing, self._decided, self._pieces = 0, 0, 0
+    def _reset(self) -> None:
+        self._started = time.monotonic()
+        self._resumed, self._decided, self._chunks = 0, 0, 0
         self._is_announced = False
 
-    def begin(self, number: int, passes: int, total: Callable[[int], Optional[float]]) -> None:
-        """Begins a pass. `total` gives of how many lines a number of lines is a part, where that is known."""
-        self._clear()
+    def start(self, number: int, passes: int, total: Callable[[int], Optional[float]]) -> None:
+        """Starts a pass. `total` estimates the total number of lines from those done, or returns None."""
+        self._reset()
         self._pass, self._passes, self._total = number, passes, total
-        self._next = self._began + (_OFTEN if self._is_terminal else _SELDOM)
+        self._next = self._started + (_OFTEN if self._is_terminal else _SELDOM)
 
-    def stood(self, lines: int) -> None:
-        """Counts a piece that stood."""
-        self._standing += lines
+    def add_resumed(self, lines: int) -> None:
+        """Counts a chunk of an earlier run."""
+        self._resumed += lines
         if not self._decided:
-            self._began = time.monotonic()
+            self._started = time.monotonic()
 
-    def decided(self, lines: int) -> None:
-        """Counts a piece that was decided, or checked."""
+    def add_decided(self, lines: int) -> None:
+        """Counts a chunk that was decided or checked."""
         self._decided += lines
-        self._pieces += 1
+        self._chunks += 1
 
-    def left(self) -> Optional[float]:
-        """How many seconds are left, at the pace so far; None where nothing says."""
-        done = self._standing + self._decided
+    def remaining_seconds(self) -> Optional[float]:
+        """The seconds to the end of the pass at the present pace; None if unknown."""
+        done = self._resumed + self._decided
         total = self._total(done)
         if total is None or not self._decided:
             return None
-        return max(total - done, 0) * (time.monotonic() - self._began) / self._decided
+        return max(total - done, 0) * (time.monotonic() - self._started) / self._decided
 
     def text(self) -> str:
         """The line."""
-        seconds = max(time.monotonic() - self._began, 1e-3)
-        done = self._standing + self._decided
-        parts = ["pass %d of %d" % (self._pass, self._passes), "%d pieces" % self._pieces]
-        total, left = self._total(done), self.left()
-        parts.append("%s lines" % count_of(done))
+        seconds = max(time.monotonic() - self._started, 1e-3)
+        done = self._resumed + self._decided
+        parts = ["pass %d of %d" % (self._pass, self._passes), "%d chunks" % self._chunks]
+        total, remaining = self._total(done), self.remaining_seconds()
+        parts.append("%s lines" % short_count(done))
         if total:
             parts.append("%d%%" % min(100 * done / total, 100))
-        parts.append("%s lines/s" % count_of(self._decided / seconds))
-        if left is not None:
-            parts.append("%s left" % duration(left))
+        parts.append("%s lines/s" % short_count(self._decided / seconds))
+        if remaining is not None:
+            parts.append("%s left" % duration(remaining))
         return ", ".join(parts)
 
     def tick(self, status: str = "") -> None:
-        """Shows the line where it is time for it, and prints once that a pass takes long."""
+        """Prints the line when due, and once that a pass takes long."""
         now = time.monotonic()
         if now < self._next:
             return
         self._next = now + (_OFTEN if self._is_terminal else _SELDOM)
-        self._tell_long(now)
+        self._announce_long(now)
         line = self.text() + (", " + status if status else "")
         if self._is_terminal:
             width = shutil.get_terminal_size().columns - 1
@@ -113,35 +111,30 @@ class Progress:
         else:
             self._write("budlarem: %s\n" % line)
 
-    def _tell_long(self, now: float) -> None:
-        left = self.left()
-        is_known_enough = self._pieces >= _PIECES or (self._pieces and now - self._began > _ENOUGH)
-        if left is None or left < _LONG or self._is_announced or not is_known_enough:
-            return
-        self._is_announced = True
-        self.print_line(
-            "pass %d takes about %s, by the pace of its first %s lines"
-            % (self._pass, duration(left), count_of(self._decided))
-        )
+    def _announce_long(self, now: float) -> None:
+        remaining = self.remaining_seconds()
+        is_known = self._chunks >= _CHUNKS or (self._chunks and now - self._started > _ENOUGH)
+        if remaining is not None and remaining >= _LONG and is_known and not self._is_announced:
+            self._is_announced = True
+            parts = (self._pass, duration(remaining), short_count(self._decided))
+            self.print_line("pass %d takes about %s, by the pace of its first %s lines" % parts)
 
     def print_line(self, text: str) -> None:
-        """Prints a sentence, on a line of its own, its control characters escaped."""
-        self._write(self.cleared() + "budlarem: %s\n" % escape_controls(text))
+        """Prints a message on a line of its own, its control characters escaped."""
+        self._write(self.erase_sequence() + "budlarem: %s\n" % escape_controls(text))
         self._is_open = False
 
-    def cleared(self) -> str:
-        """What takes the line off the terminal."""
-        if not self._is_open:
-            return ""
-        return "\r%s\r" % (" " * (shutil.get_terminal_size().columns - 1))
+    def erase_sequence(self) -> str:
+        """The characters that erase the line on the terminal."""
+        return "\r%s\r" % (" " * (shutil.get_terminal_size().columns - 1)) if self._is_open else ""
 
-    def end(self) -> None:
-        """Takes the line off the terminal."""
-        self._write(self.cleared())
+    def clear(self) -> None:
+        """Erases the line on the terminal."""
+        self._write(self.erase_sequence())
         self._is_open = False
 
     def _write(self, text: str) -> None:
-        """Writes, where there is still somebody who reads."""
+        """Writes text; after an error nothing more is written."""
         try:
             self._stream.write(text)
             self._stream.flush()
@@ -151,28 +144,25 @@ class Progress:
 
 
 class TerminalLine:
-    """A text on standard error, where that is a terminal: written over, so that one stands there at a time.
-    `is_beside` is for commands whose output may go to the same terminal as they write it: there is none then.
-    """
+    """A line of text on standard error that is written over, if that is a terminal. `is_beside`: the command
+    writes its output meanwhile, so nothing is shown if that goes to a terminal too."""
 
     def __init__(self, is_beside: bool = True) -> None:
         self._is_shown = sys.stderr.isatty() and not (is_beside and sys.stdout.isatty())
         self._width, self._next = 0, time.monotonic() + _OFTEN
 
-    def tell(self, text: Callable[[], str]) -> None:
-        """Shows a text, where the last one has stood for long enough. Less than 80 characters are shown of
-        it."""
-        if not self._is_shown or time.monotonic() < self._next:
-            return
-        self._show(text()[:79])
-        self._next = time.monotonic() + _OFTEN
+    def show(self, text: Callable[[], str]) -> None:
+        """Shows the first 79 characters of a text, if the last one was shown long enough ago."""
+        if self._is_shown and time.monotonic() >= self._next:
+            self._write(text()[:79])
+            self._next = time.monotonic() + _OFTEN
 
     def clear(self) -> None:
-        """Takes the text away."""
+        """Erases the text."""
         if self._width:
-            self._show("")
+            self._write("")
 
-    def _show(self, text: str) -> None:
+    def _write(self, text: str) -> None:
         sys.stderr.write("\r%s\r%s" % (text.ljust(self._width), text))
         sys.stderr.flush()
         self._width = len(text)

@@ -1,4 +1,4 @@
-"""A pass whose pieces an executor decides: they are handed over, and what comes back is looked at."""
+"""Decides a pass by an executor: submits chunks and validates the replies."""
 
 from __future__ import annotations
 
@@ -7,183 +7,189 @@ import time
 from concurrent.futures import CancelledError, Future, ThreadPoolExecutor
 from typing import Any, Dict, Iterator, List, Optional
 
-from .chunks import CHECK, DECIDE, check_piece, decide_piece, look_at_verdicts, opened, question, shown
-from .errors import DeadlyError, ReplyError, RunError, sentence_of
-from .input import Cuttable
-from .passes import SENT, Executing, Pass, PassRun, Piece
+from .chunks import CHECK, DECIDE, Numbers, Task, check_chunk, decide_chunk, describe_task, open_reply
+from .chunks import quote_line, validate_verdicts
+from .errors import FatalLineError, ReplyError, RunError, describe_error
+from .input import LineSource
+from .passes import SENT, Chunk, Pass, PassResult, PassRun
 
 TRIES = 3
-# How many threads look at what comes back and write it, and how many pieces are with them at most.
-_LOOKERS, _MOST_LOOKED_AT = 4, 8
+# The threads that validate and write replies, and the most chunks that they have.
+_VALIDATORS, _MOST_VALIDATING = 4, 8
 
 
-class HandingRun(PassRun):
-    """Decides a pass by an executor."""
+class ExecutorBackend:
+    """An executor, wrapped for the runner."""
 
-    PIECE_SIZE = SENT
+    def width(self) -> int:
+        """The most chunks in flight."""
+        raise NotImplementedError
 
-    def __init__(self, asked: Pass, place: Executing) -> None:
-        super().__init__(asked)
-        self._place = place
-        self._under_way: Dict[Future[Any], Piece] = {}
-        self._looked_at: Dict[Future[Any], Piece] = {}
-        self._back: queue.SimpleQueue[Future[Any]] = queue.SimpleQueue()
-        self._lookers = ThreadPoolExecutor(_LOOKERS, "budlarem look")
-        # The list may be slow: a thread of its own reads the next piece.
+    def submit(self, task: Task, lines: bytes, limits: Numbers) -> Future[Any]:
+        raise NotImplementedError
+
+    def maintain(self) -> None:
+        """Called now and then for other work of the executor. Raises RunError."""
+
+    def status(self) -> str:
+        """More text for the progress line; may be empty."""
+        return ""
+
+    def run_pass(self, task: Pass, lines: LineSource) -> PassResult:
+        return RemoteRun(task, self).run(lines)
+
+
+class RemoteRun(PassRun):
+    """A pass by an executor."""
+
+    CHUNK_SIZE = SENT
+
+    def __init__(self, task: Pass, backend: ExecutorBackend) -> None:
+        super().__init__(task)
+        self._backend = backend
+        self._pending: Dict[Future[Any], Chunk] = {}
+        self._validating: Dict[Future[Any], Chunk] = {}
+        self._done: queue.SimpleQueue[Future[Any]] = queue.SimpleQueue()
+        self._validators = ThreadPoolExecutor(_VALIDATORS, "budlarem validate")
+        # The list may be slow: a thread of its own reads the next chunk.
         self._reader = ThreadPoolExecutor(1, "budlarem read")
-        self._read: Optional[Future[Optional[Piece]]] = None
-        self._left_out: List[str] = []
+        self._read: Optional[Future[Optional[Chunk]]] = None
+        self._skipped: List[str] = []
 
-    def _decide(self, lines: Cuttable) -> None:
-        pieces = self._cutter.pieces(lines)
+    def _decide(self, lines: LineSource) -> None:
+        chunks = self._chunker.chunks(lines)
         is_ended = False
-        while self._under_way or self._looked_at or not is_ended:
+        while self._pending or self._validating or not is_ended:
             if self._read is None and not is_ended and self._has_room():
-                self._read = self._reader.submit(_next_of, pieces)
-                self._read.add_done_callback(self._back.put)
+                self._read = self._reader.submit(lambda: next(chunks, None))
+                self._read.add_done_callback(self._done.put)
             self._receive(0.1)
             if self._read is not None and self._read.done():
-                piece, self._read = self._read.result(), None
-                is_ended = piece is None
-                if piece is not None:
-                    self._take_on(piece)
-        if self._left_out:
-            raise RunError(
-                "all but %d pieces stand; %s" % (len(self._left_out), "; ".join(self._left_out[:3]))
-            )
+                chunk, self._read = self._read.result(), None
+                is_ended = chunk is None
+                if chunk is not None and self._is_stored(chunk) and not self._needs_check(chunk):
+                    self._store(chunk)
+                elif chunk is not None:
+                    self._submit(chunk)
+        if self._skipped:
+            reasons = "; ".join(self._skipped[:3])
+            raise RunError("all but %d chunks are stored; %s" % (len(self._skipped), reasons))
 
-    def _end(self) -> None:
-        self._lookers.shutdown()
+    def _stop(self) -> None:
+        self._validators.shutdown()
         self._reader.shutdown(wait=False)
 
     def _has_room(self) -> bool:
-        return len(self._under_way) < self._place.width() and len(self._looked_at) < _MOST_LOOKED_AT
+        return len(self._pending) < self._backend.width() and len(self._validating) < _MOST_VALIDATING
 
-    def _take_on(self, piece: Piece) -> None:
-        """Hands over a piece; one that stands is only looked at."""
-        if self._stands(piece) and not self._is_to_be_checked(piece):
-            self._keep(piece)
-        else:
-            self._start(piece)
-
-    def _start(self, piece: Piece) -> None:
-        """Hands a piece over, to be decided or to be checked."""
-        task, lines = (decide_piece, piece.given)
-        if piece.written is not None:
-            if self._manner.is_checked_here:
-                self._look_later(piece, None)
+    def _submit(self, chunk: Chunk) -> None:
+        """Submits a chunk to be decided or checked."""
+        task, lines = (decide_chunk, chunk.given)
+        if chunk.written is not None:
+            if self._options.is_checked_here:
+                self._validate_later(chunk, None)
                 return
-            task, lines = (check_piece, piece.written)
-        piece.handed_over = time.monotonic()
+            task, lines = (check_chunk, chunk.written)
+        chunk.submitted = time.monotonic()
         try:
-            future = self._place.submit(task, lines, self._limits.numbers())
+            future = self._backend.submit(task, lines, self._limits.numbers())
         except Exception as error:
-            raise RunError("no piece can be handed over: %s" % sentence_of(error)) from error
-        if future in self._under_way:
-            raise RunError("two pieces got one future: the executor mixes them up")
-        self._under_way[future] = piece
-        future.add_done_callback(self._back.put)
+            raise RunError("no chunk can be submitted: %s" % describe_error(error)) from error
+        if future in self._pending:
+            raise RunError("the executor returned one future for two chunks")
+        self._pending[future] = chunk
+        future.add_done_callback(self._done.put)
 
     def _receive(self, seconds: float) -> None:
-        """Takes what came back, of which there may be nothing within so many seconds, and puts down what is
-        written, where it is time for it."""
-        for future in self._returned(seconds):
-            piece = self._under_way.pop(future, None)
-            if piece is not None:
-                self._take_back(piece, future)
-                continue
-            piece = self._looked_at.pop(future, None)
-            if piece is not None:
-                self._take_looked_at(piece, future)
-        self._put_down_if_due()
-        self._place.tend()
-        self._manner.progress.tick(self._place.status())
+        """Handles what is done, waiting at most `seconds` for the first, and syncs when due."""
+        for future in self._drain(seconds):
+            if future in self._pending:
+                self._handle_result(self._pending.pop(future), future)
+            elif future in self._validating:
+                self._finish_validation(self._validating.pop(future), future)
+        self._sync_if_due()
+        self._backend.maintain()
+        self._options.progress.tick(self._backend.status())
 
-    def _returned(self, seconds: float) -> Iterator[Future[Any]]:
-        """What came back: at most as much as is under way."""
-        for _ in range(len(self._under_way) + len(self._looked_at) + 1):
+    def _drain(self, seconds: float) -> Iterator[Future[Any]]:
+        """The futures that are done; at most as many as are in flight."""
+        for _ in range(len(self._pending) + len(self._validating) + 1):
             try:
-                yield self._back.get(timeout=seconds) if seconds else self._back.get_nowait()
+                yield self._done.get(timeout=seconds) if seconds else self._done.get_nowait()
             except queue.Empty:
                 return
             seconds = 0.0
 
-    def _take_back(self, piece: Piece, future: Future[Any]) -> None:
-        """Takes what came back of a piece."""
+    def _handle_result(self, chunk: Chunk, future: Future[Any]) -> None:
         try:
-            failed = future.exception()
+            error = future.exception()
         except CancelledError:
-            failed = ReplyError("it was cancelled")
-        if isinstance(failed, DeadlyError):
-            self._leave_out(piece, failed)
-        elif failed is not None:
-            self._try_again(piece, failed)
+            error = ReplyError("it was cancelled")
+        if isinstance(error, FatalLineError):
+            self._skip(chunk, error)
+        elif error is not None:
+            self._retry(chunk, error)
         else:
-            self._look_later(piece, future.result())
+            self._validate_later(chunk, future.result())
 
-    def _look_later(self, piece: Piece, reply: object) -> None:
-        """Hands what came back of a piece to those who look at it; None where it is to be checked here."""
-        looked = self._lookers.submit(self._look, piece, reply)
-        self._looked_at[looked] = piece
-        looked.add_done_callback(self._back.put)
+    def _validate_later(self, chunk: Chunk, reply: object) -> None:
+        """Has a thread validate a reply; None for a chunk to be checked here."""
+        future = self._validators.submit(self._validate, chunk, reply)
+        self._validating[future] = chunk
+        future.add_done_callback(self._done.put)
 
-    def _look(self, piece: Piece, reply: object) -> None:
-        """Looks at a reply, takes what is in it, and keeps it once it needn't be checked. Raises ReplyError,
-        CheckError, OSError."""
-        limits, most = self._limits.numbers(), time.monotonic() - piece.handed_over
-        if piece.written is None:
-            asked = question(DECIDE, limits)
-            written, seconds = opened(reply, self._manner.identity, asked, piece.given)
-            piece.counts = look_at_verdicts(piece.given, written)
-            piece.written, piece.seconds = written, min(seconds, most)
-        elif not self._manner.is_checked_here:
-            self._look_at_reply(piece, piece.written, reply)
-        if self._manner.is_checked_here and not piece.is_confirmed:
-            self._look_at_reply(piece, piece.written, check_piece(piece.written, limits))
-        if not self._is_to_be_checked(piece):
-            self._keep(piece)
+    def _validate(self, chunk: Chunk, reply: object) -> None:
+        """Validates a reply, and stores the chunk once no check is needed. Raises ReplyError, CheckError,
+        OSError."""
+        limits, elapsed = self._limits.numbers(), time.monotonic() - chunk.submitted
+        if chunk.written is None:
+            task = describe_task(DECIDE, limits)
+            written, seconds = open_reply(reply, self._options.identity, task, chunk.given)
+            chunk.counts = validate_verdicts(chunk.given, written)
+            chunk.written, chunk.seconds = written, min(seconds, elapsed)
+        elif not self._options.is_checked_here:
+            self._validate_answers(chunk, chunk.written, reply)
+        if self._options.is_checked_here and not chunk.is_confirmed:
+            self._validate_answers(chunk, chunk.written, check_chunk(chunk.written, limits))
+        if not self._needs_check(chunk):
+            self._store(chunk)
 
-    def _look_at_reply(self, piece: Piece, verdicts: bytes, reply: object) -> None:
-        """Looks at the reply of who checked. Raises ReplyError, CheckError."""
-        asked = question(CHECK, self._limits.numbers())
-        answers, _ = opened(reply, self._manner.identity, asked, verdicts)
-        self._look_at_check(piece, verdicts, answers)
+    def _validate_answers(self, chunk: Chunk, verdicts: bytes, reply: object) -> None:
+        """Validates the reply of a check. Raises ReplyError, CheckError."""
+        task = describe_task(CHECK, self._limits.numbers())
+        answers, _ = open_reply(reply, self._options.identity, task, verdicts)
+        self._validate_check(chunk, verdicts, answers)
 
-    def _take_looked_at(self, piece: Piece, looked: Future[Any]) -> None:
-        """A piece that was looked at is kept, or handed over again. Raises what the look raised."""
-        error = looked.exception()
+    def _finish_validation(self, chunk: Chunk, future: Future[Any]) -> None:
+        """Submits a validated chunk again if it needs a check. Raises what the validation raised."""
+        error = future.exception()
         if isinstance(error, ReplyError):
-            self._try_again(piece, error)
+            self._retry(chunk, error)
             return
         if error is not None:
             raise error
-        if not piece.is_timed:
-            self._cutter.pace.took(piece.lines, piece.seconds, self._place.width())
-            piece.is_timed = True
-        if self._is_to_be_checked(piece):
-            self._start(piece)
+        if not chunk.is_timed:
+            self._chunker.pace.update(chunk.lines, chunk.seconds, self._backend.width())
+            chunk.is_timed = True
+        if self._needs_check(chunk):
+            self._submit(chunk)
 
-    def _try_again(self, piece: Piece, error: BaseException) -> None:
-        """Hands a piece over again; raises RunError where that was done often enough."""
-        piece.tries += 1
-        first, last = piece.first, piece.first + piece.lines - 1
+    def _retry(self, chunk: Chunk, error: BaseException) -> None:
+        """Submits a chunk again. Raises RunError after TRIES failures."""
+        chunk.tries += 1
+        first, last = chunk.first, chunk.first + chunk.lines - 1
         if isinstance(error, ReplyError) and error.line is not None:
-            first = last = piece.first + error.line
-        where = self._where(first, last)
-        text = "pass %d, %s: %s" % (self._folder.number, where, sentence_of(error))
-        if piece.tries >= TRIES:
-            raise RunError("%s; so it was %d times" % (text, TRIES)) from error
-        self._manner.progress.print_line("%s; it is tried again" % text)
-        self._start(piece)
+            first = last = chunk.first + error.line
+        where = self._describe_lines(first, last)
+        text = "pass %d, %s: %s" % (self._folder.number, where, describe_error(error))
+        if chunk.tries >= TRIES:
+            raise RunError("%s; tried %d times" % (text, TRIES)) from error
+        self._options.progress.print_line("%s; trying again" % text)
+        self._submit(chunk)
 
-    def _leave_out(self, piece: Piece, error: DeadlyError) -> None:
-        """Goes on without a piece that can't be decided; the run ends by it when all others are."""
-        where = self._where(piece.first + error.line)
-        line = piece.given.split(b"\n")[error.line]
-        self._left_out.append("pass %d, %s: %s: %s" % (self._folder.number, where, error, shown(line)))
-        self._manner.progress.print_line(self._left_out[-1])
-
-
-def _next_of(pieces: Iterator[Piece]) -> Optional[Piece]:
-    """The next of some pieces; None where there are no more."""
-    return next(pieces, None)
+    def _skip(self, chunk: Chunk, error: FatalLineError) -> None:
+        """Skips a chunk that can't be decided. The run fails once all others are stored."""
+        where = self._describe_lines(chunk.first + error.line)
+        line = quote_line(chunk.given.split(b"\n")[error.line])
+        self._skipped.append("pass %d, %s: %s: %s" % (self._folder.number, where, error, line))
+        self._options.progress.print_line(self._skipped[-1])

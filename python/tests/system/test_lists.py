@@ -10,13 +10,14 @@ import random
 import re
 import sys
 import time
-from typing import Dict, Iterator, List, Sequence, Tuple
+from typing import Iterator, Sequence
 
 import budlarem
 import pytest
 from budlarem import Form, Halt, Judgement, Limits, Undecided, Verdict
-from budlarem.normal_forms import form_of
+from budlarem.normal_forms import canonical_form
 from support import TOP
+from support.claims import with_other_number
 from support.machines import mixed, uniform
 from support.program import Ended, as_lines, ended, options
 from support.terminals import on_terminal
@@ -87,7 +88,7 @@ def test_printed(tmp_path: pathlib.Path) -> None:
     given, wide, page = tmp_path / "list.txt", tmp_path / "wide.txt", str(tmp_path / "page.html")
     given.write_bytes(as_lines(lines))
     wide.write_bytes("\n".join(lines * 9).encode("utf-16"))
-    readers: Dict[str, List[str]] = dict.fromkeys(("read", "decide", "normal", "judge", "check"), [])
+    readers: dict[str, list[str]] = dict.fromkeys(("read", "decide", "normal", "judge", "check"), [])
     for name, more in {**readers, "compare": [str(given)], "report": ["--out", page]}.items():
         status, output, error = command(name, str(given), *more)
         raw = re.search(b"[\x00-\x08\x0b-\x1f\x7f]|\xc2[\x80-\x9f]", output + error)
@@ -95,7 +96,7 @@ def test_printed(tmp_path: pathlib.Path) -> None:
         if name == "check":
             continue
         printed = error.decode()
-        says = "form text" in printed and "3 lines passed over: empty lines 1, comments 1" in printed
+        says = "form text" in printed and "3 lines skipped: empty lines 1, comments 1" in printed
         assert says and status != 3, (name, printed)
         status, _, error = command(name, str(wide), *(more if name != "compare" else [str(wide)]))
         once = error.count(b"UTF-16") == 2 and error.count(b"\n") == 1
@@ -106,7 +107,7 @@ def test_printed(tmp_path: pathlib.Path) -> None:
         once = error.count(b"UTF-8") == 1 and b"2 lines with bytes that are no UTF-8" in error
         assert once, (name, error)
     printed = command("judge", "-", "--list", str(given), given=b"1RA1RA\n").error.decode()
-    says = "list.txt: 3 lines passed over" in printed and "list.txt:3: refused: a machine in" in printed
+    says = "list.txt: 3 lines skipped" in printed and "list.txt:3: refused: a machine in" in printed
     assert says
 
 
@@ -125,7 +126,7 @@ def test_translation(tmp_path: pathlib.Path) -> None:
     plain.write_bytes(as_lines([champion + " halt 47'176'870 4098"]))
     word_file.write_text("halting: yes\nnever halting: no\n", encoding="utf-8")
     given = ["--words", str(word_file)]
-    others: Dict[str, List[str]] = {
+    others: dict[str, list[str]] = {
         "judge": [],
         "compare": [str(plain)],
         "report": ["--out", str(tmp_path / "page.html")],
@@ -153,8 +154,8 @@ def test_empty_lines(tmp_path: pathlib.Path) -> None:
     path, single = tmp_path / "empty.txt", tmp_path / "single.txt"
     path.write_bytes(b"\n" * 5_000_000)
     single.write_bytes(b"1RA1RA\n")
-    spent: Dict[str, float] = {}
-    commands: Dict[str, List[str]] = {"read": [], "judge": [], "compare": [str(single)]}
+    spent: dict[str, float] = {}
+    commands: dict[str, list[str]] = {"read": [], "judge": [], "compare": [str(single)]}
     for name, others in commands.items():
         begun = os.times()
         status = command(name, str(path), *others).status
@@ -179,7 +180,7 @@ def in_some_form(source: random.Random, machine: str) -> str:
     return around % ((text,) * around.count("%s"))
 
 
-def lines_in_some_form(count: int) -> List[Tuple[str, str]]:
+def lines_in_some_form(count: int) -> list[tuple[str, str]]:
     """Random machines, and lines that have them in random forms."""
     source = random.Random(1)
     return [(machine, in_some_form(source, machine)) for machine in mixed(count, 1)]
@@ -230,7 +231,12 @@ def test_read(bb: str, tmp_path: pathlib.Path) -> None:
 def test_check(bb: str, rng: random.Random, tmp_path: pathlib.Path) -> None:
     """The answers are the program's, at small limits and at the greatest; counts and status tell of them."""
     verdicts = verdicts_of(1_000)
-    lines = [*(forged(rng, verdict) for verdict in verdicts), *map(str, verdicts), "x", "refused 3"]
+    lines = [
+        *(with_other_number(str(verdict), rng) for verdict in verdicts),
+        *map(str, verdicts),
+        "x",
+        "refused 3",
+    ]
     given = as_lines(lines)
     for row in (LIMITS, GREATEST):
         right = ended([bb, "check", *options(row)], given)
@@ -242,7 +248,7 @@ def test_check(bb: str, rng: random.Random, tmp_path: pathlib.Path) -> None:
             require_counts(lines, right.output.decode().splitlines(), error.decode())
 
 
-def require_counts(lines: List[str], answers: List[str], printed: str) -> None:
+def require_counts(lines: list[str], answers: list[str], printed: str) -> None:
     """Standard error has the counts and the first line that isn't confirmed."""
     counts = ", ".join(
         "%s %d" % (word, answers.count(word)) for word in ("ok", "bad", "over", "open", "unread")
@@ -262,18 +268,6 @@ def test_trace(bb: str) -> None:
             assert found[:2] == right[:2]
 
 
-def forged(source: random.Random, verdict: Verdict) -> str:
-    """A claim in which a number or a side is another."""
-    words_of = str(verdict).split(" ")
-    place = source.randrange(2, len(words_of))
-    if words_of[place].isdigit():
-        change = source.choice((-2, -1, 1, 2, 7, 5_000))
-        words_of[place] = str(max(int(words_of[place]) + change, 0))
-    else:
-        words_of[place] = {"L": "R", "R": "L"}[words_of[place]]
-    return " ".join(words_of)
-
-
 def verdicts_of(count: int) -> Sequence[Verdict]:
     """So many verdicts that claim something, on machines that have an entry."""
     machines = (machine for machine in mixed(3 * count, 1) if machine.strip("-_"))
@@ -291,9 +285,9 @@ def test_forged_claims(bb: str, rng: random.Random, count: int) -> None:
     assert {one.judgement for one in judged} == {Judgement.CONFIRMED}
     claims = list(map(str, verdicts))
     places = source.sample(range(len(claims)), len(claims))
-    lines = [forged(source, verdicts[place]) for place in places] + claims
+    lines = [with_other_number(claims[place], source) for place in places] + claims
     answers = ended([bb, "check", *options(GREATEST)], as_lines(lines)).output.decode().splitlines()
-    wrong: Dict[str, str] = {"bad": "contradicted", "ok": "confirmed"}
+    wrong: dict[str, str] = {"bad": "contradicted", "ok": "confirmed"}
     judging = budlarem.judge(lines, limits=limits, undefined_steps=False, threads=2)
     missed = [
         (line, answer, str(one))
@@ -349,7 +343,7 @@ def test_undefined_steps(bb: str) -> None:
     assert (status, output.count(b"contradicted\t")) == (1, 1)
 
 
-def machines_of_four_states(count: int) -> List[str]:
+def machines_of_four_states(count: int) -> list[str]:
     return [uniform(random.Random(k), 4) for k in range(count)]
 
 
@@ -357,14 +351,14 @@ def test_forms_of_machines() -> None:
     """What has another form takes no longer than is asked."""
     machines = machines_of_four_states(5_000)
     began = time.process_time()
-    forms = {form_of(machine).text for machine in machines}
+    forms = {canonical_form(machine).text for machine in machines}
     each = (time.process_time() - began) / len(machines)
     print("a form of a machine, of %d: %.1f us" % (len(machines), 1e6 * each), flush=True)
     assert each < 30 * 50e-6
     assert len(forms) > len(machines) / 2
 
 
-def shown_on_terminal(*asked: str) -> Tuple[List[str], str]:
+def run_on_terminal(*asked: str) -> tuple[list[str], str]:
     """The texts of progress that a command of the package showed on a terminal, and what stood there at the
     end."""
     with open(os.devnull, "wb") as output:
@@ -376,7 +370,7 @@ def shown_on_terminal(*asked: str) -> Tuple[List[str], str]:
 def test_progress(tmp_path: pathlib.Path) -> None:
     """On a terminal the commands that take long tell how far they are, and leave nothing of it there."""
     lines = ["1RB1LC_1RC1RB_1RD0LE_1LA1LD_1RZ0LA halt 47176870 4098", "`1ra1ra` halts"]
-    cases: Dict[str, Tuple[List[str], str]] = {
+    cases: dict[str, tuple[list[str], str]] = {
         "judge": (["--check-steps=1000"], " not-judged"),
         "check": ([], " ok"),
         "publish": (["out.tar", "--verdicts"], "lines checked"),
@@ -385,7 +379,7 @@ def test_progress(tmp_path: pathlib.Path) -> None:
         given = tmp_path / (name + ".txt")
         given.write_bytes(as_lines(lines) * 100 if name == "judge" else as_lines(lines[:1]) * 10)
         words = [word.replace("out.tar", str(tmp_path / "out.tar")) for word in more]
-        texts, left = shown_on_terminal(name, *words, str(given))
+        texts, left = run_on_terminal(name, *words, str(given))
         held = any(word in text for text in texts) and all(len(text) < 80 for text in texts)
         assert held, (name, texts[:5])
         lines_left = left.count("\n") if name != "judge" else left.count("small letters read as capital ones")
@@ -393,7 +387,7 @@ def test_progress(tmp_path: pathlib.Path) -> None:
         assert lines_left == right
 
 
-def examples() -> Iterator[Tuple[str, str]]:
+def examples() -> Iterator[tuple[str, str]]:
     """The commands of the document that are shown with what they write."""
     text = DOCUMENT.read_text(encoding="utf-8")
     for block in re.findall(r"(?:^    .*\n)+", text, re.MULTILINE):

@@ -1,6 +1,6 @@
 """Checks verdict lines once more, by their definitions alone, for those who trust no prover.
 
-    python3 again.py [--steps N] [--nodes N] [FILE]
+    python3 recheck.py [--steps N] [--nodes N] [FILE]
 
 To each line of FILE, or of standard input, it says whether its claim is `true` or `false`; `no claim` where
 it is undecided or refused; `too long` where it names more than N steps or nodes, 1,000,000 where not said;
@@ -146,5 +146,5 @@ if __name__ == "__main__":
     try:
         sys.exit(main(sys.argv[1:]))
     except (ValueError, OSError, MemoryError, KeyboardInterrupt) as error:
-        print(__doc__ if isinstance(error, ValueError) else "again.py ends: %s" % error, file=sys.stderr)
+        print(__doc__ if isinstance(error, ValueError) else "recheck.py ends: %s" % error, file=sys.stderr)
         sys.exit(2 if isinstance(error, ValueError) else 3)

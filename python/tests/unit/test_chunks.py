@@ -9,7 +9,7 @@ import itertools
 import os
 import pathlib
 import unittest.mock
-from typing import Any, Iterator, List
+from typing import Any, Iterator
 
 import hypothesis
 import pytest
@@ -17,11 +17,11 @@ from budlarem import _files
 from budlarem.runner import chunks, input, journal, passes
 from budlarem.runner.errors import ReplyError, RunError
 from hypothesis import strategies as st
-from support.runner import KINDS, LIST, MIDDLE, PASSES, SMALL, RunCase, counts_of, expected
+from support.runner import KINDS, LIST, MIDDLE, PASSES, SMALL, RunCase, counts_of, expected_verdicts
 
 
-def taken(blocks: Iterator[bytes], lines: int, size: int) -> List[bytes]:
-    found = input.Lines(blocks)
+def take_all(blocks: Iterator[bytes], lines: int, size: int) -> list[bytes]:
+    found = input.StreamLines(blocks)
     return list(iter(lambda: found.take(lines, size), b""))
 
 
@@ -32,31 +32,31 @@ def taken(blocks: Iterator[bytes], lines: int, size: int) -> List[bytes]:
     size=st.sampled_from((1, 100, 2_000, 1 << 20)),
     cut=st.sampled_from((1, 7, 1_000, 1_030)),
 )
-def test_pieces_are_the_same_however_the_bytes_come(
-    case: RunCase, lengths: List[int], lines: int, size: int, cut: int
+def test_chunks_are_the_same_however_the_bytes_come(
+    case: RunCase, lengths: list[int], lines: int, size: int, cut: int
 ) -> None:
     texts = [b"x" * length for length in lengths]
     given = b"\n".join(texts)
-    pieces = taken(iter([given]), lines, size)
+    chunks = take_all(iter([given]), lines, size)
     blocks = (given[place : place + cut] for place in range(0, len(given), cut))
-    assert taken(blocks, lines, size) == pieces
+    assert take_all(blocks, lines, size) == chunks
     ends = texts if texts and texts[-1] else texts[:-1]
-    assert b"".join(pieces) == b"".join(text[:1_024] + b"\n" for text in ends)
+    assert b"".join(chunks) == b"".join(text[:1_024] + b"\n" for text in ends)
     case.list.write_bytes(given)
     with contextlib.closing(input.ListFile(str(case.list))) as listed:
         plain = listed.lines()
         of_file = list(iter(lambda: plain.take(lines, size), b""))
-    assert b"".join(of_file) == b"".join(pieces)
-    assert plain.taken_lines == len(ends)
-    for piece in [*pieces, *of_file]:
-        assert piece.count(b"\n") <= lines
-        assert len(piece) <= size or piece.count(b"\n") == 1
+    assert b"".join(of_file) == b"".join(chunks)
+    assert plain.lines_taken == len(ends)
+    for chunk in [*chunks, *of_file]:
+        assert chunk.count(b"\n") <= lines
+        assert len(chunk) <= size or chunk.count(b"\n") == 1
 
 
-def test_pieces_are_as_large_as_may_be() -> None:
+def test_chunks_are_as_large_as_may_be() -> None:
     given = b"abc\n" * 1_000
-    assert [len(piece) for piece in taken(iter([given]), 300, 1 << 20)] == [1200] * 3 + [400]
-    assert [len(piece) for piece in taken(iter([given]), 300, 1_002)] == [1000] * 4
+    assert [len(chunk) for chunk in take_all(iter([given]), 300, 1 << 20)] == [1200] * 3 + [400]
+    assert [len(chunk) for chunk in take_all(iter([given]), 300, 1_002)] == [1000] * 4
 
 
 def test_gzip_and_empty_lists(case: RunCase) -> None:
@@ -91,7 +91,7 @@ class JournalCase:
         self.path = str(self.top / "journal")
         self.folder = _files.Directory.open(str(self.top))
         self.callback(self.folder.close)
-        self.counts = counts_of(expected(KINDS))
+        self.counts = counts_of(expected_verdicts(KINDS))
         self.journal = journal.Journal(self.folder, "key")
         self.callback(self.journal.close)
         self.known = [
@@ -103,7 +103,7 @@ class JournalCase:
             for place in range(6)
         ]
         for place in (0, 1, 4, 5):
-            self.journal.put(place, self.known[place])
+            self.journal.write(place, self.known[place])
 
 
 @pytest.fixture
@@ -121,10 +121,10 @@ def test_records_come_back(journals: JournalCase) -> None:
 
 
 def test_a_gap(journals: JournalCase) -> None:
-    assert journals.journal.gap(2, 20) == (2, 20)
-    assert journals.journal.gap(2, 39) == (3, 11)
-    assert journals.journal.gap(6, 60) is None
-    assert [journals.journal.gap(2, 20), journals.journal.gap(3, 30)] == [(2, 20), (1, 10)]
+    assert journals.journal.find_gap(2, 20) == (2, 20)
+    assert journals.journal.find_gap(2, 39) == (3, 11)
+    assert journals.journal.find_gap(6, 60) is None
+    assert [journals.journal.find_gap(2, 20), journals.journal.find_gap(3, 30)] == [(2, 20), (1, 10)]
 
 
 def test_gaps_of_a_foreign_journal(journals: JournalCase) -> None:
@@ -132,7 +132,7 @@ def test_gaps_of_a_foreign_journal(journals: JournalCase) -> None:
     foreign = journal.Journal(journals.folder, "other")
     journals.callback(foreign.close)
     with unittest.mock.patch.object(foreign, "read", wraps=foreign.read) as read:
-        assert [foreign.gap(index, index) for index in range(6)] == [None] * 6
+        assert [foreign.find_gap(index, index) for index in range(6)] == [None] * 6
     assert read.call_count <= 6
 
 
@@ -160,8 +160,8 @@ def test_cut_moved_and_other_keys(journals: JournalCase) -> None:
 
 def test_verdicts_of_a_list() -> None:
     for limits in PASSES:
-        verdicts = expected(LIST, [limits])
-        counts = chunks.look_at_verdicts(LIST, verdicts)
+        verdicts = expected_verdicts(LIST, [limits])
+        counts = chunks.validate_verdicts(LIST, verdicts)
         assert counts == counts_of(verdicts)
         assert sum(counts.values()) == LIST.count(b"\n")
         for kind in ("halt", "cycler", "translated", "refused"):
@@ -170,12 +170,12 @@ def test_verdicts_of_a_list() -> None:
 
 def wrong(given: bytes, verdicts: bytes) -> None:
     with pytest.raises(ReplyError):
-        chunks.look_at_verdicts(given, verdicts)
+        chunks.validate_verdicts(given, verdicts)
 
 
 def test_what_is_wrong() -> None:
-    good = expected(KINDS)
-    chunks.look_at_verdicts(KINDS, good)
+    good = expected_verdicts(KINDS)
+    chunks.validate_verdicts(KINDS, good)
     lines = good.splitlines(keepends=True)
     for changed in (b"", good[:-1], good + lines[0], good[len(lines[0]) :], good + b"x", good[::-1], KINDS):
         wrong(KINDS, changed)
@@ -191,30 +191,30 @@ def test_lines_that_are_no_verdict_lines() -> None:
     for text in (b"refused 3", b"refused 0", b"refused 2 ", b"refused", b"refused 2\n"):
         wrong(b"1rB1LB\n", text + b"\n")
     wrong(b"1RA1RA translated\n", b"1RA1RA translated R 1 2 1 1\n")
-    chunks.look_at_verdicts(b"1RA1RA translated\n", b"refused 7\n")
+    chunks.validate_verdicts(b"1RA1RA translated\n", b"refused 7\n")
     wrong(b"1RZ---\n", b"refused 7\n")
     wrong(b"refused\n", b"refused 5\n")
-    chunks.look_at_verdicts(b"refused\n", b"refused 1\n")
+    chunks.validate_verdicts(b"refused\n", b"refused 1\n")
 
 
 def test_answers() -> None:
-    verdicts = expected(KINDS)
-    chunks.look_at_answers(verdicts, b"ok\n" * 9 + b"open\n")
+    verdicts = expected_verdicts(KINDS)
+    chunks.validate_answers(verdicts, b"ok\n" * 9 + b"open\n")
     for answers in (b"", b"ok\n" * 9, b"ok\n" * 10 + b"\n", b"fine\n" * 10):
         with pytest.raises(ReplyError) as raised:
-            chunks.look_at_answers(verdicts, answers)
+            chunks.validate_answers(verdicts, answers)
         assert raised.value.line is None
     with pytest.raises(ReplyError, match="bad") as raised:
-        chunks.look_at_answers(verdicts, b"ok\n" * 4 + b"bad\n" + b"over\n" * 5)
+        chunks.validate_answers(verdicts, b"ok\n" * 4 + b"bad\n" + b"over\n" * 5)
     assert raised.value.line == 4
 
 
 def test_replies() -> None:
     ours = chunks.identity()
-    reply = chunks.decide_piece(KINDS, SMALL.numbers())
-    asked = chunks.question(chunks.DECIDE, SMALL.numbers())
-    assert chunks.opened(reply, ours, asked, KINDS)[0] == expected(KINDS, [SMALL])
-    wrong: List[Any] = [
+    reply = chunks.decide_chunk(KINDS, SMALL.numbers())
+    asked = chunks.describe_task(chunks.DECIDE, SMALL.numbers())
+    assert chunks.open_reply(reply, ours, asked, KINDS)[0] == expected_verdicts(KINDS, [SMALL])
+    wrong: list[Any] = [
         None,
         b"",
         [],
@@ -222,9 +222,9 @@ def test_replies() -> None:
         reply[:5],
         (*reply[:7], chunks.digest_of(KINDS)),
         (reply[0][:-1] + b" ", *reply[1:]),
-        chunks.decide_piece(KINDS[:-1], SMALL.numbers()),
-        chunks.decide_piece(KINDS, MIDDLE.numbers()),
-        chunks.check_piece(KINDS, SMALL.numbers()),
+        chunks.decide_chunk(KINDS[:-1], SMALL.numbers()),
+        chunks.decide_chunk(KINDS, MIDDLE.numbers()),
+        chunks.check_chunk(KINDS, SMALL.numbers()),
         (reply[0].decode(), *reply[1:]),
         (reply[0], "1", *reply[2:]),
         (reply[0], float("nan"), *reply[2:]),
@@ -233,17 +233,17 @@ def test_replies() -> None:
     ]
     for changed in wrong:
         with pytest.raises(ReplyError):
-            chunks.opened(changed, ours, asked, KINDS)
+            chunks.open_reply(changed, ours, asked, KINDS)
 
 
-def test_a_piece_lasts_some_seconds() -> None:
+def test_a_chunk_lasts_some_seconds() -> None:
     costs, widths = (1e-6, 1e-3, 0.1, 3.0, 1e4), {8: 2, 200: 2, 2_000: 20}
     for cost, (width, lasting) in itertools.product(costs, widths.items()):
-        pace = passes.PiecePace(20_000)
+        pace = passes.ChunkPace(20_000)
         sizes = []
         for _ in range(40):
             sizes.append(pace.now)
-            pace.took(pace.now, pace.now * cost, width)
+            pace.update(pace.now, pace.now * cost, width)
         assert sizes[0] == 1
         assert all(after <= 8 * before for before, after in zip(sizes, sizes[1:]))
         seconds = sizes[-1] * cost

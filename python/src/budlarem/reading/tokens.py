@@ -1,5 +1,5 @@
-"""A line cut into what may be a machine: words of entries, rows of dashes or dots, addresses. Lines that are
-passed over: comments, code fences, and the rules and headers of tables."""
+"""Splits a line into candidates for a machine: words of entries, rows of dashes or dots, addresses. Detects
+skipped lines: comments, code fences, and the rules and headers of tables."""
 
 from __future__ import annotations
 
@@ -7,15 +7,15 @@ import dataclasses
 import re
 from typing import Iterator, List, Optional, Tuple
 
-from .texts import Word
-from .values import Passed
+from .entries import Word
+from .readings import Skipped
 
-# What counts as a space: what JavaScript's \s matches.
+# The spaces: those of JavaScript's \s.
 SPACES = "\t\n\v\f\r \u00a0\u1680\u2028\u2029\u202f\u205f\u3000\ufeff" + "".join(
     map(chr, range(0x2000, 0x200B))
 )
 _QUOTES = "`\"'\u2018\u2019\u201a\u201c\u201d\u201e\u00ab\u00bb"
-# What ends an address; and a word, too.
+# The characters that end an address; and those that end a word, too.
 _ENDS = SPACES + ",;|()[]{}<>*" + _QUOTES
 _SEPARATORS = _ENDS + ":=#~"
 _TOKEN = re.compile(
@@ -24,7 +24,7 @@ _TOKEN = re.compile(
 )
 _ENTRIES = re.compile(r"(?:[0-9][LRlr][A-Za-z]|---|\.\.\.|_)*(?:[0-9][LRlr][A-Za-z]|---|\.\.\.)_*")
 _ROW = re.compile(r"[-.]+")
-# A number of a list right before an entry.
+# The number of a list item right before an entry.
 _NUMBER = re.compile(r"[0-9]+\.(?=[0-9-])")
 # Groups as arrays of quoted entries, as JSON and Python write them.
 _ENTRY = r"""["'](?:[0-9][LRlr][A-Za-z]|---|\.\.\.)["']"""
@@ -32,20 +32,19 @@ _SPACE = "[%s]*" % re.escape(SPACES)
 _ARRAY = r"\[{0}%s(?:{0},{0}%s)*{0}\]".format(_SPACE)
 _GROUP = _ARRAY % (_ENTRY, _ENTRY)
 _ARRAYS = re.compile(_ARRAY % (_GROUP, _GROUP))
-# What nothing but a machine has in it, whole or not.
-_PIECES = re.compile(r"[0-9][LR](?:[A-Z_.-]|$)|[0-9][lr][a-z](?=[0-9_])|(?<=[a-z_])[0-9][lr][a-z]")
+# Fragments of machines that occur in nothing else.
+_FRAGMENTS = re.compile(r"[0-9][LR](?:[A-Z_.-]|$)|[0-9][lr][a-z](?=[0-9_])|(?<=[a-z_])[0-9][lr][a-z]")
 # A word that looks like an entry.
 _ORDINAL = "3rd"
 _PART = re.compile(r"[^/?#&=]+")
-# What may stand between the words of a text.
+# The characters between the words of a text.
 _TOGETHER = " \u00a0"
 
 
 @dataclasses.dataclass(frozen=True)
 class Text:
-    """Words that are one text, since only spaces stand between them. `begin` and `end` are where it stands in
-    the line, with the address that it is a part of; `is_last` says that it is that address's last part.
-    `arrays` has the entries of each group where they are written as arrays."""
+    """Words with only spaces between them. `begin` and `end` are its place in the line, with an address around
+    it; `is_last`: it is the last part of that address. `arrays` has the entries of each group of arrays."""
 
     words: Tuple[Word, ...]
     begin: int
@@ -56,7 +55,6 @@ class Text:
 
     @property
     def written(self) -> str:
-        """The words, with a space between them."""
         return " ".join(word.text for word in self.words)
 
     @property
@@ -68,21 +66,17 @@ class Text:
         """Whether each of several words is one entry."""
         return len(self.words) > 1 and all(len(word.text) == 3 for word in self.words)
 
-    def apart(self) -> List[Text]:
-        """Each word as a text by itself."""
-        return [Text((word,), word.begin, word.end) for word in self.words]
-
 
 @dataclasses.dataclass(frozen=True)
 class Parts:
-    """What of a line may be a machine, and its rows of dashes or dots."""
+    """The candidates of a line, and its rows of dashes or dots."""
 
     texts: List[Text]
     rows: List[Word]
 
 
 def parts_of(line: str) -> Parts:
-    """What of a line may be a machine."""
+    """The candidates of a line."""
     arrays = _arrays_of(line)
     for text in arrays:
         line = line[: text.begin] + "|" * (text.end - text.begin) + line[text.end :]
@@ -92,13 +86,13 @@ def parts_of(line: str) -> Parts:
     for match in _TOKEN.finditer(line):
         token = Word(match.start(), match.group())
         if match.group("address") is not None:
-            addresses += _in_address(token)
+            addresses += _texts_in_address(token)
             rows += _row_in_address(token)
         elif _ROW.fullmatch(token.text):
             rows.append(token)
         elif _has_entries(_without_stop(token).text):
             words.append(_without_stop(token))
-    plain = _together(line, words, rows)
+    plain = _join_words(line, words, rows)
     inside = {word.begin for text in plain for word in text.words}
     texts = arrays + addresses + plain
     rows = [row for row in rows if row.begin not in inside]
@@ -106,7 +100,7 @@ def parts_of(line: str) -> Parts:
 
 
 def _arrays_of(line: str) -> List[Text]:
-    """The machines of a line that are written as arrays of entries."""
+    """The arrays of entries in a line."""
     texts: List[Text] = []
     for match in _ARRAYS.finditer(line) if "[" in line else ():
         groups = tuple(
@@ -123,7 +117,7 @@ def _arrays_of(line: str) -> List[Text]:
 
 
 def _without_stop(word: Word) -> Word:
-    """A word without a list's number before it, and without the full stop or the marks at its end."""
+    """A word without the number of a list item, and without the full stop or marks at its end."""
     text, begin = word.text, word.begin
     number = _NUMBER.match(text)
     if number is not None and _ENTRIES.fullmatch(text[number.end() :].rstrip(".!?")):
@@ -134,8 +128,8 @@ def _without_stop(word: Word) -> Word:
     return Word(begin, text[:-1] if is_stopped else text)
 
 
-def _in_address(address: Word) -> Iterator[Text]:
-    """What of an address may be a machine."""
+def _texts_in_address(address: Word) -> Iterator[Text]:
+    """The candidates in an address."""
     last = address.text.rstrip("/").rfind("/") + 1
     for match in _PART.finditer(address.text):
         part = _without_stop(Word(address.begin + match.start(), match.group()))
@@ -144,26 +138,27 @@ def _in_address(address: Word) -> Iterator[Text]:
 
 
 def _row_in_address(address: Word) -> List[Word]:
-    """The row that is an address's last part."""
+    """The row that is the last part of an address."""
     begin = address.text.rfind("/") + 1
     last = Word(address.begin + begin, address.text[begin:])
     return [last] if _ROW.fullmatch(last.text) else []
 
 
 def _has_entries(text: str) -> bool:
-    """Whether a word has entries, or pieces of them."""
+    """Whether a word has entries, or fragments of them."""
     if text == _ORDINAL or _ROW.fullmatch(text):
         return False
-    return _ENTRIES.fullmatch(text) is not None or _PIECES.search(text) is not None
+    return _ENTRIES.fullmatch(text) is not None or _FRAGMENTS.search(text) is not None
 
 
-def _together(line: str, words: List[Word], rows: List[Word]) -> List[Text]:
-    """The texts that these words make: those between which there are only spaces are one. Between entries
-    that stand alone, `---` is an entry."""
+def _join_words(line: str, words: List[Word], rows: List[Word]) -> List[Text]:
+    """The texts of these words: words with only spaces between them are one. Between lone entries `---` is an
+    entry."""
     texts: List[Text] = []
     dashes = [row for row in rows if row.text == "---"]
     for run in _runs(line, sorted(words + dashes, key=lambda word: word.begin)):
-        inner = _without_rows(run)
+        places = [place for place, word in enumerate(run) if word.text != "---"]
+        inner = run[places[0] : places[-1] + 1] if places else []
         if inner and all(len(word.text) == 3 for word in inner):
             texts.append(_text(inner))
         else:
@@ -171,14 +166,8 @@ def _together(line: str, words: List[Word], rows: List[Word]) -> List[Text]:
     return texts
 
 
-def _without_rows(run: List[Word]) -> List[Word]:
-    """The words without those of dashes at the ends."""
-    places = [place for place, word in enumerate(run) if word.text != "---"]
-    return run[places[0] : places[-1] + 1] if places else []
-
-
 def _runs(line: str, words: List[Word]) -> Iterator[List[Word]]:
-    """The words between which there are only spaces, together."""
+    """Groups of words with only spaces between them."""
     held: List[Word] = []
     for word in words:
         if held and line[held[-1].end : word.begin].strip(_TOGETHER):
@@ -194,8 +183,7 @@ def _text(words: List[Word]) -> Text:
 
 
 def row_beside(line: str, text: Text, rows: List[Word]) -> Optional[Word]:
-    """The row beside a text, with only spaces between them, that is as long as a word of it, and so may be a
-    group; None where there is none."""
+    """The row beside a text that may be a group of it: only spaces between them, and as long as a word."""
     before = len(line[: text.begin].rstrip(_TOGETHER))
     behind = len(line) - len(line[text.end :].lstrip(_TOGETHER))
     for row in rows:
@@ -213,7 +201,7 @@ _RULE = re.compile(
     r"[|+](?:[-|+:=]|{0})*|:?-(?:[-:]|{0})*\|(?:[-|:]|{0})*|\|\}}|\{{\|.*".format(_BLANK_SPACE)
 )
 _CELLS = re.compile(r"[|\t,;]|!!")
-# So many characters the name of a column has at most.
+# The most characters of the name of a column.
 _LONGEST_NAME = 40
 # The names of a column of machines, as `plain_name` writes them.
 MACHINE_NAMES = frozenset(("machine", "machines", "tm", "turingmachine", "turingmachines", "code"))
@@ -224,21 +212,21 @@ def plain_name(text: str) -> str:
     return re.sub("[^a-z0-9]", "", text.lower())
 
 
-def passed_over(bare: str) -> Optional[Passed]:
-    """Why a line is passed over that has no spaces at its ends; None where it isn't."""
+def skip_reason(bare: str) -> Optional[Skipped]:
+    """Why a line without spaces at its ends is skipped; None if it isn't."""
     if not bare:
-        return Passed.EMPTY
+        return Skipped.EMPTY
     if bare.startswith(_COMMENT):
-        return None if is_comment_of_machine(bare) else Passed.COMMENT
+        return None if is_comment_of_machine(bare) else Skipped.COMMENT
     if _FENCE.fullmatch(bare):
-        return None if parts_of(bare).texts else Passed.FENCE
+        return None if parts_of(bare).texts else Skipped.FENCE
     if _RULE.fullmatch(bare):
-        return None if parts_of(bare).texts else Passed.RULE
-    return Passed.HEADER if _is_header(bare) else None
+        return None if parts_of(bare).texts else Skipped.RULE
+    return Skipped.HEADER if _is_header(bare) else None
 
 
 def is_comment_of_machine(bare: str) -> bool:
-    """Whether a line begins as a comment, and has a machine or more than one entry of one."""
+    """Whether a line starts as a comment, and has a machine or more than one entry."""
     return bare.startswith(_COMMENT) and any(not text.is_lone_entry for text in parts_of(bare).texts)
 
 

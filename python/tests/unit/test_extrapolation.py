@@ -3,7 +3,7 @@
 from __future__ import annotations
 
 import itertools
-from typing import Any, Dict, Iterator, List, Tuple
+from typing import Any, Iterator
 
 import budlarem
 import pytest
@@ -14,12 +14,12 @@ CHAMPION = "1RB1LB_1LA1RZ"
 FAR = ["1RB0LA_0RC---_1RD0LD_1LA1RB", "1LB0RA_0LC---_1LD0RD_1RA1LB", "1LB1RB_1RA1LA"]
 
 
-def plain(machine: str, steps: int) -> Iterator[Tuple[str, int]]:
+def plain(machine: str, steps: int) -> Iterator[tuple[str, int]]:
     """The states and positions of a machine, up to so many steps or its halt."""
     groups = [[group[k : k + 3] for k in range(0, len(group), 3)] for group in machine.split("_")]
     table = dict(zip("ABCDEFGHIJKLMNOPQRSTUVWXY", groups))
     state, head = "A", 0
-    tape: Dict[int, int] = {}
+    tape: dict[int, int] = {}
     yield state, head
     for _ in range(steps):
         entry = table[state][tape.get(head, 0)] if state in table else "---"
@@ -31,14 +31,14 @@ def plain(machine: str, steps: int) -> Iterator[Tuple[str, int]]:
         yield state, head
 
 
-def small_machines() -> List[str]:
+def small_machines() -> list[str]:
     """Some machines of two states: each entry of A at 0 and of B at 1 goes on, the others are any."""
     entries = ["---", "0LA", "1LB", "1RA", "1RZ"]
     tables = itertools.product(["1RB", "0LA"], entries, entries, ["1LA", "0RA"])
     return ["%s%s_%s%s" % table for table in tables]
 
 
-def hold(machine: str, verdict: budlarem.Verdict, steps: int) -> None:
+def require_places(machine: str, verdict: budlarem.Verdict, steps: int) -> None:
     run = list(plain(machine, steps))
     for step in {*range(0, len(run), 3), len(run) - 1}:
         assert at(verdict, step) == Place(step, *run[step]), (str(verdict), step)
@@ -49,7 +49,7 @@ def test_plain_runs() -> None:
     for verdict in budlarem.decide(small_machines(), Limits(steps=100, cells=64, depth=0, nodes=0)):
         if isinstance(verdict, (budlarem.Halt, Cycler, Translated)):
             kinds.add(verdict.kind)
-            hold(verdict.machine, verdict, 25)
+            require_places(verdict.machine, verdict, 25)
     assert kinds == {"halt", "cycler", "translated"}
 
 
@@ -80,30 +80,25 @@ def test_steps_that_no_run_reaches() -> None:
     assert at(again, 10**15) == Place(10**15, "A", 0)
 
 
-def test_a_halt() -> None:
-    halt = parse(CHAMPION + " halt 6 4")
-    assert at(halt, 6) == Place(6, "Z", 0)
-    with pytest.raises(ValueError, match="halts after 6 steps, so it makes no 7"):
-        at(halt, 7)
-
-
-def test_verdicts_that_say_nothing_of_a_step() -> None:
-    for line in ("1RA1RA backward 0 0", "1RA1RA undecided steps", "refused 1"):
-        with pytest.raises(ValueError, match="doesn't say where"):
-            at(parse(line), 0)
-
-
-def test_wrong_verdicts() -> None:
-    for line in (
-        CHAMPION + " halt 6 5",
-        CHAMPION + " cycler 2 4",
-        "1RA1RA translated R 1 2 2 1",
-        "1RA1RA translated L 1 2 1 1",
-        "1RA1RA translated R 2 2 1 1",
-        "0RB---_0LA--- cycler 4 2",
-    ):
-        with pytest.raises(ValueError, match="the checker answers bad"):
-            at(parse(line), 3)
+@pytest.mark.parametrize(
+    "line, step, error",
+    [
+        (CHAMPION + " halt 6 4", 7, "halts after 6 steps, so it makes no 7"),
+        (CHAMPION + " halt 6 4", -1, "step is -1"),
+        ("1RA1RA backward 0 0", 0, "doesn't say where"),
+        ("1RA1RA undecided steps", 0, "doesn't say where"),
+        ("refused 1", 0, "doesn't say where"),
+        (CHAMPION + " halt 6 5", 3, "the checker answers bad"),
+        (CHAMPION + " cycler 2 4", 3, "the checker answers bad"),
+        ("1RA1RA translated R 1 2 2 1", 3, "the checker answers bad"),
+        ("1RA1RA translated L 1 2 1 1", 3, "the checker answers bad"),
+        ("1RA1RA translated R 2 2 1 1", 3, "the checker answers bad"),
+        ("0RB---_0LA--- cycler 4 2", 3, "the checker answers bad"),
+    ],
+)
+def test_refusals(line: str, step: int, error: str) -> None:
+    with pytest.raises(ValueError, match=error):
+        at(parse(line), step)
 
 
 def test_too_few_cells() -> None:
@@ -122,8 +117,7 @@ def test_wrong_arguments() -> None:
     for wrong in ("1", 1.0, None, True):
         with pytest.raises(TypeError, match="step is"):
             at(halt, wrong)
-    with pytest.raises(ValueError, match="step is -1"):
-        at(halt, -1)
+    assert at(halt, 6) == Place(6, "Z", 0)
     with pytest.raises(LimitsError):
         at(halt, 0, cells=0)
     with pytest.raises(LimitsError):

@@ -11,13 +11,13 @@ import pathlib
 import re
 import subprocess
 import sys
-from typing import Any, List, Tuple
+from typing import Any
 from unittest import mock
 
 import budlarem
 import pytest
-from budlarem import Agreement, growth, lists, pictures, reports
-from budlarem.growth import Growth, grown
+from budlarem import Agreement, comparison, growth, pictures, reports
+from budlarem.growth import Growth, measure_growth
 
 CHAMPION = "1RB1LB_1LA1RZ"
 FOUR_STATES = "1RB1LB_1LA0LC_1RZ1LD_1RD0RA"
@@ -27,7 +27,7 @@ HAS_PLOTS = importlib.util.find_spec("matplotlib") is not None
 
 def agreement(first: str, second: str, undefined_steps: bool = False) -> Agreement:
     pair = budlarem.parse(first), budlarem.parse(second)
-    return lists.agreement(*pair, undefined_steps)
+    return comparison.agreement(*pair, undefined_steps)
 
 
 def test_what_goes_together() -> None:
@@ -127,18 +127,18 @@ def test_no_machine() -> None:
         ((10, 100, 1_000), Growth.LINE),
     ],
 )
-def test_growths(counts: Tuple[int, int, int], found: Growth) -> None:
-    assert growth.growth(counts) is found
+def test_growths(counts: tuple[int, int, int], found: Growth) -> None:
+    assert growth.classify_growth(counts) is found
 
 
 def test_growth_of_runs() -> None:
-    assert grown("1RA1RA", 1_000).visited == (11, 101, 1_001)
-    assert grown(UNDECIDED, 10_000).growth is Growth.ROOT
-    assert grown(CHAMPION, 100).growth is Growth.HALTS
+    assert measure_growth("1RA1RA", 1_000).visited == (11, 101, 1_001)
+    assert measure_growth(UNDECIDED, 10_000).growth is Growth.ROOT
+    assert measure_growth(CHAMPION, 100).growth is Growth.HALTS
 
 
 def test_the_cells_end_a_run() -> None:
-    found = grown("1RA1RA", 100_000, 1_001)
+    found = measure_growth("1RA1RA", 100_000, 1_001)
     assert (found.steps, found.visited) == (1_000, (11, 101, 1_001))
     assert growth._last_step("1RA1RA", 100_000, 778) == 777
     assert growth._last_step(CHAMPION, 100_000, 65_536) == 6
@@ -149,9 +149,9 @@ def test_a_halt_comes_with_its_steps_and_cells() -> None:
         rows = list(budlarem.trace(machine, steps))
         counts = tuple(len(rows[step].cells) for step in (steps // 100, steps // 10, steps))
         for limit in (107, 108, 199, 250, 1_000_000):
-            found = grown(machine, limit)
+            found = measure_growth(machine, limit)
             assert (found.steps, found.visited, found.growth) == (steps, counts, Growth.HALTS), limit
-    assert grown(FOUR_STATES, 106).growth is Growth.ROOT
+    assert measure_growth(FOUR_STATES, 106).growth is Growth.ROOT
 
 
 def test_rows_are_those_of_the_whole_trace() -> None:
@@ -166,7 +166,7 @@ def test_rows_are_those_of_the_whole_trace() -> None:
         lows = itertools.accumulate((now.position for now in rows if now.state != "Z"), min)
         assert all(now.low == low for now, low in zip(rows, lows))
         assert list(budlarem.trace(machine, 500, every=3)) == rows[::3]
-        chosen, every = pictures.spread(machine, 500, 65_536, 20)
+        chosen, every = pictures.sample_rows(machine, 500, 65_536, 20)
         assert chosen == rows[::every] and len(chosen) <= 20 and (every == 1 or len(chosen) > 10)
 
 
@@ -188,9 +188,9 @@ def test_bars() -> None:
 
 
 def test_the_smallest_are_kept() -> None:
-    found = reports.gathered(["%s undecided steps" % one for one in ("1RA1RA", UNDECIDED, "1RA0RA")], 2)
+    found = reports.Statistics(["%s undecided steps" % one for one in ("1RA1RA", UNDECIDED, "1RA0RA")], 2)
     assert [machine for _, machine in found.smallest] == ["1RA0RA", "1RA1RA"]
-    assert reports.gathered(LINES, 0).smallest == []
+    assert reports.Statistics(LINES, 0).smallest == []
 
 
 @pytest.mark.needs(modules=("matplotlib",))
@@ -239,7 +239,7 @@ def test_what_is_missing_is_named() -> None:
         budlarem.report([], "page.html")
 
 
-def run_with(*words: str, given: str = "") -> Tuple[int, List[str], str]:
+def run_with(*words: str, given: str = "") -> tuple[int, list[str], str]:
     """The status of the command, its lines, and what it says."""
     command = [sys.executable, "-m", "budlarem", *words]
     ended = subprocess.run(command, input=given.encode(), capture_output=True)
@@ -255,7 +255,7 @@ def test_a_refused_line_is_named_and_passed_over(tmp_path: pathlib.Path) -> None
     machines = [CHAMPION, "1RB1LC_1LA1RZ", "1RA1RA"]
     claims = [CHAMPION + " halt 6 4", "1RA1RA halt 6", "1RA1RA translated R 1 2 1 1"]
     path = str(tmp_path / "list.txt")
-    rows: List[Tuple[List[str], List[str], int]] = [
+    rows: list[tuple[list[str], list[str], int]] = [
         (["read", path], machines, 2),
         (["decide", path], machines, 3),
         (["normal", path], machines, 2),

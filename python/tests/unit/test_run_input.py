@@ -9,7 +9,7 @@ import os
 import pathlib
 import shlex
 import unittest.mock
-from typing import Iterator, List, Tuple
+from typing import Iterator
 
 import pytest
 from budlarem import PublishError, commands, publish
@@ -24,16 +24,16 @@ class Case:
     def __init__(self, top: pathlib.Path) -> None:
         self.top, self.list, self.out = top, top / "list.txt", top / "out"
 
-    def called(self, *arguments: str) -> Tuple[int, str]:
+    def call(self, *arguments: str) -> tuple[int, str]:
         """The status of the command, and what it writes to standard error."""
         said = io.StringIO()
         with contextlib.redirect_stderr(said), contextlib.redirect_stdout(io.StringIO()):
-            with unittest.mock.patch("budlarem.commands.run.end_at_interruption"):
+            with unittest.mock.patch("budlarem.commands.run.install_signal_handlers"):
                 status = commands.main(list(arguments))
         return status, said.getvalue()
 
-    def run_over(self, *arguments: str) -> Tuple[int, str]:
-        return self.called("run", str(self.list), "--out", str(self.out), *SMALL, *arguments)
+    def run_over(self, *arguments: str) -> tuple[int, str]:
+        return self.call("run", str(self.list), "--out", str(self.out), *SMALL, *arguments)
 
 
 @pytest.fixture
@@ -42,7 +42,7 @@ def case(tmp_path: pathlib.Path) -> Case:
 
 
 @contextlib.contextmanager
-def piped(given: bytes) -> Iterator[Tuple[input.ListFile, int]]:
+def pipe(given: bytes) -> Iterator[tuple[input.ListFile, int]]:
     """A list that comes by a pipe, in which these bytes are, and the pipe's other end."""
     reading, writing = os.pipe()
     os.write(writing, given)
@@ -80,12 +80,12 @@ def test_a_list_that_has_no_newline_is_not_held_whole(case: Case) -> None:
     case.list.write_bytes(gzip.compress(os.urandom(4_000_000).replace(b"\n", b"")))
     with contextlib.closing(input.ListFile(str(case.list))) as listed:
         assert [len(line) for line in listed.first_lines(1_000)] == [LONGEST_GIVEN]
-        assert (listed.part(0) or 1.0) < 0.7
+        assert (listed.fraction(0) or 1.0) < 0.7
 
 
 def test_a_pause() -> None:
     given = b"# a head\n" + MACHINE
-    with unittest.mock.patch.object(input, "_PAUSE", 0.01), piped(given) as (listed, writing):
+    with unittest.mock.patch.object(input, "_PAUSE", 0.01), pipe(given) as (listed, writing):
         assert listed.first_lines(1_000) == []
         os.write(writing, MACHINE)
         os.close(writing)
@@ -93,7 +93,7 @@ def test_a_pause() -> None:
 
 
 def test_no_pause() -> None:
-    with piped(MACHINE * 2) as (listed, writing):
+    with pipe(MACHINE * 2) as (listed, writing):
         os.close(writing)
         assert listed.first_lines(1_000) == [MACHINE[:-1]] * 2
         assert all_lines(listed) == MACHINE * 2
@@ -102,11 +102,11 @@ def test_no_pause() -> None:
 def test_more_than_half(case: Case) -> None:
     case.list.write_bytes((b"`1RB1LB_1LA1RZ`\n" + MACHINE) * 3)
     with contextlib.closing(input.ListFile(str(case.list))) as listed:
-        input.hold_form(listed)
+        input.require_form(listed)
     case.list.write_bytes((MACHINE + b"`1RB1LB_1LA1RZ`\n") * 3 + b"x\n")
     with contextlib.closing(input.ListFile(str(case.list))) as listed:
         with pytest.raises(errors.FolderError, match="4 of the first 7 lines .* line 2: .*budlarem read"):
-            input.hold_form(listed)
+            input.require_form(listed)
 
 
 def test_nothing_is_begun(case: Case) -> None:
@@ -119,7 +119,7 @@ def test_nothing_is_begun(case: Case) -> None:
 def test_a_run_s_own_file_is_named_before_its_form(case: Case) -> None:
     case.list.write_bytes(MACHINE)
     assert case.run_over()[0] == 0
-    status, said = case.called("run", str(case.out / "verdicts.txt"), "--out", str(case.out), *SMALL)
+    status, said = case.call("run", str(case.out / "verdicts.txt"), "--out", str(case.out), *SMALL)
     assert status == 2
     assert "which a run in that folder writes" in said
 
@@ -133,7 +133,7 @@ def test_what_is_no_list(case: Case) -> None:
     assert "can't be read: it is a folder" in said
 
 
-def commands_of_page(case: Case) -> List[List[str]]:
+def commands_of_page(case: Case) -> list[list[str]]:
     """The commands of the folder's page."""
     lines = (case.out / "README.txt").read_text(encoding="utf-8").splitlines()
     first = next(place for place, line in enumerate(lines) if line.startswith("    budlarem "))
@@ -159,7 +159,7 @@ def test_its_commands(case: Case) -> None:
         found = commands_of_page(case)
         assert [words[0] for words in found] == names.split()
         for words in found[:2]:
-            assert case.called(*words)[0] == 0, words
+            assert case.call(*words)[0] == 0, words
 
 
 def test_names_that_begin_as_options_do(case: Case, monkeypatch: pytest.MonkeyPatch) -> None:
@@ -167,9 +167,9 @@ def test_names_that_begin_as_options_do(case: Case, monkeypatch: pytest.MonkeyPa
     monkeypatch.chdir(case.top)
     pathlib.Path("-list").write_bytes(MACHINE)
     case.out = case.top / "--out"
-    assert case.called("run", "--out=--out", *SMALL, "--", "-list")[0] == 0
+    assert case.call("run", "--out=--out", *SMALL, "--", "-list")[0] == 0
     for words in commands_of_page(case):
-        assert case.called(*words)[0] == 0, words
+        assert case.call(*words)[0] == 0, words
     assert (case.top / "--out.tar").exists()
 
 
@@ -182,7 +182,7 @@ def test_somebody_else_s_page(case: Case) -> None:
     assert "other files in it, as README.txt" in said
 
 
-def refused(case: Case, sentence: str) -> None:
+def require_refused(case: Case, sentence: str) -> None:
     """A folder that isn't published."""
     archive = case.top / "new.tar"
     with pytest.raises(PublishError, match=sentence):
@@ -201,11 +201,11 @@ def test_a_folder(case: Case) -> None:
 def test_what_was_dropped(case: Case) -> None:
     case.list.write_bytes(MACHINE + b"0RB1LD_0RC1RD_0RD---_1LA0RB\n")
     case.run_over("--keep", "left")
-    refused(case, "only the verdicts that --keep left kept")
+    require_refused(case, "only the verdicts that --keep left kept")
 
 
 def test_verdicts_that_are_decided_again(case: Case) -> None:
     case.list.write_bytes(MACHINE)
     case.run_over()
     (case.out / "verdicts.txt").unlink()
-    refused(case, "has no verdicts.txt: that run isn't at its end")
+    require_refused(case, "has no verdicts.txt: that run isn't finished")

@@ -1,4 +1,4 @@
-"""A text of entries read as a machine: in one way, or with the reason why there is none."""
+"""Reads a text of entries as a machine, if there is one way to do so."""
 
 from __future__ import annotations
 
@@ -6,11 +6,11 @@ import dataclasses
 import re
 from typing import List, Sequence, Set, Tuple, Union
 
-from .._text import counted, first_hidden, name_of
+from .._text import pluralize, first_hidden, code_point
 from ..verdicts import MOST_SYMBOLS, STATES, is_machine
-from .values import Reason, Rewriting
+from .readings import Reason, Rewriting
 
-# Of so many states at most H is none, so it may be meant for the halting state.
+# Machines of at most so many states have no state H, which may mean the halting state.
 MOST_BEFORE_H = STATES.index("H")
 _ENTRY = re.compile(r"[0-9][LRlr][A-Za-z]|---|\.\.\.")
 _LOST = re.compile(r"[0-9][LRlr][-_]")
@@ -18,7 +18,7 @@ _LOST = re.compile(r"[0-9][LRlr][-_]")
 
 @dataclasses.dataclass(frozen=True)
 class Word:
-    """Characters of a line that stand together, and how many characters come before them."""
+    """A word of a line, and its index."""
 
     begin: int
     text: str
@@ -30,52 +30,57 @@ class Word:
 
 @dataclasses.dataclass(frozen=True)
 class Found:
-    """A machine as `bb` reads it, and what was rewritten."""
+    """A machine as `bb` reads it, and the rewritings."""
 
     machine: str
     rewritten: Tuple[Rewriting, ...] = ()
 
 
 Outcome = Union[Found, Reason]
-# The entries of a group, each with how many characters come before it.
+# The entries of a group, each with its index in the line.
 Group = List[Tuple[int, str]]
 
 
 def read_words(words: Sequence[Word]) -> Outcome:
-    """The machine whose groups are set apart by `_` in one word, or are these words; or that of one word
-    without `_`, where there is one division into groups that makes one."""
+    """The machine of groups with `_` between them in one word, or in several words; or of one word without `_`
+    that one division into groups makes a machine."""
     if len(words) == 1 and "_" in words[0].text and is_machine(words[0].text):
         return Found(words[0].text)
-    groups = list(words) if len(words) > 1 else _split(words[0])
+    groups, begin = list(words), words[0].begin
+    if len(words) == 1:
+        groups = []
+        for part in words[0].text.split("_"):
+            groups.append(Word(begin, part))
+            begin += len(part) + 1
     entries = _entries_of_groups(groups)
     if isinstance(entries, Reason):
         return entries
     rewritten = _letters(groups)
     if len(groups) == 1:
-        return _divided(entries[0], rewritten)
+        return _divide(entries[0], rewritten)
     if len(words) > 1:
         rewritten.add(Rewriting.SPACES)
     return _machine(entries, rewritten)
 
 
 def read_entries(words: Sequence[Word]) -> Outcome:
-    """The machine whose entries are these words, where one division into groups makes one."""
+    """The machine of these entries, if one division into groups makes one."""
     entries = _entries_of_groups(words)
     if isinstance(entries, Reason):
         return entries
     row = [entry for group in entries for entry in group]
-    return _divided(row, _letters(words) | {Rewriting.ENTRIES})
+    return _divide(row, _letters(words) | {Rewriting.ENTRIES})
 
 
 def read_arrays(groups: Sequence[Sequence[Word]]) -> Outcome:
-    """The machine whose groups are arrays of these entries."""
+    """The machine of arrays of entries."""
     letters = _letters([word for group in groups for word in group])
     entries = [[(word.begin, word.text) for word in group] for group in groups]
     return _machine(entries, letters | {Rewriting.ARRAYS})
 
 
 def _entries_of_groups(groups: Sequence[Word]) -> Union[List[Group], Reason]:
-    """The entries of each group, or why one of them has others."""
+    """The entries of each group, or why a group has others."""
     entries: List[Group] = []
     for place, group in enumerate(groups):
         found = _entries_of(group, sum(map(len, entries)), place, place + 1 < len(groups))
@@ -85,18 +90,8 @@ def _entries_of_groups(groups: Sequence[Word]) -> Union[List[Group], Reason]:
     return entries
 
 
-def _split(word: Word) -> List[Word]:
-    """What `_` sets apart in a word."""
-    parts, begin = [], word.begin
-    for part in word.text.split("_"):
-        parts.append(Word(begin, part))
-        begin += len(part) + 1
-    return parts
-
-
 def _entries_of(group: Word, before: int, place: int, is_followed: bool) -> Union[Group, Reason]:
-    """The entries of a group, before which there are so many entries and groups; `is_followed`: a `_` or a
-    space stands behind it."""
+    """The entries of a group behind so many entries and groups; `is_followed`: a `_` or a space follows."""
     if not group.text:
         return Reason("empty-group", "group %d is empty" % (place + 1), group.begin + 1)
     entries: Group = []
@@ -116,13 +111,13 @@ def _no_entry(text: str, number: int, place: int, is_followed: bool) -> Reason:
         return Reason("lost", sentence, place)
     hidden = first_hidden(text)
     if hidden is not None:
-        sentence = "entry %d has %s, a character that doesn't show" % (number, name_of(text[hidden]))
+        sentence = "entry %d has %s, a character that doesn't show" % (number, code_point(text[hidden]))
         return Reason("hidden", sentence, place + hidden)
     return Reason("entry", "entry %d is no entry: %s" % (number, text), place)
 
 
 def _letters(groups: Sequence[Word]) -> Set[Rewriting]:
-    """What is rewritten in the letters of these groups."""
+    """The rewritings of the letters of these groups."""
     text = "".join(group.text for group in groups)
     found = set()
     if text != text.upper():
@@ -132,13 +127,13 @@ def _letters(groups: Sequence[Word]) -> Set[Rewriting]:
     return found
 
 
-def _divided(entries: Group, rewritten: Set[Rewriting]) -> Outcome:
-    """The machine that a text without `_` is, where there is one division into groups that makes one."""
+def _divide(entries: Group, rewritten: Set[Rewriting]) -> Outcome:
+    """The machine of a text without `_`, if one division into groups makes one."""
     count, begin = len(entries), entries[0][0]
     states = [number for number in range(1, len(STATES) + 1) if count % number == 0]
     sizes = [(number, count // number) for number in states if 2 <= count // number <= MOST_SYMBOLS]
     if not sizes:
-        sentence = "%s can't be divided into 1 to 25 groups of 2 to 10" % counted(count, "entry", "entries")
+        sentence = "%s can't be divided into 1 to 25 groups of 2 to 10" % pluralize(count, "entry", "entries")
         return Reason("division", sentence, begin + 1)
     outcomes: List[Outcome] = []
     for number, size in sizes:
@@ -156,7 +151,7 @@ def _divided(entries: Group, rewritten: Set[Rewriting]) -> Outcome:
 
 
 def _machine(groups: Sequence[Group], rewritten: Set[Rewriting]) -> Outcome:
-    """The machine that has these groups."""
+    """The machine of these groups."""
     wrong = _wrong_size(groups)
     if wrong is not None:
         return wrong
@@ -167,7 +162,8 @@ def _machine(groups: Sequence[Group], rewritten: Set[Rewriting]) -> Outcome:
         text = ""
         for begin, entry in group:
             number += 1
-            entry = _rewritten(entry, halts_by_h)
+            entry = entry.upper().replace("...", "---")
+            entry = entry[:2] + "Z" if halts_by_h and entry[2] == "H" else entry
             wrong = _wrong_entry(entry, number, begin, len(groups), len(group))
             if wrong is not None:
                 return wrong
@@ -178,14 +174,8 @@ def _machine(groups: Sequence[Group], rewritten: Set[Rewriting]) -> Outcome:
     return Found("_".join(texts), tuple(kind for kind in Rewriting if kind in rewritten))
 
 
-def _rewritten(entry: str, halts_by_h: bool) -> str:
-    """An entry as `bb` reads it."""
-    entry = entry.upper().replace("...", "---")
-    return entry[:2] + "Z" if halts_by_h and entry[2] == "H" else entry
-
-
 def _wrong_size(groups: Sequence[Group]) -> Union[Reason, None]:
-    """Why no machine has groups of these lengths."""
+    """Why no machine has groups of these lengths, if so."""
     lengths = list(dict.fromkeys(map(len, groups)))
     begin = groups[0][0][0]
     if len(lengths) > 1:
@@ -193,7 +183,7 @@ def _wrong_size(groups: Sequence[Group]) -> Union[Reason, None]:
         numbers = "%s and %d" % (", ".join(map(str, lengths[:-1])), lengths[-1])
         return Reason("groups", "the groups have %s entries" % numbers, other[0][0] + 1)
     if not 2 <= lengths[0] <= MOST_SYMBOLS:
-        sentence = "the groups have %s, not 2 to 10" % counted(lengths[0], "entry", "entries")
+        sentence = "the groups have %s, not 2 to 10" % pluralize(lengths[0], "entry", "entries")
         return Reason("symbols", sentence, begin + 1)
     if len(groups) > len(STATES):
         place = groups[len(STATES)][0][0] + 1
@@ -202,7 +192,7 @@ def _wrong_size(groups: Sequence[Group]) -> Union[Reason, None]:
 
 
 def _wrong_entry(entry: str, number: int, begin: int, states: int, symbols: int) -> Union[Reason, None]:
-    """Why no machine of so many states and symbols has this entry, the `number`th."""
+    """Why no machine of so many states and symbols has this entry, if so."""
     if entry == "---":
         return None
     if int(entry[0]) >= symbols:

@@ -1,4 +1,4 @@
-"""What a reader tells of a line: its one machine, or why there is none."""
+"""The reading of a line: its one machine, or the reason why there is none."""
 
 from __future__ import annotations
 
@@ -10,7 +10,7 @@ from ..engine import column_of
 
 
 class Rewriting(Words):
-    """What of a text was written otherwise than `bb` reads it, in the order in which it is named."""
+    """A spelling that was rewritten for `bb`, in the order of printing."""
 
     SMALL_LETTERS = "small-letters"
     HALTING_STATE = "halting-state"
@@ -23,7 +23,7 @@ class Rewriting(Words):
 
     @property
     def sentence(self) -> str:
-        """What was rewritten, for a person."""
+        """A description of the rewriting."""
         return _SENTENCES[self.value]
 
 
@@ -40,10 +40,10 @@ _SENTENCES = {
 
 
 class Form(Words):
-    """How the lines of a list are written.
+    """The form of a list.
 
-    `MACHINES`: a machine a line, and nothing else. `VERDICTS`: verdict lines. `TABLE`: CSV or TSV, with a
-    column of machines. `TEXT`: what people paste, with at most one machine a line.
+    `MACHINES`: a machine a line, and nothing else. `VERDICTS`: verdict lines. `TABLE`: CSV or TSV, with a column
+    of machines. `TEXT`: text with at most one machine a line.
     """
 
     MACHINES = "machines"
@@ -52,8 +52,8 @@ class Form(Words):
     TEXT = "text"
 
 
-class Passed(Words):
-    """A line that is passed over: neither a machine nor refused."""
+class Skipped(Words):
+    """The kind of a skipped line, which has neither a machine nor a refusal."""
 
     EMPTY = "empty lines"
     COMMENT = "comments"
@@ -62,7 +62,7 @@ class Passed(Words):
     HEADER = "table headers"
 
 
-# What would do, for each kind of reason.
+# The advice for each kind of reason.
 ADVICE = {
     "none": "a machine is written as 1RB1LB_1LA1RZ",
     "rule": "in the form machines a row of 6, 9, .. or 30 dashes is a machine",
@@ -96,8 +96,8 @@ ADVICE = {
 
 @dataclasses.dataclass(frozen=True)
 class Reason:
-    """Why a line has no machine: the kind as a word, a sentence, and the character of the line where it is,
-    from 1 on. It may be one past the end."""
+    """Why a line has no machine: the kind as a word, a sentence, and the character of the line, from 1 on,
+    perhaps one past the end."""
 
     kind: str
     text: str
@@ -108,7 +108,7 @@ class Reason:
 
     @property
     def advice(self) -> str:
-        """What would do."""
+        """A correction."""
         return ADVICE[self.kind]
 
 
@@ -116,10 +116,10 @@ class Reason:
 class Reading:
     """A line of a list, and its one machine or the reason why there is none.
 
-    `number` is the line's, from 1 on; `line` is its text, without a byte order mark and what ends a line.
-    `machine` is as `bb` reads it, None where there is none; `reason` is None where there is one. `rewritten`
-    has all that stood there otherwise. `before` and `behind` are what else stood on the line, without spaces,
-    commas and semicolons at their ends. `row` has the cells of a record of a table, None in other forms.
+    `number` is the line's, from 1 on; `line` is its text, without byte order mark and line end. `machine` is
+    written as `bb` reads it, and None if there is a `reason`. `rewritten` has all rewritings. `before` and
+    `behind` are the other texts of the line, without spaces, commas and semicolons at their ends. `row` has the
+    cells of a record of a table, None in other forms.
     """
 
     number: int
@@ -133,13 +133,13 @@ class Reading:
 
     @property
     def fields(self) -> str:
-        """What else stood on the line, with a tab between what stood before and what behind."""
+        """The other texts of the line, with a tab between them."""
         return "\t".join(part for part in (self.before, self.behind) if part)
 
     @property
     def column(self) -> Optional[int]:
-        """The column with which `bb` refuses the line as it stands; None where there is a machine, or where
-        `bb` reads one that the list's form doesn't allow there. Asks the library. Raises LibraryError."""
+        """The column at which `bb` refuses the line as it stands; None if there is a machine, or `bb` reads one
+        that the list's form doesn't allow there. Raises LibraryError."""
         return column_of(self.line) if self.machine is None else None
 
     def __str__(self) -> str:

@@ -1,4 +1,4 @@
-"""`again.py`, the package's checker in plain Python, beside the program's checker."""
+"""`recheck.py`, the package's checker in plain Python, beside the program's checker."""
 
 from __future__ import annotations
 
@@ -16,7 +16,7 @@ from support import TOP
 from support.machines import mixed, seldom_halting
 from support.program import as_lines, ended, options
 
-AGAIN = str(TOP / "python" / "src" / "budlarem" / "again.py")
+RECHECK = str(TOP / "python" / "src" / "budlarem" / "recheck.py")
 # What it may have of lines.
 MOST = 150
 # The limits by which the machines of four states are decided, and what the first ones leave.
@@ -27,15 +27,15 @@ LIMITS = (STEPS, 2 * STEPS, NODES, NODES)
 WORDS = {"ok": "true", "bad": "false", "open": "no claim", "over": "too long", "unread": "not a verdict line"}
 
 
-def said(*more: str, given: bytes = b"") -> Tuple[int, List[bytes], bytes]:
-    """The status of again.py over these lines, its answers, and what it says on standard error."""
-    done = ended([sys.executable, "-I", "-S", AGAIN, *more], given)
+def run_recheck(*more: str, given: bytes = b"") -> Tuple[int, List[bytes], bytes]:
+    """The status of recheck.py over these lines, its answers, and what it says on standard error."""
+    done = ended([sys.executable, "-I", "-S", RECHECK, *more], given)
     return done.status, done.output.split(b"\n")[:-1], done.error
 
 
 def test_form() -> None:
     """It is short, and imports `sys` alone."""
-    text = pathlib.Path(AGAIN).read_text(encoding="utf-8")
+    text = pathlib.Path(RECHECK).read_text(encoding="utf-8")
     assert text.count("\n") <= MOST
     nodes = [node for node in ast.walk(ast.parse(text)) if isinstance(node, (ast.Import, ast.ImportFrom))]
     names = [ast.unparse(node) for node in nodes]
@@ -55,16 +55,16 @@ def test_words() -> None:
         ([], b"1RB1LB_1LA1RZ halt 6 4\r\n", 1, b"not a verdict line"),
     ]
     for more, given, status, answer in cases:
-        found = said(*more, given=given)
+        found = run_recheck(*more, given=given)
         assert found[:2] == (status, [answer])
         assert b"1 " + answer in found[2]
     for more in (["--steps"], ["--steps", "x"], ["--help"], ["one", "two"]):
-        status, _, error = said(*more)
+        status, _, error = run_recheck(*more)
         assert status == 2 and b"--steps N" in error, (more, status, error)
-    status, _, error = said(str(TOP / "no such file"))
+    status, _, error = run_recheck(str(TOP / "no such file"))
     assert status == 3 and b"no such file" in error, (status, error)
     with open("/dev/full", "wb") as full:
-        command = [sys.executable, AGAIN]
+        command = [sys.executable, RECHECK]
         done = subprocess.run(command, input=halt, stdout=full, stderr=subprocess.PIPE)
     right = done.returncode == 3 and b"No space left" in done.stderr
     assert right, (done.returncode, done.stderr.decode())
@@ -73,7 +73,7 @@ def test_words() -> None:
 def memory_for(steps: int, path: pathlib.Path) -> int:
     """The most memory that a run of so many steps in two cells takes, in KiB."""
     path.write_text("0RB---_0LA--- cycler 0 %d\n" % steps)
-    with subprocess.Popen([sys.executable, AGAIN, "--steps", str(steps), str(path)]) as process:
+    with subprocess.Popen([sys.executable, RECHECK, "--steps", str(steps), str(path)]) as process:
         _, status, used = os.wait4(process.pid, 0)
         process.returncode = os.waitstatus_to_exitcode(status)
     assert process.returncode == 0
@@ -94,7 +94,7 @@ def test_verdicts_on_four_states(bb: str, list_machines: Callable[..., List[str]
     left = b"".join(line.split(b" ")[0] + b"\n" for line in first if b" undecided " in line)
     later = ended([bb, "decide", *options(LATER)], left).output.splitlines(keepends=True)
     lines = b"".join([line for line in first if b" undecided " not in line] + later)
-    status, answers, error = said("--steps", str(LATER[0]), "--nodes", str(LATER[3]), given=lines)
+    status, answers, error = run_recheck("--steps", str(LATER[0]), "--nodes", str(LATER[3]), given=lines)
     assert status == 0
     expected = [b"no claim" if b" undecided " in line else b"true" for line in lines.split(b"\n")[:-1]]
     assert len(expected) > 80_000
@@ -109,7 +109,7 @@ def machines_of(count: int, source: random.Random) -> Iterator[str]:
         yield seldom_halting(source, source.randint(1, 4), source.randint(2, 4))
 
 
-def changed_number(source: random.Random, word: bytes) -> bytes:
+def change_number(source: random.Random, word: bytes) -> bytes:
     """A number that is near another, of another form, or far."""
     if not word.isdigit():
         return word
@@ -123,13 +123,13 @@ def changed_number(source: random.Random, word: bytes) -> bytes:
     return b"%d" % source.choice(far) if drawn < 0.8 else source.choice(forms)
 
 
-def forged(source: random.Random, line: bytes) -> bytes:
+def forge(source: random.Random, line: bytes) -> bytes:
     """A line with something in it changed."""
     fields = line.split(b" ")
     drawn = source.random()
     if drawn < 0.5:
         place = source.randrange(len(fields))
-        fields[place] = changed_number(source, fields[place])
+        fields[place] = change_number(source, fields[place])
     elif drawn < 0.6:
         fields[-2:] = reversed(fields[-2:])
     elif drawn < 0.7:
@@ -150,7 +150,7 @@ def forged(source: random.Random, line: bytes) -> bytes:
 
 
 def is_right(line: bytes, printed: bytes, answer: bytes) -> bool:
-    """Whether again.py answers a line as the program does. It has no bound on levels: a tree never has more
+    """Whether recheck.py answers a line as the program does. It has no bound on levels: a tree never has more
     of them than nodes."""
     if printed == b"over" and b" backward " in line and int(line.split(b" ")[2]) > NODES:
         return answer in (b"too long", b"false")
@@ -163,11 +163,11 @@ def test_forged_lines(bb: str, count: int, rng: random.Random) -> None:
     source = rng
     machines = as_lines(machines_of(count, source))
     verdicts = ended([bb, "decide", *options(LIMITS)], machines).output.split(b"\n")[:-1]
-    lines = [*verdicts, *(forged(source, line) for line in verdicts), b"refused 775", b"refused 776", b""]
+    lines = [*verdicts, *(forge(source, line) for line in verdicts), b"refused 775", b"refused 776", b""]
     given = b"".join(line + b"\n" for line in lines) + b"1RA1RA undecided steps"
     lines.append(b"1RA1RA undecided steps")
     printed = ended([bb, "check", *options(LIMITS)], given).output.split(b"\n")[:-1]
-    _, answers, _ = said("--steps", str(STEPS), "--nodes", str(NODES), given=given)
+    _, answers, _ = run_recheck("--steps", str(STEPS), "--nodes", str(NODES), given=given)
     assert len(lines) == len(printed) == len(answers)
     counts: Counter[bytes] = collections.Counter(printed)
     assert len(counts) == 5 and min(counts.values()) >= 20, counts

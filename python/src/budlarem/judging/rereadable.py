@@ -1,4 +1,4 @@
-"""A list that is read twice, whatever it comes from."""
+"""A list that can be read more than once, whatever its source."""
 
 from __future__ import annotations
 
@@ -10,24 +10,23 @@ from typing import IO, Any, Iterator, List, Optional
 
 from ..reading.files import Lines, Numbered, Source
 from ..reading.forms import ListForm, form_of
+from ..reading.readings import Form
 from ..reading.tables import Columns
-from ..reading.values import Form
 
-# So many characters of a list are kept between its readings. Of a longer one a regular file is read again,
-# and what comes from elsewhere is copied to the disk.
-_KEPT = 8_000_000
+# The characters of a list that are held. A longer regular file is read again; other sources are copied to disk.
+_MOST_BUFFERED = 8_000_000
 
 
-class Twice:
-    """The lines of a list that aren't empty, which can be read more than once. `form` is that of the list."""
+class RereadableList:
+    """The lines of a list that aren't empty, which can be read more than once. `form` is the list's."""
 
     def __init__(self, source: Source, form: Optional[Form] = None, columns: Columns = Columns()) -> None:
         self._source: Any = source
         self._lines = Lines(source)
         self._ahead: List[Numbered] = []
-        self._kept: Optional[List[Numbered]] = None
+        self._buffered: Optional[List[Numbered]] = None
         self._copy: Optional[IO[bytes]] = None
-        self._is_begun = False
+        self._is_started = False
         self.form: ListForm = form_of(self._lines, self._ahead, form, columns)
 
     def __del__(self) -> None:
@@ -37,25 +36,25 @@ class Twice:
 
     @property
     def empty(self) -> int:
-        """How many empty lines were read."""
+        """The number of empty lines read so far."""
         return self._lines.empty
 
     @property
     def undecoded(self) -> int:
-        """How many lines that were read have bytes that are no UTF-8."""
+        """The number of lines read so far that aren't UTF-8."""
         return self._lines.undecoded
 
     def once(self) -> Iterator[Numbered]:
         """The lines, for the last time."""
-        return self.lines() if self._is_begun else itertools.chain(self._ahead, self._lines)
+        return self.lines() if self._is_started else itertools.chain(self._ahead, self._lines)
 
     def lines(self) -> Iterator[Numbered]:
         """The lines, from the first on. Raises OSError."""
-        if not self._is_begun:
-            self._is_begun = True
-            self._keep()
-        if self._kept is not None:
-            yield from self._kept
+        if not self._is_started:
+            self._is_started = True
+            self._buffer()
+        if self._buffered is not None:
+            yield from self._buffered
         elif self._copy is not None:
             self._copy.seek(0)
             for line in self._copy:
@@ -65,25 +64,21 @@ class Twice:
             self._lines = Lines(self._source)
             yield from self._lines
 
-    def _keep(self) -> None:
-        """Reads the list for the first time: keeps it where it is short, copies it where it can't be read
-        again."""
-        kept: List[Numbered] = []
+    def _buffer(self) -> None:
+        """Reads the list for the first time: holds a short one, copies one that can't be read again."""
+        held: List[Numbered] = []
         size = 0
         lines = itertools.chain(self._ahead, self._lines)
         for numbered in lines:
-            kept.append(numbered)
+            held.append(numbered)
             size += len(numbered[1]) + 64
-            if size > _KEPT:
+            if size > _MOST_BUFFERED:
                 break
         else:
-            self._kept = kept
+            self._buffered = held
             return
-        if not _is_regular(self._source):
+        is_path = isinstance(self._source, (str, os.PathLike))
+        if not (is_path and stat.S_ISREG(os.stat(self._source).st_mode)):
             self._copy = tempfile.TemporaryFile()
-            for number, line in itertools.chain(kept, lines):
+            for number, line in itertools.chain(held, lines):
                 self._copy.write(b"%d %s\n" % (number, line.encode("utf-8", "surrogateescape")))
-
-
-def _is_regular(source: Any) -> bool:
-    return isinstance(source, (str, os.PathLike)) and stat.S_ISREG(os.stat(source).st_mode)

@@ -1,0 +1,138 @@
+"""The commands `check` and `publish`."""
+
+from __future__ import annotations
+
+import argparse
+import contextlib
+import os
+import signal
+import sys
+from types import FrameType
+from typing import Optional
+
+from .._text import LONGEST_SHOWN, escape_controls
+from ..limits import Limits, limits_of
+from ..publishing import UnconfirmedError, publish
+from ..reading.files import BytesFile
+from ..runner.errors import RunError
+from ..runner.progress import TerminalLine, short_count
+from ..verdicts import Answer
+from ..verification import CheckSummary, answer_blocks, explain
+from .shared import Subcommands, add_command, add_file, add_greatest_limits, add_number, greatest_limits
+from .shared import source_of
+
+_CHECK = """Checks verdict lines of any origin, and writes an answer to each line, the bytes of bb check: ok,
+the claim holds; bad, it doesn't; over, it exceeds the limits, or its run needs more cells; open, it claims
+nothing; unread, it is no verdict line. Standard error gets the counts at the end, and the first line that is
+neither ok nor open, with the reason. Status 1 if there is one. FILE may be a gzip.
+
+The check of a claim takes as many steps as it names, whatever the limits, so these are the greatest by default.
+The tapes of each thread then take 134 MB. Pass --steps against claims of 10^12 steps, which take hours."""
+
+
+def counts_text(summary: CheckSummary) -> str:
+    """The count of each answer so far."""
+    counts = ((short_count(summary.counts[answer]), answer) for answer in Answer if summary.counts[answer])
+    return ", ".join("%s %s" % pair for pair in counts)
+
+
+def do_check(asked: argparse.Namespace) -> int:
+    """Writes the checker's answers."""
+    limits, progress = greatest_limits(asked), TerminalLine()
+    name = "standard input" if asked.file in (None, "-") else asked.file
+    summary = CheckSummary()
+    with contextlib.closing(BytesFile(source_of(asked.file))) as file:
+        for answers in answer_blocks(file, limits, asked.threads, summary):
+            progress.show(lambda: counts_text(summary))
+            sys.stdout.write(answers.decode())
+    progress.clear()
+    sys.stdout.flush()
+    counts = ("%s %d" % (answer, summary.counts[answer]) for answer in Answer)
+    print(escape_controls("%s: %s" % (name, ", ".join(counts))), file=sys.stderr)
+    if summary.first is None:
+        return 0
+    number, line, answer = summary.first
+    parts = (name, number, answer, LONGEST_SHOWN, line, explain(line, answer, limits))
+    print(escape_controls("%s:%d: %s: %.*s: %s" % parts), file=sys.stderr)
+    return 1
+
+
+def add_check(commands: Subcommands) -> None:
+    """Adds the command to a parser."""
+    columns = [("answer", "ok, bad, over, open or unread")]
+    check = add_command(commands, "check", do_check, "check verdict lines", _CHECK, columns)
+    add_file(check)
+    add_greatest_limits(check)
+    add_number(check, "--threads", "cores used", 1)
+
+
+_PUBLISH = """Writes one archive of a decided list that others can check: the list, the verdicts, limits and
+versions, the sha256 of each, a page that explains the lines, and recheck.py, a checker in plain Python. The
+checker has to confirm each claim first, and each line of LIST has to have its verdict at the same place. Files
+may be gzips; the archive has them uncompressed.
+
+Status 1 if a verdict isn't confirmed, 2 if something can't be published; nothing is written then."""
+
+
+class _Ended(BaseException):
+    """A signal that ends the process, once the half archive is removed."""
+
+
+def _raise_ended(number: int, frame: Optional[FrameType]) -> None:
+    raise _Ended(number)
+
+
+def do_publish(asked: argparse.Namespace) -> int:
+    """Writes an archive of a decided list."""
+    for number in (signal.SIGINT, signal.SIGTERM, signal.SIGHUP):
+        if signal.getsignal(number) is not signal.SIG_IGN:
+            signal.signal(number, _raise_ended)
+    progress = TerminalLine(is_beside=False)
+    most = {name: highest for name, (_, highest) in Limits.RANGES.items()}
+    try:
+        try:
+            archive = publish(
+                asked.out,
+                asked.verdicts,
+                asked.list,
+                passes=[limits_of(words) for words in asked.passes or ()],
+                limits=Limits(**{**most, "steps": asked.steps}),
+                threads=len(os.sched_getaffinity(0)) if asked.threads is None else asked.threads,
+                progress=lambda lines: progress.show(lambda: "%s lines checked" % short_count(lines)),
+            )
+        finally:
+            progress.clear()
+        print(archive)
+        return 0
+    except UnconfirmedError as error:
+        text, status = str(error), 1
+    except RunError as error:
+        text, status = str(error), 3
+    except _Ended as end:
+        text, status = "%s: no archive is written" % signal.Signals(end.args[0]).name, 128 + end.args[0]
+    print("budlarem: %s" % escape_controls(text), file=sys.stderr)
+    return status
+
+
+def add_publish(commands: Subcommands) -> None:
+    """Adds the command to a parser."""
+    columns = [("sha256", "of the archive"), ("name", "of the archive, a line for `sha256sum --check`")]
+    parser = add_command(
+        commands, "publish", do_publish, "an archive that others can check", _PUBLISH, columns, "two spaces"
+    )
+    parser.add_argument("out", metavar="OUT.tar", help="the archive; an existing file isn't replaced")
+    parser.add_argument(
+        "--verdicts", required=True, metavar="FILE", help="verdict lines, or the folder of `budlarem run`"
+    )
+    parser.add_argument(
+        "--list", metavar="LIST", help="the machines, one a line, in the order of the verdicts"
+    )
+    parser.add_argument(
+        "--pass",
+        action="append",
+        dest="passes",
+        metavar="steps=N,cells=N,depth=N,nodes=N",
+        help="limits by which the verdicts were decided, for the readers; a run's folder has them",
+    )
+    add_number(parser, "--steps", "the most steps of a claim", Limits.RANGES["steps"][1])
+    add_number(parser, "--threads", "cores used (default: all)")

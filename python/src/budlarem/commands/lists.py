@@ -1,0 +1,230 @@
+"""The commands over lists of claims: `compare`, `report`, `judge`."""
+
+from __future__ import annotations
+
+import argparse
+import collections
+import os
+import sys
+from typing import BinaryIO, Counter, Dict, Iterator, Optional, Union
+
+from ..claims import WORDS, Claims, Translation, Word, read_words
+from ..comparison import Agreement, compare
+from ..judging import Judgement, judge, translation_in
+from ..judging.rereadable import RereadableList
+from ..limits import GREATEST, Limits
+from ..numbers import option_number
+from ..reading import Skipped
+from ..reports import report
+from ..runner.progress import TerminalLine, short_count
+from ..verdicts import Verdict
+from .shared import ListReader, Subcommands, add_claims_form, add_command, add_file, add_limits, add_number
+from .shared import columns_of, form_of, limits_of
+
+_CLAIMS = """A list has one of the forms of `budlarem help read`: verdict lines; a table with a column of
+verdicts, or of words for halting beside columns of steps and scores, by a translation that is printed first; a
+text with lines whose other words are one verdict. A line without a verdict is printed on standard error with
+file and number; status 1 then."""
+_COMPARE = """Compares two lists of verdicts by machine, in any order. Each machine on which they don't agree gets
+a line; standard error gets the counts. Status 1 if two verdicts contradict each other.
+
+%s"""
+_REPORT = """Writes one HTML file on a list of verdicts: counts, distributions, the longest runs, and diagrams of
+undecided machines.
+
+%s"""
+
+
+class ClaimReader(ListReader):
+    """Reads a list of claims. Prints its form, the translation of a table's words, and rewritten, refused and
+    skipped lines on standard error."""
+
+    def __init__(self, path: Optional[str], asked: argparse.Namespace) -> None:
+        super().__init__(path, None, form_of(asked), columns_of(asked))
+        self.words: Dict[str, Word] = WORDS if asked.words is None else read_words(asked.words)
+        self._word_file: Optional[str] = asked.words
+
+    def verdicts(self) -> Iterator[Verdict]:
+        """The verdict of each line that has one. Raises OSError, ValueError."""
+        source = RereadableList(self.source, self.form, self.columns)
+        self.print_form(source.form)
+        self.print_unused_words(source.form, self._word_file)
+        try:
+            self.print_translation(translation_in(source, self.words, lambda what, lines: None))
+        except ValueError as error:
+            raise ValueError("%s: %s" % (self.name, error)) from None
+        claims = Claims(source.once(), source.form, self.words)
+        for claim in claims:
+            if claim.verdict is not None:
+                self.print_rewritten(claim.reading)
+                yield claim.verdict
+            elif claim.reading.machine is None:
+                self.refuse(claim.reading.number, str(claim.reading))
+            else:
+                why = claim.trouble or "no verdict of %s" % claim.reading.machine
+                self.refuse(claim.reading.number, "refused: %s" % why)
+        empty = {Skipped.EMPTY: source.empty} if source.empty else {}
+        self.print_skipped(claims.skipped + collections.Counter(empty), source.undecoded)
+
+    def print_translation(self, translation: Optional[Translation]) -> None:
+        for line in translation.lines if translation is not None else ():
+            self.print_line(line)
+
+
+def do_compare(asked: argparse.Namespace) -> int:
+    """Compares two files of verdict lines by machine, in any order."""
+    if asked.first == "-" == asked.second:
+        raise ValueError("A and B can't both be standard input")
+    counts: Counter[Agreement] = collections.Counter()
+    first, second = ClaimReader(asked.first, asked), ClaimReader(asked.second, asked)
+    for found in compare(first.verdicts(), second.verdicts(), undefined_steps=asked.undefined_steps):
+        counts[found.agreement] += 1
+        if found.agreement is not Agreement.AGREE:
+            sys.stdout.write("%s\n" % found)
+    sys.stdout.flush()
+    for kind in Agreement:
+        print("%s %d" % (kind, counts[kind]), file=sys.stderr)
+    return 1 if counts[Agreement.CONTRADICT] else max(first.status, second.status)
+
+
+def require_other_file(out: str, given: Union[str, BinaryIO]) -> None:
+    """Raises ValueError if the output would replace the list."""
+    try:
+        listed = os.stat(given if isinstance(given, str) else given.fileno())
+        written = os.stat(out)
+    except OSError:
+        return
+    if os.path.samestat(listed, written):
+        raise ValueError("--out %s is the list itself, which would be replaced; give another name" % out)
+
+
+def do_report(asked: argparse.Namespace) -> int:
+    """Writes one HTML file on a list of verdict lines."""
+    reader = ClaimReader(asked.file, asked)
+    require_other_file(asked.out, reader.source)
+    report(
+        reader.verdicts(),
+        asked.out,
+        diagrams=asked.diagrams,
+        steps=asked.steps,
+        cells=asked.cells,
+        threads=asked.threads,
+        title=asked.title or os.path.basename(asked.file or "Verdicts"),
+    )
+    return reader.status
+
+
+def add_claims(commands: Subcommands) -> None:
+    """Adds `compare` and `report` to a parser."""
+    columns = [
+        ("agreement", "first-decides, second-decides, contradict, only-first or only-second"),
+        ("verdicts", "of A and of B, with ` | ` between them; - for none"),
+    ]
+    help = "compare two files of verdict lines"
+    both = add_command(commands, "compare", do_compare, help, _COMPARE % _CLAIMS, columns)
+    both.add_argument("first", metavar="A")
+    both.add_argument("second", metavar="B")
+    add_claims_form(both)
+    both.add_argument("--undefined-steps", action="store_true", help="one of them counts --- as a step")
+    page = add_command(commands, "report", do_report, "one HTML file on verdict lines", _REPORT % _CLAIMS)
+    add_file(page)
+    add_claims_form(page)
+    page.add_argument("--out", required=True, metavar="PAGE.html")
+    add_number(page, "--diagrams", "at most", 100)
+    add_number(page, "--threads", "cores used (default: all)")
+    page.add_argument("--title", help="default: the file's name")
+    add_limits(page, ["steps", "cells"])
+
+
+_JUDGE = """Judges a list of the claims of others, by the form of the list (`budlarem help read`). verdicts: each
+line claims its verdict. table: the words of a column say whether a machine halts, by a translation that is
+printed first and that --words changes; for halting machines the columns of steps and score are judged too.
+text: a line makes a claim if its other words are one verdict. Nothing else is judged. Each machine is decided;
+a claim that our verdict doesn't settle is checked. Standard error gets the form, the counts, and the rewritten
+and skipped lines of THEIRS. Status 1 if a line is contradicted.
+
+confirmed: the checker confirms the claim, or our verdict agrees with the word. contradicted: the checker
+refutes the claim, or our verdict disagrees. not-judged: undecided here too, over the checker's limits, or the
+line claims nothing by the form of the list. unreadable: no one machine.
+
+Numbers may have groups of three digits, as 47,176,870.
+
+If each halt of theirs at a --- is true of the machine with 1RZ there, and there is one, they are taken to count
+a step for ---, and standard error says so. --undefined-steps sets it beforehand.
+
+With --list, the refused lines of LIST are printed as by `budlarem read`, and lines follow at the end: no-line,
+for a machine of LIST without a line; not-listed, for a machine of THEIRS that isn't in LIST. Machines are the
+same there up to the names of states and symbols, and left and right."""
+
+
+def counts_text(counts: Counter[Judgement]) -> str:
+    """The count of each judgement so far."""
+    return ", ".join("%s %s" % (short_count(counts[kind]), kind) for kind in Judgement if counts[kind])
+
+
+def do_judge(asked: argparse.Namespace) -> int:
+    """Judges a list of claims."""
+    if asked.theirs == "-" == asked.list:
+        raise ValueError("THEIRS and LIST can't both be standard input")
+    progress = TerminalLine()
+    reader = ListReader(asked.theirs, progress, form_of(asked), columns_of(asked))
+    highest = asked.check_steps
+    checker = GREATEST if highest is None else Limits(highest, *GREATEST.numbers()[1:])
+    judging = judge(
+        reader.source,
+        None if asked.list is None else ListReader(asked.list, progress).readings(),
+        limits=limits_of(asked),
+        checker=checker,
+        undefined_steps=True if asked.undefined_steps else None,
+        threads=asked.threads,
+        progress=lambda what, lines: progress.show(lambda: "%s lines %s" % (short_count(lines), what)),
+        form=reader.form,
+        columns=reader.columns,
+        words=None if asked.words is None else read_words(asked.words),
+    )
+    theirs = judging.theirs
+    reader.print_form(theirs.form)
+    for line in theirs.translation.lines if theirs.translation is not None else ():
+        reader.print_line(line)
+    reader.print_unused_words(theirs.form, asked.words)
+    counts: Counter[Judgement] = collections.Counter()
+    for judged in judging:
+        counts[judged.judgement] += 1
+        reader.print_rewritten(judged.claim.reading)
+        sys.stdout.write("%s\n" % judged)
+        progress.show(lambda: counts_text(counts))
+    others = {"no-line": judging.missing(), "not-listed": judging.foreign()}
+    progress.clear()
+    if asked.list is not None:
+        for word, numbered in others.items():
+            sys.stdout.writelines("%s\t%d\t%s\n" % (word, *pair) for pair in numbered)
+        parts = ", ".join("%s %d" % (word, len(numbered)) for word, numbered in others.items())
+        print("%s: %s" % (asked.list, parts), file=sys.stderr)
+    sys.stdout.flush()
+    reader.print_skipped(theirs.skipped, theirs.undecoded)
+    if judging.undefined_steps:
+        print("%s: a step is counted for each ---" % reader.name, file=sys.stderr)
+    parts = ", ".join("%s %d" % (kind, counts[kind]) for kind in Judgement)
+    print("%s: %s" % (reader.name, parts), file=sys.stderr)
+    return 1 if counts[Judgement.CONTRADICTED] else 0
+
+
+def add_judge(commands: Subcommands) -> None:
+    """Adds the command to a parser."""
+    columns = [
+        ("judgement", "confirmed, contradicted, not-judged or unreadable; no-line or not-listed"),
+        ("number", "of the line in THEIRS, for no-line in LIST"),
+        ("ours", "our verdict line; the line itself if it is unreadable"),
+        ("reason", "what was confirmed or contradicted, and by what"),
+    ]
+    help = "judge the claims of others"
+    judging = add_command(commands, "judge", do_judge, help, _JUDGE, columns)
+    judging.add_argument("theirs", metavar="THEIRS", help="a list; - is standard input")
+    judging.add_argument("--list", metavar="LIST", help="the machines that THEIRS should be of")
+    add_claims_form(judging)
+    judging.add_argument("--undefined-steps", action="store_true", help="they count a step for ---")
+    add_limits(judging, Limits.RANGES)
+    highest = Limits.RANGES["steps"][1]
+    help = "the most steps of a claim (default: {:,})".format(highest)
+    judging.add_argument("--check-steps", type=option_number, metavar="N", help=help)
+    add_number(judging, "--threads", "cores used", 1)

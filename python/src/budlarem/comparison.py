@@ -1,0 +1,149 @@
+"""Compares two lists of verdicts, as streams."""
+
+from __future__ import annotations
+
+import collections
+import dataclasses
+from typing import Dict, Iterable, Iterator, List, Optional, Tuple, Union
+
+from ._text import Words
+from .normal_forms import canonical_form, mirror_verdict
+from .verdicts import Backward, Cycler, Halt, MachineVerdict, Refused, Translated, Undecided, Verdict
+from .verdicts import verdicts_of
+
+
+class Agreement(Words):
+    """The relation of two lists' verdicts on a machine."""
+
+    AGREE = "agree"
+    FIRST_DECIDES = "first-decides"
+    SECOND_DECIDES = "second-decides"
+    CONTRADICT = "contradict"
+    ONLY_FIRST = "only-first"
+    ONLY_SECOND = "only-second"
+
+
+@dataclasses.dataclass(frozen=True)
+class Comparison:
+    """The verdicts of two lists on a machine, None in a list without it, and their relation."""
+
+    agreement: Agreement
+    machine: str
+    first: Optional[Verdict]
+    second: Optional[Verdict]
+
+    def __str__(self) -> str:
+        verdicts = ("-" if verdict is None else str(verdict) for verdict in (self.first, self.second))
+        return "%s\t%s" % (self.agreement, " | ".join(verdicts))
+
+
+def _halts_agree(first: Halt, second: Halt, undefined_steps: bool) -> bool:
+    """Whether two halts are equal; with `undefined_steps` also if one counts a step for an undefined
+    transition."""
+    if (first.steps, first.score) == (second.steps, second.score):
+        return True
+    fewer, more = sorted((first, second), key=lambda halt: halt.steps)
+    is_step = more.steps == fewer.steps + 1 and more.score in (fewer.score, fewer.score + 1)
+    return undefined_steps and "---" in first.machine and is_step
+
+
+def agreement(first: Verdict, second: Verdict, undefined_steps: bool = False) -> Agreement:
+    """The relation of two verdicts on a machine.
+
+    Verdicts that can't both be right contradict each other: halting and never halting, two different halts, a
+    cycler and a translated cycler, translated cyclers to both sides, two different trees.
+    """
+    if isinstance(first, Undecided) or isinstance(second, Undecided):
+        if isinstance(first, Undecided) and isinstance(second, Undecided):
+            return Agreement.AGREE
+        return Agreement.SECOND_DECIDES if isinstance(first, Undecided) else Agreement.FIRST_DECIDES
+    if isinstance(first, Halt) and isinstance(second, Halt):
+        agree = _halts_agree(first, second, undefined_steps)
+    elif isinstance(first, Translated) and isinstance(second, Translated):
+        agree = first.side == second.side
+    elif isinstance(first, Backward) and isinstance(second, Backward):
+        agree = first == second
+    else:
+        kinds = {type(first), type(second)}
+        agree = Halt not in kinds and kinds != {Cycler, Translated}
+    return Agreement.AGREE if agree else Agreement.CONTRADICT
+
+
+class _Side:
+    """A list of verdicts without its refusals, and its verdicts for which the other list has none yet."""
+
+    def __init__(self, items: Iterable[Union[str, Verdict]], name: str) -> None:
+        self.items = (one for one in verdicts_of(items, name) if not isinstance(one, Refused))
+        self.waiting: Dict[str, List[MachineVerdict]] = {}
+
+    def take(self, machine: str) -> Optional[MachineVerdict]:
+        """Removes and returns the first waiting verdict on a machine."""
+        found = self.waiting.get(machine)
+        if found is None:
+            return None
+        verdict = found.pop(0)
+        if not found:
+            del self.waiting[machine]
+        return verdict
+
+    def remaining(self) -> List[MachineVerdict]:
+        """The waiting verdicts."""
+        return [verdict for verdicts in self.waiting.values() for verdict in verdicts]
+
+
+def compare(
+    first: Iterable[Union[str, Verdict]],
+    second: Iterable[Union[str, Verdict]],
+    *,
+    undefined_steps: bool = False,
+) -> Iterator[Comparison]:
+    """Compares two lists of verdicts, or verdict lines, by machine, in any order.
+
+    Both are read side by side; verdicts for which the other list has none yet are held, so lists in about the
+    same order take little memory. The rest is compared up to the names of states and symbols and up to mirror
+    images. Machines of only one list come last. Refusals have no machine and are skipped, as are fields behind a
+    tab. `undefined_steps`: one of the lists counts a step for an undefined transition.
+
+    Raises ValueError with its place for a text that is no verdict line, TypeError for an item that is no text.
+
+    >>> for found in compare(["1RB1LB_1LA1RZ halt 6 4"], ["1RA1RA cycler 1 2", "1RB1LB_1LA1RZ halt 5 4"]):
+    ...     print(found.agreement, found.machine)
+    contradict 1RB1LB_1LA1RZ
+    only-second 1RA1RA
+    """
+    sides = (_Side(first, "first"), _Side(second, "second"))
+    is_open = [True, True]
+    while any(is_open):
+        for here, side in enumerate(sides):
+            verdict = next(side.items, None)
+            if verdict is None:
+                is_open[here] = False
+                continue
+            other = sides[1 - here].take(verdict.machine)
+            if other is None:
+                side.waiting.setdefault(verdict.machine, []).append(verdict)
+                continue
+            pair = (verdict, other) if here == 0 else (other, verdict)
+            yield Comparison(agreement(*pair, undefined_steps), verdict.machine, *pair)
+    yield from _compare_by_form(sides[0].remaining(), sides[1].remaining(), undefined_steps)
+
+
+def _compare_by_form(
+    first: List[MachineVerdict], second: List[MachineVerdict], undefined_steps: bool
+) -> Iterator[Comparison]:
+    """Compares verdicts on machines that the other list has in another form or not at all."""
+    waiting: Dict[str, List[Tuple[MachineVerdict, bool]]] = collections.defaultdict(list)
+    for other in second if first else []:
+        form = canonical_form(other.machine)
+        waiting[form.text].append((other, form.mirrored))
+    for verdict in first:
+        form = canonical_form(verdict.machine)
+        found = waiting.get(form.text)
+        if not found:
+            yield Comparison(Agreement.ONLY_FIRST, verdict.machine, verdict, None)
+            continue
+        other, mirrored = found.pop(0)
+        kind = agreement(verdict, mirror_verdict(other, mirrored != form.mirrored), undefined_steps)
+        yield Comparison(kind, verdict.machine, verdict, other)
+    rest = (other for pairs in waiting.values() for other, _ in pairs) if first else iter(second)
+    yield from (Comparison(Agreement.ONLY_SECOND, other.machine, None, other) for other in rest)

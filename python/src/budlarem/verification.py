@@ -1,0 +1,108 @@
+"""Checks lists of verdict lines, and explains why a line isn't confirmed."""
+
+from __future__ import annotations
+
+import collections
+import dataclasses
+import io
+from typing import Counter, Iterator, List, Optional, Sequence, Tuple
+
+from ._calls import BinaryReader
+from .engine import check_file, decide
+from .limits import Limits, Plan
+from .verdicts import Answer, Backward, Cycler, Halt, Translated, Verdict, parse
+
+# With so few cells a call costs little.
+_FEW_CELLS = 65_536
+
+
+@dataclasses.dataclass
+class CheckSummary:
+    """The count of each answer so far, and number, text and answer of the first line that is neither `ok` nor
+    `open`."""
+
+    counts: Counter[Answer] = dataclasses.field(default_factory=collections.Counter)
+    first: Optional[Tuple[int, str, Answer]] = None
+
+
+def answer_blocks(file: BinaryReader, limits: Limits, threads: int, summary: CheckSummary) -> Iterator[bytes]:
+    """The bytes that `bb check` writes for a file, in blocks, counted in `summary`."""
+    for lines, answers in check_file(file, limits, threads=threads):
+        if summary.first is None:
+            summary.first = _first_unconfirmed(lines, answers, sum(summary.counts.values()))
+        for answer in Answer:
+            # No answer ends as another.
+            summary.counts[answer] += answers.count(b"%s\n" % str(answer).encode())
+        yield answers
+
+
+def _first_unconfirmed(lines: bytes, answers: bytes, before: int) -> Optional[Tuple[int, str, Answer]]:
+    """The first line that is neither `ok` nor `open`, with `before` lines before these."""
+    words = answers.split(b"\n")[:-1]
+    if words.count(b"ok") + words.count(b"open") == len(words):
+        return None
+    place = next(place for place, word in enumerate(words) if word not in (b"ok", b"open"))
+    line = lines.split(b"\n")[place].decode("utf-8", "surrogateescape")
+    return before + place + 1, line, Answer(words[place].decode())
+
+
+def explain(line: str, answer: Answer, limits: Limits) -> str:
+    """Why the checker gives this answer to a line under these limits."""
+    try:
+        verdict = parse(line)
+    except ValueError:
+        return "it is no verdict line"
+    if answer is Answer.OVER:
+        return _exceeded_limit(verdict, limits)
+    return _wrong_part(verdict, limits) if answer is Answer.BAD else "its claim holds"
+
+
+def _exceeded_limit(verdict: Verdict, limits: Limits) -> str:
+    named: List[Tuple[str, str, int]] = []
+    if isinstance(verdict, Halt):
+        named = [("steps", "steps", verdict.steps)]
+    elif isinstance(verdict, (Cycler, Translated)):
+        named = [("steps", "steps", max(verdict.first, verdict.second))]
+    elif isinstance(verdict, Backward):
+        named = [("depth", "levels", verdict.levels), ("nodes", "nodes", verdict.nodes)]
+    for limit, unit, number in named:
+        most = getattr(limits, limit)
+        if number > most:
+            return "it names {:,} {}, but the limit is {:,}".format(number, unit, most)
+    return "its run needs more cells than the limit of {:,}".format(limits.cells)
+
+
+def _wrong_part(verdict: Verdict, limits: Limits) -> str:
+    if isinstance(verdict, Halt):
+        bounds = Limits(verdict.steps, limits.cells, 0, 0)
+        (found,) = decide([verdict.machine], bounds, Plan(False, False, False))
+        if isinstance(found, Halt):
+            return "it halts after {:,} steps with {:,} cells that aren't 0".format(found.steps, found.score)
+        return "it doesn't halt within {:,} steps".format(verdict.steps)
+    if isinstance(verdict, (Cycler, Translated)) and verdict.first >= verdict.second:
+        return "its first step isn't before its second"
+    if isinstance(verdict, Cycler):
+        return "the configurations at its two steps aren't the same"
+    if isinstance(verdict, Translated):
+        extent = "" if verdict.extent is None else ", or shift and length are others"
+        return "its two steps make no records of its side that agree" + extent
+    return "the tree doesn't end in so many levels and nodes, or the start fits one of them"
+
+
+def answers_of(claims: Sequence[Verdict], limits: Limits, threads: int) -> List[Answer]:
+    """The checker's answer to each claim. Claims that need more than a few cells are checked twice."""
+    depth = min(limits.depth, _FEW_CELLS // 2)
+    few = Limits(limits.steps, min(limits.cells, _FEW_CELLS), depth, limits.nodes)
+    answers = list(_answers(claims, few, threads))
+    if few == limits:
+        return answers
+    over = [place for place, answer in enumerate(answers) if answer is Answer.OVER]
+    for place, answer in zip(over, _answers([claims[place] for place in over], limits, threads)):
+        answers[place] = answer
+    return answers
+
+
+def _answers(claims: Sequence[Verdict], limits: Limits, threads: int) -> Iterator[Answer]:
+    lines = "".join("%s\n" % claim for claim in claims).encode()
+    for _, answers in check_file(io.BytesIO(lines), limits, threads=threads):
+        yield from map(Answer, answers.decode().split())
