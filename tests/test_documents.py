@@ -102,7 +102,9 @@ def homes(paths: Set[str]) -> Set[str]:
 @functools.lru_cache(maxsize=None)
 def options(program: bool) -> Set[str]:
     """Return the options of the program alone, or of all commands."""
-    named = re.findall(r"(?:value|has_option)\(matches, \"([a-z-]+)\"\)", read("crates/bb_command/src/command.rt"))
+    named = re.findall(
+        r"(?:value|has_option)\(matches, \"([a-z-]+)\"\)", read("crates/bb_command/src/command.rt")
+    )
     texts = [] if program else [text for path, text in sources().items() if not path.startswith("crates/")]
     others = [word for text in texts for word in re.findall(r"[\"'](--[a-z][a-z-]*)[\"' =]", text)]
     return {"--help", "--version", *("--" + name for name in named), *others, *ELSEWHERE}

@@ -47,7 +47,7 @@ def doc_comments(name: str) -> str:
     elif name.endswith(".mjs"):
         blocks = re.findall(r"/\*\*(.*?)\*/", text, re.DOTALL)
         texts = (re.sub(r"^\s*\* ?", "", block, flags=re.M) for block in blocks)
-        found = [re.sub(r"@\w+ *(?:\{.*?\}+)? *[\w.]*", "\n\n", text) for text in texts]
+        found = [re.sub(r"(?s)@\w+ *(?:\{.*?\}+)? *[\w.]*", "\n\n", text) for text in texts]
     else:
         found = [line[3:] if re.match(r"//[/!]", line) else "\n" for line in map(str.strip, text.split("\n"))]
         return "\n".join(found)

@@ -97,7 +97,9 @@ def begins_modulo_64(built: str) -> List[int]:
     slow at branches that cross a multiple of 32 bytes, that makes a tenth of the time of short runs. It takes
     `nm`; FileNotFoundError where there is none."""
     symbols = ended(["nm", built]).output.decode("utf-8", "replace").splitlines()
-    return [int(symbol.split()[0], 16) % 64 for symbol in symbols if "single_pass::run_single_pass::" in symbol]
+    return [
+        int(symbol.split()[0], 16) % 64 for symbol in symbols if "single_pass::run_single_pass::" in symbol
+    ]
 
 
 def plan_of(words: List[str]) -> Dict[str, Any]:

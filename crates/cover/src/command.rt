@@ -48,11 +48,11 @@ const MOST_LEVELS: &str = "10000";
 const ABOUT: &str = "\
 In: the verdict lines of a list in tree normal form, in the order of a walk in depth, as
   tools/tree_normal_form --states 4 | bb decide --steps 1000
-writes them. Each claim is checked. Out: one line, either
+writes them. Each claim is checked. Out: one line. For a complete list it is
   covers 4 states 2 symbols: 858909 lines, 8455 undecided, 550 of them with more than one ---
-which says that each machine of the size halts, at most a step later than one of the list,
-never halts, or completes one of an undecided line, up to a change; or the first line that
-isn't as the walk asks, and why.
+Then each machine of the size halts, at most a step later than one of the list, never
+halts, or completes an undecided one, up to a change. Otherwise the line names the first
+wrong line of the list, and the reason.
 
 2 times the depth, less 1, must be at most the cells.
 

@@ -54,10 +54,10 @@ def at(verdict: Verdict, step: int, cells: int = 65_536) -> Place:
     on, the states repeat, with the head farther out by the shift each time. So the machine is run at most to the
     last step of the verdict, within `cells`. The checker has to confirm the verdict first.
 
-    Raises ValueError if the verdict doesn't fix that step (a halt later ones; a tree, an undecided machine or a
-    refusal any), the checker doesn't answer `ok`, the run needs more than `cells`, or `step` is below 0;
-    LimitsError, a ValueError, if `cells` are out of their range or the verdict names more than
-    1,000,000,000,000 steps; TypeError if `verdict` is no verdict, or another argument no whole number.
+    Raises ValueError if the verdict doesn't fix that step (a halt later ones; a tree, an undecided machine or
+    a refusal any), the checker doesn't answer `ok`, the run needs more than `cells`, or `step` is below 0.
+    Raises LimitsError, a ValueError, if `cells` are out of their range or the verdict names more than
+    1,000,000,000,000 steps. Raises TypeError if `verdict` is no verdict, or another argument no whole number.
 
     >>> from budlarem import parse
     >>> print(at(parse("0RB---_0LA--- cycler 2 4"), 10**15 + 1))

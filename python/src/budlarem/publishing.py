@@ -134,8 +134,8 @@ def publish(
     has them. `progress` is called with the number of checked lines. The same contents are the same bytes.
 
     Raises PublishError, a ValueError, if `path` exists or doesn't end in `.tar`, list and verdicts don't match,
-    or a file changes meanwhile; UnconfirmedError, one of them, for a verdict that isn't confirmed; OSError if a
-    file can't be read or written. Nothing is left at `path` then.
+    or a file changes meanwhile. Raises UnconfirmedError, a PublishError, for a verdict that isn't confirmed.
+    Raises OSError if a file can't be read or written. Nothing is left at `path` then.
     """
     out, given = os.fspath(path), os.fspath(verdicts)
     in_range("threads", threads, 1, 1_024)

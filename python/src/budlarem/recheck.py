@@ -2,10 +2,10 @@
 
     python3 recheck.py [--steps N] [--nodes N] [FILE]
 
-To each line of FILE, or of standard input, it says whether its claim is `true` or `false`; `no claim` where
-it is undecided or refused; `too long` where it names more than N steps or nodes, 1,000,000 where not said;
-else `not a verdict line`. Standard error counts. The status is 0 where all is true or no claim, 1 where
-something isn't, 2 for wrong words, 3 for a fault of files or memory.
+It answers each line of FILE, or of standard input: `true` or `false` for its claim, `no claim` for an undecided
+or refused machine, `too long` for more than N steps or nodes (default: 1,000,000), else `not a verdict line`.
+Standard error has the counts. The status is 0 if all is true or no claim, 1 otherwise, 2 for wrong arguments,
+3 for a fault of files or memory.
 """
 
 import sys

@@ -279,9 +279,9 @@ def report(
     read once and not held. The file at `path` is replaced atomically; a link there isn't followed. A notebook
     shows the result.
 
-    Raises ReportError without matplotlib, before anything is read; ValueError with its place for a text that is
-    no verdict line; OSError if the file can't be written, `path` is a link or a folder, or another file is made
-    there meanwhile.
+    Raises ReportError without matplotlib, before anything is read. Raises ValueError with its place for a
+    text that is no verdict line. Raises OSError if the file can't be written, `path` is a link or a folder,
+    or another file is made there meanwhile.
     """
     in_range("diagrams", diagrams, 0, 1_000_000)
     in_range("steps", steps, 100, Limits.RANGES["steps"][1])

@@ -1,8 +1,8 @@
 """The command `budlarem run`.
 
-Exit status: 0 if all lines are machines, 1 if a line was refused or the checker doesn't confirm a verdict, 2 if
-command, limits or folder were refused, 3 for a fault, 130 after an interruption, 143 and 129 after SIGTERM and
-SIGHUP.
+Exit status: 0 if all lines are machines, 1 if a line was refused or the checker doesn't confirm a verdict. It is
+2 if command, limits or folder were refused, 3 for a fault, 130 after an interruption, 143 and 129 after SIGTERM
+and SIGHUP.
 """
 
 from __future__ import annotations

@@ -91,7 +91,7 @@ def translation_in(
 
 
 class JudgedList:
-    """The list that is judged: its form, the translation of a table's words, and so far the number of skipped
+    """The judged list: its form, the translation of a table's words, and so far the number of skipped
     lines of each kind, and of lines that aren't UTF-8."""
 
     def __init__(self, source: RereadableList, claims: Claims, translation: Optional[Translation]) -> None:
@@ -163,7 +163,7 @@ class Judging(Iterator[Judged]):
         return [] if self._lists is None else self._lists.missing()
 
     def foreign(self) -> List[Tuple[int, str]]:
-        """The lines whose machines aren't in the other list: number and machine."""
+        """The lines with machines missing from the other list: number and machine."""
         return [] if self._lists is None else self._lists.foreign()
 
     def _judge_batch(self) -> List[Judged]:

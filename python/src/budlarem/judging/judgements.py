@@ -81,7 +81,7 @@ class ListOverlap:
         return [(self._listed[machine], machine) for machine in self._others(self._listed, self._theirs)]
 
     def foreign(self) -> List[NumberedMachine]:
-        """Their lines whose machines aren't in the list."""
+        """Their lines with machines missing from the list."""
         found = self._others(self._theirs, self._listed)
         return sorted((number, machine) for machine in found for number in self._theirs[machine])
 

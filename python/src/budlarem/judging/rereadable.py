@@ -18,7 +18,7 @@ _MOST_BUFFERED = 8_000_000
 
 
 class RereadableList:
-    """The lines of a list that aren't empty, which can be read more than once. `form` is the list's."""
+    """The non-empty lines of a list, to be read more than once. `form` is the list's."""
 
     def __init__(self, source: Source, form: Optional[Form] = None, columns: Columns = Columns()) -> None:
         self._source: Any = source

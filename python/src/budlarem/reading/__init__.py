@@ -33,9 +33,9 @@ def read(lines: Source, form: Optional[Form] = None, columns: Columns = Columns(
     else `text`. With `columns` it is a table. Later lines are read when needed. The result has the list's
     `form`, and counts skipped lines in `skipped`.
 
-    Raises OSError if a path can't be opened or read, or a gzip is cut; EncodingError for UTF-16 and formats that
-    are no text; TypeError if `lines` or an item has the wrong type; ValueError for an item with a newline
-    inside, and for a table whose columns aren't known.
+    Raises OSError if a path can't be opened or read, or a gzip is cut. Raises EncodingError for UTF-16 and
+    formats that are no text. Raises TypeError if `lines` or an item has the wrong type. Raises ValueError for
+    an item with a newline inside, and for a table whose columns aren't known.
 
     >>> for reading in read(["17. 1rb1lb 1la1rh, the champion", "1RB1LC_1LA1RZ"]):
     ...     print(reading.machine, reading.before, reading.behind, reading.reason)

@@ -177,14 +177,14 @@ class Retention:
         return _LEFT if self.halts_after is None else "%s,%s%d" % (_LEFT, _HALTS, self.halts_after)
 
     def select(self, verdicts: bytes) -> bytes:
-        """The verdict lines that are kept."""
+        """The kept verdict lines."""
         if not self.only_holdouts:
             return verdicts
         starts = {verdicts.rfind(b"\n", 0, place) + 1 for place in self._places(verdicts)}
         return b"".join(verdicts[start : verdicts.index(b"\n", start) + 1] for start in sorted(starts))
 
     def _places(self, verdicts: bytes) -> Iterator[int]:
-        """An index in each line that is kept."""
+        """An index in each kept line."""
         for word in _KEPT_WORDS:
             yield from find_all(word, verdicts)
         if self.halts_after is not None:
@@ -202,7 +202,7 @@ def find_all(word: bytes, lines: bytes) -> Iterator[int]:
 
 
 def parse_retention(words: Optional[Sequence[str]]) -> Retention:
-    """The retention that words such as `left` and `halts=1000` name. Raises UsageError."""
+    """The retention named by words such as `left` and `halts=1000` name. Raises UsageError."""
     parts = [part for word in words or () for part in word.split(",")]
     halts: Optional[int] = None
     for part in parts:

@@ -72,7 +72,7 @@ def _is_leftover(directory: Directory, name: str) -> bool:
 
 
 def remove_leftovers(directory: Directory) -> None:
-    """Removes files that were being written when a run was ended. Raises OSError."""
+    """Removes unfinished files of a run that was ended. Raises OSError."""
     for name in directory.names():
         if _is_leftover(directory, name):
             directory.remove(name)
@@ -121,7 +121,7 @@ def require_own(top: Directory, known_passes: Optional[int]) -> None:
 
 
 def _foreign_names(top: Directory, names: Sequence[str], has_passes: bool) -> Iterator[str]:
-    """The names of files that no run left here."""
+    """The names of foreign files here."""
     checked = (README, VERDICTS, SUMMARY, LOCK) if has_passes else (LOCK,)
     for name in names:
         is_own = name in checked and _has_start(top, name, name)
@@ -150,7 +150,7 @@ def require_own_pass(top: Directory, name: str) -> None:
 
 
 def require_other_list(top: Directory, listed: Optional[FileId]) -> None:
-    """Raises FolderError if the list is a file that a run writes here."""
+    """Raises FolderError if the list is one of the run's files here."""
     for name in top.names() if listed is not None else ():
         if name in (*FILES, LOCK) or _PART.fullmatch(name):
             _require_other(top, name, listed)
@@ -172,7 +172,7 @@ def _require_other(directory: Directory, name: str, listed: Optional[FileId]) ->
 
 
 def require_separate_list(path: str, list_id: Optional[FileId]) -> None:
-    """Raises FolderError if the list is a file that a run in this folder writes."""
+    """Raises FolderError if the list is one of the run's files here."""
     if os.path.isdir(path):
         with contextlib.closing(Directory.open(path)) as top:
             require_other_list(top, list_id)

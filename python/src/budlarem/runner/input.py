@@ -109,7 +109,7 @@ class FileLines:
         return given
 
     def _take_long(self) -> bytes:
-        """A line that is longer than all that may be taken."""
+        """A line beyond the greatest length."""
         line, size = os.pread(self._number, LONGEST_GIVEN, self._place).partition(b"\n")[0], 0
         while True:
             held = os.pread(self._number, BLOCK, self._place + size)
