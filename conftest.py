@@ -100,11 +100,11 @@ def list_machines() -> Callable[..., List[str]]:
     require("rustc")
     program = build("lister", "tools/out/tree_normal_form")
 
-    def listed(states: int, *words: str) -> List[str]:
+    def list_states(states: int, *words: str) -> List[str]:
         command = [str(program), "--states", str(states), *words]
         return subprocess.run(command, stdout=subprocess.PIPE, check=True, text=True).stdout.splitlines()
 
-    return listed
+    return list_states
 
 
 @pytest.fixture(scope="session")

@@ -24,7 +24,7 @@ sys.path.insert(0, str(pathlib.Path(__file__).resolve().parents[1]))
 from benchmarks.measuring import TOP, Cost, Table, has, list_machines, parser  # noqa: E402
 from benchmarks.measuring import program_of, run, take_turns  # noqa: E402
 from support.machines import CHAMPION, halting_once, uniform  # noqa: E402
-from support.program import MAX_CELLS, SIMULATION, as_lines, begins_modulo_64, ended  # noqa: E402
+from support.program import MAX_CELLS, SIMULATION, as_lines, begins_modulo_64, run_command  # noqa: E402
 from support.program import kind_of, replies  # noqa: E402
 
 CHAMPION_LIST = CHAMPION + "\n"
@@ -150,7 +150,7 @@ def count_instructions(program: str, *form: str) -> str:
     figures = []
     for what, options in plans.items():
         commands = [[*counting, "--steps", str(steps), *options, *form] for steps in (10**6, 2 * 10**6)]
-        errors = [ended(command, CHAMPION_LIST.encode()).error for command in commands]
+        errors = [run_command(command, CHAMPION_LIST.encode()).error for command in commands]
         counts = [int(re.findall(rb"Collected : (\d+)", error)[0]) for error in errors]
         figures.append("%s %.1f" % (what, (counts[1] - counts[0]) / 10**6))
     return ", ".join(figures)

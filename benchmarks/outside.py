@@ -200,7 +200,7 @@ def measure_views(bench: Bench) -> None:
     table, longest = bench.table, []
     each: List[List[float]] = []
 
-    def measured(work: Callable[[Any], List[float]]) -> float:
+    def least_time(work: Callable[[Any], List[float]]) -> float:
         with open_page(bench) as page:
             each.append(work(page))
             longest.append(page.js("return window.longest") / 1_000)
@@ -210,10 +210,10 @@ def measure_views(bench: Bench) -> None:
     (module,) = table.least(lambda: trace_in_node(bench))
     table.milliseconds("the module's part, which begins at step 0: 10,000,000 steps, 545 lines", module)
     paused, traced, hurried, last = table.least(
-        lambda: measured(lambda page: views(page, PAUSE)),
-        lambda: measured(lambda page: traced_views(page, PAUSE)),
-        lambda: measured(lambda page: views(page, 0.0)),
-        lambda: measured(lambda page: [end(page)]),
+        lambda: least_time(lambda page: views(page, PAUSE)),
+        lambda: least_time(lambda page: traced_views(page, PAUSE)),
+        lambda: least_time(lambda page: views(page, 0.0)),
+        lambda: least_time(lambda page: [end(page)]),
     )
     table.milliseconds("the longest of 18 views, with pauses of %.1f s between" % PAUSE, paused, 100)
     table.milliseconds("the middle one of them", min(sorted(taken)[len(taken) // 2] for taken in each[::4]))

@@ -227,7 +227,7 @@ def export_calls(text: str) -> str:
     text = EXPORT.sub(r"pub fn \1(\2)\3{", text)
     if not found:
         return text
-    calls = "\n".join(map(_exported_call, found))
+    calls = "\n".join(map(_call_for_c, found))
     return (
         text
         + "\n/// The calls for C; `include/bb.h` states the caller's obligations.\npub mod exports {\nuse super::*;\n\n%s}\n"
@@ -235,7 +235,7 @@ def export_calls(text: str) -> str:
     )
 
 
-def _exported_call(found: Match[str]) -> str:
+def _call_for_c(found: Match[str]) -> str:
     name, parameters, result = found.groups()
     taken, passed = [], []
     for parameter, kind in PARAMETER.findall(parameters + ","):

@@ -5,7 +5,7 @@ import subprocess
 from typing import List, Union
 
 import pytest
-from support.program import ended
+from support.program import run_command
 
 MACHINES = b"1RB1LB_1LA1RZ\n0RB---_0LA---\n1RA1RA\n"
 VERDICTS = b"1RB1LB_1LA1RZ halt 6 4\n0RB---_0LA--- cycler 2 4\n1RA1RA translated R 1 2 1 1\n"
@@ -95,9 +95,9 @@ def test_command_line(
 
 @pytest.mark.parametrize("command", [[], ["decide"], ["check"], ["trace"]])
 def test_help_goes_to_standard_output(bb: str, command: List[str]) -> None:
-    status, output, error = ended([bb, *command, "--help"])
+    status, output, error = run_command([bb, *command, "--help"])
     assert status == 0 and b"Usage" in output and not error
-    assert ended([bb, "help", *command]) == (0, output, b"")
+    assert run_command([bb, "help", *command]) == (0, output, b"")
 
 
 def test_failed_write_is_named_on_standard_error(bb: str) -> None:

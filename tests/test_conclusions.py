@@ -13,7 +13,16 @@ import random
 from typing import Iterator, List, NamedTuple, Optional, Sequence, Tuple
 
 import pytest
-from support.machines import LETTERS, SWAPPED, all_machines, entries_of, grouped, machine, table_of, text_of
+from support.machines import (
+    LETTERS,
+    SWAPPED,
+    all_machines,
+    entries_of,
+    join_groups,
+    machine,
+    table_of,
+    text_of,
+)
 from support.program import PLANS, options, replies, verdict_of
 from support.simulation import compare_lines, simulate
 
@@ -135,7 +144,7 @@ def completions(text: str) -> Iterator[Tuple[str, Tuple[int, ...]]]:
     for new in itertools.product(*choices):
         filled = tuple(k for k, entry in enumerate(new) if entry != old[k])
         if filled:
-            yield grouped(new, 2), filled
+            yield join_groups(new, 2), filled
 
 
 def undefined_met(text: str, verdict: str) -> Optional[int]:

@@ -10,7 +10,7 @@ from typing import Callable, Dict, List, Optional, Sequence, Tuple
 
 import pytest
 from support import TOP
-from support.program import Ended, as_lines, ended, options, processor_time
+from support.program import CommandResult, as_lines, run_command, options, processor_time
 from support.terminals import on_terminal
 
 # States and symbols of whole lists.
@@ -33,7 +33,7 @@ def decide_all(bb: str, list_machines: Callable[..., List[str]]) -> Decide:
     def decide(states: int, symbols: int) -> List[str]:
         if (states, symbols) not in lists:
             machines = list_machines(states, "--symbols", str(symbols), "--steps", str(STEPS))
-            output = ended([bb, "decide", *LIMITS], as_lines(machines)).output
+            output = run_command([bb, "decide", *LIMITS], as_lines(machines)).output
             lists[states, symbols] = output.decode().splitlines()
         return lists[states, symbols]
 
@@ -56,13 +56,13 @@ def summarize(states: int, symbols: int, lines: Sequence[str]) -> str:
 def test_whole_lists_cover_their_sizes(cover: str, decide_all: Decide, states: int, symbols: int) -> None:
     lines = decide_all(states, symbols)
     assert lines
-    expected = Ended(0, summarize(states, symbols, lines).encode(), b"")
-    assert ended([cover], as_lines(lines)) == expected
+    expected = CommandResult(0, summarize(states, symbols, lines).encode(), b"")
+    assert run_command([cover], as_lines(lines)) == expected
 
 
 def test_list_of_one_line_covers_one_state(cover: str) -> None:
     line = "------ undecided steps"
-    assert ended([cover], as_lines([line])) == (0, summarize(1, 2, [line]).encode(), b"")
+    assert run_command([cover], as_lines([line])) == (0, summarize(1, 2, [line]).encode(), b"")
 
 
 # Each makes a change at a line, counted from 0, and returns the list and the line, counted from 1, at which
@@ -106,7 +106,7 @@ def test_changed_lists_are_refused_at_their_line(
     lines = decide_all(3, 2)
     for _ in range(count):
         changed, line = change(lines, rng.randrange(len(lines)), rng)
-        status, output, error = ended([cover, *LIMITS], as_lines(changed))
+        status, output, error = run_command([cover, *LIMITS], as_lines(changed))
         assert (status, error) == (1, b"") and output.startswith(b"line %d: " % line)
 
 
@@ -125,7 +125,7 @@ def test_what_is_wrong_with_a_list_is_named(cover: str, decide_all: Decide) -> N
         ([root + " halt 201 1"], "line 1: the claim on %s needs more than the limits" % root),
     ]
     for given, sentence in rows:
-        assert ended([cover, *LIMITS], as_lines(given)) == (1, sentence.encode() + b"\n", b"")
+        assert run_command([cover, *LIMITS], as_lines(given)) == (1, sentence.encode() + b"\n", b"")
 
 
 @pytest.mark.parametrize(
@@ -142,14 +142,14 @@ def test_what_is_wrong_with_a_list_is_named(cover: str, decide_all: Decide) -> N
     ],
 )
 def test_wrong_words(cover: str, words: str, status: int, error: Optional[bytes]) -> None:
-    done = ended([cover, *words.split()])
+    done = run_command([cover, *words.split()])
     assert (done.status, done.output) == (status, b"") and done.error
     assert error is None or done.error == error
 
 
 @pytest.mark.parametrize("word", ["--help", "--version"])
 def test_help_and_version(cover: str, word: str) -> None:
-    status, output, error = ended([cover, word])
+    status, output, error = run_command([cover, word])
     assert status == 0 and output and not error
 
 
@@ -185,7 +185,7 @@ def test_cover_takes_little_longer_than_a_check(bb: str, cover: str, decide_all:
 
     def time(*command: str) -> float:
         before = processor_time()
-        ended([*command, *LIMITS], given)
+        run_command([*command, *LIMITS], given)
         return processor_time() - before
 
     check, covering = (min(time(*command) for _ in range(3)) for command in ([bb, "check"], [cover]))

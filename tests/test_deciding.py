@@ -10,7 +10,7 @@ from typing import List, Sequence, Set
 import pytest
 from support import TOP, require
 from support.machines import machine, random_machines
-from support.program import PLANS, ROWS, SIMULATION, as_lines, ended, kind_of, options, replies
+from support.program import PLANS, ROWS, SIMULATION, as_lines, run_command, kind_of, options, replies
 from support.simulation import compare_lines
 
 KINDS = {"halt", "cycler", "translated", "backward", "undecided"}
@@ -73,8 +73,10 @@ def test_plain_program_writes_the_same_bytes(bb: str, peer: str, rng: random.Ran
     kinds: Set[str] = set()
     for _ in range(count // BATCH):
         given, words = as_lines(draw_machine(rng) for _ in range(BATCH)), draw_options(rng)
-        ours, theirs = ended([bb, "decide", *words], given), ended([peer, "decide", *words], given)
-        in_one_run = ended([peer, "decide", *words, "--one-run", "--weak-keys"], given)
+        ours, theirs = run_command([bb, "decide", *words], given), run_command(
+            [peer, "decide", *words], given
+        )
+        in_one_run = run_command([peer, "decide", *words, "--one-run", "--weak-keys"], given)
         assert ours[:2] == theirs[:2] == in_one_run[:2], words
         lines = ours.output.decode().splitlines()
         assert len(lines) == BATCH

@@ -59,7 +59,7 @@ def read(path: str) -> str:
     return (TOP / path).read_text(encoding="utf-8", errors="replace")
 
 
-def quoted(text: str) -> List[str]:
+def backquoted(text: str) -> List[str]:
     return re.findall(r"`([^`\n]+)`", text)
 
 
@@ -123,7 +123,7 @@ class Line:
     def __init__(self, path: str, text: str, blocks: Set[str]) -> None:
         self.path, self.text, self.blocks = path, text, blocks
         begin = re.match(r"\| *(%s) *\|| *- (?:\*\*)?(%s)[:,.*]" % (LIST, LIST), text)
-        self.about = set(quoted(begin[0])) & set(crates()) if begin else set()
+        self.about = set(backquoted(begin[0])) & set(crates()) if begin else set()
 
     def missing(self) -> Iterator[str]:
         if self.text.startswith("    "):
@@ -132,13 +132,13 @@ class Line:
             return
         yield from (what for link in re.findall(r"\]\(([^)]*)\)", self.text) for what in self.in_link(link))
         text = re.sub(FORMER, "", self.text) if self.path == "CHANGELOG.md" else self.text
-        yield from (what for word in quoted(text) for what in self.in_word(word))
+        yield from (what for word in backquoted(text) for what in self.in_word(word))
         for names, owners in OF.findall(text):
-            pairs = [(name, owner) for name in quoted(names) for owner in quoted(owners)]
+            pairs = [(name, owner) for name in backquoted(names) for owner in backquoted(owners)]
             yield from ("`%s` of `%s`" % pair for pair in pairs if not self.is_of(*pair))
         for found in IN.finditer(text):
             texts = "".join(sources()[path] for path in self.files(found[2]))
-            named = [name for name in quoted(found[1]) if texts and re.fullmatch(NAME, name)]
+            named = [name for name in backquoted(found[1]) if texts and re.fullmatch(NAME, name)]
             lost = [name for name in named if name.split("::")[-1] not in texts]
             yield from ("`%s` in %s" % (name, found[2]) for name in lost)
 
@@ -244,9 +244,9 @@ def test_layers_agree_with_crates() -> None:
     rows = dict(re.findall(r"^\| `(\w+)` \|([^|]*)\|", layers, flags=re.M))
     for crate, below in crates().items():
         if not crate.startswith("tests_of_"):
-            named = set(quoted(rows[crate])).union(*(crates()[name] for name in quoted(rows[crate])))
+            named = set(backquoted(rows[crate])).union(*(crates()[name] for name in backquoted(rows[crate])))
             assert named & set(crates()) == below & set(crates()), crate
             continue
         (item,) = (line for line in layers.split("\n") if re.match(" *- `%s`" % crate, line))
         modules = re.findall(r"^mod (\w+);", read("crates/%s/src/lib.rt" % crate), flags=re.M)
-        assert modules and set(modules) <= set(quoted(item)), crate
+        assert modules and set(modules) <= set(backquoted(item)), crate

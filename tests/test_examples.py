@@ -7,7 +7,7 @@ from typing import List
 import pytest
 from support import TOP
 from support.examples import Example, read_examples
-from support.program import ended
+from support.program import run_command
 
 EXAMPLES = list(read_examples())
 # Of each line a sha256, and the commands whose output has it.
@@ -16,7 +16,7 @@ PIPELINES = [line.split("  ", 1) for line in (TOP / "examples/three_states/sha25
 
 @pytest.mark.parametrize("example", EXAMPLES, ids=[example.name for example in EXAMPLES])
 def test_example_writes_its_expected_output(bb: str, example: Example) -> None:
-    found = ended([bb, *example.words], example.given, cwd=str(TOP))
+    found = run_command([bb, *example.words], example.given, cwd=str(TOP))
     assert found.output.splitlines() == example.expected.splitlines()
     assert (found.output, found.status) == (example.expected, example.status)
 

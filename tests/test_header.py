@@ -15,7 +15,7 @@ from typing import Dict, List, Tuple
 
 import pytest
 from support import TOP
-from support.program import Ended, ended
+from support.program import CommandResult, run_command
 from support.simulation import insert_low
 
 HEADER = (TOP / "include" / "bb.h").read_text(encoding="utf-8")
@@ -58,7 +58,7 @@ def exchange(one: str, two: str) -> str:
     )
 
 
-def run_with(header: str, library: pathlib.Path, folder: pathlib.Path) -> Ended:
+def run_with(header: str, library: pathlib.Path, folder: pathlib.Path) -> CommandResult:
     """Compile the program with a header, and run it."""
     (folder / "bb.h").write_text(header, encoding="utf-8")
     defined = "-DTRACE_PARAMETERS=%s" % ",".join("given_" + name for name in parameters(header))
@@ -67,14 +67,14 @@ def run_with(header: str, library: pathlib.Path, folder: pathlib.Path) -> Ended:
     subprocess.run([*command, archive, "-o", str(folder / "order")], check=True)
     pairs = [pair for count, pair in enumerate(KINDS.values(), 1) for pair in [pair] * count]
     lists = ["".join(line + "\n" for line in column) for column in zip(*pairs)]
-    return ended([str(folder / "order"), MACHINE, *map(str, GIVEN.values()), *lists])
+    return run_command([str(folder / "order"), MACHINE, *map(str, GIVEN.values()), *lists])
 
 
 @pytest.fixture(scope="module")
 def right(bb: str) -> bytes:
     """What the program in C must print: the lines and the status of the trace, then the counts by name."""
     limits = ["--upto", str(GIVEN["steps"]), "--cells", str(GIVEN["cells"])]
-    whole = ended([bb, "trace", *limits, "--", MACHINE])
+    whole = run_command([bb, "trace", *limits, "--", MACHINE])
     lines = whole.output.splitlines(keepends=True)[GIVEN["from"] :: GIVEN["every"]]
     counts = "".join("%s %d\n" % (name, count) for count, name in enumerate(KINDS, 1))
     return insert_low(MACHINE, b"".join(lines)) + b"status %d\n" % whole.status + counts.encode()
@@ -105,4 +105,4 @@ def test_macros_give_enough_room(tmp_path: pathlib.Path, compiler: List[str]) ->
     checks = ["-fsanitize=undefined", "-fno-sanitize-recover=undefined", "-I", str(TOP / "include")]
     made = str(tmp_path / "room")
     subprocess.run([*compiler, *WARNINGS, *checks, str(SOURCES / "room.c"), "-o", made], check=True)
-    assert ended([made]) == (0, b"", b"")
+    assert run_command([made]) == (0, b"", b"")

@@ -11,7 +11,7 @@ from typing import Callable, List
 import budlarem
 import pytest
 from support import TOP, require
-from support.program import as_lines, begins_modulo_64, ended, replies
+from support.program import as_lines, begins_modulo_64, run_command, replies
 from support.simulation import compare_lines, insert_low
 
 LIMITS = ["--steps", "1000", "--cells", "200", "--depth", "60"]
@@ -68,7 +68,7 @@ def limits(library: pathlib.Path, monkeypatch: pytest.MonkeyPatch) -> budlarem.L
 
 @pytest.mark.needs("nm")
 def test_library_exports_its_calls_alone(library: pathlib.Path) -> None:
-    symbols = ended(["nm", "-D", "--defined-only", str(library)]).output.decode().split()[2::3]
+    symbols = run_command(["nm", "-D", "--defined-only", str(library)]).output.decode().split()[2::3]
     assert sorted(symbols) == CALLS
 
 
@@ -82,7 +82,7 @@ def test_calls_keep_their_contracts(compile_source: Compile, compiler: List[str]
     """Also under valgrind, which finds nothing wrong."""
     require("valgrind")
     made = compile_source("tests/library/calls.c", compiler)
-    assert ended([made]) == ended([*VALGRIND, made]) == (0, b"", b"")
+    assert run_command([made]) == run_command([*VALGRIND, made]) == (0, b"", b"")
 
 
 @pytest.mark.parametrize(
@@ -94,12 +94,12 @@ def test_examples_decide_words(bb: str, compile_source: Compile, source: str, wo
     under = words if words == VALGRIND else []
     require(*under[:1])
     command = [*under, compile_source(source, C if under else words)]
-    assert ended([*command, *MACHINES])[:2] == ended([bb, "decide"], as_lines(MACHINES))[:2]
-    assert ended([*command, "1RZ---"]) == (0, b"1RZ--- halt 1 1\n", b"")
+    assert run_command([*command, *MACHINES])[:2] == run_command([bb, "decide"], as_lines(MACHINES))[:2]
+    assert run_command([*command, "1RZ---"]) == (0, b"1RZ--- halt 1 1\n", b"")
 
 
 def test_example_decides_all_machines_of_two_states(bb: str, compile_source: Compile) -> None:
-    output = ended([compile_source("examples/c/two_states.c"), "lines"]).output.decode()
+    output = run_command([compile_source("examples/c/two_states.c"), "lines"]).output.decode()
     lines = output.splitlines()[:-5]
     machines = [line.split()[0] for line in lines]
     assert len(lines) == 28_561
@@ -109,10 +109,10 @@ def test_example_decides_all_machines_of_two_states(bb: str, compile_source: Com
 def test_example_traces(bb: str, compile_source: Compile) -> None:
     require("valgrind")
     command = [*VALGRIND, compile_source("examples/c/trace.c")]
-    whole = ended([bb, "trace", "--upto", "5", MACHINES[0]]).output
-    assert ended([*command, MACHINES[0], "5"]) == (0, insert_low(MACHINES[0], whole), b"")
-    assert ended([*command, "", "5", "2"]) == (1, b"refused 1\n", b"")
-    assert ended([*command, MACHINES[0], "5", "0"])[:2] == (2, b"")
+    whole = run_command([bb, "trace", "--upto", "5", MACHINES[0]]).output
+    assert run_command([*command, MACHINES[0], "5"]) == (0, insert_low(MACHINES[0], whole), b"")
+    assert run_command([*command, "", "5", "2"]) == (1, b"refused 1\n", b"")
+    assert run_command([*command, MACHINES[0], "5", "0"])[:2] == (2, b"")
 
 
 @pytest.mark.parametrize("threads", ["1", "4", "9"])
@@ -122,20 +122,20 @@ def test_many_cores_write_what_one_does(
     made = compile_source("examples/rust/many_cores.rs", ["rustc"])
     lists = [b"", b"1RZ---", b"\n", as_lines(MACHINES), LONG + b"\n1RZ---\n" + LONG]
     for given in [*lists, b"1RB1LB_1LA1RZ\n" * 99_999, as_lines(machines)]:
-        found = ended([made, *LIMITS, "--threads", threads], given)
-        assert found[:2] == ended([bb, "decide", *LIMITS], given)[:2]
+        found = run_command([made, *LIMITS, "--threads", threads], given)
+        assert found[:2] == run_command([bb, "decide", *LIMITS], given)[:2]
 
 
 @pytest.mark.parametrize("words", ["--steps", "--cells 0", "--levels 3", "--steps many"])
 def test_many_cores_refuse_wrong_words(compile_source: Compile, words: str) -> None:
     made = compile_source("examples/rust/many_cores.rs", ["rustc"])
-    assert ended([made, *words.split()])[:2] == (2, b"")
+    assert run_command([made, *words.split()])[:2] == (2, b"")
 
 
 def test_example_in_python(library: pathlib.Path) -> None:
     environment = {**os.environ, "BB_LIBRARY": str(library), "PYTHONPATH": str(TOP / "python" / "src")}
     command = [sys.executable, str(TOP / "examples" / "python" / "list.py")]
-    output = ended(command, b"1RZ---\nx\n", env=environment).output
+    output = run_command(command, b"1RZ---\nx\n", env=environment).output
     assert output == b"ok 1RZ--- halt 1 1\nopen refused 1\n"
 
 
@@ -151,7 +151,7 @@ def test_package_decides_and_checks(bb: str, limits: budlarem.Limits, machines: 
 def trace(bb: str, machine: str, upto: int, cells: int) -> List[str]:
     """Return the lines of the program's trace."""
     words = ["--upto", str(upto), "--cells", str(cells), "--", machine]
-    return ended([bb, "trace", *words]).output.decode().splitlines()
+    return run_command([bb, "trace", *words]).output.decode().splitlines()
 
 
 @pytest.mark.parametrize("cells", [200, 5])

@@ -15,7 +15,7 @@ import pytest
 from support import TOP
 from support.examples import Example, read_examples
 from support.machines import random_machines
-from support.program import ROWS, Ended, as_lines, ended, options
+from support.program import ROWS, CommandResult, as_lines, run_command, options
 from support.terminals import on_terminal
 
 FOUR = ["--steps", "1000", "--cells", "1024", "--depth", "40", "--nodes", "10000"]
@@ -68,9 +68,9 @@ def without_text_of_clap(text: bytes) -> bytes:
     return b"" if is_of_clap else text
 
 
-def require_same(programs: Programs, run: Callable[[str], Ended]) -> Ended:
+def require_same(programs: Programs, run: Callable[[str], CommandResult]) -> CommandResult:
     ends = (run(program) for program in programs)
-    first, second = (Ended(end.status, *map(without_text_of_clap, end[1:])) for end in ends)
+    first, second = (CommandResult(end.status, *map(without_text_of_clap, end[1:])) for end in ends)
     assert first == second
     return first
 
@@ -87,9 +87,11 @@ def test_all_machines_of_four_states(
     programs: Programs, cover: str, plain: pathlib.Path, four_states: List[str]
 ) -> None:
     lines = as_lines(four_states)
-    decided = require_same(programs, lambda bb: ended([bb, "decide", *FOUR], lines))
-    require_same(programs, lambda bb: ended([bb, "check", *FOUR], decided.output))
-    checked = require_same((cover, str(plain / "cover")), lambda one: ended([one, *FOUR], decided.output))
+    decided = require_same(programs, lambda bb: run_command([bb, "decide", *FOUR], lines))
+    require_same(programs, lambda bb: run_command([bb, "check", *FOUR], decided.output))
+    checked = require_same(
+        (cover, str(plain / "cover")), lambda one: run_command([one, *FOUR], decided.output)
+    )
     assert checked.status == 0
     print("%d machines decided, checked and covered by both" % len(four_states))
 
@@ -97,14 +99,14 @@ def test_all_machines_of_four_states(
 @pytest.mark.parametrize("limits", ROWS)
 def test_random_machines(programs: Programs, rng: random.Random, limits: Tuple[int, ...]) -> None:
     lines = as_lines(random_machines(3_000, rng))
-    decided = require_same(programs, lambda bb: ended([bb, "decide", *options(limits)], lines))
+    decided = require_same(programs, lambda bb: run_command([bb, "decide", *options(limits)], lines))
     forged = re.sub(rb"\d(?=\n)", lambda digit: b"%d" % (rng.randrange(10)), decided.output)
-    require_same(programs, lambda bb: ended([bb, "check", *options(limits)], forged))
+    require_same(programs, lambda bb: run_command([bb, "check", *options(limits)], forged))
 
 
 @pytest.mark.parametrize("example", read_examples(), ids=[one.name for one in read_examples()])
 def test_examples(plain: pathlib.Path, example: Example) -> None:
-    found = ended([str(plain / "bb"), *example.words], example.given, cwd=str(TOP))
+    found = run_command([str(plain / "bb"), *example.words], example.given, cwd=str(TOP))
     assert (found.output, found.status) == (example.expected, example.status)
 
 
@@ -113,18 +115,18 @@ def test_random_command_lines(programs: Programs, rng: random.Random, folder: pa
         words = rng.choices(WORDS, k=rng.randint(1, 6))
         if rng.random() < 0.7:
             words[0] = rng.choice(COMMANDS)
-        require_same(programs, lambda bb: ended([bb, *words], GIVEN, str(folder)))
+        require_same(programs, lambda bb: run_command([bb, *words], GIVEN, str(folder)))
 
 
 @pytest.mark.parametrize("command", EDGES, ids=str.strip)
 def test_streams_and_memory(programs: Programs, folder: pathlib.Path, command: str) -> None:
-    run = lambda bb: ended(["sh", "-c", command.replace("PROGRAM", bb)], cwd=str(folder))  # noqa: E731
+    run = lambda bb: run_command(["sh", "-c", command.replace("PROGRAM", bb)], cwd=str(folder))  # noqa: E731
     require_same(programs, run)
 
 
 @pytest.mark.parametrize("words", [[b"\xff"], ["decide", b"\xff"], ["decide", "a" * 5000], ["decide", ""]])
 def test_words_that_name_no_file(programs: Programs, words: List[str]) -> None:
-    assert require_same(programs, lambda bb: ended([bb, *words])).status in (2, 3)
+    assert require_same(programs, lambda bb: run_command([bb, *words])).status in (2, 3)
 
 
 @pytest.mark.parametrize("words", TERMINAL)

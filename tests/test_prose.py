@@ -12,7 +12,7 @@ from typing import Dict, List
 
 import pytest
 from support import TOP
-from support.program import ended
+from support.program import run_command
 
 MOST_MEAN, MOST_WORDS, MOST_CLAUSES = 16.0, 40, 2.5
 # Shorter pages have too few sentences to measure.
@@ -31,7 +31,7 @@ def sentences(text: str) -> List[str]:
     return [one for one in re.split(r"(?<=[.!?:])\s+", text) if len(one.split()) > 2]
 
 
-def tracked(*patterns: str) -> List[str]:
+def tracked_files(*patterns: str) -> List[str]:
     command = ["git", "ls-files", *patterns]
     names = subprocess.run(command, cwd=TOP, stdout=subprocess.PIPE, text=True, check=True).stdout.split()
     return [name for name in names if (TOP / name).is_file()]
@@ -56,8 +56,8 @@ def doc_comments(name: str) -> str:
 
 def read_pages() -> Dict[str, str]:
     """Return each document, and the doc comments of each crate and folder, by name."""
-    found = {name: (TOP / name).read_text(encoding="utf-8") for name in tracked("*.md")}
-    for name in tracked("crates/*/src/*.rt", "python/src/*.py", "web/*.mjs"):
+    found = {name: (TOP / name).read_text(encoding="utf-8") for name in tracked_files("*.md")}
+    for name in tracked_files("crates/*/src/*.rt", "python/src/*.py", "web/*.mjs"):
         folder = "/".join(name.split("/")[: 2 if name.startswith("crates/") else -1])
         found[folder] = found.get(folder, "") + "\n\n" + doc_comments(name)
     return found
@@ -88,4 +88,6 @@ def test_exceptions_are_pages() -> None:
 
 def test_help_reads_easily(bb: str, cover: str) -> None:
     commands = [[bb, *command.split(), "--help"] for command in COMMANDS] + [[cover, "--help"]]
-    require_easy("\n\n".join(re.sub(r"(?m)^ +", "", ended(command).output.decode()) for command in commands))
+    require_easy(
+        "\n\n".join(re.sub(r"(?m)^ +", "", run_command(command).output.decode()) for command in commands)
+    )

@@ -19,8 +19,8 @@ from typing import Callable, Dict, List, Tuple, Union
 
 import pytest
 from support import TOP, require, restore_signals
-from support.machines import mixed
-from support.program import GREATEST, Ended, as_lines, ended, options, options_of_pass
+from support.machines import mixed_machines
+from support.program import GREATEST, CommandResult, as_lines, run_command, options, options_of_pass
 
 # How many blocks of commands stand under each heading.
 COUNTS = {
@@ -156,14 +156,14 @@ class Folder:
     def read(self, name: str) -> bytes:
         return (self.path / name).read_bytes()
 
-    def run(self, commands: str) -> Ended:
+    def run(self, commands: str) -> CommandResult:
         """Run commands, and return their status and what they write."""
         environment = dict(os.environ, PATH="%s:%s" % (self.path, os.environ["PATH"]))
-        return ended(["sh", "-e", "-c", commands], cwd=str(self.path), env=environment)
+        return run_command(["sh", "-e", "-c", commands], cwd=str(self.path), env=environment)
 
     def decide(self, content: bytes, *words: str) -> bytes:
         """Return what one run of the program writes to a list."""
-        return ended([self.bb, "decide", *words], content).output
+        return run_command([self.bb, "decide", *words], content).output
 
 
 @pytest.fixture
@@ -223,7 +223,7 @@ def test_empty_list_and_another_halting_letter(folder: Folder) -> None:
 
 
 def test_counting_a_step_more(folder: Folder) -> None:
-    machines = [machine.encode() for machine in mixed(2_000, 5)]
+    machines = [machine.encode() for machine in mixed_machines(2_000, 5)]
     folder.write("machines.txt", b"\n".join(machines) + b"\n1RB1LB_1LA---\n")
     assert folder.run(RECIPES["Count undefined entries as a step"][0]).status == 0
     limits = ["--cells=1000", "--depth=20", "--nodes=1000"]
@@ -291,7 +291,7 @@ def test_package_answers_claims(folder: Folder) -> None:
     lines = (TOP / "examples" / "claims" / "lines.txt").read_bytes()
     folder.write("verdicts.txt", lines)
     assert folder.run(RECIPES["Find wrong claims"][1]).status == 0
-    expected = ended([folder.bb, "check", *options(GREATEST)], lines).output
+    expected = run_command([folder.bb, "check", *options(GREATEST)], lines).output
     assert folder.read("answers.txt") == expected
 
 
@@ -322,7 +322,7 @@ def test_publishing_what_was_decided(folder: Folder) -> None:
 @pytest.fixture(scope="module")
 def long_list(bb: str, list_machines: Callable[..., List[str]]) -> bytes:
     """Some two megabytes of machines that halt, and a line that is refused."""
-    verdicts = ended([bb, "decide", "--steps=1000"], as_lines(list_machines(3))).output.splitlines()
+    verdicts = run_command([bb, "decide", "--steps=1000"], as_lines(list_machines(3))).output.splitlines()
     halts = [line.split()[0] for line in verdicts if line.split()[1] == b"halt"]
     return b"".join(line + b"\n" for line in halts * 60 + [b"x"] + halts)
 
@@ -490,5 +490,5 @@ def test_cut_verdicts_are_completed_twice(folder: Folder, content: bytes) -> Non
 def test_machines_that_another_program_makes(folder: Folder) -> None:
     environment = {**os.environ, "PYTHONPATH": str(TOP / "python" / "src")}
     (program,) = RECIPES["Call the engine from a program"]
-    output = ended([sys.executable, "-c", program], cwd=str(folder.path), env=environment).output
+    output = run_command([sys.executable, "-c", program], cwd=str(folder.path), env=environment).output
     assert output == folder.decide(b"1RB1LB_1LA1RZ\n1RA1RA\n")

@@ -14,7 +14,7 @@ from typing import Dict, List, Tuple
 
 import pytest
 from support import require
-from support.program import Ended, ended
+from support.program import CommandResult, run_command
 
 REFUSER = r"""
 #define _GNU_SOURCE
@@ -98,14 +98,14 @@ def folder(tmp_path_factory: pytest.TempPathFactory) -> pathlib.Path:
     return folder
 
 
-def refuse_in_turn(command: List[str], given: bytes, folder: pathlib.Path) -> List[Ended]:
+def refuse_in_turn(command: List[str], given: bytes, folder: pathlib.Path) -> List[CommandResult]:
     """Run a command with each of its allocations refused in turn, and return how it ends."""
-    ends: List[Ended] = []
+    ends: List[CommandResult] = []
     trace = folder / "trace"
     while True:
         refusal = {"LD_PRELOAD": str(folder / "refuser.so"), "REFUSE_TRACE": str(trace)}
         environment = {**os.environ, **refusal, "REFUSE_AT": str(len(ends) + 1)}
-        end = ended(command, given, cwd=str(folder), env=environment)
+        end = run_command(command, given, cwd=str(folder), env=environment)
         if not trace.is_symlink():
             return ends
         trace.unlink()
@@ -117,7 +117,7 @@ def test_refused_allocation(bb: str, cover: str, folder: pathlib.Path, run: Tupl
     programs: Dict[str, str] = {"bb": bb, "cover": cover}
     name, *words = run[0].split()
     command, given = [programs[name], *words], INPUTS[run[1]]
-    ends, whole = refuse_in_turn(command, given, folder), ended(command, given, cwd=str(folder))
+    ends, whole = refuse_in_turn(command, given, folder), run_command(command, given, cwd=str(folder))
     faults = [b"%s: %s\n" % (name.encode(), fault) for fault in FAULTS]
     before_tapes = len(ends) - run[2]
     assert before_tapes > 0

@@ -15,8 +15,8 @@ from typing import Callable, Dict, Iterator, List, Optional, Tuple
 
 import pytest
 from support import TOP, build, require
-from support.machines import LETTERS, grouped
-from support.program import ended
+from support.machines import LETTERS, join_groups
+from support.program import run_command
 from support.simulation import simulate
 
 List_ = Callable[..., List[str]]
@@ -49,7 +49,7 @@ def lister() -> str:
 
 def undefined_met(entries: List[str], symbols: int, steps: int) -> Optional[int]:
     """Return the place of the undefined entry that a machine meets within so many steps, if any."""
-    for now in simulate(grouped(entries, symbols), steps):
+    for now in simulate(join_groups(entries, symbols), steps):
         place = (now.state or 0) * symbols + now.tape.get(now.head, 0)
         if entries[place] == "---":
             return place
@@ -58,7 +58,7 @@ def undefined_met(entries: List[str], symbols: int, steps: int) -> Optional[int]
 
 def machines_by_definition(entries: List[str], symbols: int, steps: int) -> Iterator[str]:
     """Yield a machine and those that it leads to, by the rules alone: each is run from its first step on."""
-    yield grouped(entries, symbols)
+    yield join_groups(entries, symbols)
     met = undefined_met(entries, symbols, steps)
     defined = [entry for entry in entries if entry != "---"]
     if met is None or len(defined) == len(entries) - 1:
@@ -127,13 +127,13 @@ def test_sample_is_each_so_many_th_line(list_machines: List_, every: int, words:
 
 @pytest.mark.parametrize("words", REFUSED)
 def test_wrong_words_are_refused(lister: str, words: str) -> None:
-    status, output, error = ended([lister, *words.split()])
+    status, output, error = run_command([lister, *words.split()])
     assert (status, output, error.count(b"\n")) == (2, b"", 1)
     assert error.startswith(b"tree_normal_form: " + REFUSED[words].encode())
 
 
 def test_help(lister: str) -> None:
-    status, output, error = ended([lister, "--states", "4", "--help"])
+    status, output, error = run_command([lister, "--states", "4", "--help"])
     assert (status, error) == (0, b"") and output
 
 
@@ -165,9 +165,9 @@ def test_compiled_at_its_first_use_and_after_a_change(copy: Dict[str, pathlib.Pa
     assert [process.wait() for process in at_once] == [0, 0, 0]
     assert os.listdir(program.parent) == ["tree_normal_form"]
     before = program.stat().st_mtime_ns
-    assert ended([script, "--states", "1"]).status == 0 and program.stat().st_mtime_ns == before
+    assert run_command([script, "--states", "1"]).status == 0 and program.stat().st_mtime_ns == before
     os.utime(copy["source"])
-    assert ended([script, "--states", "1"]).status == 0 and program.stat().st_mtime_ns > before
+    assert run_command([script, "--states", "1"]).status == 0 and program.stat().st_mtime_ns > before
 
 
 def test_missing_compiler_is_named(copy: Dict[str, pathlib.Path], tmp_path: pathlib.Path) -> None:
@@ -175,5 +175,5 @@ def test_missing_compiler_is_named(copy: Dict[str, pathlib.Path], tmp_path: path
     found.mkdir()
     for name in ("sh", "dirname", "find", "make", "sed", "mkdir"):
         (found / name).symlink_to(shutil.which(name) or "")
-    status, _, error = ended([str(copy["script"]), "--states", "1"], env={"PATH": str(found)})
+    status, _, error = run_command([str(copy["script"]), "--states", "1"], env={"PATH": str(found)})
     assert status == 3 and b"rustc" in error

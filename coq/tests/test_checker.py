@@ -7,7 +7,7 @@ import subprocess
 from typing import Callable, Iterator, List, Tuple
 
 import pytest
-from support.program import GREATEST, ended, options
+from support.program import GREATEST, run_command, options
 from support.second_checker import Claims, compare_answers, long_claims, quick_claims
 
 GIVEN = b"1RB1LB_1LA1RZ halt 6 4\n\n1RA1RA undecided steps\n------ halt 0 0"
@@ -47,7 +47,7 @@ WORDS: List[List[str]] = [
 
 @pytest.mark.parametrize("words", WORDS, ids=" ".join)
 def test_words_end_both_checkers_alike(bb: str, checker: str, words: List[str]) -> None:
-    ours, theirs = ended([bb, "check", *words], GIVEN), ended([checker, *words], GIVEN)
+    ours, theirs = run_command([bb, "check", *words], GIVEN), run_command([checker, *words], GIVEN)
     assert ours.status == theirs.status
     assert ours.status > 1 or "--help" in words or ours.output == theirs.output
     assert bool(theirs.error) == (ours.status > 1)

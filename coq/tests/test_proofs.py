@@ -10,7 +10,7 @@ import subprocess
 from typing import Callable, List, NamedTuple, Tuple
 
 import pytest
-from support.program import ended
+from support.program import run_command
 from support.second_checker import COQ, Claims, answer, quick_claims
 
 CLOSED = "Closed under the global context"
@@ -88,7 +88,7 @@ def replace_once(path: pathlib.Path, old: str, new: str) -> None:
 
 def test_every_theorem_assumes_nothing(checker: str) -> None:
     names = re.findall(r"^Theorem (\w+)", (COQ / "Statements.v").read_text(encoding="utf-8"), flags=re.M)
-    status, output, _ = ended(["make", "-s", "--no-print-directory", "-C", str(COQ)])
+    status, output, _ = run_command(["make", "-s", "--no-print-directory", "-C", str(COQ)])
     assert status == 0 and names
     assert output.decode().splitlines() == [CLOSED] * len(names) + ["checker: " + checker]
 
@@ -109,7 +109,7 @@ def test_assumed_theorem_fails_the_build(tmp_path: pathlib.Path) -> None:
     replace_once(source, proof, "Admitted.")
     (folder / "out" / "checker").unlink()
     for _ in range(2):
-        done = ended(["make", "-C", str(folder)])
+        done = run_command(["make", "-C", str(folder)])
         assert done.status != 0 and b"assumes" in done.error
         assert "Axioms:\nreply_ok" in (folder / "out" / "Statements.printed").read_text(encoding="utf-8")
 
@@ -118,7 +118,9 @@ def test_assumed_theorem_fails_the_build(tmp_path: pathlib.Path) -> None:
 @pytest.mark.needs("coqc", "coqchk", "ocamlfind")
 def test_copy_is_built_and_checked_elsewhere(tmp_path: pathlib.Path) -> None:
     """`coqchk` looks at the proofs where nothing else of the repository is."""
-    status, output, error = ended(["make", "-C", str(copy_folder(tmp_path)), "check"], cwd="/", env=PLAIN)
+    status, output, error = run_command(
+        ["make", "-C", str(copy_folder(tmp_path)), "check"], cwd="/", env=PLAIN
+    )
     assert status == 0, error.decode()
     assert b"* Axioms: <none>" in output + error
 
@@ -152,7 +154,7 @@ def test_wrong_checker_is_noticed(
     """A proof fails; built without its proofs, it answers some line otherwise."""
     folder = copy_folder(tmp_path)
     replace_once(folder / edit.file, edit.old, edit.new)
-    done = ended(["make", "-C", str(folder)])
+    done = run_command(["make", "-C", str(folder)])
     failed = re.search(r"Proofs/\w+\.v", done.error.decode())
     assert done.status != 0 and failed
     made = build_without_proofs(folder)

@@ -8,7 +8,7 @@ import subprocess
 from typing import List
 
 import pytest
-from support.machines import CHAMPION, mixed
+from support.machines import CHAMPION, mixed_machines
 from support.program import kind_of
 from support.second_checker import COQ, LIMITS, decide
 
@@ -31,7 +31,7 @@ def require_end(folder: pathlib.Path, words: List[str], status: int, sentence: s
 @pytest.fixture(scope="module")
 def claims(bb: str, checker: str) -> List[str]:
     """Verdicts of random machines that claim something; the proofs are built."""
-    lines = decide(bb, LIMITS, list(mixed(4 * LINES, 1)))
+    lines = decide(bb, LIMITS, list(mixed_machines(4 * LINES, 1)))
     return random.Random(1).sample([line for line in lines if kind_of(line) != "undecided"], LINES)
 
 

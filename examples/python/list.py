@@ -18,7 +18,7 @@ import budlarem
 LIMITS = budlarem.Limits(steps=1_000, cells=200, depth=60)
 
 
-def checked(machines: Iterator[str]) -> Iterator[Tuple[budlarem.Answer, budlarem.Verdict]]:
+def check_verdicts(machines: Iterator[str]) -> Iterator[Tuple[budlarem.Answer, budlarem.Verdict]]:
     """The checker's answer to each verdict, and the verdict."""
     verdicts = budlarem.decide(machines, LIMITS, threads=os.cpu_count() or 1)
     kept, given = itertools.tee(verdicts)
@@ -27,7 +27,7 @@ def checked(machines: Iterator[str]) -> Iterator[Tuple[budlarem.Answer, budlarem
 
 def main() -> None:
     machines = (line.rstrip("\n") for line in sys.stdin)
-    for answer, verdict in checked(machines):
+    for answer, verdict in check_verdicts(machines):
         print(answer, verdict)
 
 

@@ -11,7 +11,7 @@ import threading
 import time
 from typing import Any, Callable, Dict, List, NamedTuple, Optional, Tuple
 
-from .program import LIMITS, SWITCHES, ended, words_of_plan
+from .program import LIMITS, SWITCHES, run_command, words_of_plan
 
 # Records the longest task that blocked the page, in milliseconds.
 WATCH = """
@@ -133,7 +133,7 @@ def trace(program: str, machine: str, steps: int, cells: int = 65_536) -> List[R
     """Return the program's trace, each row with its lowest position."""
     command = [program, "trace", "--upto", str(steps), "--cells", str(cells), "--", machine]
     rows, low = [], 0
-    for line in ended(command).output.decode().splitlines():
+    for line in run_command(command).output.decode().splitlines():
         step, state, head, symbols = line.split()
         low = min(low, int(head)) if state != "Z" else low
         rows.append(Row(int(step), state, int(head), low, symbols))
@@ -420,7 +420,7 @@ class Page:
 
     def program_output(self, name: str, plan: Dict[str, Any], given: bytes) -> bytes:
         """Return the program's output for a list."""
-        return ended([self.program, name, *words_of_plan(plan)], given).output
+        return run_command([self.program, name, *words_of_plan(plan)], given).output
 
     def require_same(self, name: str, plan: Dict[str, Any], given: bytes, drop: bool = False) -> bytes:
         """Run a file, and require that the page saves the program's output."""

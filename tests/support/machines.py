@@ -23,7 +23,7 @@ def table_of(text: str) -> List[List[str]]:
     return [[group[k : k + 3] for k in range(0, len(group), 3)] for group in text.split("_")]
 
 
-def grouped(entries: Sequence[str], symbols: int) -> str:
+def join_groups(entries: Sequence[str], symbols: int) -> str:
     """A machine's text, from all its entries in a row."""
     return text_of(entries[k : k + symbols] for k in range(0, len(entries), symbols))
 
@@ -36,7 +36,7 @@ def entries_of(states: int, symbols: int) -> List[str]:
 def all_machines(states: int, symbols: int) -> Iterator[str]:
     """All machines of so many states and symbols."""
     for entries in itertools.product(entries_of(states, symbols), repeat=states * symbols):
-        yield grouped(entries, symbols)
+        yield join_groups(entries, symbols)
 
 
 def entry(source: random.Random, states: int, symbols: int) -> str:
@@ -52,7 +52,7 @@ def machine(source: random.Random, states: int, symbols: int) -> str:
     return text_of([entry(source, states, symbols) for _ in range(symbols)] for _ in range(states))
 
 
-def mixed(count: int, seed: int) -> Iterator[str]:
+def mixed_machines(count: int, seed: int) -> Iterator[str]:
     """So many random machines: of each ten, seven of 1 to 7 states and 2 symbols, two of up to 4 states and
     10 symbols, and one of up to 25 states and 10 symbols."""
     source = random.Random(seed)
@@ -67,7 +67,7 @@ def mixed(count: int, seed: int) -> Iterator[str]:
 
 def random_machines(count: int, source: random.Random) -> List[str]:
     """So many of the same, from a source of chance."""
-    return list(mixed(count, source.randrange(2**32)))
+    return list(mixed_machines(count, source.randrange(2**32)))
 
 
 def seldom_halting(source: random.Random, states: int, symbols: int) -> str:
@@ -76,21 +76,21 @@ def seldom_halting(source: random.Random, states: int, symbols: int) -> str:
     inner = [entry for entry in every if entry[2] not in "-Z"]
     outer = [entry for entry in every if entry[2] in "-Z"]
     drawn = [source.choice(outer if source.random() < 0.1 else inner) for _ in range(states * symbols)]
-    return grouped(drawn, symbols)
+    return join_groups(drawn, symbols)
 
 
 def halting_once(source: random.Random, states: int) -> str:
     """A random machine of two symbols with one entry that halts, which isn't the first."""
-    drawn = [defined(source, LETTERS[:states]) for _ in range(2 * states)]
+    drawn = [draw_entry(source, LETTERS[:states]) for _ in range(2 * states)]
     drawn[source.randrange(1, 2 * states)] = "1RZ"
-    return grouped(drawn, 2)
+    return join_groups(drawn, 2)
 
 
 def uniform(source: random.Random, states: int) -> str:
     """A machine of two symbols, drawn uniformly from those that have every entry."""
-    return grouped([defined(source, LETTERS[:states] + "Z") for _ in range(2 * states)], 2)
+    return join_groups([draw_entry(source, LETTERS[:states] + "Z") for _ in range(2 * states)], 2)
 
 
-def defined(source: random.Random, letters: str) -> str:
+def draw_entry(source: random.Random, letters: str) -> str:
     """A random entry of two symbols that leads into one of these states."""
     return source.choice("01") + source.choice("LR") + source.choice(letters)

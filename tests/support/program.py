@@ -43,7 +43,7 @@ def options_of_pass(limits: str) -> List[str]:
     return ["--" + limit for limit in limits.split(",")]
 
 
-class Ended(NamedTuple):
+class CommandResult(NamedTuple):
     """How a command ended, and what it wrote to standard output and standard error."""
 
     status: int
@@ -51,15 +51,15 @@ class Ended(NamedTuple):
     error: bytes
 
 
-def ended(
+def run_command(
     command: Sequence[str],
     given: bytes = b"",
     cwd: Optional[str] = None,
     env: Optional[Mapping[str, str]] = None,
-) -> Ended:
+) -> CommandResult:
     """Runs a command over these bytes to its end, in a folder and an environment where they are given."""
     done = subprocess.run(command, input=given, capture_output=True, cwd=cwd, env=env)
-    return Ended(done.returncode, done.stdout, done.stderr)
+    return CommandResult(done.returncode, done.stdout, done.stderr)
 
 
 def as_lines(lines: Iterable[str]) -> bytes:
@@ -70,7 +70,7 @@ def as_lines(lines: Iterable[str]) -> bytes:
 def replies(command: Sequence[str], lines: Iterable[str]) -> List[str]:
     """The lines that a command of the program answers to these. It must end with status 0, or with 1 as where
     an answer isn't clean, and say nothing on standard error."""
-    status, output, error = ended(command, as_lines(lines))
+    status, output, error = run_command(command, as_lines(lines))
     assert status in (0, 1) and not error, "%s: status %d, %r" % (" ".join(command[1:]), status, error)
     return output.decode().splitlines()
 
@@ -96,7 +96,7 @@ def begins_modulo_64(built: str) -> List[int]:
     """Where the function of the watched run begins in a program or library, modulo 64. On a processor that is
     slow at branches that cross a multiple of 32 bytes, that makes a tenth of the time of short runs. It takes
     `nm`; FileNotFoundError where there is none."""
-    symbols = ended(["nm", built]).output.decode("utf-8", "replace").splitlines()
+    symbols = run_command(["nm", built]).output.decode("utf-8", "replace").splitlines()
     return [
         int(symbol.split()[0], 16) % 64 for symbol in symbols if "single_pass::run_single_pass::" in symbol
     ]

@@ -16,8 +16,8 @@ import time
 from typing import Any, Callable, Sequence
 
 from . import restore_signals
-from .machines import CHAMPION, mixed
-from .program import LIMITS, MAX_CELLS, MAX_STEPS, as_lines, ended, options
+from .machines import CHAMPION, mixed_machines
+from .program import LIMITS, MAX_CELLS, MAX_STEPS, as_lines, run_command, options
 
 PASSES = ((300, 64, 10, 100), (20_000, 1_024, 40, 10_000))
 # It grows as the root of its steps, and no decider finds anything.
@@ -52,14 +52,14 @@ def words_of(limits: Sequence[int]) -> str:
 
 def random_list(count: int, seed: int) -> bytes:
     """Machines of all sizes, and some lines that are none."""
-    lines = list(mixed(count, seed))
+    lines = list(mixed_machines(count, seed))
     lines[count // 2], lines[count // 3] = "1rB1LB", lines[count // 3] + " halt 6 4"
     return as_lines(lines)
 
 
 def decide_lines(program: str, given: bytes, limits: Sequence[int]) -> list[bytes]:
     """The program's verdict lines."""
-    return ended([program, "decide", *options(limits)], given).output.splitlines(keepends=True)
+    return run_command([program, "decide", *options(limits)], given).output.splitlines(keepends=True)
 
 
 def expected_verdicts(program: str, given: bytes, passes: Sequence[Sequence[int]]) -> bytes:

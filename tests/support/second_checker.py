@@ -9,7 +9,7 @@ from typing import Callable, Dict, Iterable, Iterator, List, Sequence, Tuple
 from . import TOP
 from .claims import forge, pairs_of, refusals, tight_limits, trees_of
 from .machines import all_machines, machine, random_machines, seldom_halting
-from .program import Ended, ended, options, replies
+from .program import CommandResult, run_command, options, replies
 
 COQ = TOP / "coq"
 DEFAULT = (1_000_000, 65_536, 300, 1_000_000)
@@ -30,10 +30,10 @@ def decide(bb: str, limits: Sequence[int], machines: Sequence[str]) -> List[str]
     return replies([bb, "decide", *options(limits)], machines)
 
 
-def answer(checker: Sequence[str], claims: Claims) -> Ended:
+def answer(checker: Sequence[str], claims: Claims) -> CommandResult:
     """Run a checker over lines under their limits; a character is a byte."""
     limits, lines = claims
-    return ended([*checker, *options(limits)], "".join(line + "\n" for line in lines).encode("latin-1"))
+    return run_command([*checker, *options(limits)], "".join(line + "\n" for line in lines).encode("latin-1"))
 
 
 def compare_answers(bb: str, checker: str, what: str, claims: Claims) -> None:

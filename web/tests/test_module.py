@@ -14,7 +14,7 @@ from support.examples import README, Example, read_examples
 from support.machines import CHAMPION, random_machines, seldom_halting
 from support.node import CallResult, Engine, documented_script
 from support.plans import FOUR, MOST, all_plans, random_plan
-from support.program import MAX_CELLS, SWITCHES, as_lines, ended, processor_time, words_of_plan
+from support.program import MAX_CELLS, SWITCHES, as_lines, run_command, processor_time, words_of_plan
 
 pytestmark = pytest.mark.needs("node")
 
@@ -34,12 +34,12 @@ class Both:
 
     def program_output(self, name: str, plan: Plan, given: bytes) -> bytes:
         """What the program writes."""
-        return ended([self.program, name, *words_of_plan(plan)], given).output
+        return run_command([self.program, name, *words_of_plan(plan)], given).output
 
     def require_same(self, name: str, plan: Plan, given: bytes) -> CallResult:
         """Requires that a call's reply is the program's, and gives it."""
         reply = self.engine.call(name, plan, given)
-        wanted = ended([self.program, name, *words_of_plan(plan)], given)
+        wanted = run_command([self.program, name, *words_of_plan(plan)], given)
         assert reply.status == wanted.status, reply.answer
         assert reply.reply == wanted.output, (name, plan)
         return reply
@@ -136,7 +136,7 @@ def test_noise(both: Both, rng: random.Random, name: str) -> None:
 def test_refused_limit(both: Both, plan: Plan) -> None:
     """The error has the program's words and names the limit."""
     answer = both.engine.call("decide", plan, b"1RA1RA\n").answer
-    said = ended([both.program, "decide", *words_of_plan(plan)]).error.decode()
+    said = run_command([both.program, "decide", *words_of_plan(plan)]).error.decode()
     assert (answer["error"], answer["limit"]) == ("LimitsError", said[4:].split(" ")[0])
     assert said == "bb: %s\n" % answer["message"]
 
@@ -161,7 +161,7 @@ def test_script_of_the_documentation(both: Both, tmp_path: pathlib.Path) -> None
     (tmp_path / "decide.mjs").write_text(documented_script("A script"), encoding="utf-8")
     limits = {"steps": 100_000, "cells": 4096}
     decided = both.program_output("decide", limits, README)
-    found = ended(["node", "decide.mjs"], README, cwd=str(tmp_path))
+    found = run_command(["node", "decide.mjs"], README, cwd=str(tmp_path))
     assert found.output == decided + both.program_output("check", limits, decided), found.error
 
 
@@ -187,7 +187,7 @@ def test_memory_stays(module: pathlib.Path, tmp_path: pathlib.Path) -> None:
     own.end()
 
 
-def traced(program: str, machine: str, steps: int, cells: int) -> List[bytes]:
+def trace_lines(program: str, machine: str, steps: int, cells: int) -> List[bytes]:
     """The program's rows as the engine's trace has them: with the lowest position before the cells."""
     return [
         b"%d %s %d %d %s\n" % (row.step, row.state.encode(), row.head, row.low, row.cells.encode())
@@ -200,7 +200,7 @@ def test_traces_of_some_rows(both: Both, rng: random.Random, count: int) -> None
     """Traces of random machines from each step by each interval."""
     for machine in random_machines(count, rng):
         plan = {"steps": rng.randint(0, 200), "cells": rng.randint(1, 60)}
-        lines = traced(both.program, machine, plan["steps"], plan["cells"])
+        lines = trace_lines(both.program, machine, plan["steps"], plan["cells"])
         wanted = [lines[first::every] for first, every in itertools.product(range(51), range(1, 51))]
         reply = both.engine.call("samples", {**plan, "from": 50, "every": 50}, machine.encode())
         assert reply.reply == b"".join(itertools.chain.from_iterable(wanted)), (machine, plan)
@@ -214,7 +214,7 @@ def test_traces_name_the_lowest_position(both: Both, rng: random.Random, count: 
     for machine in [CHAMPION, *machines]:
         steps = rng.randint(100, 4_000)
         reply = both.engine.call("trace", {"steps": steps}, machine.encode())
-        assert reply.reply == b"".join(traced(both.program, machine, steps, 65_536)), (machine, steps)
+        assert reply.reply == b"".join(trace_lines(both.program, machine, steps, 65_536)), (machine, steps)
     print("%d machines" % (count + 1))
 
 
@@ -222,7 +222,7 @@ def test_trace_at_the_greatest_limits(both: Both) -> None:
     most = {"steps": 10**12, "cells": MAX_CELLS, "from": 0, "every": 1}
     reply = both.engine.call("trace", most, b"1RB1LB_1LA1RZ")
     assert reply.status == 0
-    assert reply.reply == b"".join(traced(both.program, "1RB1LB_1LA1RZ", 10**12, MAX_CELLS))
+    assert reply.reply == b"".join(trace_lines(both.program, "1RB1LB_1LA1RZ", 10**12, MAX_CELLS))
     for plan in ({"every": 0}, {"cells": 0}, {"steps": 10**12 + 1}):
         answer = both.engine.call("trace", {**most, **plan}, b"1RB1LB_1LA1RZ").answer
         assert answer["limit"] == next(iter(plan))
@@ -252,7 +252,7 @@ NARROW = ["python3", str(TOP / "web" / "narrow.py")]
 def test_narrowed_line(tmp_path: pathlib.Path, line: str, wanted: str) -> None:
     given, made = tmp_path / "wide", tmp_path / "narrow"
     given.write_text(line + "\n", encoding="ascii")
-    assert ended([*NARROW, str(given), str(made)]).status == 0
+    assert run_command([*NARROW, str(given), str(made)]).status == 0
     text = re.sub(r"%narrow\.\d+", "%X", made.read_text(encoding="ascii")).replace("%X = ", "")
     assert "|".join(one.strip() for one in text.splitlines()) == wanted
 
@@ -275,12 +275,12 @@ def test_line_that_is_not_narrowed(tmp_path: pathlib.Path, line: str) -> None:
     """It is refused, with a line that says so, and nothing is written."""
     given, made = tmp_path / "wide", tmp_path / "narrow"
     given.write_text(line + "\n", encoding="ascii")
-    status, _, error = ended([*NARROW, str(given), str(made)])
+    status, _, error = run_command([*NARROW, str(given), str(made)])
     assert (status, error) == (1, b"narrow: %s isn't known here\n" % line.strip().encode())
     assert not made.exists()
 
 
 @pytest.mark.needs("tsc")
 def test_types_of_the_modules() -> None:
-    status, output, _ = ended(["tsc", "-p", str(TOP / "web")])
+    status, output, _ = run_command(["tsc", "-p", str(TOP / "web")])
     assert status == 0, output.decode()

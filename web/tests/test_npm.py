@@ -7,7 +7,7 @@ from typing import List
 import pytest
 from support import TOP
 from support.node import documented_script
-from support.program import as_lines, ended
+from support.program import as_lines, run_command
 
 pytestmark = pytest.mark.needs("node", "npm", "tsc")
 
@@ -27,7 +27,7 @@ INSTALL = "npm install --offline --no-audit --no-fund --cache cache".split()
 
 def package(folder: pathlib.Path) -> pathlib.Path:
     """The package, made into a folder."""
-    done = ended(["python3", str(TOP / "web" / "package.py"), "--out", str(folder)])
+    done = run_command(["python3", str(TOP / "web" / "package.py"), "--out", str(folder)])
     assert done.status == 0, done.error
     return pathlib.Path(done.output.decode().strip())
 
@@ -37,7 +37,7 @@ def installed(module: object, tmp_path_factory: pytest.TempPathFactory) -> pathl
     """A folder in which the package is installed, and nothing else."""
     folder = tmp_path_factory.mktemp("installed")
     made = package(tmp_path_factory.mktemp("package"))
-    status, output, error = ended([*INSTALL, str(made)], cwd=str(folder))
+    status, output, error = run_command([*INSTALL, str(made)], cwd=str(folder))
     assert status == 0, (output, error)
     return folder
 
@@ -45,7 +45,7 @@ def installed(module: object, tmp_path_factory: pytest.TempPathFactory) -> pathl
 def run(folder: pathlib.Path, script: str, given: List[str]) -> str:
     """What a script writes in the folder."""
     (folder / "script.mjs").write_text(script, encoding="utf-8")
-    done = ended(["node", "script.mjs"], as_lines(given), cwd=str(folder))
+    done = run_command(["node", "script.mjs"], as_lines(given), cwd=str(folder))
     assert done.status == 0, done.error
     return done.output.decode()
 
@@ -57,15 +57,15 @@ def test_same_bytes_again(module: object, tmp_path: pathlib.Path) -> None:
 
 def test_example_of_the_documentation(bb: str, installed: pathlib.Path) -> None:
     limits = ["--steps", "100000", "--cells", "4096"]
-    verdicts = ended([bb, "decide", *limits], as_lines(MACHINES)).output
-    wanted = (verdicts + ended([bb, "check", *limits], verdicts).output).decode()
+    verdicts = run_command([bb, "decide", *limits], as_lines(MACHINES)).output
+    wanted = (verdicts + run_command([bb, "check", *limits], verdicts).output).decode()
     assert run(installed, documented_script("From npm's package"), MACHINES) == wanted
 
 
 def test_example_of_the_readme(bb: str, installed: pathlib.Path) -> None:
     page = (installed / "node_modules" / "budlarem" / "README.md").read_text(encoding="utf-8")
     script = "".join(line[4:] + "\n" for line in page.splitlines() if line.startswith("    "))
-    assert run(installed, script, []) == ended([bb, "decide"], as_lines(MACHINES[:1])).output.decode()
+    assert run(installed, script, []) == run_command([bb, "decide"], as_lines(MACHINES[:1])).output.decode()
 
 
 @pytest.mark.parametrize("name, is_right", [("steps", True), ("stepps", False)])

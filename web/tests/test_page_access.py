@@ -223,14 +223,14 @@ def test_names_and_references(tab: Page) -> None:
 def test_live_text(tab: Page) -> None:
     """Live text is told at most once a second and at the end; opening a row tells its verdict."""
 
-    def told(words: str) -> bool:
+    def is_announced(words: str) -> bool:
         return any(words in text for _, text in tab.js("return window.live"))
 
     tab.js(LIVE)
     tab.open_list("1RA1RA\n1RB1LB_1LA1RZ\n")
-    tab.until(lambda: told("Done"))
+    tab.until(lambda: is_announced("Done"))
     tab.press("rows", Keys.ARROW_DOWN, Keys.ENTER)
-    tab.until(lambda: told("It halts after 6 steps"))
+    tab.until(lambda: is_announced("It halts after 6 steps"))
     for _ in range(12):
         tab.press("diagram", Keys.ARROW_DOWN)
         time.sleep(0.1)

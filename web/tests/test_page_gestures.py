@@ -26,7 +26,7 @@ delete canvas.setPointerCapture;
 """
 
 
-def seen(tab: Page) -> Tuple[float, float, float, float]:
+def visible_area(tab: Page) -> Tuple[float, float, float, float]:
     """The first and the last step, the first and the last position in view."""
     view = tab.wait_until_drawn()
     width, height = tab.size()
@@ -78,13 +78,13 @@ def test_mouse_moves_the_picture(tab: Page) -> None:
     before = open_near(tab)
     high, wide = before["high"], before["wide"]
     assert before["every"] == 1 and high >= 6
-    first = seen(tab)
+    first = visible_area(tab)
     begin = (before["x"] + 30.5 * wide, before["y"] + 20.5 * high)
     # Neither is a multiple of a cell's size, and each move of the mouse is shorter than a cell.
     end = (begin[0] - 7.25 * wide, begin[1] - 9.25 * high)
     drag(tab, window_point(tab, *begin), window_point(tab, *end))
     soon(lambda: tab.wait_until_drawn()["top"] == before["top"] + 9)
-    after, then = tab.wait_until_drawn(), seen(tab)
+    after, then = tab.wait_until_drawn(), visible_area(tab)
     assert [b - a for a, b in zip(first, then)] == [9, 9, 7, 7]
     assert (after["high"], after["wide"]) == (high, wide)
     assert cell_at(before, begin) == cell_at(after, end)
@@ -116,7 +116,7 @@ def test_drag_ends_at_the_edges(tab: Page) -> None:
     for _ in range(4):
         drag(tab, begin, end)
     soon(lambda: tab.wait_until_drawn()["left"] < before["left"])
-    view, (_, _, left, right) = tab.wait_until_drawn(), seen(tab)
+    view, (_, _, left, right) = tab.wait_until_drawn(), visible_area(tab)
     assert view["top"] == 0
     assert left <= trace(tab.program, CHAMPION, STEPS)[-1].low <= right
 
@@ -135,12 +135,12 @@ def test_two_fingers_zoom(phone: Page) -> None:
     tap(phone, window_point(phone, before["x"] + 100, before["y"] + 100))
     soon(lambda: phone.js("return document.activeElement.id") == "diagram")
     before = phone.wait_until_drawn()
-    begun = seen(phone)
+    begun = visible_area(phone)
     middle = (before["x"] + 120.5, before["y"] + 150.5)
     cell = cell_at(before, middle)
     pinch(phone, window_point(phone, *middle), 60, 90)
     soon(lambda: phone.wait_until_drawn()["high"] > before["high"])
-    near, nearer = phone.wait_until_drawn(), seen(phone)
+    near, nearer = phone.wait_until_drawn(), visible_area(phone)
     assert nearer[1] - nearer[0] < 0.6 * (begun[1] - begun[0])
     assert nearer[3] - nearer[2] < 0.6 * (begun[3] - begun[2])
     require_place(near, cell, middle)
@@ -148,7 +148,7 @@ def test_two_fingers_zoom(phone: Page) -> None:
     # In steps of which each zooms less than to the next size of a cell.
     pinch(phone, window_point(phone, *middle), 160, 60)
     soon(lambda: phone.wait_until_drawn()["high"] < before["high"])
-    far, farther = phone.wait_until_drawn(), seen(phone)
+    far, farther = phone.wait_until_drawn(), visible_area(phone)
     assert farther[1] - farther[0] > 3 * (nearer[1] - nearer[0])
     require_place(far, cell, middle)
     assert phone.js("return visualViewport.scale") == 1

@@ -13,8 +13,8 @@ from budlarem.reading import Form
 from budlarem.reading.lines import read_line
 from support import TOP
 from support.browser import Page
-from support.machines import CHAMPION, mixed
-from support.program import as_lines, ended
+from support.machines import CHAMPION, mixed_machines
+from support.program import as_lines, run_command
 
 Forms = Dict[str, Any]
 DISGUISES = [
@@ -29,7 +29,7 @@ SKIPPED = "3 skipped (empty lines, comments, code fences, rules and headers of t
 def read_by_page(asked: List[Any]) -> List[Any]:
     """The answers of the page's reader, the first of which are its sentences."""
     given = "".join(json.dumps(one) + "\n" for one in asked).encode()
-    done = ended(["node", str(TOP / "web/tests/reader.mjs")], given)
+    done = run_command(["node", str(TOP / "web/tests/reader.mjs")], given)
     assert done.status == 0, done.error
     return [json.loads(line) for line in done.output.decode().split("\n") if line]
 
@@ -104,7 +104,7 @@ def disguise(machine: str, source: random.Random) -> str:
 @pytest.mark.parametrize("count", [1_000, pytest.param(20_000, marks=pytest.mark.slow)])
 def test_disguised_machines_are_found(rng: random.Random, count: int) -> None:
     """Random machines in random forms come back as they were, or are refused; none as another machine."""
-    machines = list(mixed(count, rng.randrange(2**32)))
+    machines = list(mixed_machines(count, rng.randrange(2**32)))
     _, *found = read_by_page([[disguise(machine, rng)] for machine in machines])
     taken = [one.get("machine") for one in found]
     assert not [pair for pair in zip(machines, taken) if pair[1] not in (None, pair[0])]
@@ -121,7 +121,7 @@ def test_kinds_of_one_letter_are_refused(tmp_path: pathlib.Path, change: str, st
         path = tmp_path / name
         path.parent.mkdir()
         path.write_text(text.replace('["halt", ', '["halt", ' + change, 1), encoding="utf-8")
-    assert ended(["node", str(tmp_path / "worker" / "replies.mjs")]).status == status
+    assert run_command(["node", str(tmp_path / "worker" / "replies.mjs")]).status == status
 
 
 def test_file_of_all_forms(tab: Page, forms: Forms) -> None:

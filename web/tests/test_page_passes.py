@@ -38,13 +38,13 @@ def test_first_pass_comes_before_long_machines(tab: Page) -> None:
 def test_long_machine_is_named_while_others_are_decided(tab: Page) -> None:
     """What is decided is shown while another machine takes long, which is named; a stop keeps it."""
 
-    def decided() -> int:
+    def count_decided() -> int:
         found = re.search(r"([0-9,]+) decided", tab.text("status"))
         return int(found[1].replace(",", "")) if found else 0
 
     tab.plan(ENDLESS, "decide")
     tab.submit_file(as_lines([HALT] * 700 + [LONG] + [HALT] * 700))
-    tab.until(lambda: LONG in tab.text("under-way") and decided() >= 1_300)
+    tab.until(lambda: LONG in tab.text("under-way") and count_decided() >= 1_300)
     before = tab.text("status")
     assert re.search(r"s, \d+ % done\. ", before)
     time.sleep(0.5)
@@ -76,16 +76,16 @@ def test_four_states_are_decided_soon(tab: Page, four_states: List[str]) -> None
     takes for all of them."""
     given = as_lines(four_states)
 
-    def timed(what: Callable[[], object]) -> float:
+    def time_call(what: Callable[[], object]) -> float:
         begun = time.monotonic()
         what()
         return time.monotonic() - begun
 
     tab.plan({}, "decide")
     tab.submit_file(given)
-    page = timed(lambda: tab.until(lambda: percent(tab) == 99))
+    page = time_call(lambda: tab.until(lambda: percent(tab) == 99))
     tab.click("stop")
-    program = timed(lambda: tab.program_output("decide", {}, given))
+    program = time_call(lambda: tab.program_output("decide", {}, given))
     print("99 %% of four states after %.1f s; the program takes %.1f s for all" % (page, program))
     assert page < program
 

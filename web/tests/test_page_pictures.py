@@ -16,7 +16,7 @@ from support.gestures import Keys
 from support.machines import CHAMPION, CHAMPION_OF_FOUR, seldom_halting
 from support.node import Engine
 from support.page_times import PAUSE, end, steps_seen, traced_views, views
-from support.program import ended
+from support.program import run_command
 
 TRANSLATED = "1LB0LA_1RA---"
 # The champion of four states, which goes to the right for ever in place of its halt.
@@ -71,7 +71,7 @@ def test_kept_rows_are_those_of_the_program(bb: str, module: object, rng: random
     asked = [(machine, questions(rng)) for machine in [CHAMPION, CHAMPION_OF_FOUR, LATE, TREE, *machines]]
     given = "".join(json.dumps({"machine": one, "cells": 512, "asked": rows}) + "\n" for one, rows in asked)
     command = ["node", str(TOP / "web/tests/row_cache.mjs"), str(module)]
-    replies = [json.loads(line) for line in ended(command, given.encode()).output.splitlines()]
+    replies = [json.loads(line) for line in run_command(command, given.encode()).output.splitlines()]
     assert len(replies) == len(asked)
     for (machine, rows), reply in zip(asked, replies):
         run = {row.step: row for row in trace(bb, machine, 5_000, 512)}

@@ -14,7 +14,7 @@ from typing import Any, Callable, Iterator
 
 import pytest
 from support import TOP, restore_signals
-from support.program import as_lines, ended, options_of_pass
+from support.program import as_lines, run_command, options_of_pass
 
 SCRIPT = str(TOP / "tools" / "five_states")
 DOCUMENTS = TOP / "docs"
@@ -67,7 +67,7 @@ def test_sample(bb: str, tmp_path: pathlib.Path) -> None:
     found = summary_in(tmp_path / "out")
     assert passes(found) == PASSES
     left = (tmp_path / "out" / "left.txt").read_bytes()
-    decided = ended([bb, "decide", *options_of_pass(found["passes"][-1]["limits"])], left).output
+    decided = run_command([bb, "decide", *options_of_pass(found["passes"][-1]["limits"])], left).output
     assert decided == b"".join(machine + b" undecided steps\n" for machine in left.splitlines())
     for kind in KINDS:
         share, sampled = WRITTEN["counts"][kind] / MACHINES, found["counts"][kind] / PASSES[0][0]
@@ -202,7 +202,7 @@ def test_stream(bb: str, cover: str, tmp_path: pathlib.Path) -> None:
             *small,
             *more,
         ]
-        return ended([*command, "--stream"])
+        return run_command([*command, "--stream"])
 
     status, printed = wait_for(start(tmp_path / "three", *small))
     assert status == 0, printed
@@ -212,8 +212,8 @@ def test_stream(bb: str, cover: str, tmp_path: pathlib.Path) -> None:
     assert status == 0, printed
     status, verdicts, error = stream("kept")
     assert status == 0, error
-    assert ended([cover], verdicts).output.startswith(b"covers 3 states 2 symbols: 5417 lines,")
+    assert run_command([cover], verdicts).output.startswith(b"covers 3 states 2 symbols: 5417 lines,")
     assert stream("kept", "--every", "2")[0] == 2
     machines = as_lines(line.decode().split(" ")[0] for line in verdicts.splitlines())
-    decided = ended([bb, "decide", *options_of_pass(WRITTEN["passes"][0]["limits"])], machines).output
+    decided = run_command([bb, "decide", *options_of_pass(WRITTEN["passes"][0]["limits"])], machines).output
     assert verdicts == decided, "no machine of three states needs the second pass"

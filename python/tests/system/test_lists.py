@@ -18,8 +18,8 @@ from budlarem import Form, Halt, Judgement, Limits, Undecided, Verdict
 from budlarem.normal_forms import canonical_form
 from support import TOP
 from support.claims import with_other_number
-from support.machines import mixed, uniform
-from support.program import Ended, as_lines, ended, options
+from support.machines import mixed_machines, uniform
+from support.program import CommandResult, as_lines, run_command, options
 from support.terminals import on_terminal
 
 FORMS = json.loads((TOP / "tests" / "support" / "forms.json").read_text(encoding="utf-8"))
@@ -41,9 +41,9 @@ AROUND = (
 )
 
 
-def command(*asked: str, given: bytes = b"") -> Ended:
+def command(*asked: str, given: bytes = b"") -> CommandResult:
     """How a command of the package ends."""
-    return ended([sys.executable, "-m", "budlarem", *asked], given)
+    return run_command([sys.executable, "-m", "budlarem", *asked], given)
 
 
 def test_columns(bb: str) -> None:
@@ -57,7 +57,7 @@ def require_column(bb: str, reading: budlarem.Reading) -> None:
     """The program takes the machine, or refuses the line with its column, unless that is a machine in a form
     that has none there."""
     given = reading.line if reading.machine is None else reading.machine
-    reply = ended([bb, "decide", "--steps=0"], given.encode("utf-8", "surrogateescape") + b"\n").output
+    reply = run_command([bb, "decide", "--steps=0"], given.encode("utf-8", "surrogateescape") + b"\n").output
     right = None if reply.startswith(b"refused") is False else int(reply.split()[1])
     assert reading.column == right
 
@@ -183,7 +183,7 @@ def in_some_form(source: random.Random, machine: str) -> str:
 def lines_in_some_form(count: int) -> list[tuple[str, str]]:
     """Random machines, and lines that have them in random forms."""
     source = random.Random(1)
-    return [(machine, in_some_form(source, machine)) for machine in mixed(count, 1)]
+    return [(machine, in_some_form(source, machine)) for machine in mixed_machines(count, 1)]
 
 
 @pytest.mark.parametrize("count", [2_000, pytest.param(20_000, marks=pytest.mark.slow)])
@@ -222,7 +222,7 @@ def test_read(bb: str, tmp_path: pathlib.Path) -> None:
             "%s:%d: refused: %s" % (shown, one.number, one.reason) in error.decode() for one in refused[:50]
         )
         assert whole and len(printed) > len(refused), name
-    decided = ended([bb, "decide", *options(LIMITS)], right)
+    decided = run_command([bb, "decide", *options(LIMITS)], right)
     assert b"refused" not in decided.output
     found = command("decide", *options(LIMITS), given=right)
     assert found[:2] == (0, decided.output)
@@ -239,7 +239,7 @@ def test_check(bb: str, rng: random.Random, tmp_path: pathlib.Path) -> None:
     ]
     given = as_lines(lines)
     for row in (LIMITS, GREATEST):
-        right = ended([bb, "check", *options(row)], given)
+        right = run_command([bb, "check", *options(row)], given)
         (tmp_path / "claims.txt.gz").write_bytes(gzip.compress(given))
         for asked, more in (([str(tmp_path / "claims.txt.gz")], b""), (["--threads", "3"], given)):
             words = asked if row is GREATEST else [*asked, *options(row)]
@@ -261,16 +261,16 @@ def require_counts(lines: list[str], answers: list[str], printed: str) -> None:
 
 def test_trace(bb: str) -> None:
     """A trace is the program's, to its status."""
-    for machine in (*mixed(5, 1), "1rB", ""):
+    for machine in (*mixed_machines(5, 1), "1rB", ""):
         for more in (["--upto", "50"], ["--upto", "2000", "--cells", "7"]):
-            right = ended([bb, "trace", *more, "--", machine])
+            right = run_command([bb, "trace", *more, "--", machine])
             found = command("trace", *more, "--", machine)
             assert found[:2] == right[:2]
 
 
 def verdicts_of(count: int) -> Sequence[Verdict]:
     """So many verdicts that claim something, on machines that have an entry."""
-    machines = (machine for machine in mixed(3 * count, 1) if machine.strip("-_"))
+    machines = (machine for machine in mixed_machines(3 * count, 1) if machine.strip("-_"))
     verdicts = budlarem.decide(machines, Limits(*LIMITS), threads=2)
     return [verdict for verdict in verdicts if not isinstance(verdict, Undecided)][:count]
 
@@ -286,7 +286,7 @@ def test_forged_claims(bb: str, rng: random.Random, count: int) -> None:
     claims = list(map(str, verdicts))
     places = source.sample(range(len(claims)), len(claims))
     lines = [with_other_number(claims[place], source) for place in places] + claims
-    answers = ended([bb, "check", *options(GREATEST)], as_lines(lines)).output.decode().splitlines()
+    answers = run_command([bb, "check", *options(GREATEST)], as_lines(lines)).output.decode().splitlines()
     wrong: dict[str, str] = {"bad": "contradicted", "ok": "confirmed"}
     judging = budlarem.judge(lines, limits=limits, undefined_steps=False, threads=2)
     missed = [
@@ -327,7 +327,7 @@ def test_undefined_steps(bb: str) -> None:
     """Halts that count a step for an undefined entry are found out, and confirmed; the command says so."""
     verdicts = [verdict for verdict in verdicts_of(1_000) if isinstance(verdict, Halt)]
     machines = [verdict.machine.replace("---", "1RZ") for verdict in verdicts]
-    decided = ended([bb, "decide", *options((LIMITS[0] + 1, *LIMITS[1:]))], as_lines(machines)).output
+    decided = run_command([bb, "decide", *options((LIMITS[0] + 1, *LIMITS[1:]))], as_lines(machines)).output
     more = [line.partition(" ")[2] for line in decided.decode().splitlines()]
     lines = ["%s %s" % (verdict.machine, one) for verdict, one in zip(verdicts, more)]
     changed = sum(line != str(verdict) for line, verdict in zip(lines, verdicts))
@@ -403,7 +403,7 @@ def test_examples() -> None:
     assert len(shown) >= 4
     script = 'budlarem() { "%s" -m budlarem "$@"; }\n' % sys.executable
     for asked, written in shown:
-        found = ended(["sh", "-c", script + asked]).output.decode().rstrip("\n")
+        found = run_command(["sh", "-c", script + asked]).output.decode().rstrip("\n")
         assert found == written
     for name in ("read", "check", "trace", "judge", "decide"):
         first, second = command("help", name), command(name, "--help")

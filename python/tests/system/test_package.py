@@ -11,8 +11,8 @@ from typing import Iterator, Sequence, Tuple
 import budlarem
 import pytest
 from budlarem import Limits, Plan
-from support.machines import mixed
-from support.program import PLANS, ROWS, SIMULATION, as_lines, ended, options
+from support.machines import mixed_machines
+from support.program import PLANS, ROWS, SIMULATION, as_lines, run_command, options
 from support.runs import WHERE, interrupt
 
 Row = Tuple[int, int, int, int]
@@ -30,7 +30,7 @@ print(resource.getrusage(resource.RUSAGE_SELF).ru_maxrss)
 
 def output_of(bb: str, asked: Sequence[str], given: bytes) -> bytes:
     """What the program writes."""
-    return ended([bb, *asked], given).output
+    return run_command([bb, *asked], given).output
 
 
 def plan_of(switches: Sequence[str]) -> Plan:
@@ -58,7 +58,7 @@ def require_deciding(bb: str, row: Row, switches: Sequence[str], lines: list[str
 
 
 def list_of(count: int) -> list[str]:
-    return list(mixed(count, 1))
+    return list(mixed_machines(count, 1))
 
 
 @pytest.mark.parametrize("row", ROWS)
@@ -154,7 +154,7 @@ def test_traces(bb: str, rng: random.Random, count: int) -> None:
     for machine in list_of(count):
         upto, cells = rng.choice((0, 1, 50, 300, 2_000)), rng.choice((1, 5, 64, 65_536))
         asked = ["trace", "--upto", str(upto), "--cells", str(cells), "--", machine]
-        status, written, _ = ended([bb, *asked])
+        status, written, _ = run_command([bb, *asked])
         lines = written.decode().splitlines()
         start, every = rng.choice((0, 0, 3, 40)), rng.choice((1, 2, 7))
         trace = budlarem.trace(machine, upto, cells, start, every)
@@ -194,7 +194,7 @@ def test_comparisons_and_normal_forms(rng: random.Random) -> None:
 def test_memory(how: str, count: int) -> None:
     """The most memory that a long list takes is that of a short one."""
     commands = ([sys.executable, "-c", MEMORY, str(lines), how] for lines in (100_000, count))
-    few, many = (int(ended(command).output) for command in commands)
+    few, many = (int(run_command(command).output) for command in commands)
     print("%s: %d KB for 100,000 lines, %d KB for %d" % (how, few, many, count))
     assert 0 < many < 1.1 * few + 2_000
 

@@ -10,7 +10,7 @@ import budlarem
 import pytest
 from support import TOP
 from support.machines import CHAMPION, CHAMPION_OF_FOUR
-from support.program import ended, kind_of, replies
+from support.program import run_command, kind_of, replies
 
 Image: Any = pytest.importorskip("PIL.Image", reason="Python has no PIL (Debian: python3-pil)")
 GOES_RIGHT = "1RA1RA"
@@ -101,7 +101,7 @@ def test_first_command_of_readme(bb: str) -> None:
     block = re.search(r"    \$ \./bb (decide .*)\n((?:    .*\n)+)", text)
     assert block is not None
     words, shown = block[1].split(), [line.strip() for line in block[2].splitlines()]
-    assert ended([bb, *words], cwd=str(TOP)).output.decode().splitlines() == shown
+    assert run_command([bb, *words], cwd=str(TOP)).output.decode().splitlines() == shown
     (verdict,) = [line for line in shown if line.startswith(CHAMPION)]
     (line,) = replies([bb, "decide", "--steps", str(int(verdict.split()[2]) - 1)], [CHAMPION])
     assert kind_of(line) == "undecided"

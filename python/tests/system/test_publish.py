@@ -18,8 +18,8 @@ from typing import Any, Callable
 
 import pytest
 from support import restore_signals
-from support.machines import mixed
-from support.program import as_lines, ended, options
+from support.machines import mixed_machines
+from support.program import as_lines, run_command, options
 from support.runs import Case, is_at_work, wait_until
 
 FIRST = (300, 64, 10, 100)
@@ -34,11 +34,11 @@ class Place:
     def __init__(self, bb: str, top: pathlib.Path, count: int, seed: int) -> None:
         top.mkdir()
         self.top = top
-        lines = list(mixed(count, seed))
+        lines = list(mixed_machines(count, seed))
         lines[count // 2], lines[count // 3] = "1rB1LB", ""
         self.list, self.verdicts, self.out = (top / "list.txt", top / "verdicts.txt", top / "out.tar")
         self.list.write_bytes(as_lines(lines))
-        self.verdicts.write_bytes(ended([bb, "decide", *options(FIRST)], as_lines(lines)).output)
+        self.verdicts.write_bytes(run_command([bb, "decide", *options(FIRST)], as_lines(lines)).output)
 
     def words(self, *more: str, out: pathlib.Path | None = None) -> list[str]:
         """A command that publishes."""

@@ -13,8 +13,8 @@ from typing import Callable, Counter, Iterator, List, Tuple
 
 import pytest
 from support import TOP
-from support.machines import mixed, seldom_halting
-from support.program import as_lines, ended, options
+from support.machines import mixed_machines, seldom_halting
+from support.program import as_lines, run_command, options
 
 RECHECK = str(TOP / "python" / "src" / "budlarem" / "recheck.py")
 # What it may have of lines.
@@ -29,7 +29,7 @@ WORDS = {"ok": "true", "bad": "false", "open": "no claim", "over": "too long", "
 
 def run_recheck(*more: str, given: bytes = b"") -> Tuple[int, List[bytes], bytes]:
     """The status of recheck.py over these lines, its answers, and what it says on standard error."""
-    done = ended([sys.executable, "-I", "-S", RECHECK, *more], given)
+    done = run_command([sys.executable, "-I", "-S", RECHECK, *more], given)
     return done.status, done.output.split(b"\n")[:-1], done.error
 
 
@@ -90,9 +90,9 @@ def test_memory(tmp_path: pathlib.Path) -> None:
 def test_verdicts_on_four_states(bb: str, list_machines: Callable[..., List[str]], every: str) -> None:
     """Every verdict on the machines of four states is true."""
     machines = as_lines(list_machines(4, "--every", every))
-    first = ended([bb, "decide", *options(FIRST)], machines).output.splitlines(keepends=True)
+    first = run_command([bb, "decide", *options(FIRST)], machines).output.splitlines(keepends=True)
     left = b"".join(line.split(b" ")[0] + b"\n" for line in first if b" undecided " in line)
-    later = ended([bb, "decide", *options(LATER)], left).output.splitlines(keepends=True)
+    later = run_command([bb, "decide", *options(LATER)], left).output.splitlines(keepends=True)
     lines = b"".join([line for line in first if b" undecided " not in line] + later)
     status, answers, error = run_recheck("--steps", str(LATER[0]), "--nodes", str(LATER[3]), given=lines)
     assert status == 0
@@ -104,7 +104,7 @@ def test_verdicts_on_four_states(bb: str, list_machines: Callable[..., List[str]
 
 def machines_of(count: int, source: random.Random) -> Iterator[str]:
     """Random machines: of all sizes, and those of 3 and 4 symbols that halt seldom."""
-    yield from mixed(count // 2, source.randrange(1 << 30))
+    yield from mixed_machines(count // 2, source.randrange(1 << 30))
     for _ in range(count - count // 2):
         yield seldom_halting(source, source.randint(1, 4), source.randint(2, 4))
 
@@ -162,11 +162,11 @@ def test_forged_lines(bb: str, count: int, rng: random.Random) -> None:
     """Verdicts on random machines, and what is forged of them, are answered as by the program."""
     source = rng
     machines = as_lines(machines_of(count, source))
-    verdicts = ended([bb, "decide", *options(LIMITS)], machines).output.split(b"\n")[:-1]
+    verdicts = run_command([bb, "decide", *options(LIMITS)], machines).output.split(b"\n")[:-1]
     lines = [*verdicts, *(forge(source, line) for line in verdicts), b"refused 775", b"refused 776", b""]
     given = b"".join(line + b"\n" for line in lines) + b"1RA1RA undecided steps"
     lines.append(b"1RA1RA undecided steps")
-    printed = ended([bb, "check", *options(LIMITS)], given).output.split(b"\n")[:-1]
+    printed = run_command([bb, "check", *options(LIMITS)], given).output.split(b"\n")[:-1]
     _, answers, _ = run_recheck("--steps", str(STEPS), "--nodes", str(NODES), given=given)
     assert len(lines) == len(printed) == len(answers)
     counts: Counter[bytes] = collections.Counter(printed)

@@ -15,7 +15,7 @@ from typing import Mapping
 
 import pytest
 from support import TOP
-from support.program import ended
+from support.program import run_command
 from support.runs import expected_verdicts, words_of
 
 PACKAGE = TOP / "python"
@@ -128,7 +128,7 @@ def test_examples_of_docstrings() -> None:
 @pytest.mark.needs("readelf")
 def test_library_asks_for_no_newer_glibc(library: pathlib.Path) -> None:
     """The wheel's tag names the newest glibc that its library may need."""
-    symbols = ended(["readelf", "--version-info", "--wide", str(library)]).output.decode()
+    symbols = run_command(["readelf", "--version-info", "--wide", str(library)]).output.decode()
     versions = [tuple(map(int, name.split("."))) for name in re.findall(r"GLIBC_([0-9.]+)", symbols)]
     assert (0,) < max(versions) <= NEWEST_GLIBC
 

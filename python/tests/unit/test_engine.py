@@ -105,11 +105,11 @@ def test_texts_of_all_kinds() -> None:
 
 
 def test_an_error_of_the_list_itself() -> None:
-    def broken() -> Iterator[str]:
+    def broken_items() -> Iterator[str]:
         yield CHAMPION
         raise KeyError("gone")
 
-    found = budlarem.decide(broken())
+    found = budlarem.decide(broken_items())
     with pytest.raises(KeyError):
         list(found)
 
@@ -258,16 +258,16 @@ import os, sys, threading, warnings, budlarem
 warnings.simplefilter("ignore")
 given = threading.Event()
 with_threads = len(sys.argv) > 0
-def forked():
+def run_forked():
     child = os.fork()
     if child: return os.waitpid(child, 0)
     try: print(len(list(budlarem.decide(["1RA1RA"]))), flush=True)
     except RuntimeError as error: print(error, flush=True)
     os._exit(0)
-forked()
+run_forked()
 thread = threading.Thread(target=given.wait)
 thread.start()
-forked()
+run_forked()
 given.set()
 thread.join()
 """

@@ -12,7 +12,7 @@ import sys
 from unittest import mock
 
 import pytest
-from budlarem.commands import build_parser
+from budlarem.commands import command
 from budlarem.limits import limits_of
 from budlarem.numbers import whole_number
 from budlarem.reading import files
@@ -38,7 +38,7 @@ COMMANDS = {
 
 def numbers_of(command: str) -> list[str]:
     """The options of a command whose value is a number."""
-    choices = next(action.choices for action in build_parser()._actions if isinstance(action.choices, dict))
+    choices = next(action.choices for action in command()._actions if isinstance(action.choices, dict))
     return [
         action.option_strings[0]
         for action in choices[command]._actions
@@ -51,7 +51,7 @@ def test_every_option_of_every_command() -> None:
     for command, given in COMMANDS.items():
         for option in numbers_of(command):
             for text in MILLION:
-                asked = build_parser().parse_args([*given, option, text])
+                asked = command().parse_args([*given, option, text])
                 name = option[2:].replace("-", "_")
                 assert getattr(asked, name) == 1_000_000
                 tried += 1
@@ -59,7 +59,7 @@ def test_every_option_of_every_command() -> None:
 
 
 def test_positions() -> None:
-    asked = build_parser().parse_args([*COMMANDS["picture"], "--left=-1,000", "--right", "1e3"])
+    asked = command().parse_args([*COMMANDS["picture"], "--left=-1,000", "--right", "1e3"])
     assert (asked.left, asked.right) == (-1_000, 1_000)
 
 
@@ -71,7 +71,7 @@ def test_what_is_no_number() -> None:
 
 def test_the_sentence_says_what_would_do() -> None:
     with mock.patch("sys.stderr", io.StringIO()) as printed, pytest.raises(SystemExit):
-        build_parser().parse_args(["decide", "--steps", "1,00"])
+        command().parse_args(["decide", "--steps", "1,00"])
     assert "--steps: 1,00 is no whole number; 1000000, 1,000,000" in printed.getvalue()
 
 
@@ -94,21 +94,21 @@ ENDLESS = (
 def command(*given: str) -> "subprocess.CompletedProcess[str]":
     """The command over a line that never ends, with at most 1 GB of memory for its data."""
 
-    def limited() -> None:
+    def require_limit() -> None:
         resource.setrlimit(resource.RLIMIT_DATA, (1 << 30, 1 << 30))
 
     top = os.path.dirname(os.path.dirname(os.path.dirname(os.path.abspath(files.__file__))))
-    build_parser = [sys.executable, "-m", "budlarem", *given]
+    command = [sys.executable, "-m", "budlarem", *given]
     with subprocess.Popen([sys.executable, "-c", ENDLESS], stdout=-1, stderr=subprocess.DEVNULL) as feeder:
         try:
             return subprocess.run(
-                build_parser,
+                command,
                 stdin=feeder.stdout,
                 capture_output=True,
                 text=True,
                 timeout=60,
                 env={**os.environ, "PYTHONPATH": top},
-                preexec_fn=limited,
+                preexec_fn=require_limit,
             )
         finally:
             feeder.kill()

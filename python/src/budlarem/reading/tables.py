@@ -105,7 +105,7 @@ def find_layout(lines: Sequence[Numbered], columns: Columns) -> Layout:
     if len(fitting) > 1:
         names = " or ".join(_SEPARATOR_NAMES[one] for one in fitting)
         raise ValueError("the separator may be %s: write the cells in quotes" % names)
-    return _without_names(records, fitting[0], columns)
+    return _layout_by_position(records, fitting[0], columns)
 
 
 def _fits(records: Sequence[Numbered], separator: str, columns: Columns) -> bool:
@@ -126,7 +126,7 @@ def _fits(records: Sequence[Numbered], separator: str, columns: Columns) -> bool
     return any(one.machine is not None and not (one.before or one.behind) for one in found)
 
 
-def _without_names(records: Sequence[Numbered], separator: str, columns: Columns) -> Layout:
+def _layout_by_position(records: Sequence[Numbered], separator: str, columns: Columns) -> Layout:
     """The layout of a table without a header that names the machines. Raises ValueError."""
     row = cells_of(records[0][1], separator)
     place = _place_of(columns.machine or "", row)
