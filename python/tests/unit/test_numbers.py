@@ -12,7 +12,7 @@ import sys
 from unittest import mock
 
 import pytest
-from budlarem.commands import command
+from budlarem.commands import build_parser
 from budlarem.limits import limits_of
 from budlarem.numbers import whole_number
 from budlarem.reading import files
@@ -38,7 +38,7 @@ COMMANDS = {
 
 def numbers_of(command: str) -> list[str]:
     """The options of a command whose value is a number."""
-    choices = next(action.choices for action in command()._actions if isinstance(action.choices, dict))
+    choices = next(action.choices for action in build_parser()._actions if isinstance(action.choices, dict))
     return [
         action.option_strings[0]
         for action in choices[command]._actions
