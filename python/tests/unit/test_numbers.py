@@ -51,7 +51,7 @@ def test_every_option_of_every_command() -> None:
     for command, given in COMMANDS.items():
         for option in numbers_of(command):
             for text in MILLION:
-                asked = command().parse_args([*given, option, text])
+                asked = build_parser().parse_args([*given, option, text])
                 name = option[2:].replace("-", "_")
                 assert getattr(asked, name) == 1_000_000
                 tried += 1
@@ -59,7 +59,7 @@ def test_every_option_of_every_command() -> None:
 
 
 def test_positions() -> None:
-    asked = command().parse_args([*COMMANDS["picture"], "--left=-1,000", "--right", "1e3"])
+    asked = build_parser().parse_args([*COMMANDS["picture"], "--left=-1,000", "--right", "1e3"])
     assert (asked.left, asked.right) == (-1_000, 1_000)
 
 
@@ -71,7 +71,7 @@ def test_what_is_no_number() -> None:
 
 def test_the_sentence_says_what_would_do() -> None:
     with mock.patch("sys.stderr", io.StringIO()) as printed, pytest.raises(SystemExit):
-        command().parse_args(["decide", "--steps", "1,00"])
+        build_parser().parse_args(["decide", "--steps", "1,00"])
     assert "--steps: 1,00 is no whole number; 1000000, 1,000,000" in printed.getvalue()
 
 
@@ -94,7 +94,7 @@ ENDLESS = (
 def command(*given: str) -> "subprocess.CompletedProcess[str]":
     """The command over a line that never ends, with at most 1 GB of memory for its data."""
 
-    def require_limit() -> None:
+    def set_limit() -> None:
         resource.setrlimit(resource.RLIMIT_DATA, (1 << 30, 1 << 30))
 
     top = os.path.dirname(os.path.dirname(os.path.dirname(os.path.abspath(files.__file__))))
@@ -108,7 +108,7 @@ def command(*given: str) -> "subprocess.CompletedProcess[str]":
                 text=True,
                 timeout=60,
                 env={**os.environ, "PYTHONPATH": top},
-                preexec_fn=require_limit,
+                preexec_fn=set_limit,
             )
         finally:
             feeder.kill()
