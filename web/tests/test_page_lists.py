@@ -222,7 +222,7 @@ def test_lines_that_are_no_verdict_lines(tab: Page) -> None:
     tab.open_row(5)
     tab.wait_until_drawn()
     behind = tab.text("behind")
-    assert "which cells agree" in behind and "0 cells" not in behind and "show it" not in behind
+    assert "cells that agree" in behind and "0 cells" not in behind and "show it" not in behind
 
 
 def test_each_line_is_counted_once(tab: Page) -> None:
