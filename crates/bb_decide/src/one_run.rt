@@ -29,7 +29,8 @@ use crate::single_pass::run_single_pass;
 use crate::translation::seek_translation;
 use bb_cert::{Verdict, Why};
 use bb_machine::{Limits, Machine, Plan};
-use bb_sim::{Meter, Outcome, simulate};
+use bb_narrow::simulate_narrow;
+use bb_sim::{Meter, Outcome};
 use bb_tape::{Memory, Tape};
 
 /// Resets `meter`, decides a machine as [`decide`](crate::decide) does, and records the cost in `meter`. The
@@ -150,7 +151,7 @@ fn search_by_plan<T: Tape, K: FingerprintKeys>(
     limits.show_accepted();
     if !plan.translated {
         if !plan.cyclers {
-            let outcome = simulate(machine, &mut bench.run, limits, meter)?;
+            let outcome = simulate_narrow(machine, &mut bench.run, limits, meter)?;
             return Ok(SearchResult::Ran(outcome));
         }
         return seek_cycle(machine, limits, bench, meter);

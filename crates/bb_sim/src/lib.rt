@@ -10,4 +10,4 @@ pub mod simulation;
 pub use configurations::is_same;
 pub use meter::Meter;
 pub use runner::{Moved, Runner};
-pub use simulation::{Outcome, simulate};
+pub use simulation::{Outcome, simulate, simulate_from};

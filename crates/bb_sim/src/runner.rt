@@ -1,5 +1,5 @@
 //! One step of a run.
-ghost use Rattle.std.specs.Prelude.{◌≡◌, ◌+◌, ◌<◌, ◌≤◌, ◌^◌, ◌↔◌, ◌≤ℤ◌, ◌+ℤ◌};
+ghost use Rattle.std.specs.Prelude.{◌≡◌, ◌+◌, ◌<◌, ◌≤◌, ◌^◌, ◌↔◌, ◌≤ℤ◌, ◌+ℤ◌, ◌-ℤ◌};
 ghost use Rattle.std.specs.Prelude.{neg_ℤ, pos, IfOk, IsTrue, MatchOption, OnErr, OnOk};
 ghost use Rattle.bb_tape.specs.declared.tape.TheConstants.{MAX_CELLS};
 ghost use Rattle.bb_sim.specs.Configuration as configuration;
@@ -66,6 +66,29 @@ impl Runner {
             steps: 0,
             low: 0,
             cells: 1,
+        }
+    }
+
+    /// A runner inside a run: its configuration apart from the tape, the steps made so far, and its window, that
+    /// has so many cells from the least position on.
+    #[inline]
+    pub fn at(state: Next, position: i64, made: u64, low: i64, cells: u64) -> Runner
+        requires some_cell { 0 < cells }
+        requires few_cells { cells ≤ MAX_CELLS }
+        requires low_to_zero { low ≤ℤ pos 0 }
+        requires low_small { neg_ℤ (pos MAX_CELLS) ≤ℤ low }
+        ensures state { state_of result ≡ state }
+        ensures position { position_of result ≡ position }
+        ensures steps { steps_of result ≡ made }
+        ensures low { low_of result ≡ low }
+        ensures high { high_of result ≡ (low +ℤ pos cells) -ℤ pos 1 }
+    {
+        Runner {
+            state,
+            position,
+            steps: made,
+            low,
+            cells,
         }
     }
 

@@ -1,7 +1,9 @@
 //! A whole run within limits.
-ghost use Rattle.std.specs.Prelude.{◌≡◌, ◌+◌, ◌<◌, ◌^◌, IfOk, IsTrue, OnErr, OnOk};
-ghost use Rattle.bb_sim.specs.Meter.{CountsPart, CountsRun, IsWithinRun};
+ghost use Rattle.std.specs.Prelude.{◌≡◌, ◌+◌, ◌<◌, ◌≤◌, ◌^◌, IfOk, IsTrue, OnErr, OnOk};
+ghost use Rattle.bb_sim.specs.declared.meter.Meter.{Meter};
+ghost use Rattle.bb_sim.specs.Meter.{CountsPart, CountsRun, CountsTo, IsWithinRun};
 ghost use Rattle.bb_sim.specs.Outcome.{IsOutcome};
+ghost use Rattle.bb_sim.specs.Runner.{Stands, steps_of};
 ghost use Rattle.bb_sim.specs.inside.Simulating.{Simulates};
 
 use crate::meter::Meter;
@@ -40,29 +42,64 @@ pub fn simulate<T: Tape>(
     ensures limit { (T.view tape.new).limit ≡ (T.view tape.old).limit }
     ensures memory { OnErr result (IsTrue T.GROWS) }
 {
-    let limits = *limits;
-    let mut spent = *meter;
-    let outcome = run_machine(machine, tape, &limits, &mut spent);
-    *meter = spent;
-    outcome
+    let runner = Runner::start(machine, tape);
+    limits.show_accepted();
+    meter.begin_run();
+    simulate_from(machine, runner, tape, limits, meter)
 }
 
-/// The body of `simulate`, inlined there: limits and meter are its locals and stay in registers.
-#[inline(always)]
-fn run_machine<T: Tape>(
+/// Continues a run from where its runner stands, until the machine halts or a limit is met. The meter has
+/// counted the run up to there; what it had counted before the run is `begun`.
+///
+/// After an error the tape has the configuration of the last counted step.
+#[inline(never)]
+pub fn simulate_from<T: Tape>(
     machine: &Machine,
+    runner: Runner,
     tape: &mut T,
     limits: &Limits,
     meter: &mut Meter,
 ) -> Result<Outcome, Memory>
+    requires stands { Stands machine.now runner (T.view tape.old) }
     requires limit { (T.view tape.old).limit ≡ limits.now.cells }
-    requires room { meter.old.steps + limits.now.steps + 1 < 2 ^ 64 }
-    ensures { Simulates T.GROWS machine.now limits.now (T.view tape.old) (T.view tape.new)
-        meter.old meter.new result }
+    requires steps { steps_of runner ≤ limits.now.steps }
+    requires counted { (begun : Meter) × CountsTo machine.now (steps_of runner) begun meter.old
+        × (begun.steps + limits.now.steps + 1 < 2 ^ 64) }
+    ensures outcome { IfOk result (IsOutcome machine.now limits.now) }
+    ensures counted { (begun : Meter) → CountsTo machine.now (steps_of runner) begun meter.old
+        → OnOk result (CountsRun machine.now limits.now begun meter.new) }
+    ensures cut { (begun : Meter) → CountsTo machine.now (steps_of runner) begun meter.old
+        → OnErr result (CountsPart machine.now limits.now (T.view tape.new).content begun meter.new) }
+    ensures within { (begun : Meter) → CountsTo machine.now (steps_of runner) begun meter.old
+        → IsWithinRun limits.now begun meter.new }
+    ensures limit { (T.view tape.new).limit ≡ (T.view tape.old).limit }
+    ensures memory { OnErr result (IsTrue T.GROWS) }
 {
-    let mut runner = Runner::start(machine, tape);
-    limits.show_accepted();
-    meter.begin_run();
+    let limits = *limits;
+    let mut spent = *meter;
+    let outcome = run_machine(machine, runner, tape, &limits, &mut spent);
+    *meter = spent;
+    outcome
+}
+
+/// The body of `simulate_from`, inlined there: limits and meter are its locals and stay in registers.
+#[inline(always)]
+fn run_machine<T: Tape>(
+    machine: &Machine,
+    runner: Runner,
+    tape: &mut T,
+    limits: &Limits,
+    meter: &mut Meter,
+) -> Result<Outcome, Memory>
+    requires stands { Stands machine.now runner (T.view tape.old) }
+    requires limit { (T.view tape.old).limit ≡ limits.now.cells }
+    requires steps { steps_of runner ≤ limits.now.steps }
+    requires counted { (begun : Meter) × CountsTo machine.now (steps_of runner) begun meter.old
+        × (begun.steps + limits.now.steps + 1 < 2 ^ 64) }
+    ensures { (begun : Meter) → CountsTo machine.now (steps_of runner) begun meter.old
+        → Simulates T.GROWS machine.now limits.now (T.view tape.old) (T.view tape.new) begun meter.new result }
+{
+    let mut runner = runner;
     loop {
         match runner.advance(machine, tape, limits, meter)? {
             Moved::Stepped => {}

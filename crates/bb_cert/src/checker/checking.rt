@@ -18,7 +18,8 @@ use crate::tree::path::Path;
 use crate::tree::walk::walk;
 use crate::verdict::{Extent, Side, Verdict};
 use bb_machine::{Limits, Machine};
-use bb_sim::{Meter, Outcome, is_same, simulate};
+use bb_narrow::simulate_narrow;
+use bb_sim::{Meter, Outcome, is_same};
 use bb_tape::{Memory, Tape};
 
 /// The tapes for checking a claim. Each call resets those it uses.
@@ -181,7 +182,7 @@ fn check_halt<T: Tape>(
     ensures memory { OnErr result (IsTrue T.GROWS) }
 {
     let limits = with_steps(limits, steps);
-    match simulate(machine, tape, &limits, meter)? {
+    match simulate_narrow(machine, tape, &limits, meter)? {
         Outcome::Halt {
             steps: made,
             score: found,

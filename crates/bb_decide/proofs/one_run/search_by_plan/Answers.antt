@@ -7,8 +7,8 @@ use Rattle.bb_decide.proofs.Refused.{breaks_at_once}
 use Rattle.bb_decide.proofs.RunsMade.{cycles_add, no_search_adds, translations_add}
 use Rattle.bb_decide.proofs.one_run.search_by_plan.Goals as goal
 
-pub simulate-requires-clause-room : goal.simulate-requires-clause-room
-simulate-requires-clause-room g c =
+pub simulate_narrow-requires-clause-room : goal.simulate_narrow-requires-clause-room
+simulate_narrow-requires-clause-room g c =
     let zero = c.requires.steps in
     let most = c.show_accepted.ensures.accepted.steps in
     omega (arith, zero, most)

@@ -1,0 +1,10 @@
+pub mod Facts
+pub mod Bits
+pub mod Packing
+pub mod OneBit
+pub mod Entries
+pub mod Moving
+pub mod Counts
+pub mod Ending
+pub mod TapeBits
+pub mod Starting

@@ -1,0 +1,141 @@
+use Rattle.std.proofs.Common.{◌≡◌, ◌∙◌, ap, arith, subst, sym}
+use Rattle.std.proofs.lemmas.Int.{ints}
+use Rattle.bb_machine.specs.declared.entry.Next.TheVariants.{State}
+use Rattle.bb_tape.specs.TapeView.{TapeView}
+use Rattle.bb_sim.specs.Runner.{Stands}
+use Rattle.bb_narrow.specs.Registers.{IsNarrowRun}
+use Rattle.bb_narrow.proofs.TapeBits.{bits_inside, head_some, lowest_is_head, lowest_is_low, same_views, stands_as}
+use Rattle.bb_narrow.proofs.TapeBits.{window_some}
+use Rattle.bb_narrow.proofs.run.NarrowRun.move_to_tape.Given as given
+use Rattle.bb_narrow.proofs.run.NarrowRun.move_to_tape.Goals as goal
+use Rattle.bb_narrow.proofs.run.NarrowRun.move_to_tape.Goals.{After-widen_window}
+
+pub lowest_position-low-requires : goal.lowest_position-low-requires
+lowest_position-low-requires g c = record { some = window_some c.requires.run }
+
+pub lowest_position-position-requires : goal.lowest_position-position-requires
+lowest_position-position-requires g c = record { some = head_some c.requires.run }
+
+pub widen_window-requires-clause-from : goal.widen_window-requires-clause-from
+widen_window-requires-clause-from g c =
+    let known = c.requires.run in
+    let low = lowest_is_low known _ c.lowest_position-low.ensures in
+    omega (arith, ints, low, known.sound.from_zero)
+
+pub widen_window-requires-clause-to : goal.widen_window-requires-clause-to
+widen_window-requires-clause-to g c =
+    let known = c.requires.run in
+    let low = lowest_is_low known _ c.lowest_position-low.ensures in
+    omega (
+      arith,
+      ints,
+      low,
+      known.sound.to_zero,
+      known.window_is.room_is,
+      known.window_is.low_in_word,
+      known.window_is.high_in_word,
+      known.limit,
+      c.cells.ensures.value,
+    )
+
+pub widen_window-requires-clause-room : goal.widen_window-requires-clause-room
+widen_window-requires-clause-room g c =
+    let known = c.requires.run in
+    let low = lowest_is_low known _ c.lowest_position-low.ensures in
+    let limit = ap (λ (s : TapeView). s.limit) c.reset.ensures ∙ c.requires.limit in
+    omega (
+      arith,
+      ints,
+      low,
+      limit,
+      known.window_is.room_is,
+      known.window_is.low_in_word,
+      known.window_is.high_in_word,
+      known.limit,
+      c.cells.ensures.value,
+    )
+
+-- the ends of the widened window
+low_is : (g : given.Over) (c : After-widen_window g)
+    (known : IsNarrowRun c.args.machine.now c.args.limits.now c.args.self.now)
+    → (g.T.Tape.view c.widen_window.new.tape).low ≡ known.view.low
+low_is g c known =
+    let low = lowest_is_low known _ c.lowest_position-low.ensures in
+    ap (λ (s : TapeView). s.low) c.widen_window.ensures
+    ∙ omega (arith, ints, low, known.window_is.low_in_word)
+
+high_is : (g : given.Over) (c : After-widen_window g)
+    (known : IsNarrowRun c.args.machine.now c.args.limits.now c.args.self.now)
+    → (g.T.Tape.view c.widen_window.new.tape).high ≡ known.view.high
+high_is g c known =
+    let low = lowest_is_low known _ c.lowest_position-low.ensures in
+    ap (λ (s : TapeView). s.high) c.widen_window.ensures
+    ∙ omega (
+      arith,
+      ints,
+      low,
+      known.window_is.room_is,
+      known.window_is.low_in_word,
+      known.window_is.high_in_word,
+      known.limit,
+      c.cells.ensures.value,
+    )
+
+pub write_bits-requires-clause-inside : goal.write_bits-requires-clause-inside
+write_bits-requires-clause-inside g c i h set =
+    let known = c.requires.run in
+    let after = (goal.at.write_bits-requires-clause-inside g c).After-widen_window in
+    let inside = bits_inside known i h set in
+    (rw (low_is g after known) inside.0, rw (high_is g after known) inside.1)
+
+pub at-requires-clause-low_to_zero : goal.at-requires-clause-low_to_zero
+at-requires-clause-low_to_zero g c =
+    let known = c.requires.run in
+    let low = lowest_is_low known _ c.lowest_position-low.ensures in
+    omega (arith, ints, low, known.sound.from_zero)
+
+pub returns-clause-stands : goal.returns-clause-stands
+returns-clause-stands g c =
+    let known = c.requires.run in
+    let after = (goal.at.returns-clause-stands g c).After-widen_window in
+    let v = c.write_bits.ensures in
+    let w = c.widen_window.ensures in
+    let r = c.reset.ensures in
+    let low = lowest_is_low known _ c.lowest_position-low.ensures in
+    let head = lowest_is_head known _ c.lowest_position-position.ensures in
+    let view : g.T.Tape.view c.write_bits.new.tape ≡ known.view = same_views _ _
+    (ap (λ (s : TapeView). s.content) v ∙ sym known.at.content)
+    (ap (λ (s : TapeView). s.low) v ∙ low_is g after known)
+    (ap (λ (s : TapeView). s.high) v ∙ high_is g after known)
+    (ap (λ (s : TapeView). s.limit) v ∙ ap (λ (s : TapeView). s.limit) w ∙ ap (λ (s : TapeView). s.limit) r
+    ∙ c.requires.limit ∙ sym known.limit) in
+    let state : c.state.result ≡ known.at.state = omega (arith, c.state.ensures, known.at.entry) in
+    subst (Stands c.args.machine.now c.at.result) (sym view) (stands_as known.stands
+    (c.at.ensures.state ∙ ap State state ∙ sym known.at.state_is)
+    (c.at.ensures.position ∙ omega (arith, ints, head, known.at.position, known.at.within))
+    (c.at.ensures.steps ∙ known.steps_is)
+    (c.at.ensures.low ∙ omega (arith, ints, low, known.window_is.low_in_word, known.stands.window_low))
+    (c.at.ensures.high ∙ omega (
+      arith,
+      ints,
+      low,
+      known.window_is.room_is,
+      known.window_is.low_in_word,
+      known.window_is.high_in_word,
+      known.limit,
+      c.cells.ensures.value,
+      known.stands.window_high,
+    )))
+
+pub returns-clause-same : goal.returns-clause-same
+returns-clause-same g c known =
+    let after = (goal.at.returns-clause-same g c).After-widen_window in
+    let v = c.write_bits.ensures in
+    let w = c.widen_window.ensures in
+    let r = c.reset.ensures in
+    same_views _ _
+    (ap (λ (s : TapeView). s.content) v ∙ sym known.at.content)
+    (ap (λ (s : TapeView). s.low) v ∙ low_is g after known)
+    (ap (λ (s : TapeView). s.high) v ∙ high_is g after known)
+    (ap (λ (s : TapeView). s.limit) v ∙ ap (λ (s : TapeView). s.limit) w ∙ ap (λ (s : TapeView). s.limit) r
+    ∙ c.requires.limit ∙ sym known.limit)

@@ -1,0 +1,81 @@
+//! A run that leaves the registers: its cells and window on a tape, and the runner that continues it.
+ghost use Rattle.std.specs.Prelude.{◌≡◌, ◌<◌, ℕ, IsTrue, pos, ◌-ℤ◌, ◌<ℤ◌, ◌≤ℤ◌};
+ghost use Rattle.std.specs.Int.{bit_at};
+ghost use Rattle.bb_tape.specs.Content.{blank};
+ghost use Rattle.bb_tape.specs.TapeView.{IsInside};
+ghost use Rattle.bb_sim.specs.Runner.{Stands, steps_of};
+ghost use Rattle.bb_narrow.specs.BitCells.{IsLowest, bits_content};
+ghost use Rattle.bb_narrow.specs.Registers.{IsNarrowRun};
+
+use crate::run::NarrowRun;
+use bb_machine::{Limits, Machine, Next};
+use bb_sim::Runner;
+use bb_tape::Tape;
+use bb_tape::widening::widen_to;
+
+impl NarrowRun {
+    /// Moves the run onto a tape that doesn't grow: its cells and its window. The runner continues it there.
+    pub fn move_to_tape<T: Tape>(&self, machine: &Machine, limits: &Limits, tape: &mut T) -> Runner
+        requires fixed { IsTrue T.GROWS → ⊥ }
+        requires run { IsNarrowRun machine.now limits.now self.now }
+        requires limit { (T.view tape.old).limit ≡ limits.now.cells }
+        ensures stands { Stands machine.now result (T.view tape.new) }
+        ensures steps { steps_of result ≡ self.now.steps }
+        ensures limit { (T.view tape.new).limit ≡ (T.view tape.old).limit }
+        ensures same { (known : IsNarrowRun machine.now limits.now self.now) → T.view tape.new ≡ known.view }
+    {
+        machine.show_machine();
+        limits.show_accepted();
+        let cells = limits.cells() - self.room;
+        let low = lowest_position(self.window);
+        let high = low + (cells - 1) as i64;
+        tape.reset();
+        widen_window(tape, low, high);
+        write_bits(tape, self.registers.bits);
+        let state = Next::State(self.registers.state());
+        let position = lowest_position(self.registers.head);
+        Runner::at(state, position, self.steps, low, cells)
+    }
+}
+
+/// The position of the lowest bit that is set.
+fn lowest_position(bits: u64) -> i64
+    requires some { 0 < bits }
+    ensures { IsLowest bits result }
+{
+    i64::from(bits.trailing_zeros()) - 32
+}
+
+/// Widens the window of a tape just reset.
+fn widen_window<T: Tape>(tape: &mut T, low: i64, high: i64)
+    requires at_low { (T.view tape.old).low ≡ pos 0 }
+    requires at_high { (T.view tape.old).high ≡ pos 0 }
+    requires from { low ≤ℤ pos 0 }
+    requires to { pos 0 ≤ℤ high }
+    requires room { (high -ℤ low) <ℤ pos (T.view tape.old).limit }
+    ensures { T.view tape.new ≡ record (T.view tape.old) { low = low; high = high } }
+{
+    let Ok(()) = widen_to(tape, low) else {
+        unreachable!();
+    };
+    let Ok(()) = widen_to(tape, high) else {
+        unreachable!();
+    };
+}
+
+/// Writes the cells of a number to a blank tape whose window has them.
+fn write_bits<T: Tape>(tape: &mut T, bits: u64)
+    requires fixed { IsTrue T.GROWS → ⊥ }
+    requires blank { (T.view tape.old).content ≡ blank }
+    requires inside { (i : ℕ) → i < 64 → bit_at bits i ≡ 1 → IsInside (T.view tape.old) (pos i -ℤ pos 32) }
+    ensures { T.view tape.new ≡ record (T.view tape.old) { content = bits_content bits } }
+{
+    for place in 0..64u32 {
+        if (bits >> place) & 1 == 0 {
+            continue;
+        }
+        let Ok(()) = tape.write(i64::from(place) - 32, 1) else {
+            unreachable!();
+        };
+    }
+}

@@ -1,0 +1,138 @@
+//! A run in registers, step by step.
+ghost use Rattle.std.specs.Prelude.{◌≡◌, ◌↔◌, IsTrue};
+ghost use Rattle.std.specs.Int.{bit_at};
+ghost use Rattle.bb_machine.specs.Machine.{symbols_of};
+ghost use Rattle.bb_narrow.specs.Packed.{IsTableOf};
+ghost use Rattle.bb_narrow.specs.Registers.{EndsWith, IsNarrowRun, IsSameConfiguration, IsNextEntry, AdvancesNarrow};
+
+use crate::registers::{Registers, halts, stops};
+use crate::table::NarrowTable;
+use bb_machine::{Limits, Machine};
+use bb_sim::Outcome;
+
+/// What a call of `NarrowRun::advance` did.
+#[derive(Clone, Copy, Debug, PartialEq, Eq)]
+pub enum NarrowMoved {
+    /// The run is at the next configuration.
+    Stepped,
+    /// The run ends here.
+    Ended(Outcome),
+    /// The next step would leave the 64 cells.
+    Outside,
+}
+
+/// A run in registers.
+#[derive(Clone, Copy, Debug)]
+pub struct NarrowRun {
+    /// Its configuration.
+    pub registers: Registers,
+    /// Its window, as the bits of the cells visited so far.
+    pub window: u64,
+    /// How many more cells it may visit.
+    pub room: u64,
+    /// The steps made so far.
+    pub steps: u64,
+}
+
+impl NarrowRun {
+    /// A run that has made no step.
+    #[inline(always)]
+    pub fn start(machine: &Machine, limits: &Limits) -> NarrowRun
+        ensures run { IsNarrowRun machine.now limits.now result }
+        ensures steps { result.steps ≡ 0 }
+    {
+        machine.show_machine();
+        limits.show_accepted();
+        NarrowRun {
+            registers: Registers::start(),
+            window: 1 << 32,
+            room: limits.cells() - 1,
+            steps: 0,
+        }
+    }
+
+    /// Makes the next step, if there is one inside the limits and the 64 cells.
+    #[inline(always)]
+    pub fn advance(
+        &mut self,
+        machine: &Machine,
+        table: &NarrowTable,
+        limits: &Limits,
+    ) -> NarrowMoved
+        requires symbols { symbols_of machine.now ≡ 2 }
+        requires table { IsTableOf machine.now table.now }
+        requires run { IsNarrowRun machine.now limits.now self.old }
+        ensures { AdvancesNarrow machine.now limits.now self.old self.new result }
+    {
+        machine.show_machine();
+        limits.show_accepted();
+        let entry = table.entry(self.registers.entry, self.registers.reads_one());
+        if stops(entry) {
+            return NarrowMoved::Ended(self.end(machine, limits, entry));
+        }
+        if self.steps == limits.steps() {
+            return NarrowMoved::Ended(Outcome::NoSteps);
+        }
+        let head = self.registers.moved_head(entry);
+        if self.window & head == 0 {
+            if self.room == 0 {
+                return NarrowMoved::Ended(Outcome::NoCells);
+            }
+            if head == 0 {
+                return NarrowMoved::Outside;
+            }
+            self.room -= 1;
+            self.window |= head;
+        }
+        self.registers = Registers {
+            bits: self.registers.flipped_bits(entry),
+            head,
+            entry,
+        };
+        self.steps += 1;
+        NarrowMoved::Stepped
+    }
+
+    /// Whether state, position and cells are those of another run.
+    #[inline(always)]
+    pub fn has_same_configuration(&self, other: &NarrowRun) -> bool
+        ensures { IsTrue result ↔ IsSameConfiguration self.now.registers other.now.registers }
+    {
+        self.registers.bits == other.registers.bits
+            && self.registers.head == other.registers.head
+            && self.registers.entry & 63 == other.registers.entry & 63
+    }
+
+    /// Whether the last step went to the right.
+    #[inline(always)]
+    pub fn went_right(&self) -> bool
+        ensures { IsTrue result ↔ (bit_at self.now.registers.entry 7 ≡ 1) }
+    {
+        halts(self.registers.entry)
+    }
+
+    /// How the run ends where its entry goes to no state.
+    fn end(&self, machine: &Machine, limits: &Limits, entry: u64) -> Outcome
+        requires symbols { symbols_of machine.now ≡ 2 }
+        requires run { IsNarrowRun machine.now limits.now self.now }
+        requires entry { IsNextEntry machine.now limits.now self.now entry }
+        requires stops { bit_at entry 8 ≡ 1 }
+        ensures { (known : IsNarrowRun machine.now limits.now self.now) → EndsWith known result }
+    {
+        machine.show_machine();
+        limits.show_accepted();
+        if !halts(entry) {
+            return Outcome::Halt {
+                steps: self.steps,
+                score: u64::from(self.registers.bits.count_ones()),
+            };
+        }
+        if self.steps == limits.steps() {
+            return Outcome::NoSteps;
+        }
+        Outcome::Halt {
+            steps: self.steps + 1,
+            score: u64::from(self.registers.flipped_bits(entry).count_ones()),
+        }
+    }
+}

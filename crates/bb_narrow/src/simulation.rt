@@ -1,0 +1,116 @@
+//! A whole run within limits, in registers while it stays within 64 cells.
+ghost use Rattle.std.specs.Prelude.{◌≡◌, ◌+◌, ◌-◌, ◌<◌, ◌≤◌, ◌*◌, ◌↔◌, ◌^◌, IfOk, IfSome, IsTrue, OnErr, OnOk, length};
+ghost use Rattle.bb_machine.specs.Machine.{symbols_of};
+ghost use Rattle.bb_sim.specs.Meter.{CountsPart, CountsRun, IsWithinRun, counted};
+ghost use Rattle.bb_sim.specs.Outcome.{IsOutcome};
+ghost use Rattle.bb_narrow.specs.Registers.{EndsWith, IsNarrowRun, last_step};
+
+use crate::run::{NarrowMoved, NarrowRun};
+use crate::table::{MOST_STATES, NarrowTable};
+use bb_machine::{Limits, Machine};
+use bb_sim::{Meter, Outcome, simulate, simulate_from};
+use bb_tape::{Memory, Tape};
+
+/// A run in registers and its outcome; none where its next step would leave the 64 cells.
+#[derive(Clone, Copy)]
+struct NarrowEnd {
+    /// The run after its last step in registers.
+    run: NarrowRun,
+    /// How it ends, if it does there.
+    outcome: Option<Outcome>,
+}
+
+/// Whether a machine can run in registers: it has two symbols and at most seven states.
+#[inline]
+pub fn fits_registers(machine: &Machine) -> bool
+    ensures { IsTrue result ↔ ((symbols_of machine.now ≡ 2) × (length machine.now ≤ 7)) }
+{
+    if machine.symbols() != 2 {
+        return false;
+    }
+    machine.states() as usize <= MOST_STATES
+}
+
+/// Runs a machine from its start, as [`simulate`] does, but in registers while it stays within 64 cells. The
+/// rest of a longer run is made on the tape, from there on. A tape that grows is used from the start.
+///
+/// After an error the tape has the configuration of the last counted step; the next run resets it.
+pub fn simulate_narrow<T: Tape>(
+    machine: &Machine,
+    tape: &mut T,
+    limits: &Limits,
+    meter: &mut Meter,
+) -> Result<Outcome, Memory>
+    requires limit { (T.view tape.old).limit ≡ limits.now.cells }
+    requires room { meter.old.steps + limits.now.steps + 1 < 2 ^ 64 }
+    ensures outcome { IfOk result (IsOutcome machine.now limits.now) }
+    ensures counted { OnOk result (CountsRun machine.now limits.now meter.old meter.new) }
+    ensures cut { OnErr result (CountsPart machine.now limits.now (T.view tape.new).content
+        meter.old meter.new) }
+    ensures within { IsWithinRun limits.now meter.old meter.new }
+    ensures limit { (T.view tape.new).limit ≡ (T.view tape.old).limit }
+    ensures memory { OnErr result (IsTrue T.GROWS) }
+{
+    if T::GROWS {
+        return simulate(machine, tape, limits, meter);
+    }
+    if !fits_registers(machine) {
+        return simulate(machine, tape, limits, meter);
+    }
+    let end = run_in_registers(machine, limits);
+    let Some(outcome) = end.outcome else {
+        let runner = end.run.move_to_tape(machine, limits, tape);
+        end.run.count(end.run.steps, limits, meter);
+        return simulate_from(machine, runner, tape, limits, meter);
+    };
+    end.run.count(end.run.last_step(outcome), limits, meter);
+    Ok(outcome)
+}
+
+/// Runs a machine in registers from its start, until it halts, a limit is met or its next step would leave
+/// the 64 cells.
+fn run_in_registers(machine: &Machine, limits: &Limits) -> NarrowEnd
+    requires symbols { symbols_of machine.now ≡ 2 }
+    requires states { length machine.now ≤ 7 }
+    ensures run { IsNarrowRun machine.now limits.now result.run }
+    ensures ended { IfSome result.outcome (λ outcome.
+        (known : IsNarrowRun machine.now limits.now result.run) → EndsWith known outcome) }
+{
+    let table = NarrowTable::new(machine);
+    let limits = *limits;
+    let mut run = NarrowRun::start(machine, &limits);
+    loop {
+        match run.advance(machine, &table, &limits) {
+            NarrowMoved::Stepped => {}
+            NarrowMoved::Ended(outcome) => {
+                return NarrowEnd {
+                    run,
+                    outcome: Some(outcome),
+                };
+            }
+            NarrowMoved::Outside => return NarrowEnd { run, outcome: None },
+        }
+    }
+}
+
+impl NarrowRun {
+    /// The last step of a run with this outcome: that of the halt, or else the last that was made.
+    fn last_step(&self, outcome: Outcome) -> u64
+        ensures { result ≡ last_step self.now outcome }
+    {
+        match outcome {
+            Outcome::Halt { steps, .. } => steps,
+            Outcome::NoSteps | Outcome::NoCells => self.steps,
+        }
+    }
+
+    /// Adds the run up to a step to a meter: its steps, and the cells of its window.
+    fn count(&self, steps: u64, limits: &Limits, meter: &mut Meter)
+        requires room { meter.old.steps + steps < 2 ^ 64 }
+        requires cells { self.now.room ≤ limits.now.cells }
+        ensures { meter.new ≡ counted meter.old steps (limits.now.cells - self.now.room) }
+    {
+        meter.steps += steps;
+        meter.most_cells = meter.most_cells.max(limits.cells() - self.room);
+    }
+}

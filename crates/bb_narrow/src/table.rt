@@ -1,0 +1,79 @@
+//! The table of a machine of two symbols in two numbers.
+ghost use Rattle.std.specs.Prelude.{◌≡◌, ◌+◌, ◌*◌, ◌/◌, ◌%◌, ◌<◌, ◌≤◌, ◌^◌, ℕ, length, true, false};
+ghost use Rattle.bb_machine.specs.Entry.{IsEntryOf};
+ghost use Rattle.bb_machine.specs.Machine.{entry_of, symbols_of};
+ghost use Rattle.bb_narrow.specs.Packed.{IsPackedEntry, IsTableOf};
+
+use bb_machine::{Dir, Entry, Machine, Next};
+
+/// The most states of a machine whose table fits: nine bits an entry.
+pub(crate) const MOST_STATES: usize = 7;
+
+/// An entry flips the cell under the head.
+pub(crate) const FLIP: u64 = 64;
+
+/// An entry moves right; where it goes to no state, it goes to Z.
+pub(crate) const RIGHT: u64 = 128;
+
+/// An entry goes to no state.
+pub(crate) const STOP: u64 = 256;
+
+/// The entries for the symbol 0 and those for the symbol 1, nine bits for each state, the first state lowest:
+/// nine times the next state, and the three bits above.
+#[derive(Clone, Copy, Debug)]
+pub struct NarrowTable {
+    zero: u64,
+    one: u64,
+}
+
+/// The nine bits of an entry.
+fn packed(entry: Entry, symbol: u8) -> u64
+    requires entry { IsEntryOf MOST_STATES 2 entry }
+    requires symbol { symbol < 2 }
+    ensures entry { (m : ℕ) → IsPackedEntry (m * 512 + result) symbol entry }
+    ensures small { result < 512 }
+{
+    match entry {
+        Entry::Undefined => STOP,
+        Entry::Go { write, dir, next } => {
+            let flip = if write == symbol { 0 } else { FLIP };
+            match next {
+                Next::Halt => STOP + RIGHT + flip,
+                Next::State(state) => {
+                    let right = match dir {
+                        Dir::L => 0,
+                        Dir::R => RIGHT,
+                    };
+                    9 * u64::from(state) + right + flip
+                }
+            }
+        }
+    }
+}
+
+impl NarrowTable {
+    /// The table of a machine.
+    pub fn new(machine: &Machine) -> NarrowTable
+        requires symbols { symbols_of machine.now ≡ 2 }
+        requires states { length machine.now ≤ 7 }
+        ensures { IsTableOf machine.now result }
+    {
+        let mut table = NarrowTable { zero: 0, one: 0 };
+        for state in (0..machine.states()).rev() {
+            table.zero = table.zero * 512 + packed(machine.entry(state, 0), 0);
+            table.one = table.one * 512 + packed(machine.entry(state, 1), 1);
+        }
+        table
+    }
+
+    /// The entry for a state and a symbol, in the low nine bits. The low six bits of `state` are nine times the
+    /// state.
+    #[inline(always)]
+    pub(crate) fn entry(&self, state: u64, is_one: bool) -> u64
+        ensures zero { is_one ≡ false → result ≡ self.now.zero / 2 ^ (state % 64) }
+        ensures one { is_one ≡ true → result ≡ self.now.one / 2 ^ (state % 64) }
+    {
+        let entries = if is_one { self.one } else { self.zero };
+        entries >> (state & 63)
+    }
+}
