@@ -19,7 +19,8 @@ pub use Rattle.bb_cert.proofs.record_lemmas.Records.{record_has_one_step, record
 pub use Rattle.bb_cert.proofs.record_lemmas.Records.{records_in_order, stands_on}
 pub use Rattle.bb_cert.proofs.claim_lemmas.Repeats.{repeats_go_on, repeats_keep_distance, repeats_never_halt}
 pub use Rattle.bb_cert.proofs.claim_lemmas.Runs.{earlier, moves, steps_of_never}
-pub use Rattle.bb_cert.proofs.record_lemmas.Stretches.{are_narrow, out_as_far}
+pub use Rattle.bb_cert.proofs.record_lemmas.Stretches.{IsCompared, are_narrow, compared, comparable_wider}
+pub use Rattle.bb_cert.proofs.record_lemmas.Stretches.{distance_is, length_is, out_as_far, seen_at}
 pub use Rattle.bb_cert.proofs.claim_lemmas.Standing.{AreAlike, same_of_alike, alike_of_same}
 pub use Rattle.bb_cert.proofs.claim_lemmas.Standing.{no_repeat_at_once}
 pub use Rattle.bb_cert.proofs.tree_lemmas.Levels.{matches_level, halts_from_level}

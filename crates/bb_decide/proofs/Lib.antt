@@ -9,6 +9,9 @@ pub mod FewCells
 pub mod Fingerprints
 pub mod Halting
 pub mod KnownOfVerdicts
+pub mod NarrowCells
+pub mod NarrowComparing
+pub mod NarrowPasses
 pub mod OneRun
 pub mod OneSide
 pub mod Partners

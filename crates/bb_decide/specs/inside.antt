@@ -4,3 +4,5 @@ pub mod Search
 pub mod SearchResult
 pub mod Fingerprints
 pub mod Step
+pub mod NarrowPass
+pub mod NarrowRecords

@@ -7,6 +7,8 @@ pub mod decision;
 mod fingerprint;
 pub mod keys;
 pub mod laws;
+mod narrow_pass;
+mod narrow_records;
 pub mod one_run;
 pub mod reasoning;
 mod record_search;

@@ -8,3 +8,4 @@ pub mod Counts
 pub mod Ending
 pub mod TapeBits
 pub mod Starting
+pub mod Word

@@ -30,16 +30,16 @@ use Rattle.bb_sim.specs.Configuration.{beside, entry_at}
 use Rattle.bb_sim.specs.Meter.{stepped, zero_meter}
 use Rattle.bb_sim.specs.Run.{HaltsAt}
 use Rattle.bb_sim.specs.Runner.{high_of, low_of, position_of, state_of, steps_of}
-use Rattle.bb_sim.specs.Span.{Inside, span}
+use Rattle.bb_sim.specs.Span.{Inside, counted_head, span}
 use Rattle.bb_sim.proofs.Facts.{Advances}
-use Rattle.bb_sim.proofs.Facts.{inside_here, next_inside}
+use Rattle.bb_sim.proofs.Facts.{counted_head-at, inside_here, next_inside}
 use Rattle.bb_sim.proofs.Facts.{cells_between-is, min-same, max-same}
 use Rattle.bb_sim.proofs.Facts.{Near, inside_fits, near_head}
 use Rattle.bb_sim.proofs.Facts.{Stepped, made, moves_on, next-span, running}
 use Rattle.bb_narrow.specs.declared.run.NarrowRun.{NarrowRun}
-use Rattle.bb_narrow.specs.BitCells.{bits_content}
+use Rattle.bb_narrow.specs.BitCells.{IsInWord, bits_content}
 use Rattle.bb_narrow.specs.Packed.{right_bit}
-use Rattle.bb_narrow.specs.Registers.{ContinuesTo, IsNarrowRun, MatchesWindow, flipped_bits, moved_head}
+use Rattle.bb_narrow.specs.Registers.{ContinuesTo, IsNarrowRun, MatchesWindow, StaysInWord, flipped_bits, moved_head}
 use Rattle.bb_narrow.proofs.Bits.{at_bit}
 use Rattle.bb_narrow.proofs.OneBit.{bit_clear, bit_set}
 use Rattle.bb_narrow.proofs.Entries.{GoesTo, MovesTo, below, content_written, moves_out, moves_to}
@@ -339,6 +339,17 @@ module _ {table : Table} {bounds : Bounds} {run : NarrowRun} (machine : IsMachin
         let n = cells_between-is (int_min view.low there) (int_max view.high there)
         (omega (arith, ints, clamps, known.sound.from_zero, known.sound.to_zero)) in
         omega (arith, ints, clamps, n, known.window_is.room_is, some, beside_it.0, beside_it.1)
+
+    -- where it is none of the 64, the next step leaves them
+    pub leaves : head ≡ 0 → run.room ≢ 0 → run.steps ≢ bounds.steps → StaysInWord table (steps_of old + 1) → ⊥
+    unfolding next
+    leaves none some apart stays =
+        let go = moved_on (fits_new some) (λ e. apart (known.steps_is ∙ e)) in
+        let head_is : counted_head table (steps_of old + 1) ≡ there =
+        counted_head-at table (steps_of old + 1) _ go.stands.at in
+        let near : IsInWord there = subst IsInWord head_is (stays (steps_of old + 1) (omega arith)) in
+        moves_out known.at.place goes.dir known.at.within (sym head_at ∙ sym is ∙ none)
+        (subst IsInWord (ap (beside goes.dir) known.at.position) near)
 
     pub window_more : (fits : cells_between (int_min view.low there) (int_max view.high there) ≤ view.limit)
         → head ≢ 0 → (room : ℕ) → run.room ≡ room + 1

@@ -1,16 +1,16 @@
 -- A run in registers: this project's own.
 use Rattle.std.specs.Prelude.{◌≡◌, ℕ, zero, suc, ◌+◌, ◌*◌, ◌/◌, ◌%◌, ◌^◌, ◌<◌, ◌≤◌, ◌↔◌, pos, ◌+ℤ◌, ◌-ℤ◌, ◌⊎◌}
-use Rattle.std.specs.Prelude.{bit_xor, ◌≤ℤ◌}
+use Rattle.std.specs.Prelude.{bit_xor, length, ◌≤ℤ◌}
 use Rattle.std.specs.Int.{bit_at, int_max, int_min}
 use Rattle.bb_machine.specs.declared.entry.Next.TheVariants as next
 use Rattle.bb_machine.specs.Limits.{Bounds}
-use Rattle.bb_machine.specs.Machine.{Table}
+use Rattle.bb_machine.specs.Machine.{Table, symbols_of}
 use Rattle.bb_tape.specs.Content.{cell}
 use Rattle.bb_tape.specs.TapeView.{TapeView, IsSound}
 use Rattle.bb_sim.specs.declared.runner.Runner.{Runner}
 use Rattle.bb_sim.specs.Runner.{Stands, position_of, state_of, steps_of}
 use Rattle.bb_sim.specs.Configuration.{entry_at}
-use Rattle.bb_sim.specs.Span.{Inside, IsLastInside, span}
+use Rattle.bb_sim.specs.Span.{Inside, IsLastInside, counted_head, span}
 use Rattle.bb_sim.specs.Outcome.{IsOutcome}
 use Rattle.bb_narrow.specs.declared.registers.Registers.{Registers}
 use Rattle.bb_narrow.specs.declared.run.NarrowRun.{NarrowRun}
@@ -70,6 +70,16 @@ pub record IsNarrowRun (table : Table) (bounds : Bounds) (run : NarrowRun) : Typ
   pub at : MatchesRunner run.registers runner view
   pub window_is : MatchesWindow run.window run.room view
 
+-- the head, Z not counted, is among the 64 positions at each step up to n
+abbrev pub StaysInWord : Table → ℕ → Type 0
+StaysInWord table n = (m : ℕ) → m ≤ n → IsInWord (counted_head table m)
+
+-- the machine has two symbols and at most seven states, and its run stays in 64 cells up to step n
+pub record FitsRegisters (table : Table) (n : ℕ) : Type 0 where
+  pub symbols : symbols_of table ≡ 2
+  pub states : length table ≤ 7
+  pub word : StaysInWord table n
+
 -- the low nine bits of a number are the entry that applies
 abbrev pub IsNextEntry : Table → Bounds → NarrowRun → ℕ → Type 0
 IsNextEntry table bounds run f = (known : IsNarrowRun table bounds run)
@@ -111,4 +121,5 @@ AdvancesNarrow table bounds old new Stepped =
     ((known : IsNarrowRun table bounds old) → ContinuesTo known new) × (new.steps ≡ old.steps + 1)
 AdvancesNarrow table bounds old new (Ended outcome) =
     (new ≡ old) × ((known : IsNarrowRun table bounds old) → EndsWith known outcome)
-AdvancesNarrow table bounds old new Outside = new ≡ old
+AdvancesNarrow table bounds old new Outside = (new ≡ old) × ((known : IsNarrowRun table bounds old)
+    → StaysInWord table (steps_of known.runner + 1) → ⊥)

@@ -1,5 +1,5 @@
 //! A run that leaves the registers: its cells and window on a tape, and the runner that continues it.
-ghost use Rattle.std.specs.Prelude.{◌≡◌, ◌<◌, ℕ, IsTrue, pos, ◌-ℤ◌, ◌<ℤ◌, ◌≤ℤ◌};
+ghost use Rattle.std.specs.Prelude.{◌≡◌, ◌<◌, ℕ, IfOk, IsTrue, OnErr, OnOk, pos, ◌-ℤ◌, ◌<ℤ◌, ◌≤ℤ◌};
 ghost use Rattle.std.specs.Int.{bit_at};
 ghost use Rattle.bb_tape.specs.Content.{blank};
 ghost use Rattle.bb_tape.specs.TapeView.{IsInside};
@@ -10,19 +10,27 @@ ghost use Rattle.bb_narrow.specs.Registers.{IsNarrowRun};
 use crate::run::NarrowRun;
 use bb_machine::{Limits, Machine, Next};
 use bb_sim::Runner;
-use bb_tape::Tape;
 use bb_tape::widening::widen_to;
+use bb_tape::{Memory, Tape};
 
 impl NarrowRun {
-    /// Moves the run onto a tape that doesn't grow: its cells and its window. The runner continues it there.
-    pub fn move_to_tape<T: Tape>(&self, machine: &Machine, limits: &Limits, tape: &mut T) -> Runner
-        requires fixed { IsTrue T.GROWS → ⊥ }
+    /// Moves the run onto a tape: its cells and its window. The runner continues it there.
+    ///
+    /// After an error the contents of the tape are unspecified; reset it before its next use.
+    pub fn move_to_tape<T: Tape>(
+        &self,
+        machine: &Machine,
+        limits: &Limits,
+        tape: &mut T,
+    ) -> Result<Runner, Memory>
         requires run { IsNarrowRun machine.now limits.now self.now }
         requires limit { (T.view tape.old).limit ≡ limits.now.cells }
-        ensures stands { Stands machine.now result (T.view tape.new) }
-        ensures steps { steps_of result ≡ self.now.steps }
+        ensures stands { IfOk result (λ runner. Stands machine.now runner (T.view tape.new)) }
+        ensures steps { IfOk result (λ runner. steps_of runner ≡ self.now.steps) }
         ensures limit { (T.view tape.new).limit ≡ (T.view tape.old).limit }
-        ensures same { (known : IsNarrowRun machine.now limits.now self.now) → T.view tape.new ≡ known.view }
+        ensures same { (known : IsNarrowRun machine.now limits.now self.now)
+            → OnOk result (T.view tape.new ≡ known.view) }
+        ensures memory { OnErr result (IsTrue T.GROWS) }
     {
         machine.show_machine();
         limits.show_accepted();
@@ -31,10 +39,12 @@ impl NarrowRun {
         let high = low + (cells - 1) as i64;
         tape.reset();
         widen_window(tape, low, high);
-        write_bits(tape, self.registers.bits);
+        let Ok(()) = write_bits(tape, self.registers.bits) else {
+            return Err(Memory);
+        };
         let state = Next::State(self.registers.state());
         let position = lowest_position(self.registers.head);
-        Runner::at(state, position, self.steps, low, cells)
+        Ok(Runner::at(state, position, self.steps, low, cells))
     }
 }
 
@@ -64,18 +74,20 @@ fn widen_window<T: Tape>(tape: &mut T, low: i64, high: i64)
 }
 
 /// Writes the cells of a number to a blank tape whose window has them.
-fn write_bits<T: Tape>(tape: &mut T, bits: u64)
-    requires fixed { IsTrue T.GROWS → ⊥ }
+fn write_bits<T: Tape>(tape: &mut T, bits: u64) -> Result<(), Memory>
     requires blank { (T.view tape.old).content ≡ blank }
     requires inside { (i : ℕ) → i < 64 → bit_at bits i ≡ 1 → IsInside (T.view tape.old) (pos i -ℤ pos 32) }
-    ensures { T.view tape.new ≡ record (T.view tape.old) { content = bits_content bits } }
+    ensures ok { OnOk result (T.view tape.new ≡ record (T.view tape.old) { content = bits_content bits }) }
+    ensures limit { (T.view tape.new).limit ≡ (T.view tape.old).limit }
+    ensures memory { OnErr result (IsTrue T.GROWS) }
 {
     for place in 0..64u32 {
         if (bits >> place) & 1 == 0 {
             continue;
         }
         let Ok(()) = tape.write(i64::from(place) - 32, 1) else {
-            unreachable!();
+            return Err(Memory);
         };
     }
+    Ok(())
 }

@@ -59,7 +59,9 @@ pub fn simulate_narrow<T: Tape>(
     }
     let end = run_in_registers(machine, limits);
     let Some(outcome) = end.outcome else {
-        let runner = end.run.move_to_tape(machine, limits, tape);
+        let Ok(runner) = end.run.move_to_tape(machine, limits, tape) else {
+            unreachable!();
+        };
         end.run.count(end.run.steps, limits, meter);
         return simulate_from(machine, runner, tape, limits, meter);
     };

@@ -40,9 +40,9 @@ loop-place-preserved g c =
     }
 
 -- all bits were looked at
-pub returns : goal.returns
+pub returns-clause-ok : goal.returns-clause-ok
 unfolding bits_content
-returns g c =
+returns-clause-ok g c =
     let done : c.loop-place.place ≡ 64 = omega arith in
     c.loop-place.invariant.view
     ∙ ap (λ k. record (g.T.Tape.view c.args.tape.now) { content = bits_from c.args.bits k }) done

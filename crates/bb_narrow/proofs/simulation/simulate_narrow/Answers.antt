@@ -10,10 +10,10 @@ use Rattle.bb_narrow.proofs.simulation.simulate_narrow.Goals.{After-count, In-So
 
 -- the run was counted up to where it goes on
 so_far : (g : given.Over) (c : After-count g)
-    → CountsTo c.args.machine.now (steps_of c.move_to_tape-runner.result) c.args.meter.now c.count.new.meter
+    → CountsTo c.args.machine.now (steps_of c.in-Ok.runner) c.args.meter.now c.count.new.meter
 so_far g c =
     let known = c.run_in_registers-end.ensures.run in
-    counted_so_far known c.args.meter.now _ (c.move_to_tape-runner.ensures.steps ∙ known.steps_is) c.count.ensures
+    counted_so_far known c.args.meter.now _ (c.in-Ok.ensures.steps ∙ known.steps_is) c.count.ensures
 
 pub simulate_from-requires-clause-counted : goal.simulate_from-requires-clause-counted
 simulate_from-requires-clause-counted g c =

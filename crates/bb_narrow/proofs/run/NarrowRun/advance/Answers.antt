@@ -7,7 +7,7 @@ use Rattle.bb_sim.specs.Configuration.{entry_at}
 use Rattle.bb_sim.specs.Runner.{position_of, state_of}
 use Rattle.bb_narrow.proofs.Ending.{ends_by_cells, ends_by_steps}
 use Rattle.bb_narrow.proofs.Entries.{GoesTo, entry_known, goes_to}
-use Rattle.bb_narrow.proofs.Moving.{fits_new, fits_window, goes_on, goes_on_to, head_some, window_more, window_same, too_wide}
+use Rattle.bb_narrow.proofs.Moving.{fits_new, fits_window, goes_on, goes_on_to, head_some, leaves, window_more, window_same, too_wide}
 use Rattle.bb_narrow.proofs.Moving.{view_next}
 use Rattle.bb_narrow.proofs.run.NarrowRun.advance.Goals as goal
 use Rattle.bb_narrow.proofs.run.NarrowRun.advance.Goals.{After-steps}
@@ -46,6 +46,16 @@ returns-then-self-eq0 c =
           ends_by_cells known (goes_on m c.requires.symbols known goes refl) (λ e. c.if-self-steps.false cc)
           (too_wide m c.requires.symbols known goes refl c.moved_head-head.result c.moved_head-head.ensures
           c.if-self-head-eq0.true c.if-self-eq0.true),
+    )
+
+pub returns-then-head-eq0 : goal.returns-then-head-eq0
+returns-then-head-eq0 c =
+    let m = c.show_machine.ensures.machine in (
+      refl,
+      λ known stays.
+          let goes = goes_here (goal.at.returns-then-head-eq0 c).After-steps known in
+          leaves m c.requires.symbols known goes refl c.moved_head-head.result c.moved_head-head.ensures
+          c.if-self-head-eq0.true c.if-head-eq0.true c.if-self-eq0.false (λ e. c.if-self-steps.false cc) stays,
     )
 
 pub returns : goal.returns

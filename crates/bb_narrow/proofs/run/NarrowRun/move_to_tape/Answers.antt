@@ -98,7 +98,7 @@ pub returns-clause-stands : goal.returns-clause-stands
 returns-clause-stands g c =
     let known = c.requires.run in
     let after = (goal.at.returns-clause-stands g c).After-widen_window in
-    let v = c.write_bits.ensures in
+    let v = c.in-Ok.ensures.ok in
     let w = c.widen_window.ensures in
     let r = c.reset.ensures in
     let low = lowest_is_low known _ c.lowest_position-low.ensures in
@@ -130,7 +130,7 @@ returns-clause-stands g c =
 pub returns-clause-same : goal.returns-clause-same
 returns-clause-same g c known =
     let after = (goal.at.returns-clause-same g c).After-widen_window in
-    let v = c.write_bits.ensures in
+    let v = c.in-Ok.ensures.ok in
     let w = c.widen_window.ensures in
     let r = c.reset.ensures in
     same_views _ _
