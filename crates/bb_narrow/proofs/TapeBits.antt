@@ -44,6 +44,10 @@ with_same c p = same_content _ _ (λ q. by_position q p _
     (λ here. rw here (cell-with_cell-same c p (cell c p)))
     (λ there. cell-with_cell-other c p (cell c p) q there))
 
+-- the next cell to be written is 0 yet
+pub cell-next : (n k : ℕ) → cell (bits_from n k) (at_bit k) ≡ 0
+cell-next n k = from_outside n k (at_bit k) (λ i h e. omega (arith, ints, e, h))
+
 -- one bit more of a number is written
 pub bit_written : (n k : ℕ) → bit_at n k ≡ 1 → with_cell (bits_from n k) (at_bit k) 1 ≡ bits_from n (k + 1)
 bit_written n k set = rw add-one (ap (λ b. with_cell (bits_from n k) (at_bit k) b) (sym set))
@@ -51,10 +55,8 @@ bit_written n k set = rw add-one (ap (λ b. with_cell (bits_from n k) (at_bit k)
 -- or nothing is to be written
 pub bit_passed : (n k : ℕ) → bit_at n k ≡ 0 → bits_from n k ≡ bits_from n (k + 1)
 bit_passed n k clear =
-    let free : cell (bits_from n k) (at_bit k) ≡ 0 =
-    from_outside n k (at_bit k) (λ i h e. omega (arith, ints, e, h)) in
     let same : with_cell (bits_from n k) (at_bit k) 0 ≡ bits_from n k =
-    ap (λ v. with_cell (bits_from n k) (at_bit k) v) (sym free) ∙ with_same (bits_from n k) (at_bit k) in
+    ap (λ v. with_cell (bits_from n k) (at_bit k) v) (sym (cell-next n k)) ∙ with_same (bits_from n k) (at_bit k) in
     rw add-one (sym same ∙ ap (λ b. with_cell (bits_from n k) (at_bit k) b) (sym clear))
 
 module _ {table : Table} {bounds : Bounds} {run : NarrowRun} (known : IsNarrowRun table bounds run) where

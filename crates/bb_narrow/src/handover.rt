@@ -14,6 +14,21 @@ use bb_tape::widening::widen_to;
 use bb_tape::{Memory, Tape};
 
 impl NarrowRun {
+    /// The runner that stands where the run does.
+    pub fn runner(&self, machine: &Machine, limits: &Limits) -> Runner
+        requires run { IsNarrowRun machine.now limits.now self.now }
+        ensures stands { (known : IsNarrowRun machine.now limits.now self.now)
+            → Stands machine.now result known.view }
+        ensures steps { steps_of result ≡ self.now.steps }
+    {
+        machine.show_machine();
+        limits.show_accepted();
+        let state = Next::State(self.registers.state());
+        let position = lowest_position(self.registers.head);
+        let low = lowest_position(self.window);
+        Runner::at(state, position, self.steps, low, limits.cells() - self.room)
+    }
+
     /// Moves the run onto a tape: its cells and its window. The runner continues it there.
     ///
     /// After an error the contents of the tape are unspecified; reset it before its next use.
@@ -32,19 +47,15 @@ impl NarrowRun {
             → OnOk result (T.view tape.new ≡ known.view) }
         ensures memory { OnErr result (IsTrue T.GROWS) }
     {
-        machine.show_machine();
         limits.show_accepted();
-        let cells = limits.cells() - self.room;
         let low = lowest_position(self.window);
-        let high = low + (cells - 1) as i64;
+        let high = low + (limits.cells() - self.room - 1) as i64;
         tape.reset();
         widen_window(tape, low, high);
         let Ok(()) = write_bits(tape, self.registers.bits) else {
             return Err(Memory);
         };
-        let state = Next::State(self.registers.state());
-        let position = lowest_position(self.registers.head);
-        Ok(Runner::at(state, position, self.steps, low, cells))
+        Ok(self.runner(machine, limits))
     }
 }
 

@@ -1,14 +1,16 @@
 //! A run in registers, step by step.
-ghost use Rattle.std.specs.Prelude.{◌≡◌, ◌↔◌, IsTrue};
+ghost use Rattle.std.specs.Prelude.{◌≡◌, ◌+◌, ◌-◌, ◌<◌, ◌≤◌, ◌^◌, ◌↔◌, IsTrue};
+ghost use Rattle.bb_sim.specs.Meter.{counted};
 ghost use Rattle.std.specs.Int.{bit_at};
 ghost use Rattle.bb_machine.specs.Machine.{symbols_of};
 ghost use Rattle.bb_narrow.specs.Packed.{IsTableOf};
-ghost use Rattle.bb_narrow.specs.Registers.{EndsWith, IsNarrowRun, IsSameConfiguration, IsNextEntry, AdvancesNarrow};
+ghost use Rattle.bb_narrow.specs.Registers.{AdvancesNarrow, EndsWith, IsNarrowRun, IsNextEntry, IsSameConfiguration};
+ghost use Rattle.bb_narrow.specs.Registers.{last_step};
 
 use crate::registers::{Registers, halts, stops};
 use crate::table::NarrowTable;
 use bb_machine::{Limits, Machine};
-use bb_sim::Outcome;
+use bb_sim::{Meter, Outcome};
 
 /// What a call of `NarrowRun::advance` did.
 #[derive(Clone, Copy, Debug, PartialEq, Eq)]
@@ -109,6 +111,26 @@ impl NarrowRun {
         ensures { IsTrue result ↔ (bit_at self.now.registers.entry 7 ≡ 1) }
     {
         halts(self.registers.entry)
+    }
+
+    /// The last step of a run with this outcome: that of the halt, or else the last that was made.
+    pub fn last_step(&self, outcome: Outcome) -> u64
+        ensures { result ≡ last_step self.now outcome }
+    {
+        match outcome {
+            Outcome::Halt { steps, .. } => steps,
+            Outcome::NoSteps | Outcome::NoCells => self.steps,
+        }
+    }
+
+    /// Adds the run up to a step to a meter: its steps, and the cells of its window.
+    pub fn count(&self, steps: u64, limits: &Limits, meter: &mut Meter)
+        requires room { meter.old.steps + steps < 2 ^ 64 }
+        requires cells { self.now.room ≤ limits.now.cells }
+        ensures { meter.new ≡ counted meter.old steps (limits.now.cells - self.now.room) }
+    {
+        meter.steps += steps;
+        meter.most_cells = meter.most_cells.max(limits.cells() - self.room);
     }
 
     /// How the run ends where its entry goes to no state.

@@ -1,9 +1,9 @@
 //! A whole run within limits, in registers while it stays within 64 cells.
-ghost use Rattle.std.specs.Prelude.{◌≡◌, ◌+◌, ◌-◌, ◌<◌, ◌≤◌, ◌*◌, ◌↔◌, ◌^◌, IfOk, IfSome, IsTrue, OnErr, OnOk, length};
+ghost use Rattle.std.specs.Prelude.{◌≡◌, ◌+◌, ◌<◌, ◌≤◌, ◌↔◌, ◌^◌, IfOk, IfSome, IsTrue, OnErr, OnOk, length};
 ghost use Rattle.bb_machine.specs.Machine.{symbols_of};
-ghost use Rattle.bb_sim.specs.Meter.{CountsPart, CountsRun, IsWithinRun, counted};
+ghost use Rattle.bb_sim.specs.Meter.{CountsPart, CountsRun, IsWithinRun};
 ghost use Rattle.bb_sim.specs.Outcome.{IsOutcome};
-ghost use Rattle.bb_narrow.specs.Registers.{EndsWith, IsNarrowRun, last_step};
+ghost use Rattle.bb_narrow.specs.Registers.{EndsWith, IsNarrowRun};
 
 use crate::run::{NarrowMoved, NarrowRun};
 use crate::table::{MOST_STATES, NarrowTable};
@@ -92,27 +92,5 @@ fn run_in_registers(machine: &Machine, limits: &Limits) -> NarrowEnd
             }
             NarrowMoved::Outside => return NarrowEnd { run, outcome: None },
         }
-    }
-}
-
-impl NarrowRun {
-    /// The last step of a run with this outcome: that of the halt, or else the last that was made.
-    fn last_step(&self, outcome: Outcome) -> u64
-        ensures { result ≡ last_step self.now outcome }
-    {
-        match outcome {
-            Outcome::Halt { steps, .. } => steps,
-            Outcome::NoSteps | Outcome::NoCells => self.steps,
-        }
-    }
-
-    /// Adds the run up to a step to a meter: its steps, and the cells of its window.
-    fn count(&self, steps: u64, limits: &Limits, meter: &mut Meter)
-        requires room { meter.old.steps + steps < 2 ^ 64 }
-        requires cells { self.now.room ≤ limits.now.cells }
-        ensures { meter.new ≡ counted meter.old steps (limits.now.cells - self.now.room) }
-    {
-        meter.steps += steps;
-        meter.most_cells = meter.most_cells.max(limits.cells() - self.room);
     }
 }

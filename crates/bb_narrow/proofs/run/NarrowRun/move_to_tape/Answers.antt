@@ -1,10 +1,9 @@
 use Rattle.std.proofs.Common.{◌≡◌, ◌∙◌, ap, arith, subst, sym}
 use Rattle.std.proofs.lemmas.Int.{ints}
-use Rattle.bb_machine.specs.declared.entry.Next.TheVariants.{State}
 use Rattle.bb_tape.specs.TapeView.{TapeView}
 use Rattle.bb_sim.specs.Runner.{Stands}
 use Rattle.bb_narrow.specs.Registers.{IsNarrowRun}
-use Rattle.bb_narrow.proofs.TapeBits.{bits_inside, head_some, lowest_is_head, lowest_is_low, same_views, stands_as}
+use Rattle.bb_narrow.proofs.TapeBits.{bits_inside, lowest_is_low, same_views}
 use Rattle.bb_narrow.proofs.TapeBits.{window_some}
 use Rattle.bb_narrow.proofs.run.NarrowRun.move_to_tape.Given as given
 use Rattle.bb_narrow.proofs.run.NarrowRun.move_to_tape.Goals as goal
@@ -12,9 +11,6 @@ use Rattle.bb_narrow.proofs.run.NarrowRun.move_to_tape.Goals.{After-widen_window
 
 pub lowest_position-low-requires : goal.lowest_position-low-requires
 lowest_position-low-requires g c = record { some = window_some c.requires.run }
-
-pub lowest_position-position-requires : goal.lowest_position-position-requires
-lowest_position-position-requires g c = record { some = head_some c.requires.run }
 
 pub widen_window-requires-clause-from : goal.widen_window-requires-clause-from
 widen_window-requires-clause-from g c =
@@ -88,45 +84,7 @@ write_bits-requires-clause-inside g c i h set =
     let inside = bits_inside known i h set in
     (rw (low_is g after known) inside.0, rw (high_is g after known) inside.1)
 
-pub at-requires-clause-low_to_zero : goal.at-requires-clause-low_to_zero
-at-requires-clause-low_to_zero g c =
-    let known = c.requires.run in
-    let low = lowest_is_low known _ c.lowest_position-low.ensures in
-    omega (arith, ints, low, known.sound.from_zero)
-
-pub returns-clause-stands : goal.returns-clause-stands
-returns-clause-stands g c =
-    let known = c.requires.run in
-    let after = (goal.at.returns-clause-stands g c).After-widen_window in
-    let v = c.in-Ok.ensures.ok in
-    let w = c.widen_window.ensures in
-    let r = c.reset.ensures in
-    let low = lowest_is_low known _ c.lowest_position-low.ensures in
-    let head = lowest_is_head known _ c.lowest_position-position.ensures in
-    let view : g.T.Tape.view c.write_bits.new.tape ≡ known.view = same_views _ _
-    (ap (λ (s : TapeView). s.content) v ∙ sym known.at.content)
-    (ap (λ (s : TapeView). s.low) v ∙ low_is g after known)
-    (ap (λ (s : TapeView). s.high) v ∙ high_is g after known)
-    (ap (λ (s : TapeView). s.limit) v ∙ ap (λ (s : TapeView). s.limit) w ∙ ap (λ (s : TapeView). s.limit) r
-    ∙ c.requires.limit ∙ sym known.limit) in
-    let state : c.state.result ≡ known.at.state = omega (arith, c.state.ensures, known.at.entry) in
-    subst (Stands c.args.machine.now c.at.result) (sym view) (stands_as known.stands
-    (c.at.ensures.state ∙ ap State state ∙ sym known.at.state_is)
-    (c.at.ensures.position ∙ omega (arith, ints, head, known.at.position, known.at.within))
-    (c.at.ensures.steps ∙ known.steps_is)
-    (c.at.ensures.low ∙ omega (arith, ints, low, known.window_is.low_in_word, known.stands.window_low))
-    (c.at.ensures.high ∙ omega (
-      arith,
-      ints,
-      low,
-      known.window_is.room_is,
-      known.window_is.low_in_word,
-      known.window_is.high_in_word,
-      known.limit,
-      c.cells.ensures.value,
-      known.stands.window_high,
-    )))
-
+-- the tape is that of the run
 pub returns-clause-same : goal.returns-clause-same
 returns-clause-same g c known =
     let after = (goal.at.returns-clause-same g c).After-widen_window in
@@ -139,3 +97,18 @@ returns-clause-same g c known =
     (ap (λ (s : TapeView). s.high) v ∙ high_is g after known)
     (ap (λ (s : TapeView). s.limit) v ∙ ap (λ (s : TapeView). s.limit) w ∙ ap (λ (s : TapeView). s.limit) r
     ∙ c.requires.limit ∙ sym known.limit)
+
+pub returns-clause-stands : goal.returns-clause-stands
+returns-clause-stands g c =
+    let known = c.requires.run in
+    let after = (goal.at.returns-clause-stands g c).After-widen_window in
+    let v = c.in-Ok.ensures.ok in
+    let w = c.widen_window.ensures in
+    let r = c.reset.ensures in
+    let view : g.T.Tape.view c.write_bits.new.tape ≡ known.view = same_views _ _
+    (ap (λ (s : TapeView). s.content) v ∙ sym known.at.content)
+    (ap (λ (s : TapeView). s.low) v ∙ low_is g after known)
+    (ap (λ (s : TapeView). s.high) v ∙ high_is g after known)
+    (ap (λ (s : TapeView). s.limit) v ∙ ap (λ (s : TapeView). s.limit) w ∙ ap (λ (s : TapeView). s.limit) r
+    ∙ c.requires.limit ∙ sym known.limit) in
+    subst (Stands c.args.machine.now c.runner.result) (sym view) (c.runner.ensures.stands known)
