@@ -11,27 +11,18 @@ use Rattle.bb_sim.specs.Runner.{Stands, steps_of}
 use Rattle.bb_sim.specs.Span.{Inside}
 use Rattle.bb_cert.specs.claims.Repeat.{Same}
 use Rattle.bb_cert.proofs.Facts.{AreAlike, alike_of_same, no_repeat_at_once, same_of_alike}
-use Rattle.bb_decide.specs.Partner.{IsKept, IsPartner}
+use Rattle.bb_decide.specs.Partner.{IsPartner}
 use Rattle.bb_decide.specs.Cycle.{HasNoCycle, IsCycle, IsFirstCycle}
+pub use Rattle.bb_decide.specs.inside.Searching.{IsInCycleSearch}
 use Rattle.bb_decide.specs.inside.Step.{EndsRun, HasMoved}
 use Rattle.bb_decide.proofs.Halting.{no_pair_in_Z}
 use Rattle.bb_decide.proofs.Partners.{is_kept_one, is_partner, kept_at_first, kept_below, keeps_next}
 use Rattle.bb_decide.proofs.Partners.{keeps_on}
 use Rattle.bb_decide.proofs.SoFar.{none_earlier, none_inside, none_so_far}
 
--- the search has come to where a runner stands: the partner of the next step is kept, and no step up to here
--- is a cycle
-pub record IsSearching (table : Table) (bounds : Bounds) (runner kept : Runner) (view view_kept : TapeView)
-    : Type 0 where
-  pub stands : Stands table runner view
-  pub within : steps_of runner ≤ bounds.steps
-  pub kept_stands : Stands table kept view_kept
-  pub partner : IsKept (steps_of kept) (steps_of runner)
-  pub none : (a t : ℕ) → t ≤ steps_of runner → IsCycle table bounds a t → ⊥
-
 pub searching_at_first : {table : Table} {bounds : Bounds} {runner kept : Runner} {view view_kept : TapeView}
     → Stands table runner view → steps_of runner ≡ 0 → Stands table kept view_kept → steps_of kept ≡ 0
-    → IsSearching table bounds runner kept view view_kept
+    → IsInCycleSearch table bounds runner kept view view_kept
 searching_at_first stands zero kept_stands kept_zero = record {
   stands = stands;
   within = omega (arith, zero);
@@ -43,7 +34,7 @@ searching_at_first stands zero kept_stands kept_zero = record {
 -- after a step
 module _ {table : Table} {bounds : Bounds} {before after kept : Runner}
     {view_before view_after view_kept : TapeView}
-    (here : IsSearching table bounds before kept view_before view_kept)
+    (here : IsInCycleSearch table bounds before kept view_before view_kept)
     (moved : HasMoved table before after view_after) (inside : Inside table bounds (steps_of after)) where
   pub kept_earlier : steps_of kept < steps_of after
   kept_earlier = rw moved.next (kept_below (steps_of kept) (steps_of before) here.partner)
@@ -78,7 +69,7 @@ module _ {table : Table} {bounds : Bounds} {before after kept : Runner}
         now.same))
 
     pub goes_on : steps_of after < 2 * steps_of kept
-        → IsSearching table bounds after kept view_after view_kept
+        → IsInCycleSearch table bounds after kept view_after view_kept
     goes_on few = record {
       stands = moved.stands;
       within = inside.within_steps;
@@ -88,7 +79,7 @@ module _ {table : Table} {bounds : Bounds} {before after kept : Runner}
     }
 
     pub keeps_this : {view : TapeView} → 2 * steps_of kept ≤ steps_of after → Stands table after view
-        → IsSearching table bounds after after view_after view
+        → IsInCycleSearch table bounds after after view_after view
     keeps_this many stands = record {
       stands = moved.stands;
       within = inside.within_steps;
@@ -100,7 +91,7 @@ module _ {table : Table} {bounds : Bounds} {before after kept : Runner}
 
 pub no_cycle_at_end : {table : Table} {bounds : Bounds} {before after kept : Runner}
     {view_before view view_kept : TapeView} {first meter : Meter} {answer : Moved}
-    → IsSearching table bounds before kept view_before view_kept
+    → IsInCycleSearch table bounds before kept view_before view_kept
     → EndsRun table bounds before after view first meter answer → HasNoCycle table bounds
 no_cycle_at_end {table} {bounds} {after = after} {view = view} here ended a t cycle =
     none_inside (IsCycle table bounds a) ended (here.none a) (λ halts now.

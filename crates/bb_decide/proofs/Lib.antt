@@ -11,6 +11,8 @@ pub mod Halting
 pub mod KnownOfVerdicts
 pub mod NarrowCells
 pub mod NarrowComparing
+pub mod NarrowEnds
+pub mod NarrowHandover
 pub mod NarrowPasses
 pub mod OneRun
 pub mod OneSide

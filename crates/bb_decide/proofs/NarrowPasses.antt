@@ -1,4 +1,4 @@
--- The watched run in registers, over runners, records and views that are in the proof alone.
+-- The single-pass run in registers, over runners, records and views that are in the proof alone.
 use Rattle.std.proofs.Common.{◌≡◌, ◌≢◌, ℕ, ◌*◌, ◌^◌, ◌<◌, ◌≤◌, inl, inr, Option, Some, None}
 use Rattle.std.proofs.Common.{ℤ, pos, ◌+ℤ◌, ◌-ℤ◌, ◌≤ℤ◌, refl, ap, sym, subst, ◌∙◌, arith, w64, FitsSigned}
 use Rattle.std.specs.Prelude.{◌↔◌}
@@ -23,8 +23,9 @@ use Rattle.bb_cert.specs.declared.verdict.Verdict.{Verdict}
 use Rattle.bb_cert.specs.declared.verdict.Verdict.TheVariants.{Cycler}
 use Rattle.bb_cert.specs.records.Follow.{TellsWidening, passed}
 use Rattle.bb_cert.proofs.Facts.{AreAlike, alike_of_same, same_of_alike, starts}
-use Rattle.bb_decide.specs.Cycle.{IsCycle}
-use Rattle.bb_decide.specs.Translation.{IsTranslation}
+use Rattle.bb_decide.specs.Cycle.{FindsCycle, HasNoCycle, IsCycle}
+use Rattle.bb_decide.specs.Fingerprint.{named_step}
+use Rattle.bb_decide.specs.Translation.{FindsTranslation, HasNoTranslation, IsTranslation}
 use Rattle.bb_decide.specs.inside.Step.{HasMoved}
 use Rattle.bb_decide.proofs.Cycles as cycles
 use Rattle.bb_decide.proofs.Halting.{no_pair_in_Z, not_in_Z}
@@ -39,32 +40,14 @@ use Rattle.bb_narrow.proofs.Facts.{at_bit, bit_of, bits_unique}
 use Rattle.bb_narrow.proofs.Facts.{by_bit}
 use Rattle.bb_decide.specs.declared.narrow_records.NarrowRecords.{NarrowRecords}
 use Rattle.bb_decide.specs.declared.narrow_pass.KeptRun.{KeptRun}
-use Rattle.bb_decide.specs.declared.narrow_pass.NarrowResult.TheVariants.{Found, Ran}
 use Rattle.bb_decide.specs.inside.NarrowRecords.{CanCompareRecord, HasCompared, KeepsRecord, nearer_bit}
-use Rattle.bb_decide.specs.inside.NarrowPass.{EndsNarrowPass, KeepsRunInTurn}
+use Rattle.bb_decide.specs.inside.NarrowPass.{IsPassIn, KeepsRunInTurn}
 use Rattle.bb_decide.proofs.NarrowCells.{keeps_passed, place_is, small_fits}
-
--- the run has is_run to where a runner stands: no step up to there is a cycle, and no record agrees with its
--- partner
-pub record IsInNarrowPass (table : Table) (bounds : Bounds) (run : NarrowRun) (kept : KeptRun) (right left : NarrowRecords)
-    : Type 0 where
-  pub is_run : IsNarrowRun table bounds run
-  pub kept_is_run : IsNarrowRun table bounds kept.run
-  pub search : cycles.IsSearching table bounds is_run.runner kept_is_run.runner is_run.view kept_is_run.view
-  pub next : kept.next ≡ 2 * kept.run.steps
-  pub right_records : Records
-  pub left_records : Records
-  pub saved_right : TapeView
-  pub saved_left : TapeView
-  pub follows : records.IsSearching table bounds is_run.runner is_run.view right_records left_records saved_right
-      saved_left
-  pub keeps_right : KeepsRecord table bounds R right right_records saved_right
-  pub keeps_left : KeepsRecord table bounds L left left_records saved_left
 
 pub narrow_pass_at_first : {table : Table} {bounds : Bounds} {run : NarrowRun} → IsNarrowRun table bounds run → run.steps ≡ 0
     → (kept : KeptRun) → kept ≡ record { run = run; next = 0 } → (right left : NarrowRecords)
     → right ≡ record { kept = run; nearest = run.registers.head }
-    → left ≡ record { kept = run; nearest = run.registers.head } → IsInNarrowPass table bounds run kept right left
+    → left ≡ record { kept = run; nearest = run.registers.head } → IsPassIn table bounds run kept right left
 narrow_pass_at_first {table} {bounds} {run} is_run zero kept kept_is right left right_is left_is =
     let none : steps_of is_run.runner ≡ 0 = sym is_run.steps_is ∙ zero in
     let start : position_of is_run.runner ≡ pos 0 = starts table is_run.runner is_run.view is_run.stands none in
@@ -166,12 +149,12 @@ same_window window new room new_room old view was is p q low high =
 -- what is kept for the cycles
 record Searches (table : Table) (bounds : Bounds) (runner : Runner) (view : TapeView) (kept : KeptRun) : Type 0 where
   kept_is_run : IsNarrowRun table bounds kept.run
-  search : cycles.IsSearching table bounds runner kept_is_run.runner view kept_is_run.view
+  search : cycles.IsInCycleSearch table bounds runner kept_is_run.runner view kept_is_run.view
   next : kept.next ≡ 2 * kept.run.steps
 
 -- ---- the end
 module _ {table : Table} {bounds : Bounds} {run : NarrowRun} {kept : KeptRun} {right left : NarrowRecords}
-    (here : IsInNarrowPass table bounds run kept right left) {outcome : Outcome} (ended : EndsWith here.is_run outcome) where
+    (here : IsPassIn table bounds run kept right left) {outcome : Outcome} (ended : EndsWith here.is_run outcome) where
   none_inside : (P : ℕ → Type 0) → ((t : ℕ) → t ≤ steps_of here.is_run.runner → P t → ⊥)
       → (state_of ended.runner ≡ Halt → P (steps_of ended.runner) → ⊥) → (t : ℕ) → Inside table bounds t → P t → ⊥
   none_inside P before in_Z t inside holds =
@@ -181,9 +164,8 @@ module _ {table : Table} {bounds : Bounds} {run : NarrowRun} {kept : KeptRun} {r
         | inr halts ↦ none_so_far P halts.1 before (in_Z halts.0) t few holds
       ]
 
-  pub ends_unfound : EndsNarrowPass table bounds (Ran outcome)
+  pub ends_unfound : HasNoCycle table bounds × HasNoTranslation table bounds
   ends_unfound = (
-    ended.is_outcome,
     λ a t cycle. none_inside (IsCycle table bounds a) (here.search.none a) (λ halts now.
         no_pair_in_Z table ended.runner ended.view ended.stands halts a now.same.here now.same.here now.partner.below
         now.same.at_first now.same.at_second refl) t cycle.inside cycle,
@@ -193,7 +175,7 @@ module _ {table : Table} {bounds : Bounds} {run : NarrowRun} {kept : KeptRun} {r
 
 -- ---- a step
 module _ {table : Table} {bounds : Bounds} {run new : NarrowRun} {kept : KeptRun} {right left : NarrowRecords}
-    (here : IsInNarrowPass table bounds run kept right left) (made : ContinuesTo here.is_run new) where
+    (here : IsPassIn table bounds run kept right left) (made : ContinuesTo here.is_run new) where
   abbrev before : IsNarrowRun table bounds run
   before = here.is_run
 
@@ -342,27 +324,32 @@ module _ {table : Table} {bounds : Bounds} {run new : NarrowRun} {kept : KeptRun
     alike = same_registers after.at here.kept_is_run.at p q
 
     pub finds_cycle : IsSameConfiguration new.registers kept.run.registers
-        → EndsNarrowPass table bounds (Found (Cycler kept.run.steps new.steps))
+        → FindsCycle table bounds (Some (Cycler kept.run.steps new.steps))
     finds_cycle same =
         let again = same_of_alike after.stands here.kept_is_run.stands (alike.0 same) in
-        inl (rw (here.kept_is_run.steps_is, after.steps_is) (cycles.first_cycle here.search moved made.inside again))
+        rw (here.kept_is_run.steps_is, after.steps_is) (cycles.first_cycle here.search moved made.inside again)
 
     pub not_again : (IsSameConfiguration new.registers kept.run.registers → ⊥)
         → Same table (steps_of here.kept_is_run.runner) (steps_of after.runner) → ⊥
     not_again differ same = differ (alike.1 (alike_of_same after.stands here.kept_is_run.stands same))
 
   -- ---- the record agrees with its partner
+  abbrev FindsRecords : Verdict → Type 0
+  FindsRecords verdict = FindsTranslation table bounds (Some verdict) × (named_step bounds verdict ≡ new.steps)
+
   pub finds_records : (verdict : Verdict) → TellsAgreement table (steps_of after.runner) verdict
-      → EndsNarrowPass table bounds (Found verdict)
-  finds_records verdict tells =
-      inr (rw tells.is (
-        record {
-          translation = record { pair = tells.pair; inside = made.inside };
-          first = λ other c d found.
-              none_earlier (IsTranslation table bounds other c) made.steps (here.follows.none other c) d found;
-        },
-        tells.lies,
-      ))
+      → FindsRecords verdict
+  finds_records verdict tells = (
+    rw tells.is (
+      record {
+        translation = record { pair = tells.pair; inside = made.inside };
+        first = λ other c d found.
+            none_earlier (IsTranslation table bounds other c) made.steps (here.follows.none other c) d found;
+      },
+      tells.lies,
+    ),
+    ap (named_step bounds) tells.is ∙ sym after.steps_is,
+  )
 
   module _ (next_right next_left : NarrowRecords)
       (right_is : next_right ≡ record right { nearest = nearer_bit R right.nearest new.registers.head })
@@ -382,7 +369,7 @@ module _ {table : Table} {bounds : Bounds} {run new : NarrowRun} {kept : KeptRun
       searches = searches_on next_kept keeps differs
 
       -- no record was made
-      pub narrow_pass_on : new.window ≡ run.window → IsInNarrowPass table bounds new next_kept next_right next_left
+      pub narrow_pass_on : new.window ≡ run.window → IsPassIn table bounds new next_kept next_right next_left
       narrow_pass_on same =
           let s = searches in
           record {
@@ -417,7 +404,7 @@ module _ {table : Table} {bounds : Bounds} {run new : NarrowRun} {kept : KeptRun
           }
 
           pub finds_right : (compared_new : NarrowRecords) (verdict : Verdict) → HasCompared can_compare_right compared_new (Some verdict)
-              → EndsNarrowPass table bounds (Found verdict)
+              → FindsRecords verdict
           unfolding can_compare_right
           finds_right compared_new verdict has =
               finds_records verdict
@@ -429,7 +416,7 @@ module _ {table : Table} {bounds : Bounds} {run new : NarrowRun} {kept : KeptRun
               ))
 
           pub narrow_pass_on_right : (compared_new : NarrowRecords) → HasCompared can_compare_right compared_new None
-              → IsInNarrowPass table bounds new next_kept compared_new next_left
+              → IsPassIn table bounds new next_kept compared_new next_left
           unfolding can_compare_right
           narrow_pass_on_right compared_new has =
               let s = searches in
@@ -468,7 +455,7 @@ module _ {table : Table} {bounds : Bounds} {run new : NarrowRun} {kept : KeptRun
           }
 
           pub finds_left : (compared_new : NarrowRecords) (verdict : Verdict) → HasCompared can_compare_left compared_new (Some verdict)
-              → EndsNarrowPass table bounds (Found verdict)
+              → FindsRecords verdict
           unfolding can_compare_left
           finds_left compared_new verdict has =
               finds_records verdict
@@ -480,7 +467,7 @@ module _ {table : Table} {bounds : Bounds} {run new : NarrowRun} {kept : KeptRun
               ))
 
           pub narrow_pass_on_left : (compared_new : NarrowRecords) → HasCompared can_compare_left compared_new None
-              → IsInNarrowPass table bounds new next_kept next_right compared_new
+              → IsPassIn table bounds new next_kept next_right compared_new
           unfolding can_compare_left
           narrow_pass_on_left compared_new has =
               let s = searches in

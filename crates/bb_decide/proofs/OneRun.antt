@@ -1,4 +1,4 @@
--- What one watched run means for the verdict, and what it costs.
+-- What one single-pass run means for the verdict, and what it costs.
 use Rattle.std.proofs.Common.{◌≡◌, ℕ, ◌+◌, ◌<◌, ◌≤◌, inl, inr, Some, None, IsTrue, true, false, Option, ℤ}
 use Rattle.std.proofs.Common.{refl, ap, sym}
 use Rattle.std.proofs.Common.{◌∙◌, arith}
@@ -77,18 +77,23 @@ module _ (table : Table) (bounds : Bounds) (key : ℤ → ℕ) (old new : Meter)
       omega (arith, steps, zero)
   cycle_costs (Found verdict) ran counts = absurd counts
 
-  -- the watched run
+  -- the single-pass run
   pub single_pass_ends : (search_result : SearchResult) → MakesSinglePass table bounds key old new (Some search_result)
       → EndsBoth table bounds search_result
   single_pass_ends (Ran outcome) single_pass = (single_pass.2, single_pass.3, single_pass.0)
   single_pass_ends (Found (Translated side first second extent)) single_pass =
       (no_cycle_beside table bounds side first second single_pass.0.0, single_pass.0.0, single_pass.0.1)
+  single_pass_ends (Found (Cycler first second)) single_pass = single_pass.0
   single_pass_ends (Found verdict) single_pass = absurd single_pass.0
 
   pub single_pass_costs : (search_result : SearchResult) → MakesSinglePass table bounds key old new (Some search_result)
       → ResultCosts key table bounds new.steps search_result
   single_pass_costs (Ran outcome) single_pass none = run_costs single_pass.1 outcome single_pass.2
-  single_pass_costs (Found verdict) single_pass none = cycle_costs (Found verdict) tt single_pass.1
+  single_pass_costs (Found (Cycler first second)) single_pass none =
+      cycle_costs (Found (Cycler first second)) tt single_pass.1
+  single_pass_costs (Found (Translated side first second extent)) single_pass none =
+      cycle_costs (Found (Translated side first second extent)) tt single_pass.1
+  single_pass_costs (Found verdict) single_pass none = absurd single_pass.0
 
 -- a cycle looks as its partner does, whatever the keys
 pub cycle_looks : {table : Table} {bounds : Bounds} (key : ℤ → ℕ) {a t : ℕ} → IsCycle table bounds a t
@@ -104,7 +109,7 @@ cycle_looks key cycle = record {
   current = refl;
 }
 
--- where the watched run was stopped
+-- where the single-pass run was stopped
 module _ {table : Table} {bounds : Bounds} {key : ℤ → ℕ} {n : ℕ} (here : IsStoppedAt key table bounds n) where
   by_chance : HasNoCycle table bounds → (latest : ℕ) → n ≤ latest → AgreesByChance key table bounds latest
   by_chance none latest late = record {
@@ -113,6 +118,7 @@ module _ {table : Table} {bounds : Bounds} {key : ℤ → ℕ} {n : ℕ} (here :
     alike = here.alike;
     inside = here.inside;
     no_later = late;
+    wide = here.wide;
     differ = λ same. none here.partner n (record {
       partner = here.alike.partner;
       inside = here.inside;
@@ -140,7 +146,8 @@ module _ {table : Table} {bounds : Bounds} {key : ℤ → ℕ} {n : ℕ} (here :
   exact_costs old mid new zero counts (Found (Cycler first second)) found ran searched none =
       let one : mid.steps ≡ old.steps + n = ap (λ (m : Meter). m.steps) counts in
       let two : new.steps ≡ mid.steps + second = ap (λ (m : Meter). m.steps) searched in
-      omega (arith, here.first first second (cycle_looks key found.cycle))
+      let late = not_earlier second (λ less. here.no_cycle first second less found.cycle) in
+      omega (arith, late)
   exact_costs old mid new zero counts (Ran outcome) found ran searched none =
       absurd (none (outcome_by_chance found outcome ran))
   exact_costs old mid new zero counts (Found verdict) found ran searched none = absurd found

@@ -5,14 +5,35 @@ use Rattle.bb_machine.specs.Machine.{Table}
 use Rattle.bb_sim.specs.declared.meter.Meter.{Meter}
 use Rattle.bb_sim.specs.Meter.{CountsPart, CountsTo}
 use Rattle.bb_sim.specs.Span.{span}
-use Rattle.bb_sim.proofs.Facts.{span_grows}
-use Rattle.bb_tape.specs.Content.{Content}
+use Rattle.bb_sim.specs.Configuration.{start}
+use Rattle.bb_sim.proofs.Facts.{conf-start, span_grows}
+use Rattle.bb_tape.specs.Content.{Content, blank}
 use Rattle.bb_decide.specs.Cycle.{CountsSearch, FindsCycle}
-use Rattle.bb_decide.specs.OneRun.{BreaksOff, IsStoppedAt, RunsBefore}
+use Rattle.bb_decide.specs.OneRun.{BreaksOff, IsStoppedAt, LeavesRegisters, RunsBefore}
 use Rattle.bb_decide.specs.declared.search_result.SearchResult.{SearchResult}
-use Rattle.bb_decide.specs.inside.SearchResult.{RanAs, found_of, is_settled}
+use Rattle.bb_decide.specs.inside.SearchResult.{CutsSinglePass, RanAs, found_of, is_settled}
 use Rattle.bb_decide.proofs.Costs.{makes_cycles}
 use Rattle.bb_decide.proofs.RunsMade.{both_open, widest}
+
+-- nothing was done on the blank tape
+part_at_first : {table : Table} {bounds : Bounds} {tape : Content} (n : ℕ) → LeavesRegisters table bounds n → (new : Meter)
+    → span table 0 ≤ new.most_cells → tape ≡ blank → CountsPart table bounds tape new new
+part_at_first {table} n leaves new wide is =
+    let grows = span_grows table 0 n (omega arith) in
+    let least = span_grows table 0 1 (omega arith) in
+    record {
+      at = 0;
+      inside = record {
+        here = start;
+        exists = conf-start table;
+        within_steps = omega arith;
+        within_cells = omega (arith, grows, leaves.inside.within_cells);
+      };
+      on_tape = is;
+      steps = omega arith;
+      cells = omega (arith, wide);
+      few_cells = omega arith;
+    }
 
 module _ {key : ℤ → ℕ} {table : Table} {bounds : Bounds} where
   -- after runs that made so many steps
@@ -47,7 +68,23 @@ module _ {key : ℤ → ℕ} {table : Table} {bounds : Bounds} where
   breaks_at_once cyclers translated old new part =
       breaks 0 0 (refl, refl) old old new (omega arith) (omega arith) refl part
 
-  -- after the watched run was stopped
+  -- in registers, with no memory for the tape
+  pub breaks_in_registers : {tape : Content} (old new : Meter) (n : ℕ) → LeavesRegisters table bounds n
+      → CountsTo table n old new → tape ≡ blank → BreaksOff key table bounds true true tape old new
+  breaks_in_registers old new n leaves counts is =
+      let least = span_grows table 0 n (omega arith) in
+      let steps : new.steps ≡ old.steps + n = ap (λ (m : Meter). m.steps) counts in
+      let cells : new.most_cells ≡ max old.most_cells (span table n) = ap (λ (m : Meter). m.most_cells) counts in
+      breaks n n (inr (inl (leaves, refl))) old new new steps (omega (arith, cells)) (omega (arith, cells, least))
+      (part_at_first n leaves new (omega (arith, cells, least)) is)
+
+  -- the single-pass run
+  pub breaks_single_pass : {tape : Content} (old new : Meter) → CutsSinglePass table bounds tape old new
+      → BreaksOff key table bounds true true tape old new
+  breaks_single_pass old new (inl part) = breaks_at_once true true old new part
+  breaks_single_pass old new (inr cut) = breaks_in_registers old new cut.0 cut.1 cut.2 cut.3
+
+  -- after the single-pass run was stopped
   module _ {n : ℕ} (stopped : IsStoppedAt key table bounds n) (old : Meter) {first : Meter}
       (counts : CountsTo table n old first) where
     stop_steps : first.steps ≡ old.steps + n
@@ -61,7 +98,7 @@ module _ {key : ℤ → ℕ} {table : Table} {bounds : Bounds} where
         → BreaksOff key table bounds true true tape old new
     breaks_in_cycles new part =
         let least = span_grows table 0 n (omega arith) in
-        breaks n n (inr (inl (stopped, refl))) old first new stop_steps (omega (arith, stop_cells))
+        breaks n n (inr (inr (inl (stopped, refl)))) old first new stop_steps (omega (arith, stop_cells))
         (omega (arith, stop_cells, least)) part
 
     -- in the search for records
@@ -76,6 +113,6 @@ module _ {key : ℤ → ℕ} {table : Table} {bounds : Bounds} where
         let cells : second.most_cells ≡ max first.most_cells (span table made.steps) =
         ap (λ (m : Meter). m.most_cells) made.counts in
         let least = span_grows table 0 n (omega arith) in
-        breaks (n + made.steps) (max n made.steps) (inr (inr (n, made.steps, stopped, none.0, none.1, made.is_steps, refl, refl))) old second new
+        breaks (n + made.steps) (max n made.steps) (inr (inr (inr (n, made.steps, stopped, none.0, none.1, made.is_steps, refl, refl)))) old second new
         (omega (arith, steps, stop_steps)) (omega (arith, cells, stop_cells))
         (omega (arith, cells, stop_cells, least, widest table n made.steps)) part

@@ -19,12 +19,13 @@ use Rattle.bb_decide.specs.Cost.{CycleSteps, StepsIfMade, TranslationSteps}
 use Rattle.bb_decide.specs.Cycle.{CountsSearch, FindsCycle, HasNoCycle}
 use Rattle.bb_decide.specs.Translation.{FindsTranslation}
 use Rattle.bb_decide.specs.OneRun.{BreaksOff, CountsRefused, CountsRuns, IsStoppedAt, MakesRuns}
+use Rattle.bb_decide.specs.OneRun.{SinglePassSteps}
 use Rattle.bb_decide.specs.declared.search_result.SearchResult.{SearchResult}
 use Rattle.bb_decide.specs.declared.search_result.SearchResult.TheVariants.{Found, Ran}
 use Rattle.bb_decide.specs.inside.SearchResult.{AddsRuns, RanAs, MakesSinglePass, found_of, is_settled}
 use Rattle.bb_decide.specs.Laws.{RunsAreUnique}
 use Rattle.bb_decide.proofs.Costs.{makes_cycles, makes_translations, walk_keeps}
-use Rattle.bb_decide.proofs.OneRun.{halts_nowhere}
+use Rattle.bb_decide.proofs.OneRun.{halts_nowhere, no_cycle_beside}
 use Rattle.bb_decide.proofs.Verdicts.{cycle_steps_are_one, steps_if_made_are_one, translation_steps_are_one}
 
 -- ---- what runs add
@@ -68,13 +69,31 @@ module _ (key : ℤ → ℕ) (table : Table) (bounds : Bounds) {old new : Meter}
       let made = makes_translations table bounds (found_of search_result) finds counts in
       adds_once made.steps made.counts (made.is_steps, refl)
 
-  -- the watched run that isn't stopped
+  -- the single-pass run that isn't stopped
   pub single_pass_adds : (search_result : SearchResult) → MakesSinglePass table bounds key old new (Some search_result)
       → AddsRuns key table bounds true true old new
   single_pass_adds (Ran outcome) single_pass =
-      adds_once single_pass.1.last single_pass.1.counts (inl (single_pass.4, inr (single_pass.0, single_pass.1.is_last), refl))
+      adds_once single_pass.1.last single_pass.1.counts (inl (
+        single_pass.4,
+        inr (λ s repeats. single_pass.3 repeats.partner s repeats.first.cycle, inr (single_pass.0, single_pass.1.is_last)),
+        refl,
+      ))
+  single_pass_adds (Found (Cycler first second)) single_pass =
+      adds_once second single_pass.1 (inl (
+        single_pass.2,
+        inl (record { partner = first; first = single_pass.0; fits = single_pass.3 }),
+        refl,
+      ))
   single_pass_adds (Found (Translated side first second extent)) single_pass =
-      adds_once second single_pass.1 (inl (single_pass.2, inl (side, first, single_pass.0.0), refl))
+      adds_once second single_pass.1 (inl (
+        single_pass.2,
+        inr (
+          λ s repeats.
+              no_cycle_beside table bounds side first second single_pass.0.0 repeats.partner s repeats.first.cycle,
+          inl (side, first, single_pass.0.0),
+        ),
+        refl,
+      ))
   single_pass_adds (Found verdict) single_pass = absurd single_pass.0
 
 -- a search for cycles that settles nothing has found none, and the machine doesn't halt
@@ -169,10 +188,20 @@ module _ {key : ℤ → ℕ} {table : Table} {bounds : Bounds} (plan : Plan) {be
 
 -- ---- no machine has two counts
 
+-- the steps of the single-pass run are one number
+single_pass_steps_are_one : (table : Table) (bounds : Bounds) (n m : ℕ) → SinglePassSteps table bounds n
+    → SinglePassSteps table bounds m → n ≡ m
+single_pass_steps_are_one table bounds n m (inl one) (inl other) =
+    omega (arith, one.first.first other.partner m other.first.cycle, other.first.first one.partner n one.first.cycle)
+single_pass_steps_are_one table bounds n m (inl one) (inr other) = absurd (other.0 n one)
+single_pass_steps_are_one table bounds n m (inr one) (inl other) = absurd (one.0 m other)
+single_pass_steps_are_one table bounds n m (inr one) (inr other) =
+    translation_steps_are_one table bounds n m one.1 other.1
+
 module _ (key : ℤ → ℕ) (table : Table) (bounds : Bounds) where
   stop_is_one : (n m : ℕ) → IsStoppedAt key table bounds n → IsStoppedAt key table bounds m → n ≡ m
   stop_is_one n m one other =
-      omega (arith, one.first other.partner m other.alike, other.first one.partner n one.alike)
+      omega (arith, one.first other.partner m (other.alike, other.wide), other.first one.partner n (one.alike, one.wide))
 
   runs_are_one : (cyclers translated : Bool) (steps latest more later : ℕ)
       → MakesRuns key table bounds cyclers translated steps latest
@@ -184,7 +213,7 @@ module _ (key : ℤ → ℕ) (table : Table) (bounds : Bounds) where
   runs_are_one false true steps latest more later one other =
       let same = translation_steps_are_one table bounds steps more one.0 other.0 in (same, cc)
   runs_are_one true true steps latest more later (inl one) (inl other) =
-      let same = translation_steps_are_one table bounds steps more one.1 other.1 in (same, cc)
+      let same = single_pass_steps_are_one table bounds steps more one.1 other.1 in (same, cc)
   runs_are_one true true steps latest more later (inl one) (inr other) =
       absurd (one.0 other.stop other.is_stop)
   runs_are_one true true steps latest more later (inr one) (inl other) = absurd (other.0 one.stop one.is_stop)

@@ -20,6 +20,7 @@ use Rattle.bb_sim.specs.Span.{Inside, IsLastInside}
 use Rattle.bb_sim.proofs.Facts.{count_is_within, halted_end, halts_in_Z, halts_last, no_halt_inside}
 use Rattle.bb_sim.proofs.Facts.{wide_at_end}
 use Rattle.bb_cert.specs.declared.verdict.Verdict.{Verdict}
+use Rattle.bb_cert.specs.declared.verdict.Verdict.TheVariants.{Translated}
 use Rattle.bb_cert.specs.claims.Claim.{Claim}
 use Rattle.bb_cert.specs.verdict.Verdict.{HasNumbers}
 use Rattle.bb_decide.specs.Cycle.{CountsSearch, HasNoCycle}
@@ -27,7 +28,7 @@ use Rattle.bb_decide.specs.OneRun.{IsStoppedAt}
 use Rattle.bb_decide.specs.Translation.{FindsTranslation, HasNoTranslation}
 use Rattle.bb_decide.specs.declared.bench.Bench.{Bench}
 use Rattle.bb_decide.specs.declared.search_result.SearchResult.TheVariants.{Found, Ran}
-use Rattle.bb_decide.specs.inside.SearchResult.{Seeks, RunsSinglePass}
+use Rattle.bb_decide.specs.inside.SearchResult.{MakesSinglePass, RunsSinglePass, Seeks}
 use Rattle.bb_decide.specs.inside.Step.{EndsRun, GoesOn, StepsOn, TakesOver, TellsEnd}
 use Rattle.bb_decide.proofs.Benches.{IsAsLent}
 use Rattle.bb_decide.proofs.Counted.{HasCut, taken_over}
@@ -125,6 +126,14 @@ ran {table} {bounds} {after = after} {first = first} {meter = meter} same ends =
       count_is_within table bounds (steps_of after) first meter ends.last.inside counts,
     )
 
+-- what the single-pass run finds of records
+found_records : {key : ℤ → ℕ} {table : Table} {bounds : Bounds} (first meter : Meter) (verdict : Verdict)
+    → FindsTranslation table bounds (Some verdict) → CountsSearch table bounds first meter (Some verdict)
+    → ((n : ℕ) → IsStoppedAt key table bounds n → ⊥)
+    → MakesSinglePass table bounds key first meter (Some (Found verdict))
+found_records begun ended (Translated side first second extent) finds counts unstopped = (finds, counts, unstopped)
+found_records begun ended verdict finds counts unstopped = absurd finds
+
 module _ {T : Type 0} {view : T → TapeView} {grows : Bool} {table : Table} {bounds : Bounds}
     {old new : Bench T} {first here meter : Meter} (lent : IsAsLent view bounds.cells old new first here)
   where
@@ -145,7 +154,7 @@ module _ {T : Type 0} {view : T → TapeView} {grows : Bool} {table : Table} {bo
         → Seeks Finds grows view table bounds old new first meter (Err fault)
     seeks_until_cut cut memory = let is = rw lent.meter at cut in assumption
 
-    -- the watched run, where it wasn't stopped
+    -- the single-pass run, where it wasn't stopped
     module _ {key : ℤ → ℕ} (unstopped : (n : ℕ) → IsStoppedAt key table bounds n → ⊥) where
       pub runs_to_end : {before after : Runner} {run : TapeView} {moved : Moved} {outcome : Outcome}
           → EndsRun table bounds before after run here meter moved
@@ -158,7 +167,16 @@ module _ {T : Type 0} {view : T → TapeView} {grows : Bool} {table : Table} {bo
       pub runs_and_finds : {verdict : Verdict}
           → IsFound (FindsTranslation table bounds) table bounds here meter verdict
           → RunsSinglePass grows view table bounds key old new first meter (Ok (Some (Found verdict)))
-      runs_and_finds found = let is = rw lent.meter at found in assumption
+      runs_and_finds {verdict} found =
+          let is = rw lent.meter at found in
+          record {
+            single_pass = found_records first meter verdict is.found is.counted unstopped;
+            cut = tt;
+            within = is.within;
+            promised = record { claim = is.claim; numbers = is.numbers; memory = tt };
+            tapes = lent.tapes;
+            path = lent.path;
+          }
 
     pub runs_to_stop : {key : ℤ → ℕ} (n : ℕ) → IsStoppedAt key table bounds n
         → CountsTo table n here meter
@@ -177,4 +195,13 @@ module _ {T : Type 0} {view : T → TapeView} {grows : Bool} {table : Table} {bo
     pub runs_until_cut : {key : ℤ → ℕ} {fault : Memory}
         → HasCut table bounds (view new.run).content here meter → IsTrue grows
         → RunsSinglePass grows view table bounds key old new first meter (Err fault)
-    runs_until_cut cut memory = let is = rw lent.meter at cut in assumption
+    runs_until_cut cut memory =
+        let is = rw lent.meter at cut in
+        record {
+          single_pass = tt;
+          cut = inl is.part;
+          within = is.within;
+          promised = record { claim = tt; numbers = tt; memory = memory };
+          tapes = lent.tapes;
+          path = lent.path;
+        }

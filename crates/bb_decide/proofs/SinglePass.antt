@@ -1,5 +1,5 @@
--- What the watched run knows of fingerprints, step by step.
-use Rattle.std.proofs.Common.{◌≡◌, ◌≢◌, ℕ, suc, ◌+◌, ◌*◌, ◌≤◌, inl, inr, Some, ℤ, pos, ◌≤ℤ◌, neg_ℤ, refl, ap}
+-- What the single-pass run knows of fingerprints, step by step.
+use Rattle.std.proofs.Common.{◌≡◌, ◌≢◌, ℕ, suc, ◌+◌, ◌≤◌, inl, inr, Some, ℤ, pos, ◌≤ℤ◌, neg_ℤ, refl, ap}
 use Rattle.std.proofs.Common.{sym}
 use Rattle.std.proofs.lemmas.Bool.{cases_lt}
 use Rattle.std.proofs.Common.{subst, ◌∙◌, FitsSigned, add-one, arith, of_z, to_z, w64}
@@ -22,15 +22,18 @@ use Rattle.bb_sim.specs.Runner.{Stands, position_of, state_of, steps_of}
 use Rattle.bb_sim.specs.Span.{Inside, counted_head}
 use Rattle.bb_sim.proofs.Facts.{conf-start, counted_head-at, greatest_bounds}
 use Rattle.bb_sim.proofs.Facts.{head_inside, counted_running, least_bounds, small_position}
+use Rattle.bb_narrow.specs.Registers.{FitsRegisters}
+use Rattle.bb_narrow.proofs.Facts.{fits_before}
 use Rattle.bb_cert.specs.claims.Repeat.{Same}
 use Rattle.bb_cert.specs.declared.verdict.Side.{Side}
 use Rattle.bb_cert.specs.declared.verdict.Verdict.{Verdict}
 use Rattle.bb_cert.proofs.Facts.{alike_of_same, led_by, moves}
 use Rattle.bb_decide.specs.Fingerprint.{MatchesPartner, fingerprint}
-use Rattle.bb_decide.specs.OneRun.{IsStoppedAt}
+use Rattle.bb_decide.specs.OneRun.{IsStoppedAt, LooksAgain}
 use Rattle.bb_decide.specs.Partner.{IsPartner}
 use Rattle.bb_decide.proofs.OneSide.{TellsAgreement}
 use Rattle.bb_decide.specs.inside.Fingerprints.{AreAsKept, KeepInTurn, first_fingerprints}
+use Rattle.bb_decide.specs.inside.Searching.{IsInSinglePass}
 use Rattle.bb_decide.specs.inside.Step.{EndsRun, HasMoved}
 use Rattle.bb_decide.specs.declared.single_pass.Fingerprints.{Fingerprints}
 use Rattle.bb_decide.specs.Translation.{IsTranslation}
@@ -40,27 +43,14 @@ use Rattle.bb_decide.proofs.Halting.{no_pair_in_Z}
 use Rattle.bb_decide.proofs.Partners.{is_kept_one, is_partner}
 use Rattle.bb_decide.proofs.SoFar.{none_earlier, none_inside, none_so_far}
 
--- the run has come to where a runner stands, not in Z: the fingerprint is that of its tape; the other is that
--- of a tape on which the kept runner stood, the partner of the next step; no step up to here is a cycle, or
--- looks as its partner does
-pub record IsInSinglePass (table : Table) (bounds : Bounds) (key : ℤ → ℕ) (runner : Runner) (view : TapeView)
-    (fingerprints : Fingerprints) : Type 0 where
-  pub kept_view : TapeView
-  pub search : cycles.IsSearching table bounds runner fingerprints.kept view kept_view
-  pub current_is : fingerprints.current ≡ fingerprint key view.content
-  pub kept_fingerprint_is : fingerprints.kept_fingerprint ≡ fingerprint key kept_view.content
-  pub next : fingerprints.next ≡ 2 * steps_of fingerprints.kept
-  pub none_alike : (p t : ℕ) → t ≤ steps_of runner → MatchesPartner key table p t → ⊥
-  pub running : state_of runner ≢ Halt
-
 abbrev configuration_of : Runner → TapeView → Configuration
 configuration_of runner view =
     record { state = state_of runner; head = position_of runner; tape = view.content }
 
 pub single_pass_at_first : (table : Table) (bounds : Bounds) (key : ℤ → ℕ) (runner : Runner) (view : TapeView)
-    → Stands table runner view → steps_of runner ≡ 0
+    → Stands table runner view → steps_of runner ≡ 0 → (FitsRegisters table 1 → ⊥)
     → IsInSinglePass table bounds key runner view (first_fingerprints runner)
-single_pass_at_first table bounds key runner view stands zero =
+single_pass_at_first table bounds key runner view stands zero wide =
     let is : configuration_of runner view ≡ start =
     (let at = rw zero at stands.at in let there = conf-start table in cc) in
     let tape : view.content ≡ blank = ap (λ (c : Configuration). c.tape) is in
@@ -71,8 +61,9 @@ single_pass_at_first table bounds key runner view stands zero =
       current_is = current;
       kept_fingerprint_is = current;
       next = omega (arith, zero);
-      none_alike = λ p t few alike. let below = alike.partner.below in omega (arith, few, below, zero);
+      none_alike = λ p t few looks. let below = looks.0.partner.below in omega (arith, few, below, zero);
       running = λ halts. let state = ap (λ (c : Configuration). c.state) is in cc;
+      wide = λ fits. wide (fits_before (omega (arith, zero)) fits);
     }
 
 -- the head moves at each step
@@ -202,11 +193,17 @@ module _ {table : Table} {bounds : Bounds} {key : ℤ → ℕ} {before after : R
 
     -- where they differ, no step up to this one looks as its partner does
     pub none_alike_next : (AreAsKept printed after → ⊥) → (p t : ℕ) → t ≤ steps_of after
-        → MatchesPartner key table p t → ⊥
-    none_alike_next differs p = none_so_far (MatchesPartner key table p) moved.next
-        (here.none_alike p) (λ now.
+        → LooksAgain key table p t → ⊥
+    none_alike_next differs p = none_so_far (LooksAgain key table p) moved.next (here.none_alike p) (λ now.
         differs (as_kept (subst (λ m. MatchesPartner key table m (steps_of after))
-        (is_kept_one here.search.partner moved.next now.partner) now)))
+        (is_kept_one here.search.partner moved.next now.0.partner) now.0)))
+
+    -- it has left the registers, and so has the next one
+    pub wide_here : FitsRegisters table (steps_of after) → ⊥
+    wide_here fits = here.wide (subst (FitsRegisters table) moved.next fits)
+
+    pub wide_next : FitsRegisters table (steps_of after + 1) → ⊥
+    wide_next fits = wide_here (fits_before (omega arith) fits)
 
     -- and the configuration is kept in its turn
     pub single_pass_on : {new : Fingerprints} → (AreAsKept printed after → ⊥) → KeepInTurn after printed new
@@ -222,6 +219,7 @@ module _ {table : Table} {bounds : Bounds} {key : ℤ → ℕ} {before after : R
           next = here.next;
           none_alike = none_alike_next differs;
           running = moved.running;
+          wide = wide_next;
         })
     single_pass_on differs (inr kept) =
         let same_next = ap (λ (p : Fingerprints). p.next) stays in
@@ -234,6 +232,7 @@ module _ {table : Table} {bounds : Bounds} {key : ℤ → ℕ} {before after : R
           next = refl;
           none_alike = none_alike_next differs;
           running = moved.running;
+          wide = wide_next;
         })
 
     -- where they are the same, the run is stopped: what is kept is the partner, since the head moves at step
@@ -252,8 +251,10 @@ module _ {table : Table} {bounds : Bounds} {key : ℤ → ℕ} {before after : R
         head = head_same;
         current = sym here.kept_fingerprint_is ∙ sym kept_fingerprint_same ∙ sym same.0 ∙ current_is;
       };
+      wide = wide_here;
       inside = inside;
-      first = λ p. none_earlier (MatchesPartner key table p) moved.next (here.none_alike p);
+      first = λ p t looks. none_earlier (LooksAgain key table p) moved.next (here.none_alike p) t looks;
+      no_cycle = λ a t less. let next = moved.next in here.search.none a t (omega (arith, next, less));
       no_record = λ side a b less. let next = moved.next in none side a b (omega (arith, next, less));
     } where
       head_same : position_of old.kept ≡ position_of after
@@ -265,7 +266,7 @@ module _ {table : Table} {bounds : Bounds} {key : ℤ → ℕ} {before after : R
     not_stopped_at_record differs tells n at = elim (cases_lt (steps_of after) n) [
       | inl less ↦ at.no_record tells.side tells.first (steps_of after) less
           (record { pair = tells.pair; inside = inside })
-      | inr few ↦ none_alike_next differs at.partner n few at.alike
+      | inr few ↦ none_alike_next differs at.partner n few (at.alike, at.wide)
     ]
 
 -- nor was it where the run ends
@@ -275,6 +276,6 @@ pub not_stopped_at_end : {table : Table} {bounds : Bounds} {key : ℤ → ℕ} {
     → EndsRun table bounds before after view first meter answer
     → (n : ℕ) → IsStoppedAt key table bounds n → ⊥
 not_stopped_at_end {table} {key = key} {after = after} {view = view} here ended n at =
-    none_inside (MatchesPartner key table at.partner) ended (here.none_alike at.partner) (λ halts looks.
-    no_pair_in_Z table after view ended.stands halts at.partner looks.one looks.other looks.partner.below
-    looks.at_partner looks.at_step looks.state) n at.inside at.alike
+    none_inside (LooksAgain key table at.partner) ended (here.none_alike at.partner) (λ halts looks.
+    no_pair_in_Z table after view ended.stands halts at.partner looks.0.one looks.0.other looks.0.partner.below
+    looks.0.at_partner looks.0.at_step looks.0.state) n at.inside (at.alike, at.wide)

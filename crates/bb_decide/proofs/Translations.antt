@@ -26,6 +26,7 @@ use Rattle.bb_decide.proofs.Halting.{no_pair_in_Z}
 use Rattle.bb_decide.specs.Translation.{AgreesWithPartner, FindsTranslation, HasNoTranslation, IsTranslation}
 use Rattle.bb_decide.specs.inside.Follow.{IsReady, IsSearched, ComparesRecord}
 use Rattle.bb_decide.specs.inside.Follow.{on_side}
+pub use Rattle.bb_decide.specs.inside.Searching.{AreSearched, IsInRecordSearch}
 use Rattle.bb_decide.specs.inside.Step.{EndsRun, HasMoved, TakesOver}
 use Rattle.bb_decide.proofs.Counted.{taken_over}
 use Rattle.bb_decide.proofs.SearchResults.{IsFound}
@@ -63,34 +64,17 @@ no_pair_at_end table runner run stands halts side a pair =
     no_pair_in_Z table runner run stands halts a agree.first agree.second agreeing.in_order agree.at_first
     agree.at_second agree.same_state
 
--- the records of both sides up to step n are known, and the partner of the next one of each is kept
-pub record AreSearched (table : Table) (n : ℕ) (right left : Records) (saved_right saved_left : TapeView)
-    : Type 0 where
-  pub on_right : IsSearched table n right saved_right
-  pub on_left : IsSearched table n left saved_left
-  pub right_is : right.side ≡ R
-  pub left_is : left.side ≡ L
-
 -- and none that step n makes agrees with its partner
 abbrev pub HasPassedBoth : Table → ℕ → Records → Records → TapeView → TapeView → Type 0
 HasPassedBoth table n right left saved_right saved_left =
     AreSearched table n right left saved_right saved_left
     × ((side : Side) (a : ℕ) → AgreesWithPartner table side a n → ⊥)
 
--- the search has come to where a runner stands: the records of both sides are known up to there, and none of
--- them agrees with its partner
-pub record IsSearching (table : Table) (bounds : Bounds) (runner : Runner) (view : TapeView)
-    (right left : Records) (saved_right saved_left : TapeView) : Type 0 where
-  pub stands : Stands table runner view
-  pub within : steps_of runner ≤ bounds.steps
-  pub searched : AreSearched table (steps_of runner) right left saved_right saved_left
-  pub none : (side : Side) (a b : ℕ) → b ≤ steps_of runner → IsTranslation table bounds side a b → ⊥
-
 pub searching_at_first : {table : Table} {bounds : Bounds} {runner : Runner}
     {view saved_right saved_left : TapeView} {right left : Records} → Stands table runner view
     → steps_of runner ≡ 0 → right ≡ record { side = R; kept = runner; nearest = pos 0 }
     → left ≡ record { side = L; kept = runner; nearest = pos 0 }
-    → IsSearching table bounds runner view right left saved_right saved_left
+    → IsInRecordSearch table bounds runner view right left saved_right saved_left
 searching_at_first {table} {bounds} {runner} {view} stands zero right_is left_is =
     let start = starts table runner view stands zero in
     rw (right_is, left_is) (record {
@@ -193,11 +177,11 @@ module _ {table : Table} {n : ℕ} {after : Runner} {view saved_right saved_left
 -- the search, after a step
 module _ {table : Table} {bounds : Bounds} {before after : Runner}
     {view_before view saved_right saved_left : TapeView} {old_right old_left : Records}
-    (here : IsSearching table bounds before view_before old_right old_left saved_right saved_left)
+    (here : IsInRecordSearch table bounds before view_before old_right old_left saved_right saved_left)
     (moved : HasMoved table before after view) (inside : Inside table bounds (steps_of after)) where
   pub goes_on : {right left : Records} {new_right new_left : TapeView}
       → HasPassedBoth table (steps_of after) right left new_right new_left
-      → IsSearching table bounds after view right left new_right new_left
+      → IsInRecordSearch table bounds after view right left new_right new_left
   goes_on looks = record {
     stands = moved.stands;
     within = inside.within_steps;
@@ -233,7 +217,7 @@ module _ {table : Table} {bounds : Bounds} {before after : Runner}
 pub none_at_end : {table : Table} {bounds : Bounds} {before after : Runner}
     {view_before view saved_right saved_left : TapeView} {right left : Records} {first meter : Meter}
     {answer : Moved}
-    → IsSearching table bounds before view_before right left saved_right saved_left
+    → IsInRecordSearch table bounds before view_before right left saved_right saved_left
     → EndsRun table bounds before after view first meter answer → HasNoTranslation table bounds
 none_at_end {table} {bounds} {after = after} {view = view} here ended side a b found =
     none_inside (IsTranslation table bounds side a) ended (here.none side a) (λ halts now.

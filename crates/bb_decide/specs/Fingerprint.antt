@@ -9,6 +9,7 @@ use Rattle.bb_tape.specs.Content.{Content, cell}
 use Rattle.bb_sim.specs.Configuration.{Configuration}
 use Rattle.bb_sim.specs.Run.{conf}
 use Rattle.bb_sim.specs.Span.{Inside}
+use Rattle.bb_narrow.specs.Registers.{FitsRegisters}
 use Rattle.bb_cert.specs.declared.verdict.Verdict.{Verdict}
 use Rattle.bb_cert.specs.declared.verdict.Verdict.TheVariants.{Halt, Cycler, Translated}
 use Rattle.bb_decide.specs.Partner.{IsPartner}
@@ -41,13 +42,15 @@ pub record MatchesPartner (key : ℤ → ℕ) (table : Table) (p s : ℕ) : Type
   pub head : one.head ≡ other.head
   pub current : fingerprint key one.tape ≡ fingerprint key other.tape
 
--- a step inside, no later than another one, matches its partner's fingerprint, and is another configuration
+-- a step inside, no later than another one, has left the registers, matches its partner's fingerprint, and is
+-- another configuration
 pub record AgreesByChance (key : ℤ → ℕ) (table : Table) (bounds : Bounds) (latest : ℕ) : Type 0 where
   pub first : ℕ
   pub second : ℕ
   pub alike : MatchesPartner key table first second
   pub inside : Inside table bounds second
   pub no_later : second ≤ latest
+  pub wide : FitsRegisters table second → ⊥
   pub differ : alike.one ≡ alike.other → ⊥
 
 -- the step named in a verdict: that of a halt, the second one of a pair; for others the limit of steps

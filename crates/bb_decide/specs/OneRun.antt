@@ -8,25 +8,45 @@ use Rattle.bb_sim.specs.declared.meter.Meter.{Meter}
 use Rattle.bb_sim.specs.Meter.{zero_meter}
 use Rattle.bb_sim.specs.Outcome.{HaltsNowhere}
 use Rattle.bb_sim.specs.Span.{span, Inside, IsLastInside}
+use Rattle.bb_narrow.specs.Registers.{FitsRegisters}
 use Rattle.bb_cert.specs.declared.verdict.Side.{Side}
 use Rattle.bb_decide.specs.Cost.{CycleSteps, StepsIfMade, TranslationSteps}
-use Rattle.bb_decide.specs.Cycle.{HasNoCycle}
+use Rattle.bb_decide.specs.Cycle.{HasNoCycle, IsCycle, IsFirstCycle}
 use Rattle.bb_decide.specs.Fingerprint.{MatchesPartner}
 use Rattle.bb_decide.specs.Translation.{IsTranslation}
 
--- the single-pass run is stopped at step s: the first with its partner's fingerprint, if it is inside and no
--- record before it agrees with its partner
+-- step s has its partner's fingerprint, and its run has left the registers, in which configurations are
+-- compared exactly
+abbrev pub LooksAgain : (ℤ → ℕ) → Table → ℕ → ℕ → Type 0
+LooksAgain key table p s = MatchesPartner key table p s × (FitsRegisters table s → ⊥)
+
+-- the single-pass run is stopped at step s: the first that looks as its partner, if it is inside and no cycle
+-- and no record that agrees with its partner comes before it
 pub record IsStoppedAt (key : ℤ → ℕ) (table : Table) (bounds : Bounds) (s : ℕ) : Type 0 where
   pub partner : ℕ
   pub alike : MatchesPartner key table partner s
+  pub wide : FitsRegisters table s → ⊥
   pub inside : Inside table bounds s
-  pub first : (p t : ℕ) → MatchesPartner key table p t → s ≤ t
+  pub first : (p t : ℕ) → LooksAgain key table p t → s ≤ t
+  pub no_cycle : (a t : ℕ) → t < s → IsCycle table bounds a t → ⊥
   pub no_record : (side : Side) (a b : ℕ) → b < s → IsTranslation table bounds side a b → ⊥
 
--- if it isn't stopped, it is the only run: up to the first record that agrees with its partner, or as a whole
+-- the first cycle comes at step s, in registers
+pub record RepeatsInRegisters (table : Table) (bounds : Bounds) (s : ℕ) : Type 0 where
+  pub partner : ℕ
+  pub first : IsFirstCycle table bounds partner s
+  pub fits : FitsRegisters table s
+
+-- the last step of the single-pass run that isn't stopped: that of a cycle in registers; else that of the first
+-- record that agrees with its partner, or of the whole run
+abbrev pub SinglePassSteps : Table → Bounds → ℕ → Type 0
+SinglePassSteps table bounds steps = RepeatsInRegisters table bounds steps
+    ⊎ (((s : ℕ) → RepeatsInRegisters table bounds s → ⊥) × TranslationSteps table bounds steps)
+
+-- if it isn't stopped, it is the only run
 abbrev pub RunsOnce : (ℤ → ℕ) → Table → Bounds → ℕ → ℕ → Type 0
 RunsOnce key table bounds steps latest = ((s : ℕ) → IsStoppedAt key table bounds s → ⊥)
-    × TranslationSteps table bounds steps × (latest ≡ steps)
+    × SinglePassSteps table bounds steps × (latest ≡ steps)
 
 -- if it is stopped, the search for cycles comes after it, and the search for agreeing records only if no
 -- cycle was found and the machine doesn't halt
@@ -59,11 +79,19 @@ pub record CountsRuns (key : ℤ → ℕ) (table : Table) (bounds : Bounds) (pla
     pub runs : MakesRuns key table bounds plan.cyclers plan.translated meter.steps latest
     pub most_cells : meter.most_cells ≡ span table latest
 
+-- step s is inside, and the last in registers
+pub record LeavesRegisters (table : Table) (bounds : Bounds) (s : ℕ) : Type 0 where
+  pub inside : Inside table bounds s
+  pub fits : FitsRegisters table s
+  pub leaves : FitsRegisters table (s + 1) → ⊥
+
 -- so many steps were made before the run that was refused memory, with both searches in use, the last of any
--- run being `latest`: none, if it is the single-pass run; those up to its stop, if it is the search for
--- cycles; and those of that search too, without a find, if it is the one for records
+-- run being `latest`: none, if it is the single-pass run; those in registers, if there was no memory to put its
+-- configuration on a tape; those up to its stop, if it is the search for cycles; and those of that search too,
+-- without a find, if it is the one for records
 abbrev pub StepsBefore : (ℤ → ℕ) → Table → Bounds → ℕ → ℕ → Type 0
 StepsBefore key table bounds before latest = ((before ≡ 0) × (latest ≡ 0))
+    ⊎ (LeavesRegisters table bounds before × (latest ≡ before))
     ⊎ (IsStoppedAt key table bounds before × (latest ≡ before))
     ⊎ ((stop cycles : ℕ) × IsStoppedAt key table bounds stop × HaltsNowhere table bounds
     × HasNoCycle table bounds

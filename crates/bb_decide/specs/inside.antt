@@ -6,3 +6,4 @@ pub mod Fingerprints
 pub mod Step
 pub mod NarrowPass
 pub mod NarrowRecords
+pub mod Searching

@@ -7,6 +7,7 @@ pub mod decision;
 mod fingerprint;
 pub mod keys;
 pub mod laws;
+mod narrow_handover;
 mod narrow_pass;
 mod narrow_records;
 pub mod one_run;

@@ -1,8 +1,10 @@
-//! A run in registers that is watched for all that ends it: a halt, two records that agree, and a configuration
-//! that comes again.
+//! The single-pass run of a machine of two symbols and at most seven states, in registers. It ends at a halt, at
+//! two agreeing records, at a repeated configuration, or where the run leaves the 64 cells.
 ghost use Rattle.std.specs.Prelude.{◌≡◌, ◌≤◌, ◌*◌, ◌<◌, ◌^◌, length};
 ghost use Rattle.bb_machine.specs.Machine.{symbols_of};
-ghost use Rattle.bb_decide.specs.inside.NarrowPass.{EndsNarrowPass, KeepsRunInTurn};
+ghost use Rattle.bb_narrow.specs.Packed.{IsTableOf};
+ghost use Rattle.bb_narrow.specs.Registers.{IsNarrowRun};
+ghost use Rattle.bb_decide.specs.inside.NarrowPass.{AdvancesPass, EndsNarrowPass, IsInNarrowPass, KeepsRunInTurn};
 
 use crate::narrow_records::NarrowRecords;
 use bb_cert::{Side, Verdict};
@@ -12,7 +14,7 @@ use bb_sim::Outcome;
 
 /// How the run ends.
 #[derive(Clone, Copy, Debug)]
-pub enum NarrowResult {
+pub(crate) enum NarrowResult {
     /// A cycle, or two records that agree.
     Found(Verdict),
     /// As any run does.
@@ -23,13 +25,13 @@ pub enum NarrowResult {
 
 /// The run at the step that is kept, the partner of the next, and the step that is kept next, twice that.
 #[derive(Clone, Copy, Debug)]
-struct KeptRun {
-    run: NarrowRun,
-    next: u64,
+pub(crate) struct KeptRun {
+    pub(crate) run: NarrowRun,
+    pub(crate) next: u64,
 }
 
 impl KeptRun {
-    /// KeepsRecord a run, if it is its turn.
+    /// Keeps a run, if it is its turn.
     #[inline(always)]
     fn keep_in_turn(&mut self, run: &NarrowRun)
         requires { 2 * run.now.steps < 2 ^ 64 }
@@ -43,47 +45,96 @@ impl KeptRun {
     }
 }
 
-/// Runs a machine until it halts, a limit is met, a record agrees with its partner, a configuration is that of
-/// its partner, or it leaves the 64 cells.
-pub fn run_narrow_pass(machine: &Machine, limits: &Limits) -> NarrowResult
+/// A single-pass run in registers, and what it keeps.
+#[derive(Clone, Copy, Debug)]
+pub(crate) struct NarrowPass {
+    pub(crate) run: NarrowRun,
+    pub(crate) kept: KeptRun,
+    pub(crate) right: NarrowRecords,
+    pub(crate) left: NarrowRecords,
+}
+
+/// The run where it ends.
+#[derive(Clone, Copy, Debug)]
+pub(crate) struct NarrowEnd {
+    pub(crate) pass: NarrowPass,
+    pub(crate) result: NarrowResult,
+}
+
+impl NarrowPass {
+    /// The run before its first step.
+    #[inline(always)]
+    fn start(machine: &Machine, limits: &Limits) -> NarrowPass
+        ensures { IsInNarrowPass machine.now limits.now result }
+    {
+        let run = NarrowRun::start(machine, limits);
+        NarrowPass {
+            run,
+            kept: KeptRun { run, next: 0 },
+            right: NarrowRecords::new(run),
+            left: NarrowRecords::new(run),
+        }
+    }
+
+    /// Makes the next step, and compares it with what is kept. None if the run goes on.
+    #[inline(always)]
+    fn advance(
+        &mut self,
+        machine: &Machine,
+        table: &NarrowTable,
+        limits: &Limits,
+    ) -> Option<NarrowResult>
+        requires symbols { symbols_of machine.now ≡ 2 }
+        requires table { IsTableOf machine.now table.now }
+        requires pass { IsInNarrowPass machine.now limits.now self.old }
+        ensures { AdvancesPass machine.now limits.now self.old self.new result }
+    {
+        limits.show_accepted();
+        let window = self.run.window;
+        match self.run.advance(machine, table, limits) {
+            NarrowMoved::Stepped => {}
+            NarrowMoved::Ended(outcome) => return Some(NarrowResult::Ran(outcome)),
+            NarrowMoved::Outside => return Some(NarrowResult::Outside),
+        }
+        if self.run.has_same_configuration(&self.kept.run) {
+            return Some(NarrowResult::Found(Verdict::Cycler {
+                first: self.kept.run.steps,
+                second: self.run.steps,
+            }));
+        }
+        self.kept.keep_in_turn(&self.run);
+        self.right.pass(Side::R, self.run.registers.head);
+        self.left.pass(Side::L, self.run.registers.head);
+        if self.run.window == window {
+            return None;
+        }
+        if self.run.went_right() {
+            return match self.right.compare(Side::R, self.run, machine, limits) {
+                Some(verdict) => Some(NarrowResult::Found(verdict)),
+                None => None,
+            };
+        }
+        match self.left.compare(Side::L, self.run, machine, limits) {
+            Some(verdict) => Some(NarrowResult::Found(verdict)),
+            None => None,
+        }
+    }
+}
+
+/// Runs a machine in registers until it halts, a limit is met, a record agrees with its partner, a configuration
+/// is that of its partner, or its next step would leave the 64 cells.
+pub(crate) fn run_narrow_pass(machine: &Machine, limits: &Limits) -> NarrowEnd
     requires symbols { symbols_of machine.now ≡ 2 }
     requires states { length machine.now ≤ 7 }
-    ensures { EndsNarrowPass machine.now limits.now result }
+    ensures run { IsNarrowRun machine.now limits.now result.pass.run }
+    ensures ends { EndsNarrowPass machine.now limits.now result.pass result.result }
 {
     let table = NarrowTable::new(machine);
     let limits = *limits;
-    limits.show_accepted();
-    let mut run = NarrowRun::start(machine, &limits);
-    let mut kept = KeptRun { run, next: 0 };
-    let mut right = NarrowRecords::new(run);
-    let mut left = NarrowRecords::new(run);
+    let mut pass = NarrowPass::start(machine, &limits);
     loop {
-        let window = run.window;
-        match run.advance(machine, &table, &limits) {
-            NarrowMoved::Stepped => {}
-            NarrowMoved::Ended(outcome) => return NarrowResult::Ran(outcome),
-            NarrowMoved::Outside => return NarrowResult::Outside,
-        }
-        if run.has_same_configuration(&kept.run) {
-            return NarrowResult::Found(Verdict::Cycler {
-                first: kept.run.steps,
-                second: run.steps,
-            });
-        }
-        kept.keep_in_turn(&run);
-        right.pass(Side::R, run.registers.head);
-        left.pass(Side::L, run.registers.head);
-        if run.window == window {
-            continue;
-        }
-        if run.went_right() {
-            match right.compare(Side::R, run, machine, &limits) {
-                Some(verdict) => return NarrowResult::Found(verdict),
-                None => continue,
-            }
-        }
-        match left.compare(Side::L, run, machine, &limits) {
-            Some(verdict) => return NarrowResult::Found(verdict),
+        match pass.advance(machine, &table, &limits) {
+            Some(result) => return NarrowEnd { pass, result },
             None => {}
         }
     }

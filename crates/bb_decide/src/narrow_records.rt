@@ -1,6 +1,7 @@
 //! The records of one side of a run in registers.
 ghost use Rattle.std.specs.Prelude.{◌≡◌, ℕ, ◌<◌, ◌^◌, pos, neg_ℤ, ◌-ℤ◌, ◌≤ℤ◌};
-ghost use Rattle.std.specs.Prelude.{◌↔◌, IsTrue};
+ghost use Rattle.std.specs.Prelude.{◌↔◌, IfSome, IsTrue};
+ghost use Rattle.bb_cert.specs.verdict.Verdict.{HasNumbers};
 ghost use Rattle.bb_cert.specs.records.Follow.{AgreesWithKept, HasSameCells};
 ghost use Rattle.bb_decide.specs.inside.NarrowRecords.{CanCompareCells, CanCompareRecord, HasCompared, KnowsHeads, nearer_bit};
 
@@ -8,17 +9,17 @@ use bb_cert::{Extent, Side, Verdict};
 use bb_machine::{Limits, Machine};
 use bb_narrow::{BitCells, NarrowRun};
 
-/// The record of a side that is kept, and the head's bit where it has is_run back farthest since. Before there
-/// is one, it is the start.
+/// The kept record of a side, and the head's bit nearest to the start since. Before the first record it is the
+/// start that is kept.
 #[derive(Clone, Copy, Debug)]
-pub struct NarrowRecords {
-    pub kept: NarrowRun,
-    pub nearest: u64,
+pub(crate) struct NarrowRecords {
+    pub(crate) kept: NarrowRun,
+    pub(crate) nearest: u64,
 }
 
 /// The position of a head's bit.
 #[inline(always)]
-fn position_of_bit(head: u64) -> i64
+pub(crate) fn position_of_bit(head: u64) -> i64
     ensures is { (k : ℕ) → k < 64 → head ≡ 2 ^ k → result ≡ pos k -ℤ pos 32 }
     ensures low { neg_ℤ (pos 32) ≤ℤ result }
     ensures high { result ≤ℤ pos 32 }
@@ -110,8 +111,10 @@ impl NarrowRecords {
         limits: &Limits,
     ) -> Option<Verdict>
         requires { CanCompareRecord machine.now limits.now side self.old run }
-        ensures { (can : CanCompareRecord machine.now limits.now side self.old run) → HasCompared can self.new result }
+        ensures compared { (can : CanCompareRecord machine.now limits.now side self.old run) → HasCompared can self.new result }
+        ensures numbers { IfSome result HasNumbers }
     {
+        limits.show_accepted();
         let kept = position_of_bit(self.kept.registers.head);
         let head = position_of_bit(run.registers.head);
         if self.agrees(side, &run, kept, head, machine, limits) {

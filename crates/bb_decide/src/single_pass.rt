@@ -1,27 +1,31 @@
 //! The single-pass run. It ends at a halt, at two agreeing records, or at a repeated fingerprint.
-ghost use Rattle.std.specs.Prelude.{◌*◌, ◌≤◌};
+ghost use Rattle.std.specs.Prelude.{◌≡◌, ◌*◌, ◌≤◌, ℤ, length};
+ghost use Rattle.bb_machine.specs.Machine.{symbols_of};
 ghost use Rattle.bb_decide.specs.Bench.{BenchHasCells};
 ghost use Rattle.bb_decide.specs.inside.SearchResult.{RunsSinglePass};
+ghost use Rattle.bb_decide.specs.inside.Searching.{IsUnderWay};
 
 use crate::bench::Bench;
 use crate::fingerprint::update_fingerprint;
 use crate::keys::FingerprintKeys;
+use crate::narrow_pass::{NarrowResult, run_narrow_pass};
 use crate::record_search::compare_record;
 use crate::search_result::{SearchResult, count_run, outcome_of};
 use bb_cert::Side;
 use bb_cert::records::{Records, widened_side};
 use bb_machine::{Limits, Machine};
+use bb_narrow::fits_registers;
 use bb_sim::{Meter, Moved, Runner};
 use bb_tape::{Memory, Tape};
 
 /// The fingerprint of the run's tape, and that of the kept configuration, the partner of the next step.
 #[derive(Clone, Copy, Debug)]
-struct Fingerprints {
-    current: u64,
-    kept: Runner,
-    kept_fingerprint: u64,
+pub(crate) struct Fingerprints {
+    pub(crate) current: u64,
+    pub(crate) kept: Runner,
+    pub(crate) kept_fingerprint: u64,
     // The next step to keep, twice the kept one.
-    next: u64,
+    pub(crate) next: u64,
 }
 
 impl Fingerprints {
@@ -67,9 +71,43 @@ impl Fingerprints {
     }
 }
 
-/// Runs a machine until it halts, a limit is met or a record agrees with its partner. None at the first step
-/// with the state, position and fingerprint of its partner, the greatest power of two below it: the two
-/// configurations may be the same.
+/// A single-pass run, apart from the tapes of its bench.
+#[derive(Clone, Copy, Debug)]
+pub(crate) struct SinglePass {
+    pub(crate) runner: Runner,
+    pub(crate) right: Records,
+    pub(crate) left: Records,
+    pub(crate) fingerprints: Fingerprints,
+}
+
+impl SinglePass {
+    ghost use Rattle.std.specs.Prelude.{◌≡◌, ℕ, ℤ};
+    ghost use Rattle.bb_machine.specs.Limits.{Bounds};
+    ghost use Rattle.bb_tape.specs.TapeView.{TapeView};
+    ghost use Rattle.bb_narrow.specs.Registers.{FitsRegisters};
+    ghost use Rattle.bb_decide.specs.inside.Searching.{IsUnderWay};
+
+    /// The run at its start.
+    #[inline(always)]
+    fn start<T: Tape>(machine: &Machine, run: &mut T) -> SinglePass
+        requires wide { FitsRegisters machine.now 1 → ⊥ }
+        ensures begun { (key : ℤ → ℕ) → (bounds : Bounds) → (right left : TapeView)
+            → IsUnderWay machine.now bounds key result (T.view run.new) right left }
+        ensures limit { (T.view run.new).limit ≡ (T.view run.old).limit }
+    {
+        let runner = Runner::start(machine, run);
+        SinglePass {
+            runner,
+            right: Records::new(Side::R, runner),
+            left: Records::new(Side::L, runner),
+            fingerprints: Fingerprints::new(runner),
+        }
+    }
+}
+
+/// Runs a machine until it halts, a limit is met, a record agrees with its partner or, in registers, a
+/// configuration is that of its partner. None at the first later step with the state, position and fingerprint
+/// of its partner, the greatest power of two below it: the two configurations may be the same.
 ///
 /// After an error the contents of the tapes are unspecified; the next call resets them.
 #[inline(never)]
@@ -85,30 +123,96 @@ pub fn run_single_pass<T: Tape, K: FingerprintKeys>(
     ensures { RunsSinglePass T.GROWS T.view machine.now limits.now (K.key_of keys.now) bench.old bench.new
         meter.old meter.new result }
 {
-    let limits = *limits;
-    run_single_pass_inline(machine, &limits, keys, bench, meter)
+    if fits_registers(machine) {
+        return run_from_registers(machine, limits, keys, bench, meter);
+    }
+    let begun = SinglePass::start(machine, &mut bench.run);
+    continue_single_pass(machine, limits, keys, begun, bench, meter)
 }
 
-/// The body of `run_single_pass`, inlined there: the limits are its local and stay in registers. The runner
-/// counts its steps and cells, and the meter adds them at the end of the run.
-#[inline(always)]
-fn run_single_pass_inline<T: Tape, K: FingerprintKeys>(
+/// The single-pass run of a machine that fits the registers: it begins there, and goes on on the bench where it
+/// leaves them.
+fn run_from_registers<T: Tape, K: FingerprintKeys>(
     machine: &Machine,
     limits: &Limits,
     keys: &K,
     bench: &mut Bench<T>,
     meter: &mut Meter,
 ) -> Result<Option<SearchResult>, Memory>
+    requires symbols { symbols_of machine.now ≡ 2 }
+    requires states { length machine.now ≤ 7 }
     requires tapes { BenchHasCells T.view limits.now.cells bench.old }
     requires room { meter.old.steps ≤ 2 * limits.now.steps }
     ensures { RunsSinglePass T.GROWS T.view machine.now limits.now (K.key_of keys.now) bench.old bench.new
         meter.old meter.new result }
 {
     limits.show_accepted();
-    let mut runner = Runner::start(machine, &mut bench.run);
-    let mut right = Records::new(Side::R, runner);
-    let mut left = Records::new(Side::L, runner);
-    let mut fingerprints = Fingerprints::new(runner);
+    let end = run_narrow_pass(machine, limits);
+    let run = end.pass.run;
+    match end.result {
+        NarrowResult::Found(verdict) => {
+            run.count(run.steps, limits, meter);
+            Ok(Some(SearchResult::Found(verdict)))
+        }
+        NarrowResult::Ran(outcome) => {
+            run.count(run.last_step(outcome), limits, meter);
+            Ok(Some(SearchResult::Ran(outcome)))
+        }
+        NarrowResult::Outside => {
+            let Ok(begun) = end.pass.move_to_bench(machine, limits, keys, bench) else {
+                run.count(run.steps, limits, meter);
+                bench.run.reset();
+                return Err(Memory);
+            };
+            continue_single_pass(machine, limits, keys, begun, bench, meter)
+        }
+    }
+}
+
+/// Continues a single-pass run on the tapes of a bench.
+#[inline(never)]
+fn continue_single_pass<T: Tape, K: FingerprintKeys>(
+    machine: &Machine,
+    limits: &Limits,
+    keys: &K,
+    begun: SinglePass,
+    bench: &mut Bench<T>,
+    meter: &mut Meter,
+) -> Result<Option<SearchResult>, Memory>
+    requires begun { IsUnderWay machine.now limits.now (K.key_of keys.now) begun (T.view bench.old.run)
+        (T.view bench.old.right) (T.view bench.old.left) }
+    requires tapes { BenchHasCells T.view limits.now.cells bench.old }
+    requires room { meter.old.steps ≤ 2 * limits.now.steps }
+    ensures { RunsSinglePass T.GROWS T.view machine.now limits.now (K.key_of keys.now) bench.old bench.new
+        meter.old meter.new result }
+{
+    let limits = *limits;
+    run_single_pass_inline(machine, &limits, keys, begun, bench, meter)
+}
+
+/// The body of `continue_single_pass`, inlined there: the limits are its local and stay in registers. The runner
+/// counts its steps and cells, and the meter adds them at the end of the run.
+#[inline(always)]
+fn run_single_pass_inline<T: Tape, K: FingerprintKeys>(
+    machine: &Machine,
+    limits: &Limits,
+    keys: &K,
+    begun: SinglePass,
+    bench: &mut Bench<T>,
+    meter: &mut Meter,
+) -> Result<Option<SearchResult>, Memory>
+    requires begun { IsUnderWay machine.now limits.now (K.key_of keys.now) begun (T.view bench.old.run)
+        (T.view bench.old.right) (T.view bench.old.left) }
+    requires tapes { BenchHasCells T.view limits.now.cells bench.old }
+    requires room { meter.old.steps ≤ 2 * limits.now.steps }
+    ensures { RunsSinglePass T.GROWS T.view machine.now limits.now (K.key_of keys.now) bench.old bench.new
+        meter.old meter.new result }
+{
+    limits.show_accepted();
+    let mut runner = begun.runner;
+    let mut right = begun.right;
+    let mut left = begun.left;
+    let mut fingerprints = begun.fingerprints;
     loop {
         let cells = runner.cells();
         let position = runner.position();

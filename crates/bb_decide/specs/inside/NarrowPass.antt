@@ -1,24 +1,62 @@
--- How a watched run in registers ends: this project's own.
-use Rattle.std.specs.Prelude.{◌≡◌, ◌*◌, ◌<◌, ◌≤◌, Some}
+-- A single-pass run in registers, for the functions of this crate. No public contract cites it.
+use Rattle.std.specs.Prelude.{◌≡◌, ◌+◌, ◌*◌, ◌<◌, ◌≤◌, ◌⊎◌, Option, Some, None}
 use Rattle.bb_machine.specs.Limits.{Bounds}
 use Rattle.bb_machine.specs.Machine.{Table}
-use Rattle.bb_sim.specs.Outcome.{IsOutcome}
-use Rattle.bb_decide.specs.Cycle.{FindsCycle, HasNoCycle}
-use Rattle.bb_decide.specs.Translation.{FindsTranslation, HasNoTranslation}
-use Rattle.std.specs.Prelude.{◌⊎◌}
+use Rattle.bb_tape.specs.TapeView.{TapeView}
 use Rattle.bb_narrow.specs.declared.run.NarrowRun.{NarrowRun}
+use Rattle.bb_narrow.specs.Registers.{EndsWith, FitsRegisters, IsNarrowRun}
+use Rattle.bb_cert.specs.declared.records.Records.{Records}
+use Rattle.bb_cert.specs.declared.verdict.Side.TheVariants.{L, R}
+use Rattle.bb_cert.specs.verdict.Verdict.{HasNumbers}
+use Rattle.bb_decide.specs.Cycle.{FindsCycle, HasNoCycle}
+use Rattle.bb_decide.specs.Fingerprint.{named_step}
+use Rattle.bb_decide.specs.Translation.{FindsTranslation, HasNoTranslation}
+use Rattle.bb_decide.specs.inside.NarrowRecords.{KeepsRecord}
+use Rattle.bb_decide.specs.inside.Searching.{IsInCycleSearch, IsInRecordSearch}
+use Rattle.bb_decide.specs.declared.narrow_records.NarrowRecords.{NarrowRecords}
 use Rattle.bb_decide.specs.declared.narrow_pass.KeptRun.{KeptRun}
+use Rattle.bb_decide.specs.declared.narrow_pass.NarrowPass.{NarrowPass}
 use Rattle.bb_decide.specs.declared.narrow_pass.NarrowResult.{NarrowResult}
 use Rattle.bb_decide.specs.declared.narrow_pass.NarrowResult.TheVariants.{Found, Ran, Outside}
 
--- the first cycle, or the first records that agree; else as any run ends, and there is neither; where it leaves
--- the 64 cells, nothing is said
-abbrev pub EndsNarrowPass : Table → Bounds → NarrowResult → Type 0
-EndsNarrowPass table bounds (Found verdict) =
-    FindsCycle table bounds (Some verdict) ⊎ FindsTranslation table bounds (Some verdict)
-EndsNarrowPass table bounds (Ran outcome) =
-    IsOutcome table bounds outcome × HasNoCycle table bounds × HasNoTranslation table bounds
-EndsNarrowPass table bounds Outside = Unit {0}
+-- a run in registers, with what is kept of it: no step up to there is a cycle, and no record agrees with its
+-- partner
+pub record IsPassIn (table : Table) (bounds : Bounds) (run : NarrowRun) (kept : KeptRun) (right left : NarrowRecords)
+    : Type 0 where
+  pub is_run : IsNarrowRun table bounds run
+  pub kept_is_run : IsNarrowRun table bounds kept.run
+  pub search : IsInCycleSearch table bounds is_run.runner kept_is_run.runner is_run.view kept_is_run.view
+  pub next : kept.next ≡ 2 * kept.run.steps
+  pub right_records : Records
+  pub left_records : Records
+  pub saved_right : TapeView
+  pub saved_left : TapeView
+  pub follows : IsInRecordSearch table bounds is_run.runner is_run.view right_records left_records saved_right
+      saved_left
+  pub keeps_right : KeepsRecord table bounds R right right_records saved_right
+  pub keeps_left : KeepsRecord table bounds L left left_records saved_left
+
+abbrev pub IsInNarrowPass : Table → Bounds → NarrowPass → Type 0
+IsInNarrowPass table bounds pass = IsPassIn table bounds pass.run pass.kept pass.right pass.left
+
+-- the first cycle, or the first records that agree, with the last step of the run; else as any run ends, and
+-- there is neither; or the next step leaves the registers
+abbrev pub EndsNarrowPass : Table → Bounds → NarrowPass → NarrowResult → Type 0
+EndsNarrowPass table bounds pass (Found verdict) =
+    (FindsCycle table bounds (Some verdict) ⊎ FindsTranslation table bounds (Some verdict))
+    × (named_step bounds verdict ≡ pass.run.steps) × HasNumbers verdict
+EndsNarrowPass table bounds pass (Ran outcome) =
+    ((known : IsNarrowRun table bounds pass.run) → EndsWith known outcome)
+    × HasNoCycle table bounds × HasNoTranslation table bounds
+EndsNarrowPass table bounds pass Outside =
+    IsInNarrowPass table bounds pass × (FitsRegisters table (pass.run.steps + 1) → ⊥)
+
+-- a call makes the next step, or the run ends
+abbrev pub AdvancesPass : Table → Bounds → NarrowPass → NarrowPass → Option NarrowResult → Type 0
+AdvancesPass table bounds old new None =
+    IsInNarrowPass table bounds new × (new.run.steps ≡ old.run.steps + 1)
+AdvancesPass table bounds old new (Some result) =
+    IsNarrowRun table bounds new.run × EndsNarrowPass table bounds new result
 
 -- a run is kept from the step on that is next
 abbrev pub KeepsRunInTurn : NarrowRun → KeptRun → KeptRun → Type 0

@@ -1,7 +1,8 @@
 -- The results of searches, for the functions of this crate. No public contract cites them.
-use Rattle.std.specs.Prelude.{◌≡◌, ℕ, ◌+◌, ◌≤◌, max, Bool, true, false, IfOk, IfSome, OnErr}
+use Rattle.std.specs.Prelude.{◌≡◌, ℕ, ◌+◌, ◌≤◌, ◌⊎◌, max, Bool, true, false, IfOk, IfSome, OnErr}
 use Rattle.std.specs.Prelude.{Option, Some, None}
 use Rattle.std.specs.Prelude.{Result, ℤ}
+use Rattle.bb_tape.specs.Content.{Content, blank}
 use Rattle.bb_tape.specs.TapeView.{TapeView}
 use Rattle.bb_tape.specs.declared.tape.Memory.{Memory}
 use Rattle.bb_cert.specs.verdict.Extent.{TellsExtent}
@@ -15,6 +16,7 @@ use Rattle.bb_sim.specs.Meter.{CountsPart, CountsRun, CountsTo, IsWithinRun}
 use Rattle.bb_sim.specs.Outcome.{IsOutcome}
 use Rattle.bb_sim.specs.Run.{Never}
 use Rattle.bb_sim.specs.Span.{span}
+use Rattle.bb_narrow.specs.Registers.{FitsRegisters}
 use Rattle.bb_cert.specs.declared.verdict.Verdict.{Verdict}
 use Rattle.bb_cert.specs.declared.verdict.Verdict.TheVariants.{Halt, Cycler, Translated, Undecided}
 use Rattle.bb_cert.specs.declared.verdict.Why.TheVariants as why
@@ -24,7 +26,7 @@ use Rattle.bb_decide.specs.declared.search_result.SearchResult.{SearchResult}
 use Rattle.bb_decide.specs.declared.search_result.SearchResult.TheVariants.{Found, Ran}
 use Rattle.bb_decide.specs.Cycle.{CountsSearch, HasNoCycle, IsFirstCycle}
 use Rattle.bb_decide.specs.Fingerprint.{AgreesByChance, CostsWhatItNames, most_steps, named_step}
-use Rattle.bb_decide.specs.OneRun.{IsStoppedAt, MakesRuns}
+use Rattle.bb_decide.specs.OneRun.{IsStoppedAt, LeavesRegisters, MakesRuns}
 use Rattle.bb_decide.specs.Translation.{FindsTranslation, HasNoTranslation, IsFirstTranslation}
 use Rattle.bb_decide.specs.inside.Search.{IsPromised, SearchesFind}
 
@@ -53,12 +55,21 @@ RanAs table bounds (Found verdict) = Unit {0}
 abbrev pub MakesSinglePass : Table → Bounds → (ℤ → ℕ) → Meter → Meter → Option SearchResult → Type 0
 MakesSinglePass table bounds key old new None =
     (n : ℕ) × IsStoppedAt key table bounds n × CountsTo table n old new
+MakesSinglePass table bounds key old new (Some (Found (Cycler first second))) =
+    IsFirstCycle table bounds first second × CountsTo table second old new
+    × ((n : ℕ) → IsStoppedAt key table bounds n → ⊥) × FitsRegisters table second
 MakesSinglePass table bounds key old new (Some (Found verdict)) =
     FindsTranslation table bounds (Some verdict) × CountsSearch table bounds old new (Some verdict)
     × ((n : ℕ) → IsStoppedAt key table bounds n → ⊥)
 MakesSinglePass table bounds key old new (Some (Ran outcome)) =
     HasNoTranslation table bounds × CountsRun table bounds old new × IsOutcome table bounds outcome
     × HasNoCycle table bounds × ((n : ℕ) → IsStoppedAt key table bounds n → ⊥)
+
+-- the single-pass run was refused memory: for a step, with the configuration before it on the tape; or to put
+-- its configuration on a tape, after steps in registers, which were counted; then the tape is blank
+abbrev pub CutsSinglePass : Table → Bounds → Content → Meter → Meter → Type 0
+CutsSinglePass table bounds tape old new = CountsPart table bounds tape old new
+    ⊎ ((n : ℕ) × LeavesRegisters table bounds n × CountsTo table n old new × (tape ≡ blank))
 
 -- the promise of a search, for cycles or for agreeing records: its find, by `Finds`, or the outcome of its
 -- run; its counts; and the bench unchanged, but for the contents of its tapes
@@ -80,7 +91,7 @@ pub record RunsSinglePass {T : Type 0} (grows : Bool) (view : T → TapeView) (t
     (key : ℤ → ℕ) (bench_old bench_new : Bench T) (old new : Meter) (result : Result (Option SearchResult) Memory)
     : Type 0 where
   pub single_pass : IfOk result (MakesSinglePass table bounds key old new)
-  pub cut : OnErr result (CountsPart table bounds (view bench_new.run).content old new)
+  pub cut : OnErr result (CutsSinglePass table bounds (view bench_new.run).content old new)
   pub within : IsWithinRun bounds old new
   pub promised : IsPromised found_in_single_pass table grows result
   pub tapes : BenchHasCells view bounds.cells bench_new

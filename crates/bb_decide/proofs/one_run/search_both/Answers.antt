@@ -1,10 +1,10 @@
-use Rattle.std.proofs.Common.{sym, ◌∙◌, true}
+use Rattle.std.proofs.Common.{sym, ◌∙◌}
 use Rattle.std.proofs.lemmas.Result.{err_from_is_err_and, on_err_weaker}
 use Rattle.bb_decide.proofs.OneRun.{both_end, chance_costs, exact_costs}
 use Rattle.bb_decide.proofs.OneRun.{settled_ends, single_pass_costs, single_pass_ends}
 use Rattle.bb_decide.proofs.Costs.{if_ok_both}
 use Rattle.bb_decide.proofs.RunsMade.{both_open, open_adds, settled_adds, single_pass_adds}
-use Rattle.bb_decide.proofs.Refused.{breaks_at_once, breaks_in_cycles, breaks_in_records}
+use Rattle.bb_decide.proofs.Refused.{breaks_in_cycles, breaks_in_records, breaks_single_pass}
 use Rattle.bb_decide.proofs.one_run.search_both.Goals as goal
 
 pub returns-in-Some-clause-ended : goal.returns-in-Some-clause-ended
@@ -82,4 +82,4 @@ returns-clause-cut g c =
 pub returns-in_err-search_result-clause-cut : goal.returns-in_err-search_result-clause-cut
 returns-in_err-search_result-clause-cut g c =
     let fault = err_from_is_err_and c.from_residual.result c.from_residual.ensures.1 in
-    rw fault.1 (breaks_at_once true true _ _ c.in_err-search_result.ensures.cut)
+    rw fault.1 (breaks_single_pass _ _ c.in_err-search_result.ensures.cut)

@@ -2,7 +2,7 @@ use Rattle.std.proofs.lemmas.Bool.{not-true, not-false}
 use Rattle.std.proofs.lemmas.Result.{err_from_is_err_and, on_err_weaker}
 use Rattle.std.proofs.Common.{arith}
 use Rattle.bb_decide.proofs.Costs.{if_ok_both}
-use Rattle.bb_decide.proofs.OneRun.{cycle_costs, run_costs}
+use Rattle.bb_decide.proofs.OneRun.{both_on, cycle_costs, run_costs}
 use Rattle.bb_decide.proofs.Refused.{breaks_at_once}
 use Rattle.bb_decide.proofs.RunsMade.{cycles_add, no_search_adds, translations_add}
 use Rattle.bb_decide.proofs.one_run.search_by_plan.Goals as goal
@@ -71,3 +71,9 @@ returns-then-not-plan-3-clause-adds g c =
 pub returns-clause-adds : goal.returns-clause-adds
 returns-clause-adds g c =
     rw (not-false _ c.if-not-plan.false, not-false _ c.if-not-plan-3.false) c.search_both.ensures.adds
+
+pub returns-clause-ended : goal.returns-clause-ended
+returns-clause-ended g c =
+    if_ok_both c.search_both.result _ _ _ (λ search_result ends again. both_on _ _ c.args.plan
+    (not-false _ c.if-not-plan-3.false) (not-false _ c.if-not-plan.false) search_result ends)
+    c.search_both.ensures.ended c.search_both.ensures.ended

@@ -9,25 +9,23 @@ use Rattle.bb_decide.proofs.Cycles.{no_cycle_at_end}
 use Rattle.bb_decide.proofs.SearchResults.{ends_into_Z, ends_where_stopped, runs_and_finds, runs_to_end}
 use Rattle.bb_decide.proofs.SearchResults.{runs_to_stop, runs_until_cut}
 use Rattle.bb_decide.proofs.Translations.{IsTakenIn, goes_on, is_found, is_ready, looks_at_none, looks_at_one}
-use Rattle.bb_decide.proofs.Translations.{none_at_end, searching_at_first, takes_in, tells_pair}
+use Rattle.bb_decide.proofs.Translations.{none_at_end, takes_in, tells_pair}
 use Rattle.bb_sim.specs.Runner.{steps_of}
 use Rattle.bb_sim.specs.Span.{Inside}
 use Rattle.bb_decide.specs.inside.Step.{HasMoved}
 use Rattle.bb_decide.proofs.Halting.{in_no_state, is_none, not_in_Z}
 use Rattle.bb_decide.proofs.SinglePass.{not_stopped_at_end, not_stopped_at_record}
 use Rattle.bb_decide.proofs.SinglePass.{current_known}
-use Rattle.bb_decide.proofs.SinglePass.{readable_here, still_inside, stopped, single_pass_at_first, single_pass_on}
+use Rattle.bb_decide.proofs.SinglePass.{readable_here, still_inside, stopped, single_pass_on}
 use Rattle.bb_decide.proofs.single_pass.run_single_pass_inline.Given as given
 use Rattle.bb_decide.proofs.single_pass.run_single_pass_inline.Goals as goal
 use Rattle.bb_decide.proofs.single_pass.run_single_pass_inline.Goals.{After-update_fingerprint, After-widened_side}
 
 pub loop-moved-init : goal.loop-moved-init
 loop-moved-init g c = record {
-  search = searching_at_first c.start-runner.ensures.stands c.start-runner.ensures.steps c.new-right.ensures
-      c.new-left.ensures;
-  single_pass = rw c.new-fingerprints.ensures
-      (single_pass_at_first _ _ _ _ _ c.start-runner.ensures.stands c.start-runner.ensures.steps);
-  lent = lent_on c.start-runner.ensures.limit refl refl (lent_at_first c.requires.tapes);
+  search = c.requires.begun.search;
+  single_pass = c.requires.begun.single_pass;
+  lent = lent_at_first c.requires.tapes;
 }
 
 pub count_run-requires-in_default-moved : goal.count_run-requires-in_default-moved

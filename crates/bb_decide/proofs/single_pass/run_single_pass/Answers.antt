@@ -1,0 +1,5 @@
+use Rattle.bb_decide.proofs.single_pass.run_single_pass.Goals as goal
+
+pub continue_single_pass-requires-clause-begun : goal.continue_single_pass-requires-clause-begun
+continue_single_pass-requires-clause-begun g c =
+    c.start-begun.ensures.begun (g.K.FingerprintKeys.key_of c.args.keys.now) c.args.limits.now _ _
