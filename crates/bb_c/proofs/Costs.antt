@@ -29,6 +29,7 @@ later plan m more bounds (cyclers, translated, chance) = (
     alike = chance.alike;
     inside = inside_upper _ _ _ bounds _ chance.inside;
     no_later = let early = chance.no_later in omega (arith, early, more);
+    wide = chance.wide;
     differ = chance.differ;
   },
 )

@@ -187,18 +187,20 @@ fn chances<T: Tape>(
     Ok(chances)
 }
 
+/// In registers configurations are compared exactly, so no fingerprint counts.
 #[test]
-fn weak_keys_keep_all_small_machines(rt: HostRuntime) -> Result<(), Fail> {
+fn weak_keys_change_no_small_machine(rt: HostRuntime) -> Result<(), Fail> {
     for (keys, [steps, cells, depth, nodes]) in &RUNS {
-        let limits = Limits::new(*steps, *cells, *depth, *nodes)?;
+        let limits = Limits::new(*steps, (*cells).min(32), *depth, *nodes)?;
         let mut bench = bench_on_rings(rt.alloc(), &limits)?;
         let chances = chances(&rt, &mut bench, keys, &limits, (2, 2), ALL_SMALL, false)?;
-        assert!(rt; chances > 0, "{chances}");
+        assert_eq!(rt; chances, 0);
     }
     Ok(())
 }
 
-/// Decides the drawn machines of each size, some of them with colliding fingerprints.
+/// Decides the drawn machines of each size. Fingerprints collide on some of each size that doesn't fit the
+/// registers and, where there are cells enough, on some machines that leave them.
 fn drawn_are_kept<T: Tape>(
     rt: &(impl Abort + AllocGlobal),
     bench: &mut Bench<T>,
@@ -208,10 +210,17 @@ fn drawn_are_kept<T: Tape>(
     requires tapes { BenchHasCells T.view limits.now.cells bench.old }
     requires path { depth_of bench.old.path ≡ limits.now.depth }
 {
+    let mut outside: u64 = 0;
     for size in &DRAWN {
         let chances = chances(rt, bench, keys, limits, *size, DRAWN_OF_EACH, true)?;
-        assert!(rt; chances > 0, "{chances}");
+        let (_, symbols) = *size;
+        if symbols == 2 {
+            outside = outside.saturating_add(chances);
+        } else {
+            assert!(rt; chances > 0, "{chances}");
+        }
     }
+    assert_eq!(rt; outside > 0, limits.cells() > 64);
     Ok(())
 }
 
