@@ -169,6 +169,17 @@ fn run_from_registers<T: Tape, K: FingerprintKeys>(
     }
 }
 
+/// These records, whose side is known.
+#[inline(always)]
+fn of_side(records: Records, side: Side) -> Records
+    requires side { records.side ≡ side }
+    ensures { result ≡ records }
+{
+    let mut known = records;
+    known.side = side;
+    known
+}
+
 /// Continues a single-pass run on the tapes of a bench.
 #[inline(never)]
 fn continue_single_pass<T: Tape, K: FingerprintKeys>(
@@ -210,8 +221,9 @@ fn run_single_pass_inline<T: Tape, K: FingerprintKeys>(
 {
     limits.show_accepted();
     let mut runner = begun.runner;
-    let mut right = begun.right;
-    let mut left = begun.left;
+    // The sides are written out, so that each is a constant of the loop.
+    let mut right = of_side(begun.right, Side::R);
+    let mut left = of_side(begun.left, Side::L);
     let mut fingerprints = begun.fingerprints;
     loop {
         let cells = runner.cells();

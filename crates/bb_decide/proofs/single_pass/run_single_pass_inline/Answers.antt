@@ -23,7 +23,7 @@ use Rattle.bb_decide.proofs.single_pass.run_single_pass_inline.Goals.{After-upda
 
 pub loop-moved-init : goal.loop-moved-init
 loop-moved-init g c = record {
-  search = c.requires.begun.search;
+  search = rw (c.of_side-right.ensures, c.of_side-left.ensures) c.requires.begun.search;
   single_pass = c.requires.begun.single_pass;
   lent = lent_at_first c.requires.tapes;
 }
