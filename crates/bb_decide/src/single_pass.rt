@@ -198,6 +198,10 @@ fn continue_single_pass<T: Tape, K: FingerprintKeys>(
         meter.old meter.new result }
 {
     let limits = *limits;
+    // The loop needn't ask for Z at its first step either.
+    let Some(_) = begun.runner.state() else {
+        unreachable!();
+    };
     run_single_pass_inline(machine, &limits, keys, begun, bench, meter)
 }
 
