@@ -58,6 +58,7 @@ $(built)/libbb.so: $(built)/proved Makefile
 	ar x "$$top/$(built)/libbb_c.a"; ar x "$$kit/c/liblibc_c.a"; ld -r -o bb.o ./*.o; \
 	objcopy --wildcard --keep-global-symbol='bb_*' \
 	    --set-section-alignment '.text.bb_decide::single_pass::run_single_pass*=64' \
+	    --set-section-alignment '.text.bb_decide::single_pass::continue_single_pass*=64' \
 	    --set-section-alignment '.text.bb_decide::translation::seek_translation*=32' bb.o; \
 	rm -f "$$top/$(built)/libbb.a"; ar rcs "$$top/$(built)/libbb.a" bb.o; \
 	cc -shared -Wl,-soname,libbb.so -Wl,-z,noexecstack -o libbb.so bb.o; \
