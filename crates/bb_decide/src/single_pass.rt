@@ -169,6 +169,15 @@ fn run_from_registers<T: Tape, K: FingerprintKeys>(
     }
 }
 
+/// A copy of the limits. It is a call, so that machine and limits aren't held in registers of the loop, which
+/// has better use for them.
+#[inline(never)]
+fn copy_of(limits: &Limits) -> Limits
+    ensures { result ≡ limits.now }
+{
+    *limits
+}
+
 /// These records, whose side is known.
 #[inline(always)]
 fn of_side(records: Records, side: Side) -> Records
@@ -197,7 +206,7 @@ fn continue_single_pass<T: Tape, K: FingerprintKeys>(
     ensures { RunsSinglePass T.GROWS T.view machine.now limits.now (K.key_of keys.now) bench.old bench.new
         meter.old meter.new result }
 {
-    let limits = *limits;
+    let limits = copy_of(limits);
     // The loop needn't ask for Z at its first step either.
     let Some(_) = begun.runner.state() else {
         unreachable!();
