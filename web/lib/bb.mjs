@@ -32,10 +32,8 @@ const VERDICT_BYTES = 98;
 const ANSWER_BYTES = 7;
 const STEP_BYTES = 64;
 const FIRST_TRACE_BYTES = 4_194_304;
-/** @type {Limit[]} */
-const LIMITS = ["steps", "cells", "depth", "nodes"];
-/** @type {Limit[]} */
-const TRACE_LIMITS = ["steps", "cells", "from", "every"];
+const LIMITS = /** @type {Limit[]} */ (["steps", "cells", "depth", "nodes"]);
+const TRACE_LIMITS = /** @type {Limit[]} */ (["steps", "cells", "from", "every"]);
 
 /** The engine; its calls are those of `include/bb.h`. */
 export class Engine {

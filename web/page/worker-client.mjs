@@ -16,10 +16,8 @@ export const ready = isSupported()
 const whenReady = (/** @type {(module: WebAssembly.Module | null) => void} */ act) => {
   ready.then(act, () => undefined);
 };
-/** @type {Worker[]} */
-const idleWorkers = [];
-/** @type {WeakSet<Worker>} */
-const warmWorkers = new WeakSet();
+const idleWorkers = /** @type {Worker[]} */ ([]);
+const warmWorkers = /** @type {WeakSet<Worker>} */ (new WeakSet());
 
 /** A new worker, which gets the module before all messages that wait for `ready`. */
 export function newWorker() {
@@ -55,8 +53,7 @@ function warmUp(/** @type {Worker} */ worker) {
     return;
   }
   warmWorkers.add(worker);
-  /** @type {{call: string, lines: string}[]} */
-  const examples = JSON.parse(embeddedText("examples-data"));
+  const examples = /** @type {{call: string, lines: string}[]} */ (JSON.parse(embeddedText("examples-data")));
   const lists = examples.filter(({ call }) => call === "decide").map(({ lines }) => lines);
   const list = new TextEncoder().encode(lists.join("\n"));
   whenReady(() => worker.postMessage({ type: "warm-up", list }));
@@ -72,10 +69,8 @@ export const errorFields = (/** @type {Error} */ { name, message }) => ({ error:
 export class WorkerClient {
   constructor(patience = PATIENCE_MILLISECONDS) {
     this.patience = patience;
-    /** @type {Worker | undefined} */
-    this.worker = undefined;
-    /** @type {(() => void) | null} */
-    this.pending = null;
+    this.worker = /** @type {Worker | undefined} */ (undefined);
+    this.pending = /** @type {(() => void) | null} */ (null);
     this.isBusy = false;
     this.sentAt = 0;
     this.timer = 0;

@@ -137,8 +137,7 @@ export function lineAt(
 
 /** @returns {Form | null} the form of a list by its first lines; null if all of them are skipped. */
 export function detectForm(/** @type {Iterable<string>} */ lines) {
-  /** @type {string[]} */
-  const machines = [];
+  const machines = /** @type {string[]} */ ([]);
   let verdicts = 0;
   for (const line of lines) {
     const bare = line.trim();

@@ -90,8 +90,7 @@ export function parseArrays(/** @type {Word[][]} */ groups) {
 
 /** @returns {Group[] | Reason} */
 function parseGroups(/** @type {Word[]} */ groups) {
-  /** @type {Group[]} */
-  const entries = [];
+  const entries = /** @type {Group[]} */ ([]);
   for (const [place, group] of groups.entries()) {
     const before = entries.reduce((count, one) => count + one.length, 0);
     const found = parseGroup(group, before, place, place + 1 < groups.length);
@@ -121,8 +120,7 @@ function parseGroup(group, before, place, isFollowed) {
   if (group.text === "") {
     return reasonOf("empty-group", `group ${place + 1} is empty`, group.begin + 1);
   }
-  /** @type {Group} */
-  const entries = [];
+  const entries = /** @type {Group} */ ([]);
   for (let at = 0; at < group.text.length; at += 3) {
     const entry = group.text.slice(at, at + 3);
     if (!ENTRY.test(entry)) {

@@ -61,10 +61,8 @@ export function tokenize(/** @type {string} */ given) {
     (before, { begin, end }) => before.slice(0, begin) + "|".repeat(end - begin) + before.slice(end),
     given,
   );
-  /** @type {Word[]} */
-  const words = [];
-  /** @type {Word[]} */
-  const rows = [];
+  const words = /** @type {Word[]} */ ([]);
+  const rows = /** @type {Word[]} */ ([]);
   for (const match of line.matchAll(TOKEN)) {
     const token = { begin: match.index ?? 0, text: match[0] };
     if (match.groups?.address !== undefined) {
@@ -148,8 +146,7 @@ function groupWords(/** @type {string} */ line, /** @type {Word[]} */ words, /**
 
 /** Words split into runs with only spaces between them. */
 function adjacentRuns(/** @type {string} */ line, /** @type {Word[]} */ words) {
-  /** @type {Word[][]} */
-  const runs = [];
+  const runs = /** @type {Word[][]} */ ([]);
   for (const word of words) {
     const before = runs[runs.length - 1];
     if (before !== undefined && SPACES.test(line.slice(endOf(before[before.length - 1]), word.begin))) {

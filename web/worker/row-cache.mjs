@@ -38,8 +38,7 @@ export class RowCache {
     this.symbols = parseMachine(machine).symbols;
     /** @type {CachedRows[]} most recently used first */
     this.cached = [];
-    /** @type {LastRow[]} */
-    this.lastRows = [];
+    this.lastRows = /** @type {LastRow[]} */ ([]);
   }
 
   /** The row of a step, or the last one before if the run or its cells end there. */

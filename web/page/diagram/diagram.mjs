@@ -28,14 +28,10 @@ export class Diagram {
     this.canvas = /** @type {HTMLCanvasElement} */ (byId("diagram"));
     this.client = new WorkerClient(PATIENCE_MILLISECONDS);
     this.aheadClient = new WorkerClient();
-    /** @type {DiagramRun | null} */
-    this.run = null;
-    /** @type {Picture | null} */
-    this.picture = null;
-    /** @type {HTMLCanvasElement | null} */
-    this.sheet = null;
-    /** @type {import("./paint.mjs").Mark[]} */
-    this.marks = [];
+    this.run = /** @type {DiagramRun | null} */ (null);
+    this.picture = /** @type {Picture | null} */ (null);
+    this.sheet = /** @type {HTMLCanvasElement | null} */ (null);
+    this.marks = /** @type {import("./paint.mjs").Mark[]} */ ([]);
     /** @type {View | null} null until the first picture */
     this.view = null;
     this.isOpening = true;
@@ -138,8 +134,7 @@ export class Diagram {
       byId("diagram-text").textContent = `No diagram: ${reply.message}.`;
       return;
     }
-    /** @type {Picture} */
-    const picture = reply.picture;
+    const picture = /** @type {Picture} */ (reply.picture);
     this.picture = picture;
     this.sheet = createSheet(picture);
     this.view ??= picture.view;

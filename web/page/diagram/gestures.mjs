@@ -27,8 +27,7 @@ export class Gestures {
     /** @type {Map<number, Point>} in the window; the mouse is a finger */
     this.fingers = new Map();
     this.moved = 0;
-    /** @type {GestureStart | null} */
-    this.start = null;
+    this.start = /** @type {GestureStart | null} */ (null);
     // One finger scrolls the page until the picture is tapped.
     this.canMove = false;
     const { canvas } = diagram;

@@ -6,8 +6,7 @@ import { byId, create } from "../dom.mjs";
 
 /** @typedef {"steps" | "cells" | "depth" | "nodes"} Name of a limit */
 
-/** @type {Name[]} */
-const NAMES = ["steps", "cells", "depth", "nodes"];
+const NAMES = /** @type {Name[]} */ (["steps", "cells", "depth", "nodes"]);
 const SWITCHES = ["cyclers", "translated", "backward"];
 const LABELS = {
   steps: "steps of one simulation",

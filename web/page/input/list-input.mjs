@@ -23,8 +23,7 @@ export class ListInput {
     this.mode = /** @type {HTMLSelectElement} */ (byId("mode"));
     this.clean = /** @type {HTMLInputElement} */ (byId("clean"));
     this.form = /** @type {HTMLSelectElement} */ (byId("list-form"));
-    /** @type {File | null} */
-    this.file = null;
+    this.file = /** @type {File | null} */ (null);
     /** @type {Promise<Blob> | null} the file's decompressed bytes, once requested */
     this.bytes = null;
     // The name of a list that a reload doesn't restore.

@@ -47,8 +47,7 @@ export class ListRun {
   /** @param {() => void} onShow called when results are shown */
   constructor(onShow) {
     this.onShow = onShow;
-    /** @type {WorkerPool | null} */
-    this.pool = null;
+    this.pool = /** @type {WorkerPool | null} */ (null);
     this.results = new Results({});
     /** @type {import("./status.mjs").RunInfo} */
     this.info = { mode: "decide", plan: {}, form: null, isText: true, size: 0, begun: 0, taken: 0 };

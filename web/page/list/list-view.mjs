@@ -29,8 +29,7 @@ export class ListView {
     byId("kinds").append(...this.kindButtons);
     this.order = /** @type {HTMLSelectElement} */ (byId("order"));
     this.wasOpened = false;
-    /** @type {import("./results.mjs").LinePlace | null} */
-    this.openLine = null;
+    this.openLine = /** @type {import("./results.mjs").LinePlace | null} */ (null);
     this.openText = "";
     // Counts displays, so that outdated sorts are dropped.
     this.turn = 0;

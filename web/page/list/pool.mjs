@@ -37,8 +37,7 @@ export class WorkerPool {
     this.jobs = 0;
     this.isExhausted = false;
     this.isOver = false;
-    /** @type {Promise<any>} */
-    this.queue = Promise.resolve();
+    this.queue = /** @type {Promise<any>} */ (Promise.resolve());
     /** @type {PoolWorker[]} */
     this.workers = Array.from({ length: size }, () => ({ worker: acquireWorker(), chunks: [], ...FRESH }));
     this.workers.forEach((one) => this.listen(one));

@@ -30,15 +30,13 @@ export class Results {
     this.waiting = 0;
     // Lines decided again with larger limits.
     this.redecided = 0;
-    /** @type {Part[][]} */
-    this.jobs = [];
+    this.jobs = /** @type {Part[][]} */ ([]);
     this.counts = KINDS.map(() => 0);
     this.answers = ANSWERS.map(() => 0);
     this.skipped = 0;
     this.read = 0;
     this.lines = 0;
-    /** @type {Part[] | null} */
-    this.flat = null;
+    this.flat = /** @type {Part[] | null} */ (null);
     this.firstRows = new Float64Array(1);
     // The numbers from 0.
     this.rowNumbers = new Uint32Array(0);

@@ -23,8 +23,7 @@ export class RowTable {
   /** @param {(row: number) => void} open called when a row is opened */
   constructor(open) {
     this.open = open;
-    /** @type {Results | null} */
-    this.results = null;
+    this.results = /** @type {Results | null} */ (null);
     this.rows = new Uint32Array(0);
     /** @type {Map<number, DrawnRow>} by place */
     this.drawn = new Map();
@@ -33,8 +32,7 @@ export class RowTable {
     this.chosen = -1;
     // The place of the chosen line, or the next one if it is filtered out.
     this.gap = 0;
-    /** @type {import("./results.mjs").LinePlace | null} */
-    this.line = null;
+    this.line = /** @type {import("./results.mjs").LinePlace | null} */ (null);
     this.phone = matchMedia(PHONE);
     this.phone.addEventListener("change", () => this.onResize());
     this.box = byId("rows");
@@ -144,8 +142,7 @@ export class RowTable {
     const box = byId("shown");
     const at = this.isScaled ? this.box.scrollTop : this.top * this.pixels;
     box.style.transform = `translateY(${Math.max(0, at)}px)`;
-    /** @type {Map<number, DrawnRow>} */
-    const drawn = new Map();
+    const drawn = /** @type {Map<number, DrawnRow>} */ (new Map());
     for (let place = this.top; place < end; place += 1) {
       drawn.set(place, this.drawnRowAt(place));
     }

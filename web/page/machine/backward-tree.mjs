@@ -8,8 +8,7 @@
 
 /** The nodes of undefined entries and of those into Z. */
 function haltingNodes(/** @type {Machine} */ machine) {
-  /** @type {Node[]} */
-  const nodes = [];
+  const nodes = /** @type {Node[]} */ ([]);
   for (const { state, symbol, entry } of machine.rules) {
     if (entry === null || entry.next === -1) {
       nodes.push({ state, known: new Map([[0, symbol]]) });
@@ -20,8 +19,7 @@ function haltingNodes(/** @type {Machine} */ machine) {
 
 /** One node for each entry into the node's state, unless the cell behind the head has another symbol. */
 function predecessors(/** @type {Machine} */ machine, /** @type {Node} */ node) {
-  /** @type {Node[]} */
-  const nodes = [];
+  const nodes = /** @type {Node[]} */ ([]);
   for (const { state, symbol, entry } of machine.rules) {
     if (entry === null || entry.next !== node.state) {
       continue;

@@ -39,8 +39,7 @@ export class MachineView {
      * @type {(by: import("../../worker/worker.mjs").Part, plan: Record<string, any>) => boolean}
      */
     this.replaceRow = () => false;
-    /** @type {About | null} */
-    this.about = null;
+    this.about = /** @type {About | null} */ (null);
     this.blankTimer = 0;
     this.closeTimer = 0;
     new Gestures(this.diagram, (words, byKeys) => {

@@ -16,8 +16,7 @@ export class Redecider {
   constructor(done) {
     this.onDecided = done;
     this.client = new WorkerClient();
-    /** @type {About | null} */
-    this.about = null;
+    this.about = /** @type {About | null} */ (null);
     this.isRunning = false;
     byId("again").addEventListener("click", () => (this.isRunning ? this.stop() : this.start()));
   }

@@ -22,11 +22,9 @@ export class Tape {
   constructor(went) {
     this.onStep = went;
     this.client = new WorkerClient();
-    /** @type {About | null} */
-    this.about = null;
+    this.about = /** @type {About | null} */ (null);
     this.step = 0;
-    /** @type {Row[]} */
-    this.rows = [];
+    this.rows = /** @type {Row[]} */ ([]);
     this.closes = false;
     // Counts steps, so that outdated replies are dropped.
     this.requests = 0;
