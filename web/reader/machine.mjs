@@ -66,6 +66,8 @@ export const formatCount = (/** @type {number} */ count, /** @type {string} */ n
 export const formatNumber = (/** @type {number | bigint} */ value) =>
   numberFormat.format(value).replace("-", "−");
 
+export const stateText = (/** @type {string} */ state) => (state === "Z" ? "halted" : `state ${state}`);
+
 /** A verdict in plain English. */
 export function verdictText(/** @type {Verdict} */ { kind, numbers, side }) {
   const [first, second, shift, length] = numbers;

@@ -1,22 +1,16 @@
 /**
  * The space-time diagram: a row is a step, a column a position.
  *
- * @typedef {import("./viewport.mjs").View} View
- * @typedef {import("./viewport.mjs").Fit} Fit
- * @typedef {import("./viewport.mjs").Point} Point
- * @typedef {import("./geometry.mjs").Place} Place
- * @typedef {import("./geometry.mjs").Scene} Scene
- * @typedef {import("../../worker/row-cache.mjs").AheadRequest} AheadRequest
- * @typedef {{machine: string, cells: number, upto: number} & Omit<Fit, "opens">} DiagramRun
- * @typedef {{view: View, home: View, rows: import("../../worker/packed-rows.mjs").PackedRows, cut: boolean,
- *   every: number, columns: number, image: Uint8ClampedArray, low: number, high: number,
- *   ahead: AheadRequest[]}} Picture `ahead`: requests for rows of probable next views
+ * @typedef {viewport.View} View
+ * @typedef {geometry.Place} Place
+ * @typedef {{machine: string, cells: number, upto: number} & Omit<viewport.Fit, "opens">} DiagramRun
+ * @typedef {ReturnType<typeof import("../../worker/trace.mjs").makePicture>} Picture
  */
 import { byId, clearColours, readPalette } from "../dom.mjs";
 import { WorkerClient } from "../worker-client.mjs";
 import * as geometry from "./geometry.mjs";
 import { Painter, createSheet } from "./paint.mjs";
-import { FRAMED, closeView, isSameView, zoomView } from "./viewport.mjs";
+import * as viewport from "./viewport.mjs";
 
 // A picture may take this long before the next one interrupts it: its trace is of use.
 const PATIENCE_MILLISECONDS = 1_500;
@@ -54,7 +48,7 @@ export class Diagram {
     return geometry.pictureArea(this.canvas, this.run?.last ?? 0);
   }
 
-  /** @returns {Scene | null} */
+  /** @returns {geometry.Scene | null} */
   get scene() {
     const { view, area, picture } = this;
     return view === null ? null : { view, area, picture };
@@ -148,7 +142,7 @@ export class Diagram {
 
   /**
    * Traces rows of probable next views in another worker, for the cache of this one, until the next request.
-   * @param {AheadRequest[]} ahead @param {number} requests
+   * @param {Picture["ahead"]} ahead @param {number} requests
    */
   traceAhead([request, ...others], requests) {
     if (request === undefined || requests !== this.requests) {
@@ -166,34 +160,33 @@ export class Diagram {
     const { scene, run } = this;
     if (scene !== null && run !== null) {
       const view = geometry.clampView({ ...scene, view: wanted }, run.upto);
-      isSameView(view, scene.view) || this.setView(view);
+      viewport.isSameView(view, scene.view) || this.setView(view);
     }
   }
 
   /**
    * Zooms a view around a point, and moves the point to another.
-   * @param {View} from @param {number} factor @param {Point} point @param {Point} goal
+   * @param {View} from @param {number} factor @param {viewport.Point} point @param {viewport.Point} goal
    */
   moveAndZoom(from, factor, point, goal) {
     if (this.picture !== null) {
       const { x, y } = this.area;
       const at = { x: point.x - x, y: point.y - y };
-      const view = factor === 1 ? from : zoomView(from, this.picture.home, factor, at);
+      const view = factor === 1 ? from : viewport.zoomView(from, this.picture.home, factor, at);
       this.setNearView(geometry.moveView(view, point.x - goal.x, point.y - goal.y));
     }
   }
 
   /** Zooms around a point of the canvas; the default is the pointer, the tape's step or a head. */
-  zoom(/** @type {number} */ factor, /** @type {Point | undefined} */ point) {
-    const { scene, picture } = this;
+  zoom(/** @type {number} */ factor, /** @type {viewport.Point | undefined} */ point) {
+    const { scene, picture, area } = this;
     if (scene !== null && picture !== null) {
       const { x, y } = point ?? this.zoomCentre(scene);
-      const at = { x: x - scene.area.x, y: y - scene.area.y };
-      this.setView(zoomView(scene.view, picture.home, factor, at));
+      this.setView(viewport.zoomView(scene.view, picture.home, factor, { x: x - area.x, y: y - area.y }));
     }
   }
 
-  zoomCentre(/** @type {Scene} */ scene) {
+  zoomCentre(/** @type {geometry.Scene} */ scene) {
     return geometry.zoomCentre(scene, [this.pointed, this.tapePlace]);
   }
 
@@ -205,17 +198,10 @@ export class Diagram {
       return;
     }
     this.pointed = closes ? null : this.pointed;
-    if (closes || (!geometry.isVisible(scene, place) && scene.view.high >= FRAMED)) {
-      const { width, height } = scene.area;
-      this.setView(closeView(width, height, place.step, place.position, scene.view));
+    if (closes || (!geometry.isVisible(scene, place) && scene.view.high >= viewport.FRAMED)) {
+      this.setView(viewport.closeView(scene.area, place, scene.view));
     }
     this.scheduleDraw();
-  }
-
-  /** @returns {Place | null} */
-  placeAt(/** @type {number} */ x, /** @type {number} */ y) {
-    const { scene } = this;
-    return scene === null ? null : geometry.placeAt(scene, { x, y });
   }
 
   /** Moves the pointer of the keys by cells or by part of the view; the view follows. */
@@ -228,9 +214,9 @@ export class Diagram {
     const middle = isVisible ? null : geometry.placeAt(scene, this.zoomCentre(scene));
     const from = this.pointed ?? middle ?? tapePlace;
     this.pointed = geometry.nextPlace(scene, from, { right, down, far }, run.upto);
-    const offset = geometry.offsetTo(scene, this.pointed);
-    if (offset.right !== 0 || offset.down !== 0) {
-      this.setNearView(geometry.moveView(scene.view, offset.right, offset.down));
+    const { right: x, down: y } = geometry.offsetTo(scene, this.pointed);
+    if (x !== 0 || y !== 0) {
+      this.setNearView(geometry.moveView(scene.view, x, y));
     }
     this.scheduleDraw();
   }
@@ -254,7 +240,7 @@ export class Diagram {
     this.marks.forEach((mark) => painter.paintMark(mark));
     painter.paintAxes(this.tapePlace.step);
     this.pointed !== null && painter.paintPlace(this.pointed);
-    const isNew = canvas.dataset.state === "received" || canvas.dataset.state === "drawn";
+    const isNew = canvas.dataset.state !== "requested";
     Object.assign(canvas.dataset, { ...scene.view, x: scene.area.x, y: scene.area.y, ratio: painter.ratio });
     byId("diagram-text").textContent = geometry.pictureText(picture, scene.area.width);
     canvas.dataset.state = isNew ? "drawn" : "requested";

@@ -1,6 +1,6 @@
 /** Input to a diagram by wheel, keys, mouse and fingers. */
 import { byId, dispatchKey } from "../dom.mjs";
-import { snapToRow, placeText } from "./geometry.mjs";
+import { placeAt, placeText, snapToRow } from "./geometry.mjs";
 import { ZOOM } from "./viewport.mjs";
 
 const DOUBLE = 8;
@@ -11,11 +11,8 @@ const MOST_NOTCHES = 3;
 // Shorter movements are clicks.
 const CLICK_PIXELS = 4;
 
-/**
- * @typedef {import("./geometry.mjs").Point} Point
- * @typedef {{view: import("./viewport.mjs").View, middle: Point, apart: number}} GestureStart the view, the
- *   middle between the fingers in the canvas, and their distance
- */
+/** @typedef {import("./viewport.mjs").Point} Point */
+
 export class Gestures {
   /**
    * @param {import("./diagram.mjs").Diagram} diagram
@@ -27,7 +24,8 @@ export class Gestures {
     /** @type {Map<number, Point>} in the window; the mouse is a finger */
     this.fingers = new Map();
     this.moved = 0;
-    this.start = /** @type {GestureStart | null} */ (null);
+    /** The view, the middle between the fingers in the canvas, and their distance. */
+    this.start = this.startGesture();
     // One finger scrolls the page until the picture is tapped.
     this.canMove = false;
     const { canvas } = diagram;
@@ -114,7 +112,6 @@ export class Gestures {
     this.start = this.startGesture();
   }
 
-  /** @returns {GestureStart | null} */
   startGesture() {
     const { view } = this.diagram;
     return view === null || this.fingers.size === 0 ? null : { view, ...this.span() };
@@ -159,9 +156,10 @@ export class Gestures {
   }
 
   /** Describes the cell under the pointer, and returns its place. */
-  reportPointer(/** @type {PointerEvent} */ event) {
-    const place = this.diagram.placeAt(event.offsetX, event.offsetY);
-    this.report(place === null ? "" : placeText(this.diagram.picture, place), false);
+  reportPointer(/** @type {PointerEvent} */ { offsetX: x, offsetY: y }) {
+    const { scene, picture } = this.diagram;
+    const place = scene && placeAt(scene, { x, y });
+    this.report(place ? placeText(picture, place) : "", false);
     return place;
   }
 

@@ -127,12 +127,12 @@ export function zoomView(view, home, factor, { x, y }) {
 }
 
 /**
- * A view centred on a step and position with visible cells; one with visible cells keeps its scale.
- * @param {number} width @param {number} height @param {number} step @param {number} position
+ * A view of so many pixels centred on a step and position, with visible cells; one that has them keeps its scale.
+ * @param {{width: number, height: number}} area @param {{step: number, position: number}} place
  * @param {View} view the current one
  * @returns {View}
  */
-export function closeView(width, height, step, position, view) {
+export function closeView({ width, height }, { step, position }, view) {
   const isClose = view.every === 1 && view.across === 1 && view.high >= FRAMED && view.wide === view.high;
   const size = isClose ? view.high : CLOSE_PIXELS;
   const top = Math.max(0, step - Math.floor(height / size / 2));
