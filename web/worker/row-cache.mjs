@@ -36,8 +36,8 @@ export class RowCache {
     this.machine = machine;
     this.cells = cells;
     this.symbols = parseMachine(machine).symbols;
-    /** @type {CachedRows[]} most recently used first */
-    this.cached = [];
+    // Most recently used first.
+    this.cached = /** @type {CachedRows[]} */ ([]);
     this.lastRows = /** @type {LastRow[]} */ ([]);
   }
 

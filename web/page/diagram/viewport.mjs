@@ -127,7 +127,7 @@ export function zoomView(view, home, factor, { x, y }) {
 }
 
 /**
- * A view of so many pixels centred on a step and position, with visible cells; one that has them keeps its scale.
+ * A view centred on a place with visible cells; one with visible cells keeps its scale.
  * @param {{width: number, height: number}} area @param {{step: number, position: number}} place
  * @param {View} view the current one
  * @returns {View}

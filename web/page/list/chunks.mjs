@@ -33,11 +33,9 @@ export class ChunkReader {
   async next() {
     for (;;) {
       const newline = this.buffered.indexOf(NEWLINE, Math.min(this.size, this.buffered.length) - 1);
-      if (newline >= 0) {
-        return this.cutChunk(newline + 1);
-      }
-      if (this.pendingRead === null && this.offset >= this.blob.size) {
-        return this.buffered.length > 0 ? this.cutChunk(this.buffered.length) : null;
+      const isEnd = newline < 0 && this.pendingRead === null && this.offset >= this.blob.size;
+      if (newline >= 0 || isEnd) {
+        return this.cutChunk(isEnd ? this.buffered.length : newline + 1);
       }
       this.dropLongTail();
       const bytes = await this.read();
@@ -50,7 +48,7 @@ export class ChunkReader {
     const { line } = this;
     this.buffered = this.buffered.subarray(length);
     this.line += countLines(bytes);
-    return { bytes, line };
+    return length > 0 ? { bytes, line } : null;
   }
 
   /** Truncates a long line, and skips its rest. */
