@@ -66,29 +66,18 @@ export function listenToFiles(onFile, onText) {
 const startsWith = (/** @type {Uint8Array} */ bytes, /** @type {number[]} */ mark) =>
   bytes.length >= mark.length && mark.every((byte, at) => bytes[at] === byte);
 
-/**
- * The encoding or format of a file by its first bytes; null if they may be UTF-8.
- * @returns {string | null}
- */
+/** The encoding or format of a file by its first bytes; null if they may be UTF-8. */
 export function encodingOf(/** @type {Uint8Array} */ start) {
-  const mark = MARKS.find(([bytes]) => startsWith(start, bytes));
-  if (mark !== undefined) {
-    return mark[1];
-  }
   const first = start.subarray(0, EXAMINED_BYTES);
   const zeros = first.filter((byte) => byte === 0).length;
-  if (first.length < LEAST_BYTES || 3 * zeros < first.length || zeros === first.length) {
-    return null;
-  }
-  return 3 * zeros > 2 * first.length ? "UTF-32 text" : "UTF-16 text";
+  const isWide = first.length >= LEAST_BYTES && 3 * zeros >= first.length && zeros < first.length;
+  const [, name] = MARKS.find(([bytes]) => startsWith(start, bytes)) ?? [];
+  return name ?? (isWide ? `UTF-${3 * zeros > 2 * first.length ? 32 : 16} text` : null);
 }
 
 /** The list can't be read; the message gives the reason. */
 export class ListError extends Error {
-  constructor(/** @type {string} */ message) {
-    super(message);
-    this.name = "ListError";
-  }
+  name = "ListError";
 }
 
 /** A list's bytes, decompressed from gzip. */
