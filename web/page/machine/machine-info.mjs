@@ -15,18 +15,16 @@ const MOST_GROWTH_STEPS = 1_000_000;
 const FEWEST_GROWTH_STEPS = 100;
 const LATER = 10n ** 15n;
 const SAME_VERDICT = "Any completion of its --- has the same verdict.";
-/** @type {Record<string, string>} */
-const GROWTHS = {
+const GROWTHS = /** @type {Record<string, string>} */ ({
   stays: "They stay",
   logarithm: "They grow as a logarithm",
   root: "They grow as a root",
   line: "They grow as a line",
-  halts: "The run ends",
-};
+});
 const client = new WorkerClient();
 const growthClient = new WorkerClient();
-/** @type {About | null} replies for another machine are dropped */
-let current = null;
+// Replies for another machine are dropped.
+let current = /** @type {About | null} */ (null);
 
 export const mirrorImage = (/** @type {string} */ text) =>
   text.replace(/[LR]/g, (move) => (move === "L" ? "R" : "L"));
@@ -88,8 +86,7 @@ function completionsText(/** @type {About} */ { machine, verdict }, /** @type {s
 /** A verdict's consequences for other starts than A on the blank tape. */
 function startsText(/** @type {Verdict} */ { kind, numbers: [levels] }) {
   return kind === "backward"
-    ? "From every state, at any position of any tape, it halts within " +
-        `${formatCount(levels, "step")} or never.`
+    ? `From every state, at any position of any tape, it halts within ${formatCount(levels, "step")} or never.`
     : "The verdict is about the start in A on the blank tape alone.";
 }
 
@@ -123,9 +120,11 @@ export function showMachineInfo(/** @type {About} */ about) {
   });
   byId("facts").replaceChildren(...parts);
   requestGrowth(about);
-  if (isConfirmed) {
-    requestLaterRow(about);
-  }
+  isConfirmed && requestLaterRow(about);
+}
+
+function showFact(/** @type {string} */ id, /** @type {string} */ words) {
+  byId(`fact-${id}`).textContent = words;
 }
 
 /** Requests the row for the late step, or for the halting entry. */
@@ -134,21 +133,20 @@ function requestLaterRow(/** @type {About} */ about) {
   const { kind, numbers } = verdict;
   const isPair = kind === "cycler" || kind === "translated";
   if (!isPair && kind !== "halt") {
-    byId("fact-completions").textContent = completionsText(about, "");
-    byId("fact-later").textContent = "The verdict doesn’t say.";
+    showFact("completions", completionsText(about, ""));
+    showFact("later", "The verdict doesn’t say.");
     return;
   }
   const { early, farther } = isPair ? laterStep(verdict) : { early: numbers[0], farther: 0n };
-  client.request({ type: "trace", machine, cells, from: early, every: 1, upto: early }, (answer) => {
-    const row = answer.rows?.[0];
-    if (row === undefined || current !== about) {
+  client.request({ type: "trace", machine, cells, from: early, every: 1, upto: early }, ({ rows }) => {
+    if (!rows?.length || current !== about) {
       return;
     }
-    byId("fact-completions").textContent = completionsText(about, row.state);
+    const [{ state, head }] = rows;
+    showFact("completions", completionsText(about, state));
     const isWithout = kind === "translated" && numbers[2] === undefined;
-    const place = `state ${row.state}, head at ${formatNumber(BigInt(row.head) + farther)}`;
-    const later = kind === "halt" ? "It has halted." : isWithout ? "The line has no shift." : `${place}.`;
-    byId("fact-later").textContent = later;
+    const place = `state ${state}, head at ${formatNumber(BigInt(head) + farther)}.`;
+    showFact("later", kind === "halt" ? "It has halted." : isWithout ? "The line has no shift." : place);
   });
 }
 
@@ -156,22 +154,20 @@ function requestGrowth(/** @type {About} */ about) {
   const { machine, cells, steps } = about;
   const upto = Math.min(steps, MOST_GROWTH_STEPS);
   if (upto < FEWEST_GROWTH_STEPS) {
-    byId("fact-growth").textContent = "Too few steps.";
+    showFact("growth", "Too few steps.");
     return;
   }
-  growthClient.request({ type: "growth", machine, cells, upto }, (answer) => {
-    if (current !== about) {
-      return;
+  growthClient.request({ type: "growth", machine, cells, upto }, ({ growth, message }) => {
+    if (current === about) {
+      showFact("growth", growth === undefined ? `Unknown: ${message}.` : growthText(growth));
     }
-    if (answer.growth === undefined) {
-      byId("fact-growth").textContent = `Unknown: ${answer.message}.`;
-      return;
-    }
-    const { growth, steps: last, visited } = /** @type {Growth} */ (answer.growth);
-    const many = visited.map(formatNumber).join(", ");
-    const all = formatCount(last, "step");
-    const looks = `${many} after a hundredth, a tenth and all of ${all}; a guess from these`;
-    const rest = growth === "halts" ? `, with ${formatCount(visited[2], "cell")}` : `: ${looks}`;
-    byId("fact-growth").textContent = `${GROWTHS[growth]}${rest}.`;
   });
+}
+
+function growthText(/** @type {Growth} */ { growth, steps, visited }) {
+  if (growth === "halts") {
+    return `The run ends, with ${formatCount(visited[2], "cell")}.`;
+  }
+  const counts = `${visited.map(formatNumber).join(", ")} after a hundredth, a tenth and all`;
+  return `${GROWTHS[growth]}: ${counts} of ${formatCount(steps, "step")}; a guess from these.`;
 }

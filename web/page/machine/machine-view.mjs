@@ -16,12 +16,11 @@ const NARROW = "(max-width: 900px)";
 const BLANK_MILLISECONDS = 100;
 const CLOSE_MILLISECONDS = 250;
 const ELSEWHERE = "https://bbchallenge.org/";
-/** @type {Record<string, string>} */
-const DOUBTS = {
+const DOUBTS = /** @type {Record<string, string>} */ ({
   bad: "The checker refutes it.",
   over: "The checker needs larger limits.",
   unread: "The checker can’t read the line.",
-};
+});
 
 /**
  * @typedef {import("../../reader/machine.mjs").Verdict} Verdict
@@ -73,18 +72,14 @@ export class MachineView {
     this.leave();
     byId("machine").hidden = false;
     byId("machine-text").textContent = machine;
-    byId("machine-says").textContent = `${doubtText(about)}${verdictText(verdict)}`;
+    byId("machine-says").textContent = sentenceOf(about);
     showInputNotes(given, verdict);
     document.querySelectorAll(".picture, .columns, #tape, #about, #machine-links").forEach((box) => {
       /** @type {HTMLElement} */ (box).hidden = !isMachine;
     });
     this.redecider.reset(about);
-    if (isMachine) {
-      this.show(about);
-    }
-    if (moves) {
-      announce(byId("machine-says").textContent ?? "");
-    }
+    isMachine && this.show(about);
+    moves && announce(byId("machine-says").textContent ?? "");
     if (moves && matchMedia(NARROW).matches) {
       byId("machine").scrollIntoView({ block: "start" });
       byId("machine").contains(document.activeElement) || byId("back").focus({ preventScroll: true });
@@ -153,8 +148,8 @@ export class MachineView {
   showRedecided(about, by) {
     this.about = about;
     const isIn = this.replaceRow(by, about.plan);
-    byId("machine-says").textContent = `${doubtText(about)}${verdictText(about.verdict)}`;
-    announce(byId("machine-says").textContent ?? "");
+    byId("machine-says").textContent = sentenceOf(about);
+    announce(sentenceOf(about));
     this.show(about);
     return isIn;
   }
@@ -168,13 +163,14 @@ export class MachineView {
   }
 }
 
-/** A warning before an unconfirmed verdict; empty for others. */
-function doubtText(/** @type {About} */ { verdict, answer, isWaiting }) {
+/** The verdict in words, with a warning before an unconfirmed one. */
+function sentenceOf(/** @type {About} */ { verdict, answer, isWaiting }) {
+  const words = verdictText(verdict);
   if (isWaiting) {
-    return "Waiting for the second pass, with the list’s limits. First pass: ";
+    return `Waiting for the second pass, with the list’s limits. First pass: ${words}`;
   }
   const isSure = answer === "ok" || verdict.kind === "undecided" || verdict.kind === "refused";
-  return isSure ? "" : `${DOUBTS[answer] ?? DOUBTS.unread} The line claims: `;
+  return isSure ? words : `${DOUBTS[answer] ?? DOUBTS.unread} The line claims: ${words}`;
 }
 
 /** A table with a row for each state and a column for each symbol. */

@@ -30,25 +30,21 @@ export class Redecider {
   }
 
   start() {
-    const { about } = this;
-    if (about === null) {
-      return;
-    }
-    const plan = enlargePlan(about.plan);
-    const limits = `${formatNumber(Number(plan.steps))} steps and ${formatNumber(Number(plan.cells))} cells`;
+    const { machine, plan: before } = /** @type {About} */ (this.about);
+    const plan = enlargePlan(before);
+    const limits = `${formatNumber(plan.steps)} steps and ${formatNumber(plan.cells)} cells`;
     this.isRunning = true;
     byId("again").textContent = "Stop";
     showText("again-text", `Deciding with ${limits} …`);
-    this.client.request({ type: "decide-one", machine: about.machine, plan }, (answer) => {
+    this.client.request({ type: "decide-one", machine, plan }, ({ error, message, line, answer, part }) => {
       this.setIdle();
-      if (answer.error) {
-        showText("again-text", `Not decided with ${limits}: ${answer.message}.`);
+      if (error) {
+        showText("again-text", `Not decided with ${limits}: ${message}.`);
         return;
       }
-      const { verdict } = parseVerdictLine(answer.line);
-      this.about = { machine: about.machine, verdict, answer: answer.answer, plan };
-      const isIn = this.onDecided(this.about, answer.part);
-      const where = isIn ? "Its row is updated." : "The list is unchanged.";
+      const { verdict } = parseVerdictLine(line);
+      this.about = { machine, verdict, answer, plan };
+      const where = this.onDecided(this.about, part) ? "Its row is updated." : "The list is unchanged.";
       showText("again-text", `With ${limits}: ${verdict.text}. ${where}`);
       setInactive("again", "hidden", verdict.kind !== "undecided", "copy-text");
     });
