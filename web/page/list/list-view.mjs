@@ -18,7 +18,7 @@ export class ListView {
     this.view = view;
     view.replaceRow = (by, plan) => {
       const isIn = this.replaceOpenRow(by, plan);
-      isIn && work.refresh();
+      isIn && work.show();
       return isIn;
     };
     this.work = work;
@@ -45,8 +45,7 @@ export class ListView {
   /** Prepares for a new list. The machine is hidden unless the first line comes soon. */
   reset() {
     this.rows.reset();
-    this.wasOpened = false;
-    this.openLine = null;
+    Object.assign(this, { wasOpened: false, openLine: null });
     this.view.scheduleClose();
   }
 
@@ -146,9 +145,8 @@ export class ListView {
     const { results, info } = this.work;
     const { machine, verdict, answer, given, number, plan } = results.rowAt(row);
     const isWaiting = results.isWaiting(row);
-    this.wasOpened = true;
-    this.openLine = results.placeOf(row);
-    this.openText = isWaiting ? "" : verdict.text;
+    const openText = isWaiting ? "" : verdict.text;
+    Object.assign(this, { wasOpened: true, openLine: results.placeOf(row), openText });
     const form = info.mode === "decide" ? info.form : null;
     this.view.open({ machine, verdict, answer, plan, isWaiting }, moves, { text: given, number, form });
   }

@@ -14,10 +14,8 @@ const BUSY_MILLISECONDS = 20;
 const SPACE = 32;
 const decoder = new TextDecoder();
 const [UNDECIDED, BACKWARD] = [KINDS.indexOf("undecided"), KINDS.indexOf("backward")];
-/** The number of the first pass's limits. */
-export const FIRST_PASS = 1;
-/** The number of the first larger limits. */
-export const LARGER = 2;
+/** The numbers of the first pass's limits, and of the first larger ones. */
+export const [FIRST_PASS, LARGER] = [1, 2];
 const MOST_PLANS = 255;
 
 export class Results {
@@ -193,6 +191,11 @@ export class Results {
   rowsOfKinds(/** @type {Set<number>} */ kinds) {
     const isAll = this.counts.every((count, kind) => count === 0 || kinds.has(kind));
     return isAll ? this.allRows() : this.filterRows(({ kinds: own }, line) => kinds.has(own[line]));
+  }
+
+  /** The rows that only the first pass has decided. */
+  provisionalRows() {
+    return this.filterRows(({ plans }, line) => plans?.[line] === FIRST_PASS);
   }
 
   filterRows(/** @type {(part: Part, line: number) => boolean} */ isIn) {
