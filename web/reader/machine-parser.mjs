@@ -7,7 +7,7 @@
  *   from 1
  * @typedef {[number, string][]} Group entries with their offsets in the line
  */
-import { codePointName, findHidden } from "./tokens.mjs";
+import { codePointName, findAll, findHidden } from "./tokens.mjs";
 
 const STATES = "ABCDEFGHIJKLMNOPQRSTUVWXY";
 const MOST_SYMBOLS = 10;
@@ -60,7 +60,7 @@ export function parseWords(/** @type {Word[]} */ words) {
   if (words.length === 1 && words[0].text.includes("_") && isMachine(words[0].text)) {
     return { machine: words[0].text, rewritten: [] };
   }
-  const groups = words.length > 1 ? words : splitGroups(words[0]);
+  const groups = words.length > 1 ? words : findAll(words[0], /(?<![^_])[^_]*/g);
   const entries = parseGroups(groups);
   if (!Array.isArray(entries)) {
     return entries;
@@ -103,10 +103,6 @@ function parseGroups(/** @type {Word[]} */ groups) {
   }
   return parsed;
 }
-
-/** The parts of a word between its `_`. */
-const splitGroups = (/** @type {Word} */ { begin, text }) =>
-  Array.from(text.matchAll(/(?<![^_])[^_]*/g), ({ index = 0, 0: part }) => ({ begin: begin + index, text: part }));
 
 /**
  * Explains why a text of up to three characters is not an entry.
