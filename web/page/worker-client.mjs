@@ -8,6 +8,8 @@ const PATIENCE_MILLISECONDS = 400;
 
 const embeddedText = (/** @type {string} */ id) => byId(id).textContent ?? "";
 
+/** @typedef {{name: string, call: string, plan: Record<string, any>, lines: string}} Example */
+export const examples = /** @type {Example[]} */ (JSON.parse(embeddedText("examples-data")));
 const workerUrl = URL.createObjectURL(new Blob([embeddedText("worker")], { type: "text/javascript" }));
 /** @type {Promise<WebAssembly.Module | null>} the compiled module; null if unsupported */
 export const ready = isSupported()
@@ -49,14 +51,12 @@ export function prestartWorkers(/** @type {number} */ most, /** @type {() => boo
 }
 
 function warmUp(/** @type {Worker} */ worker) {
-  if (warmWorkers.has(worker)) {
-    return;
+  if (!warmWorkers.has(worker)) {
+    warmWorkers.add(worker);
+    const lists = examples.filter(({ call }) => call === "decide").map(({ lines }) => lines);
+    const list = new TextEncoder().encode(lists.join("\n"));
+    whenReady(() => worker.postMessage({ type: "warm-up", list }));
   }
-  warmWorkers.add(worker);
-  const examples = /** @type {{call: string, lines: string}[]} */ (JSON.parse(embeddedText("examples-data")));
-  const lists = examples.filter(({ call }) => call === "decide").map(({ lines }) => lines);
-  const list = new TextEncoder().encode(lists.join("\n"));
-  whenReady(() => worker.postMessage({ type: "warm-up", list }));
 }
 
 /** An error as workers report it. */

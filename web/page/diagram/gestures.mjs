@@ -99,9 +99,7 @@ export class Gestures {
       return;
     }
     this.canMove = event.pointerType === "mouse" || document.activeElement === canvas;
-    if (this.canMove) {
-      canvas.setPointerCapture(event.pointerId);
-    }
+    this.canMove && canvas.setPointerCapture(event.pointerId);
     this.fingers.set(event.pointerId, { x: event.clientX, y: event.clientY });
     this.moved = this.fingers.size > 1 ? CLICK_PIXELS : 0;
     this.start = this.startGesture();

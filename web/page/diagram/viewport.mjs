@@ -45,12 +45,9 @@ const cellSize = (/** @type {number} */ pixels) => Math.max(1, ...SIZES.filter((
 
 /** The nearest scale to `units` per pixel: several units in one pixel, or one in several. */
 function unitScale(/** @type {number} */ units) {
-  if (units >= 1) {
-    return { many: Math.round(units), pixels: 1 };
-  }
-  const wanted = 1 / units;
-  const pixels = SIZES.reduce((best, one) => (Math.abs(one - wanted) < Math.abs(best - wanted) ? one : best));
-  return { many: 1, pixels };
+  const far = (/** @type {number} */ size) => Math.abs(size - 1 / units);
+  const pixels = SIZES.reduce((best, one) => (far(one) < far(best) ? one : best));
+  return units >= 1 ? { many: Math.round(units), pixels: 1 } : { many: 1, pixels };
 }
 
 /** An interval rounded up so that it halves repeatedly: closer views then share its rows. */

@@ -1,5 +1,5 @@
 /** Files: choosing, dropping, detecting the encoding, decompressing. */
-import { byId } from "../dom.mjs";
+import { byId, onClick } from "../dom.mjs";
 
 // Magic numbers, and names of their encodings and formats. UTF-32 comes before UTF-16, whose mark it extends.
 const MARKS = /** @type {[number[], string][]} */ ([
@@ -26,15 +26,17 @@ const LEAST_BYTES = 4;
 export function listenToFiles(onFile, onText) {
   const field = /** @type {HTMLInputElement} */ (byId("file"));
   field.addEventListener("change", () => onFile(field.files?.[0] ?? null));
-  byId("file-choose").addEventListener("click", () => {
-    // Otherwise choosing the same file again fires no event.
-    field.value = "";
-    field.click();
-  });
-  byId("file-remove").addEventListener("click", () => {
-    field.value = "";
-    onFile(null);
-    byId("list").focus();
+  onClick({
+    "file-choose": () => {
+      // Otherwise choosing the same file again fires no event.
+      field.value = "";
+      field.click();
+    },
+    "file-remove": () => {
+      field.value = "";
+      onFile(null);
+      byId("list").focus();
+    },
   });
   // Texts dragged from the page or into a field are left to the browser.
   let isOwn = false;
@@ -53,13 +55,12 @@ export function listenToFiles(onFile, onText) {
   });
   addEventListener("drop", (event) => {
     byId("drop").hidden = true;
-    if (!accepts(event)) {
-      return;
+    if (accepts(event)) {
+      event.preventDefault();
+      const file = event.dataTransfer?.files[0];
+      const text = event.dataTransfer?.getData("text/plain");
+      file ? onFile(file) : text && onText(text);
     }
-    event.preventDefault();
-    const file = event.dataTransfer?.files[0];
-    const text = event.dataTransfer?.getData("text/plain");
-    file ? onFile(file) : text && onText(text);
   });
 }
 

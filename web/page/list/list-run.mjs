@@ -39,9 +39,9 @@ const workerCount = (size = Infinity) =>
   Math.max(1, Math.min(MOST_WORKERS, navigator.hardwareConcurrency || 1, Math.ceil(size / LEAST_BYTES)));
 
 export class ListRun {
-  /** @param {() => void} onShow called when results are shown */
-  constructor(onShow) {
-    this.onShow = onShow;
+  constructor() {
+    /** Called when results are shown. */
+    this.onShow = () => {};
     this.pool = /** @type {WorkerPool | null} */ (null);
     this.results = new Results({});
     /** @type {import("./status.mjs").RunInfo} */

@@ -22,6 +22,7 @@ export class ListView {
       return isIn;
     };
     this.work = work;
+    work.onShow = () => this.show();
     this.rows = new RowTable((row) => this.openRow(row, true));
     this.sorter = new WorkerClient();
     this.kindsShown = new Set(KINDS.keys());
@@ -34,12 +35,15 @@ export class ListView {
     // Counts displays, so that outdated sorts are dropped.
     this.turn = 0;
     this.order.addEventListener("change", () => this.showRows());
-    onClick({
-      "row-before": () => this.openNeighbour(-1, false),
-      "row-next": () => this.openNeighbour(1, false),
-      "open-before": () => this.openNeighbour(-1, true),
-      "open-next": () => this.openNeighbour(1, true),
-    });
+    /** Opens the next or the previous line, or an undecided one, by key. */
+    this.neighbours = {
+      n: () => this.openNeighbour(1, false),
+      p: () => this.openNeighbour(-1, false),
+      N: () => this.openNeighbour(1, true),
+      P: () => this.openNeighbour(-1, true),
+    };
+    const { n, p, N, P } = this.neighbours;
+    onClick({ "row-next": n, "row-before": p, "open-next": N, "open-before": P });
   }
 
   /** Prepares for a new list. The machine is hidden unless the first line comes soon. */

@@ -143,15 +143,8 @@ export class Results {
 
   /** Whether the first line is answered; earlier chunks may have none. */
   get hasFirstLine() {
-    for (const parts of this.jobs) {
-      if (parts?.some(({ kinds }) => kinds.length > 0)) {
-        return true;
-      }
-      if (!parts?.some(({ done }) => done)) {
-        return false;
-      }
-    }
-    return false;
+    const first = this.jobs.find((parts) => !parts?.some(({ done }) => done) || hasLines(parts));
+    return first !== undefined && hasLines(first);
   }
 
   /** A row's number, verdict line, original line and limits. */
@@ -180,17 +173,14 @@ export class Results {
     return new Blob(parts, { type: "text/plain" });
   }
 
-  /** All rows, in a cached array. */
-  allRows() {
+  rowsOfKinds(/** @type {Set<number>} */ kinds) {
+    if (this.counts.some((count, kind) => count > 0 && !kinds.has(kind))) {
+      return this.filterRows(({ kinds: own }, line) => kinds.has(own[line]));
+    }
     if (this.rowNumbers.length < this.lines) {
       this.rowNumbers = new Uint32Array(Math.max(this.lines, 2 * this.rowNumbers.length)).map((_, k) => k);
     }
     return this.rowNumbers.subarray(0, this.lines);
-  }
-
-  rowsOfKinds(/** @type {Set<number>} */ kinds) {
-    const isAll = this.counts.every((count, kind) => count === 0 || kinds.has(kind));
-    return isAll ? this.allRows() : this.filterRows(({ kinds: own }, line) => kinds.has(own[line]));
   }
 
   /** The rows that only the first pass has decided. */
@@ -233,6 +223,8 @@ export class Results {
 }
 
 const pause = () => new Promise((done) => setTimeout(done));
+
+const hasLines = (/** @type {Part[] | undefined} */ parts) => parts?.some(({ kinds }) => kinds.length > 0);
 
 /** A part's lines of these kinds, as bytes; adjacent lines are joined. */
 function linesOf(/** @type {Part} */ part, /** @type {Set<number>} */ kinds) {
