@@ -130,7 +130,6 @@ export class RowCache {
     this.cached = [added, ...others].filter(({ rows }) => (total += rows.cells.length) <= MOST_CACHED_BYTES);
   }
 
-  /** @returns {CachedRows} */
   trace(/** @type {RowRequest} */ { from, every, upto }, space = this.traceSize({ from, every, upto })) {
     const line = new TextEncoder().encode(this.machine);
     const options = { steps: upto, cells: this.cells, from, every };

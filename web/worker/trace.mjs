@@ -52,7 +52,6 @@ export function storeRows(/** @type {Run & {cached: import("./row-cache.mjs").Ca
 /**
  * The growth of the visited cells, by their numbers after a hundredth, a tenth and all of the steps.
  * @param {Engine} engine @param {Run & {upto: number}} request
- * @returns {import("../page/machine/machine-info.mjs").Growth}
  */
 export function measureGrowth(engine, request) {
   const { upto } = request;

@@ -48,7 +48,6 @@ export class Diagram {
     return geometry.pictureArea(this.canvas, this.run?.last ?? 0);
   }
 
-  /** @returns {geometry.Scene | null} */
   get scene() {
     const { view, area, picture } = this;
     return view === null ? null : { view, area, picture };
@@ -246,7 +245,6 @@ export class Diagram {
     canvas.dataset.state = isNew ? "drawn" : "requested";
   }
 
-  /** @returns {Promise<Blob | null>} */
   async toPng() {
     return new Promise((resolve) => this.canvas.toBlob(resolve, "image/png"));
   }

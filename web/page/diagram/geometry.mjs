@@ -90,7 +90,6 @@ function pointerStride(/** @type {View} */ view, /** @type {boolean} */ far) {
  * The pointer's next place, at a row.
  * @param {Scene} scene @param {Place} from @param {{right: number, down: number, far: boolean}} move
  * @param {number} upto the last step
- * @returns {Place}
  */
 export function nextPlace({ view, picture }, from, { right, down, far }, upto) {
   const { cells, steps } = pointerStride(view, far);
@@ -113,7 +112,6 @@ export function moveView(/** @type {View} */ view, /** @type {number} */ right, 
 /**
  * The view moved so that it contains visited cells.
  * @param {Scene} scene @param {number} upto the last step
- * @returns {View}
  */
 export function clampView({ view, area, picture }, upto) {
   const { low, high } = picture ?? { low: 0, high: 0 };

@@ -66,7 +66,6 @@ function nearestLevel(/** @type {number} */ steps, /** @type {View} */ home) {
  * The largest view of a range of steps and positions that fits in so many pixels.
  * @param {number} width @param {number} height
  * @param {{first: number, last: number, low: number, high: number}} range
- * @returns {View}
  */
 function fitView(width, height, { first, last, low, high }) {
   const [rows, span] = [last - first + 1, high - low + 3];
@@ -108,7 +107,6 @@ function cellsAt(/** @type {number} */ steps, /** @type {View} */ home) {
 /**
  * A view zoomed around a fixed point; a factor below 1 zooms out.
  * @param {View} view @param {View} home @param {number} factor @param {Point} point
- * @returns {View}
  */
 export function zoomView(view, home, factor, { x, y }) {
   const least = 1 / SIZES[SIZES.length - 1];
@@ -127,7 +125,6 @@ export function zoomView(view, home, factor, { x, y }) {
  * A view centred on a place with visible cells; one with visible cells keeps its scale.
  * @param {{width: number, height: number}} area @param {{step: number, position: number}} place
  * @param {View} view the current one
- * @returns {View}
  */
 export function closeView({ width, height }, { step, position }, view) {
   const isClose = view.every === 1 && view.across === 1 && view.high >= FRAMED && view.wide === view.high;

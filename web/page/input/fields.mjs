@@ -67,10 +67,7 @@ function digitsOf(/** @type {string} */ text) {
   return plain.replace(GROUPS, (digits) => digits.replace(/\D/g, ""));
 }
 
-/**
- * Parses a whole number with separators, or as `1e6` or `10^6`; null for other texts.
- * @returns {bigint | null}
- */
+/** Parses a whole number with separators, or as `1e6` or `10^6`; null for other texts. */
 export function parseNumber(/** @type {string} */ input) {
   const text = digitsOf(input);
   const power = /^(\d{1,15})(?:\.(\d{1,15}))?e\+?(\d{1,2})$/i.exec(text) ?? /^(1)()0\^(\d{1,2})$/.exec(text);
@@ -82,10 +79,7 @@ export function parseNumber(/** @type {string} */ input) {
   return rest < 0 ? null : BigInt(whole + fraction) * 10n ** BigInt(rest);
 }
 
-/**
- * The fields' plan. Throws LimitsError for a limit out of range or a text that isn't a number.
- * @returns {Record<string, any>}
- */
+/** The fields' plan. Throws LimitsError for a limit out of range or a text that isn't a number. */
 export function readPlan() {
   clearRefusals();
   /** @type {Record<string, any>} */

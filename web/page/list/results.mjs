@@ -113,7 +113,6 @@ export class Results {
     return this.flat;
   }
 
-  /** @returns {LinePlace} */
   placeOf(/** @type {number} */ row) {
     const parts = this.partsInOrder();
     let [low, high] = [0, parts.length];
