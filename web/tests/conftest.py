@@ -25,6 +25,14 @@ def tab(browser: Page) -> Iterator[Page]:
     assert not browser.errors()
 
 
+@pytest.fixture(params=["light", "dark"])
+def scheme(tab: Page, request: pytest.FixtureRequest) -> Iterator[str]:
+    """The page's colours, light and dark."""
+    tab.media(prefers_color_scheme=request.param)
+    yield request.param
+    tab.media()
+
+
 @pytest.fixture(scope="session")
 def forms() -> Dict[str, Any]:
     """Lines and lists with their readings, which the page and the package share."""

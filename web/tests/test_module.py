@@ -14,7 +14,8 @@ from support.examples import README, Example, read_examples
 from support.machines import CHAMPION, random_machines, seldom_halting
 from support.node import CallResult, Engine, documented_script
 from support.plans import FOUR, MOST, all_plans, random_plan
-from support.program import MAX_CELLS, SWITCHES, as_lines, run_command, processor_time, words_of_plan
+from support.program import MAX_CELLS, SWITCHES, CommandResult, as_lines, processor_time, run_command
+from support.program import words_of_plan
 
 pytestmark = pytest.mark.needs("node")
 
@@ -37,11 +38,10 @@ class Both:
         return run_command([self.program, name, *words_of_plan(plan)], given).output
 
     def require_same(self, name: str, plan: Plan, given: bytes) -> CallResult:
-        """Requires that a call's reply is the program's, and gives it."""
+        """Require a call's reply to be the program's, and return it."""
         reply = self.engine.call(name, plan, given)
         wanted = run_command([self.program, name, *words_of_plan(plan)], given)
-        assert reply.status == wanted.status, reply.answer
-        assert reply.reply == wanted.output, (name, plan)
+        assert (reply.status, reply.reply) == (wanted.status, wanted.output), (name, plan, reply.answer)
         return reply
 
 
@@ -230,7 +230,11 @@ def test_trace_at_the_greatest_limits(both: Both) -> None:
     assert (reply.status, reply.reply) == (1, b"refused 2\n")
 
 
-NARROW = ["python3", str(TOP / "web" / "narrow.py")]
+def narrow(folder: pathlib.Path, line: str) -> Tuple[CommandResult, pathlib.Path]:
+    """Narrow a line of intermediate code; return the result, and the path of what was made."""
+    given, made = folder / "wide", folder / "narrow"
+    given.write_text(line + "\n", encoding="ascii")
+    return run_command(["python3", str(TOP / "web" / "narrow.py"), str(given), str(made)]), made
 
 
 # Lines of intermediate code, and what they are with pointers of 32 bits.
@@ -250,9 +254,8 @@ NARROW = ["python3", str(TOP / "web" / "narrow.py")]
     ],
 )
 def test_narrowed_line(tmp_path: pathlib.Path, line: str, wanted: str) -> None:
-    given, made = tmp_path / "wide", tmp_path / "narrow"
-    given.write_text(line + "\n", encoding="ascii")
-    assert run_command([*NARROW, str(given), str(made)]).status == 0
+    done, made = narrow(tmp_path, line)
+    assert done.status == 0
     text = re.sub(r"%narrow\.\d+", "%X", made.read_text(encoding="ascii")).replace("%X = ", "")
     assert "|".join(one.strip() for one in text.splitlines()) == wanted
 
@@ -273,14 +276,6 @@ def test_narrowed_line(tmp_path: pathlib.Path, line: str, wanted: str) -> None:
 )
 def test_line_that_is_not_narrowed(tmp_path: pathlib.Path, line: str) -> None:
     """It is refused, with a line that says so, and nothing is written."""
-    given, made = tmp_path / "wide", tmp_path / "narrow"
-    given.write_text(line + "\n", encoding="ascii")
-    status, _, error = run_command([*NARROW, str(given), str(made)])
-    assert (status, error) == (1, b"narrow: %s isn't known here\n" % line.strip().encode())
+    done, made = narrow(tmp_path, line)
+    assert (done.status, done.error) == (1, b"narrow: %s isn't known here\n" % line.strip().encode())
     assert not made.exists()
-
-
-@pytest.mark.needs("tsc")
-def test_types_of_the_modules() -> None:
-    status, output, _ = run_command(["tsc", "-p", str(TOP / "web")])
-    assert status == 0, output.decode()

@@ -5,7 +5,7 @@ import re
 from typing import Dict, List, NamedTuple, Tuple
 
 from support.browser import HEAD, Page, Row, soon, trace
-from support.gestures import Keys, window_point, send_mouse
+from support.gestures import Keys, cell_at, send_mouse, window_point
 from support.machines import CHAMPION, CHAMPION_OF_FOUR
 
 STEPS = 10_000
@@ -104,8 +104,7 @@ def require_places(tab: Page, rows: Dict[int, Row]) -> None:
         x = int(view["x"] + right * (width - view["x"] - 1))
         y = int(view["y"] + down * (height - view["y"] - 1))
         send_mouse(tab, "mouseMoved", window_point(tab, x, y))
-        step = int(view["top"] + (y - view["y"]) // view["high"] * view["every"])
-        position = int(view["left"] + (x - view["x"]) // view["wide"] * view["across"])
+        step, position = cell_at(view, (x, y))
         wanted = rows[step].place_words(position) if step in rows else None
         assert wanted is None or soon(lambda: tab.text("place-text") == wanted), wanted
 
@@ -113,10 +112,9 @@ def require_places(tab: Page, rows: Dict[int, Row]) -> None:
 def test_axes_and_pointer(tab: Page) -> None:
     """From the whole to single cells, moved and zoomed."""
     made = tab.add_script(PAINTED)
-    tab.open("#machine=%s&steps=%d" % (CHAMPION, STEPS))
+    assert tab.open_machine(CHAMPION, "&steps=%d" % STEPS)["every"] > 1
     tab.scroll_to_diagram()
     rows = {row.step: row for row in trace(tab.program, CHAMPION, STEPS)}
-    assert tab.wait_until_drawn()["every"] > 1
     require_ticks(tab)
     require_places(tab, rows)
     for _ in range(3):
@@ -132,7 +130,7 @@ def test_axes_and_pointer(tab: Page) -> None:
     tab.remove_script(made)
 
 
-def step_shown(tab: Page) -> int:
+def shown_step(tab: Page) -> int:
     """The step that is told of the place that keys point at; -1 where none is."""
     found = re.match(r"Step ([\d,]+)", tab.text("place-text"))
     return number_of(found[1]) if found else -1
@@ -140,8 +138,7 @@ def step_shown(tab: Page) -> int:
 
 def test_keys_name_the_row_that_enter_shows(tab: Page) -> None:
     """Where a row stands for many steps, keys point at the step that is told: Enter shows its tape."""
-    tab.open("#machine=%s&steps=50000000" % CHAMPION)
-    tab.wait_until_drawn()
+    tab.open_machine(CHAMPION, "&steps=50000000")
     tab.go_to("1000000")
     assert tab.tape_is_at("1,000,000")
     tab.press("diagram", "0")
@@ -149,7 +146,7 @@ def test_keys_name_the_row_that_enter_shows(tab: Page) -> None:
     every = tab.wait_until_drawn()["every"]
     for way in ((Keys.ARROW_DOWN,), (Keys.ARROW_DOWN, Keys.ARROW_RIGHT), (Keys.ARROW_UP,) * 3):
         tab.press("diagram", *way)
-        told = step_shown(tab)
+        told = shown_step(tab)
         assert told >= 0 and told % every == 0
         tab.press("diagram", Keys.ENTER)
         assert tab.tape_is_at("{:,}:".format(told))
@@ -157,14 +154,13 @@ def test_keys_name_the_row_that_enter_shows(tab: Page) -> None:
 
 def test_keys_beyond_the_view(tab: Page) -> None:
     """Their place is told once the picture has it."""
-    tab.open("#machine=%s" % CHAMPION_OF_FOUR)
-    tab.wait_until_drawn()
+    tab.open_machine(CHAMPION_OF_FOUR)
     tab.press("diagram", "+", "+")
     top = tab.wait_until_drawn()["top"]
     for _ in range(3):
         tab.press("diagram", *[Keys.ARROW_DOWN] * 13)
         assert soon(lambda: tab.text("place-text") != "", 2)
     assert tab.wait_until_drawn()["top"] > top
-    told = step_shown(tab)
+    told = shown_step(tab)
     tab.press("diagram", Keys.ENTER)
     assert tab.tape_is_at("{:,}:".format(told))

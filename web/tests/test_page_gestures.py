@@ -1,13 +1,12 @@
 """Moving and zooming a diagram by mouse and fingers: which steps and positions are in view then."""
 
-from typing import Dict, Tuple
+from typing import Tuple
 
 import pytest
 from support.browser import Page, soon, trace
-from support.gestures import Point, drag, window_point, pinch, swipe, tap
+from support.gestures import View, Point, cell_at, drag, pinch, place_of, swipe, tap, window_point
 from support.machines import CHAMPION
 
-View = Dict[str, float]
 STEPS = 10_000
 # Cells are large enough there to be seen one by one.
 NEAR = 6_000
@@ -35,24 +34,9 @@ def visible_area(tab: Page) -> Tuple[float, float, float, float]:
     return view["top"], last, view["left"], end
 
 
-def cell_at(view: View, place: Point) -> Tuple[int, int]:
-    """The step and the position at a place of the canvas."""
-    right, down = place[0] - view["x"], place[1] - view["y"]
-    step = view["top"] + down // view["high"] * view["every"]
-    return int(step), int(view["left"] + right // view["wide"] * view["across"])
-
-
-def place_of(view: View, cell: Tuple[int, int]) -> Point:
-    """The place of the canvas at which a step and a position begin."""
-    step, position = cell
-    right = (position - view["left"]) / view["across"] * view["wide"]
-    return view["x"] + right, view["y"] + (step - view["top"]) / view["every"] * view["high"]
-
-
 def open_near(tab: Page) -> View:
-    """Opens a run at a step whose cells are seen one by one."""
-    tab.open("#machine=%s&steps=%d" % (CHAMPION, STEPS))
-    tab.wait_until_drawn()
+    """Open a run at a step whose cells are seen one by one."""
+    tab.open_machine(CHAMPION, "&steps=%d" % STEPS)
     tab.go_to(str(NEAR))
     soon(lambda: tab.wait_until_drawn()["top"] > 0)
     tab.scroll_to_diagram()
@@ -109,8 +93,7 @@ def test_other_button_moves_nothing(tab: Page) -> None:
 @pytest.mark.slow
 def test_drag_ends_at_the_edges(tab: Page) -> None:
     """A drag doesn't go before the first step, nor away from all cells."""
-    tab.open("#machine=%s&steps=%d" % (CHAMPION, STEPS))
-    before = tab.wait_until_drawn()
+    before = tab.open_machine(CHAMPION, "&steps=%d" % STEPS)
     tab.scroll_to_diagram()
     begin, end = window_point(tab, 150, 100), window_point(tab, 350, 300)
     for _ in range(4):
@@ -123,7 +106,7 @@ def test_drag_ends_at_the_edges(tab: Page) -> None:
 
 def require_place(view: View, cell: Tuple[int, int], middle: Point) -> None:
     """The cell that was between the fingers is there still, within a cell."""
-    x, y = place_of(view, cell)
+    x, y = place_of(view, *cell)
     assert abs(x - middle[0]) <= 1 + 2 * view["wide"]
     assert abs(y - middle[1]) <= 1 + 2 * view["high"]
 
@@ -157,8 +140,7 @@ def test_two_fingers_zoom(phone: Page) -> None:
 @pytest.mark.slow
 def test_one_finger_scrolls_or_moves(phone: Page) -> None:
     """On a phone one finger scrolls the page; the picture is moved only after a tap into it."""
-    phone.open("#machine=%s&steps=100000" % CHAMPION)
-    before = phone.wait_until_drawn()
+    before = phone.open_machine(CHAMPION, "&steps=100000")
     phone.scroll_to_diagram()
     assert "Tap into the picture first" in phone.get("diagram-keys", "innerText")
     width, height = phone.size()

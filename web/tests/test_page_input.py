@@ -132,22 +132,20 @@ def test_limit_that_is_no_number(tab: Page, text: str) -> None:
 @pytest.mark.parametrize("text", ["47 176 870", "47\u202f176\u202f870", "47_176_870", " +47,176,870 "])
 def test_limit_in_groups_of_digits(tab: Page, text: str) -> None:
     tab.type("steps", text)
-    tab.open_list("%s\n" % CHAMPION)
+    tab.open_list(CHAMPION)
     assert soon(lambda: tab.text("machine-says").startswith("It halts after 47,176,870 steps"))
 
 
 def test_limits_as_people_write_them(tab: Page) -> None:
     for text, steps in (("1e3", 1000), ("1_000", 1000), ("10^3", 1000), ("1.5e3", 1500), ("1,000", 1000)):
-        tab.plan({"steps": text}, "decide", True)
-        tab.open_list("%s\n" % CHAMPION)
+        tab.open_list(CHAMPION, plan={"steps": text})
         tab.click("link")
         assert "steps=%d" % steps in tab.js(HASH)
 
 
 def test_step_is_written_as_a_limit(tab: Page) -> None:
     """A refusal is told, and stays until another step is shown, or another machine."""
-    tab.open("#machine=%s" % CHAMPION_OF_FOUR)
-    tab.wait_until_drawn()
+    tab.open_machine(CHAMPION_OF_FOUR)
     tab.go_to("1e2")
     assert soon(lambda: tab.text("tape-text").startswith("Step 100:"))
     tab.go_to("many")
@@ -155,7 +153,7 @@ def test_step_is_written_as_a_limit(tab: Page) -> None:
     shows: List[Callable[[], object]] = [
         lambda: tab.click("tape-on"),
         lambda: tab.go_to("7"),
-        lambda: tab.open_list("1RB1LB_1LA1RZ\n"),
+        lambda: tab.open_list("1RB1LB_1LA1RZ"),
     ]
     for show in shows:
         tab.go_to("many")
@@ -211,7 +209,7 @@ def test_reload_keeps_a_link_or_the_list_after_it(tab: Page) -> None:
     tab.open("#1RA1RA")
     tab.reload()
     assert (tab.js(HASH), list_of(tab)) == ("#1RA1RA", "1RA1RA\n")
-    tab.open_list("%s\n" % LONG)
+    tab.open_list(LONG)
     assert tab.js(HASH) == ""
     tab.reload()
     assert list_of(tab) == "%s\n" % LONG
@@ -239,7 +237,7 @@ def test_reload_names_a_list_that_is_gone(tab: Page) -> None:
     """That of a file, also after what was left of it is decided again, and one that is too long; a list that
     is typed takes the words away."""
 
-    def gone() -> str:
+    def missing_text() -> str:
         tab.driver.refresh()
         return str(tab.until(lambda: tab.text("list-gone")))
 
@@ -247,11 +245,11 @@ def test_reload_names_a_list_that_is_gone(tab: Page) -> None:
     tab.answer_file(b"%s\n" % CHAMPION_OF_FOUR.encode())
     tab.await_answer(lambda: tab.click("left"))
     for _ in range(2):
-        assert gone().startswith("The file list isn\u2019t kept")
+        assert missing_text().startswith("The file list isn\u2019t kept")
     tab.type("list", "1RA1RA\n")
     assert tab.get("list-gone", "hidden")
-    tab.open_list("# " + "x" * 1_000_001 + "\n1RA1RA\n")
-    assert "1,000,0" in gone()
+    tab.open_list("# " + "x" * 1_000_001, "1RA1RA")
+    assert "1,000,0" in missing_text()
     tab.js("sessionStorage.clear()")
 
 

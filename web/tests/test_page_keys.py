@@ -3,7 +3,7 @@ of the tape."""
 
 from typing import List
 
-from support.browser import CONTRAST, Page, soon
+from support.browser import COLOUR, Page, contrast, soon
 from support.gestures import Keys, press_key, type_text
 from support.machines import CHAMPION, CHAMPION_OF_FOUR
 
@@ -36,7 +36,7 @@ return {
   is_seen: one.checkVisibility() && width > 0 && height > 0 && isIn && one.contains(upper),
   is_outlined: one.matches(":focus-visible") && style.outlineStyle === "solid"
     && parseFloat(style.outlineWidth) >= 2,
-  contrast: contrast(parse(style.outlineColor), parse(getComputedStyle(ground).backgroundColor)),
+  colours: [style.outlineColor, getComputedStyle(ground).backgroundColor].map(parse),
 };
 """
 
@@ -55,9 +55,9 @@ def walk(tab: Page, names: List[str], back: bool = False) -> None:
     """Goes on by Tab, or back, over what has these names; each is seen with an outline."""
     for wanted in names:
         press_key(tab, "Tab", back)
-        found, focus = name_of(tab), tab.js(CONTRAST + FOCUS)
+        found, focus = name_of(tab), tab.js(COLOUR + FOCUS)
         assert found.startswith(wanted) and not focus["is_body"]
-        assert focus["is_seen"] and focus["is_outlined"] and focus["contrast"] >= 3, (wanted, focus)
+        assert focus["is_seen"] and focus["is_outlined"] and contrast(*focus["colours"]) >= 3, (wanted, focus)
 
 
 def test_page_by_keys(tab: Page) -> None:
@@ -96,7 +96,7 @@ def leave_and_come_back(tab: Page) -> None:
 
 def test_keys_of_fields_and_buttons(tab: Page) -> None:
     """Of the tape's keys a field has its own, and a button its Space."""
-    tab.open("#machine=%s" % CHAMPION_OF_FOUR)
+    tab.open_machine(CHAMPION_OF_FOUR)
     assert tab.tape_is_at("0:")
     tab.put("tape-step", "value", "")
     tab.press("tape-step", "1 000", Keys.HOME, "9")
@@ -112,8 +112,7 @@ def test_keys_of_fields_and_buttons(tab: Page) -> None:
 
 def test_late_row_is_dropped(tab: Page) -> None:
     """Where a step is gone to while another one is asked for, the answer is too late."""
-    tab.open("#machine=%s&steps=50000000" % CHAMPION)
-    tab.wait_until_drawn()
+    tab.open_machine(CHAMPION, "&steps=50000000")
     assert tab.tape_is_at("0:")
     tab.press("tape", Keys.END, Keys.HOME)
     assert not soon(lambda: not tab.text("tape-text").startswith("Step 0:"), 2)

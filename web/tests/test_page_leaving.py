@@ -51,8 +51,7 @@ def require_focus(tab: Page, name: str, wanted: str, times: int = 1) -> None:
 
 def test_next_machine_shows_nothing_of_the_one_before(tab: Page) -> None:
     """Nothing of it plays on or stays under the next one's name."""
-    tab.plan({"steps": STEPS}, "decide")
-    tab.open_list("1RA1RA\n%s\n" % CHAMPION)
+    tab.open_list("1RA1RA", CHAMPION, plan={"steps": STEPS}, mode="decide")
     tab.wait_until_drawn()
     assert tab.tape_is_at("")
     tab.click("tape-play")
@@ -66,22 +65,20 @@ def test_next_machine_shows_nothing_of_the_one_before(tab: Page) -> None:
 
 def test_slow_first_machine_hides_the_one_before(tab: Page) -> None:
     """The focus goes to the rows; the next list's machine is shown again."""
-    tab.open_list("1RA1RA\n")
+    tab.open_list("1RA1RA")
     tab.wait_until_drawn()
     tab.js("document.getElementById('copy-text').focus()")
     run_endless(tab, "%s\n1RA1RA\n" % LONG)
     assert soon(lambda: tab.get("machine", "hidden"))
     assert tab.focus() == "rows" and tab.text("status").startswith("Running")
     tab.click("stop")
-    tab.plan({}, "auto", True)
-    tab.open_list("1RB1LB_1LA1RZ\n")
+    tab.open_list(HALT, plan={})
     assert not tab.get("machine", "hidden") and tab.text("machine-text") == HALT
 
 
 def test_machine_decided_again_is_left(tab: Page) -> None:
     """Nothing is said of it under another list."""
-    tab.plan({"steps": STEPS // 10}, "decide")
-    tab.open_list("%s\n" % CHAMPION)
+    tab.open_list(CHAMPION, plan={"steps": STEPS // 10}, mode="decide")
     tab.click("again")
     assert tab.text("again") == "Stop"
     run_endless(tab, "%s\n" % LONG)
@@ -92,8 +89,7 @@ def test_machine_decided_again_is_left(tab: Page) -> None:
 
 def test_new_list_stays_where_another_is_decided_again(tab: Page) -> None:
     """A list that is given while the undecided lines of another one are gathered isn't replaced by them."""
-    tab.plan({"steps": 50}, "decide")
-    tab.open_list("%s\n" % CHAMPION_OF_FOUR * 150_000)
+    tab.open_list(*[CHAMPION_OF_FOUR] * 150_000, plan={"steps": 50}, mode="decide")
     tab.click("left")
     tab.type("list", "1RA1RA\n")
     tab.run()
@@ -104,7 +100,7 @@ def test_new_list_stays_where_another_is_decided_again(tab: Page) -> None:
 def test_button_keeps_the_focus(tab: Page) -> None:
     """Where the page scrolls to a machine, the button that opened it keeps the focus."""
     tab.driver.set_window_size(800, 900)
-    tab.open_list("1RA1RA\n%s\n%s\n" % (HALT, LONG))
+    tab.open_list("1RA1RA", HALT, LONG)
     require_focus(tab, "row-next", "row-next")
     press_key(tab, "Enter")
     assert soon(lambda: tab.text("machine-text") == LONG)
@@ -113,19 +109,17 @@ def test_button_keeps_the_focus(tab: Page) -> None:
 
 def test_hidden_button_gives_its_focus(tab: Page) -> None:
     """Where a button is hidden or disabled that has the focus, something beside it has it then."""
-    tab.open("#machine=%s" % HALT)
-    tab.wait_until_drawn()
+    tab.open_machine(HALT)
     assert tab.tape_is_at("0")
     require_focus(tab, "tape-on", "tape", 6)
     require_focus(tab, "tape-first", "tape")
     require_focus(tab, "tape-on", "tape-on")
     require_focus(tab, "tape-back", "tape")
-    tab.plan({"steps": 50}, "auto", True)
     for name, wanted in (("again", "copy-text"), ("left", "rows")):
-        tab.open_list("%s\n" % CHAMPION_OF_FOUR)
+        tab.open_list(CHAMPION_OF_FOUR, plan={"steps": 50})
         require_focus(tab, name, wanted)
     tab.wait_until_done()
-    tab.open_list("1RA1RA\nno machine\n")
+    tab.open_list("1RA1RA", "no machine")
     tab.js("document.getElementById('diagram').focus()")
     tab.click("row-next")
     assert soon(lambda: tab.focus() == "row-next")
@@ -147,7 +141,7 @@ def test_waiting_workers_keep_nothing(tab: Page) -> None:
     """Neither of the list nor of the question before."""
     added = tab.add_script(WORKERS)
     tab.open()
-    tab.open_list("1RA1RA\n" * 200)
+    tab.open_list(*["1RA1RA"] * 200)
     tab.wait_until_drawn()
     tab.until(lambda: "\u2026" not in tab.text("facts"))
     assert tab.js("return window.workers.length") > 1

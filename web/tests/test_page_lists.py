@@ -130,12 +130,12 @@ def test_file_of_all_forms(tab: Page, forms: Forms) -> None:
     # What marks the order of bytes stands at the begin of a file alone.
     lines = [form["line"].replace("\ufeff", "") for form in texts]
 
-    def given_to_program(form: Dict[str, Any], line: str) -> str:
+    def line_for_program(form: Dict[str, Any], line: str) -> str:
         # A rule that is read as a machine elsewhere is refused for a space before it.
         is_rule = "machine" not in form and line.strip("\r") in ("------", "------------")
         return str(form.get("machine", " " + line if is_rule else line))
 
-    given = [given_to_program(form, line) for form, line in zip(texts, lines) if "nothing" not in form]
+    given = [line_for_program(form, line) for form, line in zip(texts, lines) if "nothing" not in form]
     tab.plan({"steps": 1000}, "decide", True)
     tab.choose_option("list-form", "text")
     tab.answer_file(as_lines(lines))
@@ -157,7 +157,7 @@ def test_file_of_all_forms(tab: Page, forms: Forms) -> None:
 def test_form_of_a_list_is_found(tab: Page, text: str, form: str, rows: List[str]) -> None:
     """It is printed, with how many lines are passed over."""
     tab.plan({}, "decide", True)
-    tab.open_list(text)
+    tab.open_list(*text.splitlines())
     assert tab.text("status").endswith("Read as %s." % form)
     assert [row[1].partition(" \u2190")[0] for row in tab.rows()] == rows
     assert (SKIPPED in tab.text("status")) == (form == "a table")
@@ -166,7 +166,7 @@ def test_form_of_a_list_is_found(tab: Page, text: str, form: str, rows: List[str
 def test_form_of_a_list_is_chosen(tab: Page) -> None:
     """It stays over a reload."""
     tab.choose_option("list-form", "machines")
-    tab.open_list("1RA1RA\n17. 1RA1RA\n")
+    tab.open_list("1RA1RA", "17. 1RA1RA")
     tab.open_row(1)
     assert "more than the machine 1RA1RA" in tab.text("machine-says")
     tab.reload()
@@ -190,13 +190,13 @@ def test_packed_lists(tab: Page, forms: Forms) -> None:
     assert tab.text("status").count("not UTF-8") == 1
     tab.answer_file("1RA1RA \u00e9\n".encode())
     assert "UTF-8" not in tab.text("status")
-    tab.open_list("1RA1RA\n")
+    tab.open_list("1RA1RA")
     assert tab.text("error") == ""
 
 
 def test_refused_line(tab: Page) -> None:
     """It shows its text, with a caret under the place, the reason in words and its number."""
-    tab.open_list("# a list\n\n1RB1LB 1LA1RZ\n1RB1LH_1LA1RZ\n")
+    tab.open_list("# a list", "", "1RB1LB 1LA1RZ", "1RB1LH_1LA1RZ")
     first, second = tab.rows()
     assert first[1] == "1RB1LB_1LA1RZ \u2190 1RB1LB 1LA1RZ"
     assert second == ["4", "1RB1LH_1LA1RZ", "refused 14", "\u2013"]
@@ -212,7 +212,7 @@ def test_lines_that_are_no_verdict_lines(tab: Page) -> None:
     """Among verdict lines they are shown as such, and count as refused."""
     tab.plan({}, "check", True)
     unread = ["foo bar", "hello world", "1RA1RA undecided foo", "1RB1LB_1LA1RZ halt 7"]
-    tab.open_list(as_lines([*unread, "1RB1LB_1LA1RZ halt 6 4", "1RA1RA translated R 1 2"]).decode())
+    tab.open_list(*unread, "1RB1LB_1LA1RZ halt 6 4", "1RA1RA translated R 1 2")
     assert "2 decided, 0 undecided, 4 refused" in tab.text("status")
     assert [row[3] for row in tab.rows()] == ["unread"] * 4 + ["ok"] * 2
     for row, line in enumerate(unread):
@@ -227,8 +227,7 @@ def test_lines_that_are_no_verdict_lines(tab: Page) -> None:
 
 def test_each_line_is_counted_once(tab: Page) -> None:
     """As decided, undecided, refused or skipped; and the kinds have the same."""
-    tab.plan({"steps": 100}, "auto", True)
-    tab.open_list("1RB1LB_1LA1RZ\n1RA1RA\nno\n# c\n\n%s\n" % CHAMPION)
+    tab.open_list("1RB1LB_1LA1RZ", "1RA1RA", "no", "# c", "", CHAMPION, plan={"steps": 100})
     assert "2 decided, 1 undecided, 1 refused, 2 skipped" in tab.text("status")
     script = "return [...document.querySelectorAll('#kinds button')].map((one) => one.textContent)"
     kinds = {text.split()[0]: int(text.split()[1]) for text in tab.js(script)}
@@ -239,10 +238,10 @@ def test_verdict_lines_are_told(tab: Page) -> None:
     """By whole ones; a button says what it does; comments aren't checked."""
     tab.type("list", "# the cycler 1RB\n1RB1LB_1LA1RZ halts\n1RA1RA cycler\n")
     assert tab.text("run") == "Decide"
-    claims = "# theirs\n1RB1LB_1LA1RZ halt 6 4\n\n1RA1RA cycler 1 2\r\n1RB1LB_1LA1RZ\n"
-    tab.type("list", claims)
+    claims = ["# theirs", "1RB1LB_1LA1RZ halt 6 4", "", "1RA1RA cycler 1 2\r", "1RB1LB_1LA1RZ"]
+    tab.type("list", "\n".join(claims))
     assert tab.text("run") == "Check"
-    tab.open_list(claims)
+    tab.open_list(*claims)
     assert tab.save() == b"ok\nbad\nunread\n"
     assert [row[0] for row in tab.rows()] == ["2", "4", "5"]
     tab.open_row(1)

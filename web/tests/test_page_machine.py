@@ -102,7 +102,7 @@ def test_what_a_verdict_says_of_others(tab: Page, machine: str, completions: str
 def test_text_link_and_picture_are_copied(tab: Page) -> None:
     tab.command("Browser.grantPermissions", permissions=["clipboardReadWrite"])
     tab.js(COPY)
-    tab.open_list("1RA1RA\n")
+    tab.open_list("1RA1RA")
     tab.wait_until_drawn()
     for name in ("copy-text", "link", "copy-png"):
         tab.click(name)
@@ -114,8 +114,7 @@ def test_text_link_and_picture_are_copied(tab: Page) -> None:
 def test_keys_and_buttons_open_other_rows(tab: Page) -> None:
     """The next and the previous row, of any kind or an undecided one."""
     mirrored = CHAMPION.translate(SWAPPED)
-    tab.plan({"steps": 100}, "auto", True)
-    tab.open_list("%s\n%s\n1RA1RA\n%s\n" % (HALT, CHAMPION, mirrored))
+    tab.open_list(HALT, CHAMPION, "1RA1RA", mirrored, plan={"steps": 100})
     for key, machine in zip("nnpNP", (CHAMPION, "1RA1RA", CHAMPION, mirrored, CHAMPION)):
         tab.press("rows", key)
         assert tab.text("machine-text") == machine
@@ -127,8 +126,7 @@ def test_keys_and_buttons_open_other_rows(tab: Page) -> None:
 
 def test_late_answers_are_dropped(tab: Page) -> None:
     """What comes late of a line that was left isn't shown with the next one."""
-    tab.plan({"steps": 100}, "auto", True)
-    tab.open_list("1RA1RA\n%s\n%s\n" % (HALT, CHAMPION))
+    tab.open_list("1RA1RA", HALT, CHAMPION, plan={"steps": 100})
     tab.js("for (let k = 0; k < 2; k += 1) document.getElementById('row-next').click()")
     tab.until(lambda: tab.wait_until_drawn() and "\u2026" not in tab.text("facts"))
     time.sleep(0.5)
@@ -138,8 +136,7 @@ def test_late_answers_are_dropped(tab: Page) -> None:
 
 
 def test_kinds_are_saved_by_themselves(tab: Page) -> None:
-    tab.plan({"steps": 50}, "auto", True)
-    tab.open_list("%s\n%s\n" % (HALT, CHAMPION_OF_FOUR))
+    tab.open_list(HALT, CHAMPION_OF_FOUR, plan={"steps": 50})
     tab.click("kind-halt")
     tab.click("save-shown")
     assert tab.read_download() == b"%s undecided steps\n" % CHAMPION_OF_FOUR.encode()

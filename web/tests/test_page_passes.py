@@ -94,15 +94,14 @@ def test_claims_that_are_not_confirmed_are_counted(tab: Page) -> None:
     """A claim that is refuted, or that these limits can't tell, isn't counted as decided."""
     tab.plan({"steps": 50}, "check")
     claims = [HALT + " halt 6 4", HALT + " halt 7 4", CHAMPION_OF_FOUR + " halt 107 13"]
-    tab.open_list(as_lines(claims).decode())
+    tab.open_list(*claims)
     assert "1 decided, 0 undecided, 0 refused" in tab.text("status")
     assert "2 not confirmed" in tab.text("status") and "1 bad, 1 over" in tab.text("status")
 
 
 def test_machine_decided_again_comes_into_its_row(tab: Page) -> None:
     """It is marked there, and comes into what is saved."""
-    tab.plan({"steps": 50}, "auto", True)
-    tab.open_list("%s\n%s\n" % (HALT, CHAMPION_OF_FOUR))
+    tab.open_list(HALT, CHAMPION_OF_FOUR, plan={"steps": 50})
     tab.press("rows", "n")
     tab.click("again")
     tab.until(lambda: HALTS_LATE in tab.text("machine-says"))
@@ -117,16 +116,15 @@ def test_machine_decided_again_comes_into_its_row(tab: Page) -> None:
 
 def test_undecided_machines_are_decided_again(tab: Page) -> None:
     """They come into their rows, with larger limits each time; the list, its limits and the open line stay."""
-    tab.plan({"steps": 5}, "auto", True)
-    text = "%s\n%s\n# a comment\n1RA1RA\n" % (HALT, CHAMPION_OF_FOUR)
-    tab.open_list(text)
+    lines = [HALT, CHAMPION_OF_FOUR, "# a comment", "1RA1RA"]
+    tab.open_list(*lines, plan={"steps": 5})
     for steps, verdict in ((50, "undecided steps"), (500, "halt 107 13")):
         tab.await_answer(lambda: tab.click("left"))
         rows = tab.rows()
         assert [row[0] for row in rows] == ["1", "2", "4"]
         assert rows[1][2] == "%s again, %d steps" % (verdict, steps)
     assert rows[2][2].startswith("translated R") and rows[0][2] == "halt 6 4 again, 50 steps"
-    assert (tab.get("list", "value"), tab.get("steps", "value")) == (text, "5")
+    assert (tab.get("list", "value"), tab.get("steps", "value")) == ("\n".join([*lines, ""]), "5")
     assert "6 steps" in tab.text("machine-says")
     assert tab.save().endswith(b"halt 107 13\n1RA1RA translated R 1 2 1 1\n")
     assert tab.get("left", "hidden")
@@ -135,7 +133,7 @@ def test_undecided_machines_are_decided_again(tab: Page) -> None:
 def test_claim_stays(tab: Page) -> None:
     """Also where its machine is decided again."""
     tab.plan({"steps": 50}, "check")
-    tab.open_list("%s undecided steps\n" % CHAMPION_OF_FOUR)
+    tab.open_list(CHAMPION_OF_FOUR + " undecided steps")
     tab.click("again")
     tab.until(lambda: HALTS_LATE in tab.text("machine-says"))
     assert tab.rows()[0][2] == "undecided steps"

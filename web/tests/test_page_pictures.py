@@ -12,7 +12,7 @@ from typing import Any, Dict, List, Tuple
 import pytest
 from support import TOP
 from support.browser import HEAD, Page, Row, format_number, soon, trace
-from support.gestures import Keys
+from support.gestures import Keys, cell_at, place_of
 from support.machines import CHAMPION, CHAMPION_OF_FOUR, seldom_halting
 from support.node import Engine
 from support.page_times import PAUSE, end, steps_seen, traced_views, views
@@ -43,6 +43,12 @@ AXES = """
 const pen = document.getElementById("diagram").getContext("2d");
 const data = pen.getImageData(0, 22, 76, 300).data;
 return new Set(Array.from({ length: data.length / 4 }, (_, k) => data.slice(4 * k, 4 * k + 3).join())).size;
+"""
+GO_AND_PLAY = """
+const part = (name) => document.getElementById("tape-" + name);
+part("form").requestSubmit();
+part("play").click();
+return [part("text").textContent, part("play").textContent];
 """
 CELLS = """
 return [...document.querySelectorAll("#tape-cells .cell")].filter((one) => !one.querySelector(".blank"))
@@ -97,8 +103,7 @@ def test_kept_rows_are_those_of_the_program(bb: str, module: object, rng: random
 )
 def test_cells_have_their_colours(tab: Page, machine: str, upto: int, limits: str) -> None:
     """Each cell of a diagram has its symbol's colour, or the head's."""
-    tab.open("#machine=%s%s" % (machine, limits))
-    view, colours = tab.wait_until_drawn(), tab.palette()
+    view, colours = tab.open_machine(machine, limits), tab.palette()
     wide, high, left = view["wide"], view["high"], view["left"]
     is_framed = wide >= 6 and high >= 6
     places, wanted = [], []
@@ -114,7 +119,7 @@ def test_cells_have_their_colours(tab: Page, machine: str, upto: int, limits: st
 
 
 @pytest.fixture
-def sampled(module: object, tmp_path: pathlib.Path) -> Any:
+def sample(module: object, tmp_path: pathlib.Path) -> Any:
     """A function that gives a step of a machine, by the engine's trace of that step alone."""
     engine = Engine(tmp_path)
 
@@ -139,31 +144,28 @@ def require_means(tab: Page, source: random.Random, row: Row) -> None:
         assert all(abs(a - b) <= 1 for a, b in zip(pixel, means)), (row.step, x)
 
 
-def test_means_of_four_symbols(tab: Page, sampled: Any, rng: random.Random) -> None:
-    tab.open("#machine=%s&steps=3000000" % FOUR_SYMBOLS)
-    view = tab.wait_until_drawn()
+def test_means_of_four_symbols(tab: Page, sample: Any, rng: random.Random) -> None:
+    view = tab.open_machine(FOUR_SYMBOLS, "&steps=3000000")
     assert view["across"] > 1
     for number in (60, 200, 400):
-        require_means(tab, rng, sampled(FOUR_SYMBOLS, number * int(view["every"])))
+        require_means(tab, rng, sample(FOUR_SYMBOLS, number * int(view["every"])))
 
 
 @pytest.mark.slow
-def test_whole_run_of_the_champion(tab: Page, sampled: Any, rng: random.Random) -> None:
+def test_whole_run_of_the_champion(tab: Page, sample: Any, rng: random.Random) -> None:
     """It is seen whole: a pixel has the mean colour of its cells."""
-    tab.open("#machine=%s&steps=50000000" % CHAMPION)
-    view, shown = tab.wait_until_drawn(), tab.text("diagram-text")
+    view, shown = tab.open_machine(CHAMPION, "&steps=50000000"), tab.text("diagram-text")
     every = int(view["every"])
     assert "mean colour of %d cells" % view["across"] in shown and "all of 12,289 visited cells" in shown
     last = int(re.sub(r"\D", "", shown.split(" to ")[1].split(" every")[0]))
     assert last <= 47_176_870 < last + every and view["top"] == 0
     # The last row has a mark.
     for number in rng.sample(range(50, last // every - 6), 6):
-        require_means(tab, rng, sampled(CHAMPION, number * every))
+        require_means(tab, rng, sample(CHAMPION, number * every))
 
 
 def test_resized_window_shows_the_whole(tab: Page) -> None:
-    """A window of another width, as of a phone that is turned; a view that someone chose stays."""
-    tab.open("#machine=%s&steps=200" % CHAMPION_OF_FOUR)
+    """A window of another width, as of a phone that is turned; a chosen view stays."""
 
     def resize(width: int) -> Dict[str, float]:
         before = tab.size()[0]
@@ -173,7 +175,7 @@ def test_resized_window_shows_the_whole(tab: Page) -> None:
         time.sleep(0.2)
         return tab.wait_until_drawn()
 
-    tab.wait_until_drawn()
+    tab.open_machine(CHAMPION_OF_FOUR, "&steps=200")
     for width in (390, 1280):
         resize(width)
         assert "all of 14 visited cells" in tab.text("diagram-text")
@@ -186,8 +188,7 @@ def test_resized_window_shows_the_whole(tab: Page) -> None:
 @pytest.mark.slow
 def test_zoom_to_single_cells_and_back(tab: Page) -> None:
     """From a glance at 10^7 steps to 100 steps in a few gestures, at the head; and back to the whole."""
-    tab.open("#machine=%s&steps=10000000" % CHAMPION)
-    whole, gestures = tab.wait_until_drawn(), 0
+    whole, gestures = tab.open_machine(CHAMPION, "&steps=10000000"), 0
     assert steps_seen(tab) >= 10**7
     tab.click("fit")
     while steps_seen(tab) > 100 and gestures < 20:
@@ -223,29 +224,26 @@ def test_views_are_drawn_soon(tab: Page) -> None:
 
 def test_wheel_zooms_at_the_pointer(tab: Page) -> None:
     """After a click: the step under it stays there."""
-    tab.open("#machine=%s&steps=10000000" % CHAMPION)
-    before = tab.wait_until_drawn()
+    before = tab.open_machine(CHAMPION, "&steps=10000000")
     tab.js(TURN)
     assert tab.wait_until_drawn() == before
-    step = before["top"] + int(200 - before["y"]) // before["high"] * before["every"]
+    cell = cell_at(before, (300, 200))
     tab.js("document.getElementById('diagram').focus()")
     tab.js(TURN)
     tab.until(lambda: tab.wait_until_drawn() != before)
     after = tab.wait_until_drawn()
     assert after["every"] < before["every"]
-    y = (step - after["top"]) / after["every"] * after["high"] + after["y"]
-    assert abs(y - 200) <= 2 + after["high"]
+    assert abs(place_of(after, *cell)[1] - 200) <= 2 + after["high"]
 
 
 @pytest.mark.slow
-def test_going_to_a_step(tab: Page, sampled: Any) -> None:
-    """It shows its cells and its tape; a step beyond the last one is the last one."""
-    tab.open("#machine=%s&steps=50000000" % CHAMPION)
-    tab.wait_until_drawn()
+def test_going_to_a_step(tab: Page, sample: Any) -> None:
+    """It shows its cells and its tape."""
+    tab.open_machine(CHAMPION, "&steps=50000000")
     tab.go_to("47,176,860")
     tab.until(lambda: "47,176,860" in tab.text("tape-text"))
     tab.until(lambda: tab.wait_until_drawn()["every"] == 1)
-    view, row = tab.wait_until_drawn(), sampled(CHAMPION, 47_176_860)
+    view, row = tab.wait_until_drawn(), sample(CHAMPION, 47_176_860)
     assert view["top"] <= 47_176_860 <= view["top"] + 400 / view["high"]
     assert tab.text("tape-text").startswith(tape_words(row))
     tab.press("tape", Keys.END)
@@ -275,8 +273,7 @@ def require_tape(tab: Page, row: Row) -> None:
 @pytest.mark.slow
 def test_tape_goes_step_by_step(tab: Page) -> None:
     """On and back, by buttons and keys; it plays, or steps where that is wanted."""
-    tab.open("#machine=%s" % CHAMPION_OF_FOUR)
-    tab.wait_until_drawn()
+    tab.open_machine(CHAMPION_OF_FOUR)
     for row in trace(tab.program, CHAMPION_OF_FOUR, 107)[:60]:
         assert tab.tape_is_at("%d:" % row.step)
         require_tape(tab, row)
@@ -304,8 +301,7 @@ def test_tape_goes_step_by_step(tab: Page) -> None:
 @pytest.mark.parametrize("keys", [[Keys.END], [Keys.HOME, *[Keys.ARROW_RIGHT] * 7], [Keys.HOME, Keys.END]])
 def test_tape_ends_where_the_cells_do(tab: Page, keys: List[str]) -> None:
     """The tape plays no farther than the limit of cells lets a run go."""
-    tab.open("#machine=1RA1RA" + FEW_CELLS)
-    tab.wait_until_drawn()
+    tab.open_machine("1RA1RA", FEW_CELLS)
     assert "the limit of cells ends the trace" in tab.text("diagram-text")
     tab.press("tape", *keys)
     assert tab.tape_is_at("7:") and soon(lambda: tab.get("tape-on", "disabled"))
@@ -317,16 +313,10 @@ def test_tape_ends_where_the_cells_do(tab: Page, keys: List[str]) -> None:
 @pytest.mark.slow
 def test_tape_plays_once_its_row_is_there(tab: Page) -> None:
     """Also where it is to play from a step whose row takes long."""
-    tab.open("#machine=%s&steps=50000000" % CHAMPION)
-    tab.wait_until_drawn()
+    tab.open_machine(CHAMPION, "&steps=50000000")
     assert tab.tape_is_at("0:")
     tab.put("tape-step", "value", "47000000")
-    script = (
-        "document.getElementById('tape-form').requestSubmit(); document.getElementById('tape-play').click();"
-    )
-    shown, play = tab.js(
-        script + "return ['tape-text', 'tape-play'].map((id) => document.getElementById(id).textContent)"
-    )
+    shown, play = tab.js(GO_AND_PLAY)
     assert shown.startswith("Step 0:") and play == "Pause"
     assert tab.tape_is_at("47,000,003:")
     tab.click("tape-play")
@@ -335,12 +325,10 @@ def test_tape_plays_once_its_row_is_there(tab: Page) -> None:
 
 def test_place_under_the_pointer(tab: Page) -> None:
     """What is shown there, and of what keys point at: step, state, position, symbol."""
-    tab.open("#machine=%s" % CHAMPION_OF_FOUR)
-    view = tab.wait_until_drawn()
+    view = tab.open_machine(CHAMPION_OF_FOUR)
     for row in trace(tab.program, CHAMPION_OF_FOUR, 107)[::7]:
         for at in range(row.low, row.low + len(row.cells)):
-            x = view["x"] + (at - view["left"] + 0.5) * view["wide"]
-            y = view["y"] + (row.step - view["top"] + 0.5) * view["high"]
+            x, y = place_of(view, row.step + 0.5, at + 0.5)
             tab.js(POINT, x + 1, y + 1)
             assert tab.text("place-text") == row.place_words(at)
     tab.press("diagram", "0", *["+"] * 3, Keys.ARROW_DOWN, Keys.ARROW_DOWN, Keys.ARROW_RIGHT)
@@ -355,8 +343,7 @@ def test_stretch_of_a_translated_cycler(tab: Page) -> None:
     """It is outlined where its line says."""
     line = tab.program_output("decide", {}, TRANSLATED.encode()).decode().split()
     first, second, _, length = map(int, line[3:])
-    tab.open("#machine=%s" % TRANSLATED)
-    view, mark = tab.wait_until_drawn(), tab.colour("--mark")
+    view, mark = tab.open_machine(TRANSLATED), tab.colour("--mark")
     tab.until(lambda: tab.js("return document.querySelectorAll('#behind .same').length") == 2 * length)
     tab.until(lambda: "show it" in tab.text("behind"))
     rows = trace(tab.program, TRANSLATED, second)
@@ -374,10 +361,9 @@ def test_late_marks_are_in_view(tab: Page) -> None:
     line = tab.program_output("decide", {}, LATE.encode()).decode().split()
     first, second = int(line[3]), int(line[4])
     assert second - first < second / 40
-    tab.open("#machine=%s" % LATE)
-    view = tab.wait_until_drawn()
-    places = [(step - view["top"]) / view["every"] * view["high"] for step in (first, second)]
-    assert all(0 <= y < tab.size()[1] - view["y"] for y in places) and places[1] - places[0] >= 8
+    view = tab.open_machine(LATE)
+    upper, lower = (place_of(view, step, 0)[1] for step in (first, second))
+    assert view["y"] <= upper <= lower - 8 and lower < tab.size()[1]
     tab.click("fit")
     tab.until(lambda: tab.wait_until_drawn()["top"] == 0)
     tab.click("marked")
@@ -386,7 +372,7 @@ def test_late_marks_are_in_view(tab: Page) -> None:
 
 def test_levels_of_a_tree(tab: Page) -> None:
     """They and the nodes are those of the line, and the page says nothing of a difference."""
-    tab.open("#machine=%s" % TREE)
+    tab.open("#machine=" + TREE)
     levels, nodes = tab.program_output("decide", {}, TREE.encode()).decode().split()[2:]
     script = "return [...document.querySelectorAll('.level')].map((one) => Number(one.dataset.count))"
     counts = tab.js(script)
@@ -395,8 +381,7 @@ def test_levels_of_a_tree(tab: Page) -> None:
 
 
 def test_picture_and_sentence_of_a_halt(tab: Page) -> None:
-    tab.open("#machine=1RB1LB_1LA1RZ")
-    tab.wait_until_drawn()
+    tab.open_machine("1RB1LB_1LA1RZ")
     tab.until(lambda: "The row above shows it." in tab.text("behind"))
     png = tab.js("return document.getElementById('diagram').toDataURL('image/png')").split(",")[1]
     assert base64.b64decode(png).startswith(b"\x89PNG")
