@@ -29,22 +29,22 @@ async function startRun(isOfLink = false) {
   byId("results").dataset.state = "requested";
   runs += 1;
   const own = runs;
-  const list = await input.read().catch((error) => (own === runs ? reportUnreadable(error) : null));
-  if (own === runs && list !== null) {
-    if (!isOfLink && location.hash !== "") {
-      history.replaceState(null, "", location.pathname + location.search);
-    }
-    input.store();
-    listView.reset();
-    const { blob, first, isText, mode, form } = list;
-    run.start(blob, first, { mode, form, clean: input.clean.checked, plan }, isText);
+  const list = await input.read().catch((/** @type {Error} */ error) => error);
+  if (own !== runs) {
+    return;
   }
-}
-
-function reportUnreadable(/** @type {Error} */ error) {
-  showError(failureText(errorFields(error)));
-  byId("results").dataset.state = "ended";
-  return null;
+  if (list instanceof Error) {
+    showError(failureText(errorFields(list)));
+    byId("results").dataset.state = "ended";
+    return;
+  }
+  if (!isOfLink && location.hash !== "") {
+    history.replaceState(null, "", location.pathname + location.search);
+  }
+  input.store();
+  listView.reset();
+  const { blob, first, isText, mode, form } = list;
+  run.start(blob, first, { mode, form, clean: input.clean.checked, plan }, isText);
 }
 
 /** The plan of the fields; null if a limit is refused, with the refusal shown beside it. */

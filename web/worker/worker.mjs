@@ -44,7 +44,7 @@ const WARM_UP_TRACE = { steps: 10_000, cells: 256, from: 0, every: 100 };
 
 let engine = /** @type {Engine | undefined} */ (undefined);
 // The page sends the module first.
-let engineLoaded = Promise.resolve();
+let engineLoaded = /** @type {Promise<Engine | undefined>} */ (Promise.resolve(undefined));
 // The least bytes of the next batch; the first has one line.
 let size = 1;
 // Milliseconds a line took in the batch before.
@@ -168,14 +168,6 @@ function sortRows(rows, steps, down) {
   return order.map((k) => rows[k]);
 }
 
-/** Loads the engine. If it fails, every request gets the error. */
-function loadModule(/** @type {WebAssembly.Module} */ module) {
-  engineLoaded = load(module).then((loaded) => {
-    engine = loaded;
-  });
-  engineLoaded.catch(() => undefined);
-}
-
 /**
  * Handlers of the messages besides `load`. They return a reply if any, and the buffers to transfer.
  * @type {Record<string, (message: any, host: Engine) => [any, ArrayBufferLike[]?] | void>}
@@ -206,10 +198,12 @@ const HANDLERS = {
 
 async function onMessage(/** @type {any} */ message) {
   if (message.type === "load") {
-    loadModule(message.module);
+    engineLoaded = load(message.module);
+    // If it fails, every request gets the error.
+    engineLoaded.catch(() => undefined);
     return;
   }
-  await engineLoaded;
+  engine = await engineLoaded;
   const reply = HANDLERS[message.type](message, /** @type {Engine} */ (engine));
   reply && postMessage(reply[0], { transfer: /** @type {ArrayBuffer[]} */ (reply[1] ?? []) });
 }

@@ -105,8 +105,4 @@ export class Holdouts {
     const texts = Array.from(rows, (row) => `${this.results.machineAt(row)}\n`);
     return rows.length === 0 ? null : { bytes: encoder.encode(texts.join("")), line };
   }
-
-  rowsOf(/** @type {import("../../worker/worker.mjs").Part} */ { first, kinds }) {
-    return this.rows.subarray(first, first + kinds.length);
-  }
 }

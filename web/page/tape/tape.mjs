@@ -114,15 +114,13 @@ export class Tape {
     const upto = begin + many;
     const { requests } = this;
     this.client.request({ type: "trace", machine, cells, from: begin, every: 1, upto }, (answer) => {
-      if (requests === this.requests) {
-        answer.error ? this.showFailure(answer.message) : this.setRows(answer.rows, answer.last, upto);
+      if (requests === this.requests && answer.error) {
+        this.pause();
+        byId("tape-text").textContent = `The tape can’t be shown: ${answer.message}.`;
+      } else if (requests === this.requests) {
+        this.setRows(answer.rows, answer.last, upto);
       }
     });
-  }
-
-  showFailure(/** @type {string} */ message) {
-    this.pause();
-    byId("tape-text").textContent = `The tape can’t be shown: ${message}.`;
   }
 
   /** @param {Row[]} rows @param {number} last step of the rows or the run @param {number} upto */
@@ -130,7 +128,8 @@ export class Tape {
     this.rows = rows;
     // Very wide rows are sampled.
     if (last < upto && (rows.length === 0 || last - rows[0].step === rows.length - 1)) {
-      this.limitTo(last);
+      this.about = this.about && { ...this.about, last: Math.min(this.about.last, last) };
+      this.step = Math.min(this.step, last);
     }
     if (this.row === undefined && rows.length === 0) {
       this.goTo(this.step, this.closes);
@@ -141,12 +140,6 @@ export class Tape {
       this.step = rows[rows.length - 1].step;
     }
     this.showStep();
-  }
-
-  /** Ends the run at a step. */
-  limitTo(/** @type {number} */ step) {
-    this.about = this.about && { ...this.about, last: Math.min(this.about.last, step) };
-    this.step = Math.min(this.step, step);
   }
 
   showStep() {
