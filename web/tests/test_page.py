@@ -138,20 +138,13 @@ def test_link_opens_a_machine(tab: Page) -> None:
     assert tab.js("return location.hash") == wanted
 
 
-class Quiet(http.server.SimpleHTTPRequestHandler):
-    """Serves a folder, and tells nothing of it."""
-
-    def log_message(self, *_: object) -> None:
-        pass
-
-
 def test_page_of_the_documentation(browser: Page, module: pathlib.Path, tmp_path: pathlib.Path) -> None:
     """The page of docs/web.md decides its list, served with the files that are named there."""
     for path in [*(TOP / "web" / "lib").glob("*.mjs"), module]:
         shutil.copy(path, tmp_path)
     (tmp_path / "favicon.ico").touch()
     (tmp_path / "index.html").write_text(documented_script("A page"), encoding="utf-8")
-    handler = functools.partial(Quiet, directory=str(tmp_path))
+    handler = functools.partial(http.server.SimpleHTTPRequestHandler, directory=str(tmp_path))
     with http.server.ThreadingHTTPServer(("127.0.0.1", 0), handler) as server:
         threading.Thread(target=server.serve_forever, daemon=True).start()
         browser.driver.get("http://127.0.0.1:%d/" % server.server_port)

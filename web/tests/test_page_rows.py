@@ -1,4 +1,4 @@
-"""The rows of a list in the page: which one is open, chosen and highlighted, in any order and among hidden kinds."""
+"""The rows of a list: which one is open, chosen and highlighted, in any order and among hidden kinds."""
 
 import time
 from typing import List

@@ -100,17 +100,16 @@ export class Diagram {
     if (this.run === null) {
       return;
     }
-    const { machine, cells, upto, last, pair, end } = this.run;
+    const { machine, cells, upto, ...fit } = this.run;
     const { width, height } = this.area;
     if (this.picture === null) {
       byId("diagram-text").textContent = "Drawing …";
     }
     this.canvas.dataset.state = "requested";
     this.requests += 1;
-    const { requests } = this;
-    const fit = { last, pair, opens: this.isOpening, end };
-    const run = { machine, cells, upto, view: this.view, width, height, fit };
-    this.client.request({ type: "picture", ...run, palette: readPalette() }, (reply) => {
+    const { requests, view, isOpening: opens } = this;
+    const run = { machine, cells, upto, view, width, height, fit: { ...fit, opens }, palette: readPalette() };
+    this.client.request({ type: "picture", ...run }, (reply) => {
       this.receivePicture(reply, requests === this.requests);
     });
     this.scheduleDraw();
@@ -128,9 +127,7 @@ export class Diagram {
       return;
     }
     const picture = /** @type {Picture} */ (reply.picture);
-    this.picture = picture;
-    this.sheet = createSheet(picture);
-    this.view ??= picture.view;
+    Object.assign(this, { picture, sheet: createSheet(picture), view: this.view ?? picture.view });
     this.canvas.dataset.state = isLast ? "received" : "requested";
     this.draw();
     if (isLast) {

@@ -12,7 +12,7 @@ function haltingNodes(/** @type {Machine} */ { rules }) {
   return halting.map(({ state, symbol }) => ({ state, known: new Map([[0, symbol]]) }));
 }
 
-/** @returns {Node[]} one for each entry into the node's state, unless the cell behind the head has another symbol */
+/** @returns {Node[]} one for each entry into the node's state that wrote the cell behind the head */
 function predecessors(/** @type {Machine} */ { rules }, /** @type {Node} */ node) {
   return rules.flatMap(({ state, symbol, entry }) => {
     const left = entry?.move === 1 ? -1 : 1;

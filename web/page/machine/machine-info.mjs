@@ -15,6 +15,17 @@ const MOST_GROWTH_STEPS = 1_000_000;
 const FEWEST_GROWTH_STEPS = 100;
 const LATER = 10n ** 15n;
 const SAME_VERDICT = "Any completion of its --- has the same verdict.";
+// The consequences of a verdict for completions of undefined entries.
+const COMPLETIONS = /** @type {Record<string, string>} */ ({
+  halt: SAME_VERDICT,
+  cycler: SAME_VERDICT,
+  translated: SAME_VERDICT,
+  backward: "No completion of its --- halts; the tree may differ.",
+  undecided: "Nothing is known: the machine is undecided.",
+});
+const HALT_ON_UNDEFINED =
+  "It halts on a ---. Completions of only the other --- have the same verdict; nothing is known of " +
+  "completions of that one.";
 const GROWTHS = /** @type {Record<string, string>} */ ({
   stays: "They stay",
   logarithm: "They grow as a logarithm",
@@ -62,25 +73,11 @@ export function normalForm(/** @type {string} */ text) {
   return text[1] === "L" ? mirrorImage(form) : form;
 }
 
-/** A verdict's consequences for completions of undefined entries. */
-function completionsText(/** @type {About} */ { machine, verdict }, /** @type {string} */ lastState) {
+function completionsText(/** @type {About} */ { machine, verdict: { kind } }, /** @type {string} */ lastState) {
   if (!machine.includes("---")) {
     return "It has no undefined entry.";
   }
-  switch (verdict.kind) {
-    case "cycler":
-    case "translated":
-      return SAME_VERDICT;
-    case "halt":
-      return lastState === "Z"
-        ? SAME_VERDICT
-        : "It halts on a ---. Completions of only the other --- have the same verdict; nothing is known of " +
-            "completions of that one.";
-    case "backward":
-      return "No completion of its --- halts; the tree may differ.";
-    default:
-      return "Nothing is known: the machine is undecided.";
-  }
+  return kind === "halt" && lastState !== "Z" ? HALT_ON_UNDEFINED : COMPLETIONS[kind];
 }
 
 /** A verdict's consequences for other starts than A on the blank tape. */
