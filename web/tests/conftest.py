@@ -1,4 +1,4 @@
-"""A browser for the tests of the page, and forms of lines for its reader."""
+"""Fixtures of the page's tests: browsers, colour schemes and forms of lines."""
 
 import json
 import pathlib
@@ -11,14 +11,14 @@ from support.browser import Page
 
 @pytest.fixture(scope="module")
 def browser(page: pathlib.Path, bb: str, tmp_path_factory: pytest.TempPathFactory) -> Iterator[Page]:
-    """The page in a browser of a desk's width."""
+    """The page in a desktop browser."""
     with Page(page, tmp_path_factory.mktemp("saved"), program=bb) as opened:
         yield opened
 
 
 @pytest.fixture
 def tab(browser: Page) -> Iterator[Page]:
-    """The page, opened anew. It asks for no other address, and has no error in its console."""
+    """The page, opened anew. It sends no request and logs no error."""
     browser.open()
     yield browser
     assert not browser.requests()
@@ -27,7 +27,7 @@ def tab(browser: Page) -> Iterator[Page]:
 
 @pytest.fixture(params=["light", "dark"])
 def scheme(tab: Page, request: pytest.FixtureRequest) -> Iterator[str]:
-    """The page's colours, light and dark."""
+    """The colour schemes of the page."""
     tab.media(prefers_color_scheme=request.param)
     yield request.param
     tab.media()
@@ -35,7 +35,7 @@ def scheme(tab: Page, request: pytest.FixtureRequest) -> Iterator[str]:
 
 @pytest.fixture(scope="session")
 def forms() -> Dict[str, Any]:
-    """Lines and lists with their readings, which the page and the package share."""
+    """Lines and lists with their expected readings, shared with the package."""
     found: Dict[str, Any] = json.loads((TOP / "tests/support/forms.json").read_text(encoding="utf-8"))
     return found
 

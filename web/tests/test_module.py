@@ -1,4 +1,4 @@
-"""The engine as WebAssembly, in Node, beside the program: the same bytes."""
+"""The WebAssembly engine in Node writes the program's bytes."""
 
 import itertools
 import pathlib
@@ -23,7 +23,7 @@ Plan = Dict[str, Any]
 MOST_BYTES = 65_536
 LISTS = list(read_examples("decide", "check"))
 SMALL = {"steps": 100, "cells": 64, "depth": 20, "nodes": 100}
-# How many bytes some pages of the module's memory have.
+# Bytes of memory for a small engine.
 MEMORY = 64 * 65_536
 
 
@@ -34,7 +34,7 @@ class Both:
         self.program, self.engine = program, engine
 
     def program_output(self, name: str, plan: Plan, given: bytes) -> bytes:
-        """What the program writes."""
+        """Return the program's output."""
         return run_command([self.program, name, *words_of_plan(plan)], given).output
 
     def require_same(self, name: str, plan: Plan, given: bytes) -> CallResult:
@@ -47,7 +47,7 @@ class Both:
 
 @pytest.fixture(scope="module")
 def engine(module: pathlib.Path, tmp_path_factory: pytest.TempPathFactory) -> Iterator[Engine]:
-    """A process of Node with the engine."""
+    """The engine in a Node process."""
     opened = Engine(tmp_path_factory.mktemp("engine"), module)
     if opened.about.get("unsupported"):
         pytest.skip("this Node has no vectors; Node 16.4 or later has (package nodejs)")
@@ -70,7 +70,7 @@ def test_example(both: Both, example: Example) -> None:
 
 
 def test_all_plans(both: Both) -> None:
-    """The first run of the README, and all plans at the rows of limits."""
+    """The README's first run, and all plans at each row of limits."""
     both.require_same("decide", {}, README)
     both.require_same("decide", {name: False for name in SWITCHES}, README)
     given = b"".join(example.lines for example in LISTS if example.name in ("verdicts", "small_limits"))
@@ -82,7 +82,7 @@ def test_all_plans(both: Both) -> None:
 
 @pytest.mark.parametrize("count", [1_000, pytest.param(20_000, marks=pytest.mark.slow)])
 def test_random_machines_and_claims(both: Both, rng: random.Random, count: int) -> None:
-    """At random limits; half of the claims are forged."""
+    """At random limits, with half of the claims forged."""
     machines = random_machines(count, rng)
     for k in range(0, count, 100):
         reply = both.require_same("decide", random_plan(rng), as_lines(machines[k : k + 100])).reply
@@ -95,7 +95,6 @@ def test_random_machines_and_claims(both: Both, rng: random.Random, count: int) 
 
 @pytest.mark.slow
 def test_four_states(both: Both, four_states: List[str]) -> None:
-    """All machines of four states, decided and checked; their times."""
     given = as_lines(four_states)
     assert len(four_states) == 858_909
     before = processor_time()
@@ -111,7 +110,7 @@ def test_four_states(both: Both, four_states: List[str]) -> None:
 @pytest.mark.slow
 @pytest.mark.parametrize("name", ["decide", "check"])
 def test_noise(both: Both, rng: random.Random, name: str) -> None:
-    """Bytes that are no list, lines without an end, and a line of 10 MB."""
+    """Random bytes, lists without a final newline, and a line of 10 MB."""
     for length in (0, 1, 2, 100, 10_000, 100_000):
         noise = rng.randbytes(length)
         both.require_same(name, {}, noise)
@@ -134,7 +133,7 @@ def test_noise(both: Both, rng: random.Random, name: str) -> None:
     ],
 )
 def test_refused_limit(both: Both, plan: Plan) -> None:
-    """The error has the program's words and names the limit."""
+    """The error has the program's message and names the limit."""
     answer = both.engine.call("decide", plan, b"1RA1RA\n").answer
     said = run_command([both.program, "decide", *words_of_plan(plan)]).error.decode()
     assert (answer["error"], answer["limit"]) == ("LimitsError", said[4:].split(" ")[0])
@@ -156,7 +155,7 @@ def test_greatest_limits(both: Both, name: str) -> None:
 
 
 def test_script_of_the_documentation(both: Both, tmp_path: pathlib.Path) -> None:
-    """The script of docs/web.md decides a list and checks what it said, as it stands there."""
+    """The script of docs/web.md decides a list and checks the verdicts."""
     (tmp_path / "web").symlink_to(TOP / "web")
     (tmp_path / "decide.mjs").write_text(documented_script("A script"), encoding="utf-8")
     limits = {"steps": 100_000, "cells": 4096}
@@ -166,7 +165,7 @@ def test_script_of_the_documentation(both: Both, tmp_path: pathlib.Path) -> None
 
 
 def test_memory_that_cannot_be_had(engine: Engine) -> None:
-    """It is an error, after which the engine stays usable."""
+    """The engine stays usable after the error."""
     cases: List[Tuple[str, Plan, bytes]] = [
         ("decide", {"cells": 10**7}, b"1RA1RA\n"),
         ("check", {"cells": 10**7}, b"1RA1RA translated R 1 2\n"),
@@ -180,7 +179,7 @@ def test_memory_that_cannot_be_had(engine: Engine) -> None:
 
 @pytest.mark.slow
 def test_memory_stays(module: pathlib.Path, tmp_path: pathlib.Path) -> None:
-    """An engine of its own holds after a thousand lists what it holds after one."""
+    """A thousand lists need no more memory than one."""
     own = Engine(tmp_path, module)
     once = own.call("decide", SMALL, README * 1000).answer["held"]
     assert once == own.call("decide", SMALL, README * 1000, times=1000).answer["held"]
@@ -188,7 +187,7 @@ def test_memory_stays(module: pathlib.Path, tmp_path: pathlib.Path) -> None:
 
 
 def trace_lines(program: str, machine: str, steps: int, cells: int) -> List[bytes]:
-    """The program's rows as the engine's trace has them: with the lowest position before the cells."""
+    """Return the program's trace with the lowest position before the cells, as the engine writes it."""
     return [
         b"%d %s %d %d %s\n" % (row.step, row.state.encode(), row.head, row.low, row.cells.encode())
         for row in trace(program, machine, steps, cells)
@@ -197,7 +196,6 @@ def trace_lines(program: str, machine: str, steps: int, cells: int) -> List[byte
 
 @pytest.mark.parametrize("count", [5, pytest.param(100, marks=pytest.mark.slow)])
 def test_traces_of_some_rows(both: Both, rng: random.Random, count: int) -> None:
-    """Traces of random machines from each step by each interval."""
     for machine in random_machines(count, rng):
         plan = {"steps": rng.randint(0, 200), "cells": rng.randint(1, 60)}
         lines = trace_lines(both.program, machine, plan["steps"], plan["cells"])
@@ -209,7 +207,6 @@ def test_traces_of_some_rows(both: Both, rng: random.Random, count: int) -> None
 
 @pytest.mark.parametrize("count", [50, pytest.param(500, marks=pytest.mark.slow)])
 def test_traces_name_the_lowest_position(both: Both, rng: random.Random, count: int) -> None:
-    """Whole traces of machines that seldom halt."""
     machines = [seldom_halting(rng, rng.randint(2, 5), rng.randint(2, 4)) for _ in range(count)]
     for machine in [CHAMPION, *machines]:
         steps = rng.randint(100, 4_000)
@@ -237,7 +234,7 @@ def narrow(folder: pathlib.Path, line: str) -> Tuple[CommandResult, pathlib.Path
     return run_command(["python3", str(TOP / "web" / "narrow.py"), str(given), str(made)]), made
 
 
-# Lines of intermediate code, and what they are with pointers of 32 bits.
+# Lines of LLVM IR, with 64-bit and with 32-bit pointers.
 @pytest.mark.parametrize(
     "line, wanted",
     [
@@ -275,7 +272,7 @@ def test_narrowed_line(tmp_path: pathlib.Path, line: str, wanted: str) -> None:
     ],
 )
 def test_line_that_is_not_narrowed(tmp_path: pathlib.Path, line: str) -> None:
-    """It is refused, with a line that says so, and nothing is written."""
+    """The line is refused with a message, and no file is written."""
     done, made = narrow(tmp_path, line)
     assert (done.status, done.error) == (1, b"narrow: %s isn't known here\n" % line.strip().encode())
     assert not made.exists()

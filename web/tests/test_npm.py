@@ -1,4 +1,4 @@
-"""The npm package of the engine: installed by npm into an empty folder, with no network."""
+"""The npm package, installed by npm into an empty folder without a network."""
 
 import pathlib
 import subprocess
@@ -26,7 +26,7 @@ INSTALL = "npm install --offline --no-audit --no-fund --cache cache".split()
 
 
 def package(folder: pathlib.Path) -> pathlib.Path:
-    """The package, made into a folder."""
+    """Build the package in a folder."""
     done = run_command(["python3", str(TOP / "web" / "package.py"), "--out", str(folder)])
     assert done.status == 0, done.error
     return pathlib.Path(done.output.decode().strip())
@@ -34,7 +34,7 @@ def package(folder: pathlib.Path) -> pathlib.Path:
 
 @pytest.fixture(scope="module")
 def installation(module: object, tmp_path_factory: pytest.TempPathFactory) -> pathlib.Path:
-    """A folder in which the package is installed, and nothing else."""
+    """A folder with only the installed package."""
     folder = tmp_path_factory.mktemp("installation")
     made = package(tmp_path_factory.mktemp("package"))
     status, output, error = run_command([*INSTALL, str(made)], cwd=str(folder))
@@ -43,7 +43,7 @@ def installation(module: object, tmp_path_factory: pytest.TempPathFactory) -> pa
 
 
 def run(folder: pathlib.Path, script: str, given: List[str]) -> str:
-    """What a script writes in the folder."""
+    """Run a script in the folder, and return its output."""
     (folder / "script.mjs").write_text(script, encoding="utf-8")
     done = run_command(["node", "script.mjs"], as_lines(given), cwd=str(folder))
     assert done.status == 0, done.error
@@ -72,7 +72,7 @@ def test_example_of_the_readme(bb: str, installation: pathlib.Path) -> None:
 
 @pytest.mark.parametrize("name, is_right", [("steps", True), ("stepps", False)])
 def test_types(installation: pathlib.Path, name: str, is_right: bool) -> None:
-    """The types are those of the calls; what is misspelled is named."""
+    """Types accept right calls, and reject a misspelled name."""
     text = TYPED.replace("steps: 1_000", name + ": 1_000")
     (installation / "typed.mts").write_text(text, encoding="utf-8")
     done = subprocess.run([*TSC, "typed.mts"], cwd=installation, capture_output=True, text=True)

@@ -1,4 +1,4 @@
-"""Whether everyone can use the page: contrasts, names and roles, widths, live text, and what it may send."""
+"""Accessibility of the page: contrasts, names, roles, widths, live text; and its content security policy."""
 
 import pathlib
 import re
@@ -12,11 +12,11 @@ from support.gestures import Keys
 from support.machines import CHAMPION
 
 TEXT, MARK = 4.5, 3.0
-# Its head comes to each of ten symbols, and halts at step 19.
+# Its head visits ten symbols, and it halts at step 19.
 COUNTER = "1RB2RB3RB4RB5RB6RB7RB8RB9RB9RZ_1LA2LA3LA4LA5LA6LA7LA8LA9LA9LA"
-# It has marks late, over cells of a pixel.
+# Its marks are late, over cells of a pixel.
 LATE = "1RB1LB_1LA0LC_1RE1LD_1RD0RA_1RE1RE"
-# The pixels above a marked row: its outline, what is about that, and one that only a label reaches.
+# Pixels above a marked row: two of its outline, one outside, and one that only a label reaches.
 ABOVE = (-1, -2, -3, -6)
 # The colours of texts and of controls' borders, and those behind them.
 COLOURS = (
@@ -44,7 +44,7 @@ return [
 ];
 """
 )
-# What has no name, though it is used; and what names what isn't there.
+# Controls without a name, and references to missing or repeated ids.
 NAMES = """
 const nodes = arguments[0];
 const named = ["button", "textbox", "combobox", "checkbox", "link", "grid", "img", "image", "listbox",
@@ -115,7 +115,7 @@ WIDTH = "return document.documentElement.scrollWidth"
 
 @pytest.mark.parametrize("part", [0, 1], ids=["light", "dark"])
 def test_colours_of_the_style(part: int) -> None:
-    """The letter in a head, which is its halo's colour, marks and texts."""
+    """Contrasts of heads' letters, marks and texts."""
     style = (TOP / "web" / "page" / "page.css").read_text(encoding="utf-8")
     text = style.split("@media (prefers-color-scheme: dark)")[part].split("* { box-sizing")[0]
     found: Dict[str, str] = dict(re.findall(r"--([a-z0-9-]+): #([0-9a-f]{6})", text))
@@ -132,7 +132,7 @@ def test_colours_of_the_style(part: int) -> None:
 
 @pytest.mark.usefixtures("scheme")
 def test_heads_have_halos(tab: Page) -> None:
-    """The frame of a head is seen beside its halo on each symbol."""
+    """A head's frame contrasts with its halo on each symbol."""
     view, rows = tab.open_machine(COUNTER), trace(tab.program, COUNTER, 18)
     assert {row.symbol(row.head) for row in rows} == set(range(10))
     assert view["high"] >= 12 and view["every"] == 1
@@ -145,7 +145,7 @@ def test_heads_have_halos(tab: Page) -> None:
 
 @pytest.mark.usefixtures("scheme")
 def test_marks_have_halos(tab: Page) -> None:
-    """A mark over cells of a pixel has a halo of the panel's colour."""
+    """A mark over cells of a pixel contrasts with its halo."""
     tab.open_machine(LATE)
     tab.click("fit")
     soon(lambda: tab.wait_until_drawn()["top"] == 0)
@@ -161,7 +161,7 @@ def test_marks_have_halos(tab: Page) -> None:
 
 @pytest.mark.usefixtures("scheme")
 def test_contrasts(tab: Page) -> None:
-    """All texts and controls that are seen."""
+    """Of all visible texts and controls."""
     tab.put("limits", "open", True)
     tab.open_list("1RB1LB_1LA1RZ", "1RB1LH_1LA1RZ", "1RA1RA halt 6 4", "1LB0LA_1RA---")
     for row in range(4):
@@ -172,7 +172,7 @@ def test_contrasts(tab: Page) -> None:
 
 
 def test_names_and_references(tab: Page) -> None:
-    """What is used has a name; ids that are named exist, and once; the chosen row exists or isn't named."""
+    """Controls have names, and references point at existing unique ids, also while rows scroll."""
     tab.open_list(*["1RA1RA"] * 500)
     assert not tab.js(NAMES, tab.command("Accessibility.getFullAXTree")["nodes"])
     assert not tab.js(REFERENCES)
@@ -186,7 +186,7 @@ def test_names_and_references(tab: Page) -> None:
 
 
 def test_live_text(tab: Page) -> None:
-    """Live text is told at most once a second and at the end; opening a row tells its verdict."""
+    """Announcements are at least a second apart; the end of a run and an opened verdict are announced."""
 
     def is_announced(words: str) -> bool:
         return any(words in text for _, text in tab.js("return window.live"))
@@ -207,7 +207,7 @@ def test_live_text(tab: Page) -> None:
 
 
 def test_page_sends_nothing(tab: Page) -> None:
-    """The browser refuses it, also in a worker; the page works all the same."""
+    """The policy blocks requests and scripts, also in workers, and the page still works."""
     policy = tab.js("return document.querySelector('meta[http-equiv]').content")
     assert "default-src 'none'" in policy and "connect-src" not in policy
     ends, violations = tab.wait_for_js(SEND)
@@ -222,7 +222,7 @@ def test_page_sends_nothing(tab: Page) -> None:
 
 
 def test_row_fits_at_a_desk(tab: Page) -> None:
-    """At a desk's width the list has room for 34 characters and a `translated` verdict."""
+    """A machine of 34 characters and a `translated` verdict fit."""
     tab.plan({}, "check", True)
     tab.open_list(CHAMPION + " translated R 1234 5678 12 34", "1RB1LB_1LA1RZ halt 7")
     assert not tab.js(CLIPPED)
@@ -231,8 +231,7 @@ def test_row_fits_at_a_desk(tab: Page) -> None:
 @pytest.mark.slow
 @pytest.mark.parametrize("width, height", [(390, 844), (320, 640)])
 def test_narrow_page(page: pathlib.Path, bb: str, tmp_path: pathlib.Path, width: int, height: int) -> None:
-    """Nothing is wider than the page, and rows have two lines; a line is chosen by keys; on a narrow axis
-    there is room for the digits of all steps."""
+    """Nothing exceeds the width, rows have two lines, and the axis has room for long steps."""
     with Page(page, tmp_path, width, height, is_phone=True, program=bb) as phone:
         phone.open()
         phone.press("rows", Keys.ARROW_DOWN, Keys.ENTER)

@@ -1,4 +1,4 @@
-"""Diagrams of the page: their pixels, scaling, zooming, what is pointed at, and the tape below."""
+"""Diagrams: pixels, scaling, zooming and marks; the tape and the backward tree."""
 
 import base64
 import json
@@ -19,12 +19,12 @@ from support.page_times import PAUSE, end, steps_seen, traced_views, views
 from support.program import run_command
 
 TRANSLATED = "1LB0LA_1RA---"
-# The champion of four states, which goes to the right for ever in place of its halt.
+# The champion of four states, with an endless run to the right instead of its halt.
 LATE = "1RB1LB_1LA0LC_1RE1LD_1RD0RA_1RE1RE"
 TREE = "1RB1LB_1LA0RC_0LD1RC_---1LA"
-# A machine of four symbols, which halts after 3,932,964 steps.
+# A machine of four symbols; it halts after 3,932,964 steps.
 FOUR_SYMBOLS = "1RB2LA1RA1RA_1LB1LA3RB1RZ"
-# A machine without a verdict that visits more cells than it may.
+# Limits under which 1RA1RA is undecided and exceeds the cells.
 FEW_CELLS = "&steps=1000&cells=8&depth=2&cyclers=off&translated=off&backward=off"
 POINT = """
 const canvas = document.getElementById("diagram");
@@ -38,7 +38,7 @@ const box = canvas.getBoundingClientRect();
 canvas.dispatchEvent(new WheelEvent("wheel",
   { deltaY: -200, clientX: box.x + 300, clientY: box.y + 200, bubbles: true, cancelable: true }));
 """
-# The colours of the pixels at the left of the picture.
+# The number of colours left of the picture.
 AXES = """
 const pen = document.getElementById("diagram").getContext("2d");
 const data = pen.getImageData(0, 22, 76, 300).data;
@@ -57,7 +57,7 @@ return [...document.querySelectorAll("#tape-cells .cell")].filter((one) => !one.
 
 
 def questions(source: random.Random) -> List[Dict[str, int]]:
-    """Rows that are asked for one after another, some of which are among those before."""
+    """Return successive requests for rows; later ones repeat some rows."""
     every = source.choice([1, 2, 3, 4])
     begin = every * source.randrange(50)
     found = [{"from": begin, "every": every, "upto": begin + 600 * every}]
@@ -72,7 +72,7 @@ def questions(source: random.Random) -> List[Dict[str, int]]:
 @pytest.mark.needs("node")
 @pytest.mark.parametrize("count", [20, pytest.param(200, marks=pytest.mark.slow)])
 def test_kept_rows_are_those_of_the_program(bb: str, module: object, rng: random.Random, count: int) -> None:
-    """Also those that are picked out of others."""
+    """Also those selected from others."""
     machines = [seldom_halting(rng, rng.randint(2, 5), rng.randint(2, 10)) for _ in range(count)]
     asked = [(machine, questions(rng)) for machine in [CHAMPION, CHAMPION_OF_FOUR, LATE, TREE, *machines]]
     given = "".join(json.dumps({"machine": one, "cells": 512, "asked": rows}) + "\n" for one, rows in asked)
@@ -102,7 +102,7 @@ def test_kept_rows_are_those_of_the_program(bb: str, module: object, rng: random
     ],
 )
 def test_cells_have_their_colours(tab: Page, machine: str, upto: int, limits: str) -> None:
-    """Each cell of a diagram has its symbol's colour, or the head's."""
+    """Of their symbols, or the head's."""
     view, colours = tab.open_machine(machine, limits), tab.palette()
     wide, high, left = view["wide"], view["high"], view["left"]
     is_framed = wide >= 6 and high >= 6
@@ -120,7 +120,7 @@ def test_cells_have_their_colours(tab: Page, machine: str, upto: int, limits: st
 
 @pytest.fixture
 def sample(module: object, tmp_path: pathlib.Path) -> Any:
-    """A function that gives a step of a machine, by the engine's trace of that step alone."""
+    """A function that returns a row of a machine by the engine's trace of that step."""
     engine = Engine(tmp_path)
 
     def row(machine: str, step: int) -> Row:
@@ -133,7 +133,7 @@ def sample(module: object, tmp_path: pathlib.Path) -> Any:
 
 
 def require_means(tab: Page, source: random.Random, row: Row) -> None:
-    """In a view of a whole run the pixels of a row have the mean colours of its cells."""
+    """Require pixels of a row to have the mean colours of their cells."""
     view, colours = tab.wait_until_drawn(), tab.palette()
     across = int(view["across"])
     columns = [source.randrange(1, tab.size()[0] - int(view["x"]) - 40) for _ in range(40)]
@@ -153,7 +153,7 @@ def test_means_of_four_symbols(tab: Page, sample: Any, rng: random.Random) -> No
 
 @pytest.mark.slow
 def test_whole_run_of_the_champion(tab: Page, sample: Any, rng: random.Random) -> None:
-    """It is seen whole: a pixel has the mean colour of its cells."""
+    """The view shows all steps and cells; a pixel has the mean colour of its cells."""
     view, shown = tab.open_machine(CHAMPION, "&steps=50000000"), tab.text("diagram-text")
     every = int(view["every"])
     assert "mean colour of %d cells" % view["across"] in shown and "all of 12,289 visited cells" in shown
@@ -165,7 +165,7 @@ def test_whole_run_of_the_champion(tab: Page, sample: Any, rng: random.Random) -
 
 
 def test_resized_window_shows_the_whole(tab: Page) -> None:
-    """A window of another width, as of a phone that is turned; a chosen view stays."""
+    """A chosen view stays."""
 
     def resize(width: int) -> Dict[str, float]:
         before = tab.size()[0]
@@ -187,7 +187,7 @@ def test_resized_window_shows_the_whole(tab: Page) -> None:
 
 @pytest.mark.slow
 def test_zoom_to_single_cells_and_back(tab: Page) -> None:
-    """From a glance at 10^7 steps to 100 steps in a few gestures, at the head; and back to the whole."""
+    """From 10^7 steps to 100 at the head in at most nine gestures."""
     whole, gestures = tab.open_machine(CHAMPION, "&steps=10000000"), 0
     assert steps_seen(tab) >= 10**7
     tab.click("fit")
@@ -209,8 +209,7 @@ def test_zoom_to_single_cells_and_back(tab: Page) -> None:
 @pytest.mark.slow
 @pytest.mark.timing
 def test_views_are_drawn_soon(tab: Page) -> None:
-    """Views are drawn sooner, most of them from rows that are kept, than those of which none are; and the
-    page stands still for less."""
+    """Views from cached rows are faster than traced ones, and block the page for less."""
     taken, traced = views(tab, PAUSE), traced_views(tab, PAUSE)
     assert len(taken) > 6 and steps_seen(tab) < 10**7
     last = end(tab)
@@ -223,7 +222,7 @@ def test_views_are_drawn_soon(tab: Page) -> None:
 
 
 def test_wheel_zooms_at_the_pointer(tab: Page) -> None:
-    """After a click: the step under it stays there."""
+    """If the picture has the focus: the step under the pointer stays."""
     before = tab.open_machine(CHAMPION, "&steps=10000000")
     tab.js(TURN)
     assert tab.wait_until_drawn() == before
@@ -238,7 +237,7 @@ def test_wheel_zooms_at_the_pointer(tab: Page) -> None:
 
 @pytest.mark.slow
 def test_going_to_a_step(tab: Page, sample: Any) -> None:
-    """It shows its cells and its tape."""
+    """The diagram shows its cells, and the tape its row."""
     tab.open_machine(CHAMPION, "&steps=50000000")
     tab.go_to("47,176,860")
     tab.until(lambda: "47,176,860" in tab.text("tape-text"))
@@ -253,7 +252,7 @@ def test_going_to_a_step(tab: Page, sample: Any) -> None:
 
 
 def tape_words(row: Row) -> str:
-    """What the page says of a step, as far as where the head is."""
+    """Return the beginning of the tape's description of a row."""
     symbol = row.read(row.head)
     return "Step {:,}: state {} reads {} at position {}".format(
         row.step, row.state, symbol, format_number(row.head)
@@ -261,7 +260,7 @@ def tape_words(row: Row) -> str:
 
 
 def require_tape(tab: Page, row: Row) -> None:
-    """The tape shows a row: its cells, what is said of it, and the entry that is used next."""
+    """Require the tape to show a row's cells, description and next entry."""
     symbol = row.read(row.head)
     entry = CHAMPION_OF_FOUR.split("_")[ord(row.state) - ord("A")][3 * symbol : 3 * symbol + 3]
     assert tab.text("tape-text").startswith("%s; %s:" % (tape_words(row), entry))
@@ -272,7 +271,7 @@ def require_tape(tab: Page, row: Row) -> None:
 
 @pytest.mark.slow
 def test_tape_goes_step_by_step(tab: Page) -> None:
-    """On and back, by buttons and keys; it plays, or steps where that is wanted."""
+    """By buttons and keys. With reduced motion it steps instead of playing."""
     tab.open_machine(CHAMPION_OF_FOUR)
     for row in trace(tab.program, CHAMPION_OF_FOUR, 107)[:60]:
         assert tab.tape_is_at("%d:" % row.step)
@@ -300,7 +299,7 @@ def test_tape_goes_step_by_step(tab: Page) -> None:
 
 @pytest.mark.parametrize("keys", [[Keys.END], [Keys.HOME, *[Keys.ARROW_RIGHT] * 7], [Keys.HOME, Keys.END]])
 def test_tape_ends_where_the_cells_do(tab: Page, keys: List[str]) -> None:
-    """The tape plays no farther than the limit of cells lets a run go."""
+    """The tape ends where the limit of cells ends the run."""
     tab.open_machine("1RA1RA", FEW_CELLS)
     assert "the limit of cells ends the trace" in tab.text("diagram-text")
     tab.press("tape", *keys)
@@ -312,7 +311,7 @@ def test_tape_ends_where_the_cells_do(tab: Page, keys: List[str]) -> None:
 
 @pytest.mark.slow
 def test_tape_plays_once_its_row_is_there(tab: Page) -> None:
-    """Also where it is to play from a step whose row takes long."""
+    """From a step whose row takes long."""
     tab.open_machine(CHAMPION, "&steps=50000000")
     assert tab.tape_is_at("0:")
     tab.put("tape-step", "value", "47000000")
@@ -324,7 +323,7 @@ def test_tape_plays_once_its_row_is_there(tab: Page) -> None:
 
 
 def test_place_under_the_pointer(tab: Page) -> None:
-    """What is shown there, and of what keys point at: step, state, position, symbol."""
+    """Its description, and that of the cell under the keyboard cursor."""
     view = tab.open_machine(CHAMPION_OF_FOUR)
     for row in trace(tab.program, CHAMPION_OF_FOUR, 107)[::7]:
         for at in range(row.low, row.low + len(row.cells)):
@@ -340,7 +339,7 @@ def test_place_under_the_pointer(tab: Page) -> None:
 
 
 def test_stretch_of_a_translated_cycler(tab: Page) -> None:
-    """It is outlined where its line says."""
+    """Its cells are outlined."""
     line = tab.program_output("decide", {}, TRANSLATED.encode()).decode().split()
     first, second, _, length = map(int, line[3:])
     view, mark = tab.open_machine(TRANSLATED), tab.colour("--mark")
@@ -356,8 +355,7 @@ def test_stretch_of_a_translated_cycler(tab: Page) -> None:
 
 @pytest.mark.slow
 def test_late_marks_are_in_view(tab: Page) -> None:
-    """Records that agree late are in view when the verdict opens, apart from each other; the whole is a key
-    away."""
+    """The view opens on them, apart from each other."""
     line = tab.program_output("decide", {}, LATE.encode()).decode().split()
     first, second = int(line[3]), int(line[4])
     assert second - first < second / 40
@@ -371,7 +369,7 @@ def test_late_marks_are_in_view(tab: Page) -> None:
 
 
 def test_levels_of_a_tree(tab: Page) -> None:
-    """They and the nodes are those of the line, and the page says nothing of a difference."""
+    """The page draws the levels and nodes of the line."""
     tab.open("#machine=" + TREE)
     levels, nodes = tab.program_output("decide", {}, TREE.encode()).decode().split()[2:]
     script = "return [...document.querySelectorAll('.level')].map((one) => Number(one.dataset.count))"

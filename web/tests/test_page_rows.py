@@ -23,12 +23,12 @@ def machines(tab: Page) -> List[str]:
 
 
 def is_marked(tab: Page, machine: str) -> bool:
-    """Whether this machine is open, and its line alone is highlighted."""
+    """Return whether this machine is open, and its row alone is highlighted."""
     return bool(tab.text("machine-text") == machine and tab.js(CHOSEN) == [machine])
 
 
 def test_first_line_is_opened(tab: Page) -> None:
-    """The first line of each list is opened, also where lines of later pieces come before it."""
+    """Also if other lines are answered before it."""
     for machine in ("1RA1RA", LONG):
         tab.open_list(machine, HALT)
         assert is_marked(tab, machine)
@@ -37,7 +37,7 @@ def test_first_line_is_opened(tab: Page) -> None:
 
 
 def test_chosen_line_stays(tab: Page) -> None:
-    """The open line stays highlighted in another order; from a hidden one `p` goes on."""
+    """In another order, and among hidden kinds for `p`."""
     tab.open_list(*LINES)
     tab.open_row(1)
     tab.js(ORDERS, ["down"])
@@ -53,7 +53,7 @@ def test_chosen_line_stays(tab: Page) -> None:
 
 
 def test_buttons_of_kinds_stay(tab: Page) -> None:
-    """So a click or the focus isn't lost."""
+    """Buttons are reused, so clicks and focus aren't lost."""
     tab.js("window.chip = document.getElementById('kind-halt')")
     tab.open_list(HALT, HALT)
     assert tab.js("return window.chip === document.getElementById('kind-halt')")
@@ -61,7 +61,7 @@ def test_buttons_of_kinds_stay(tab: Page) -> None:
 
 
 def test_last_order_counts(tab: Page) -> None:
-    """Of two orders that are chosen at once the second one is shown."""
+    """Of two orders chosen at once."""
     tab.open_list(*LINES)
     tab.js(ORDERS, ["down", "list"])
     time.sleep(1)
@@ -69,7 +69,7 @@ def test_last_order_counts(tab: Page) -> None:
 
 
 def test_sorted_list_opens_its_first_line(tab: Page) -> None:
-    """In an order by steps, too, the first line of a list is opened and highlighted."""
+    """The first of the list, not of the order."""
     tab.js(ORDERS, ["down"])
     tab.open_list("1RA1RA", HALT)
     assert soon(lambda: machines(tab) == [HALT, "1RA1RA"] and is_marked(tab, "1RA1RA"))
