@@ -2,11 +2,9 @@
  * Reads a line of a list: its machine and the text around it, or a refusal. A machine is accepted only if one
  * reading is possible, and every rewriting is reported. The Python package's reader has the same tests.
  *
- * @typedef {import("./tokens.mjs").Text} Text
- * @typedef {import("./tokens.mjs").Word} Word
  * @typedef {import("./machine-parser.mjs").ParsedMachine} ParsedMachine
  * @typedef {import("./machine-parser.mjs").Reason} Reason
- * @typedef {[Text, ParsedMachine | Reason]} Read a text of the line and its reading
+ * @typedef {[tokens.Text, ParsedMachine | Reason]} Read a text of the line and its reading
  * @typedef {ParsedMachine & {kind: "machine", before: string, behind: string}} Machine
  * @typedef {Reason & {kind: "refusal"}} Refusal
  * @typedef {Machine | Refusal | {kind: "nothing"}} Reading
@@ -184,7 +182,7 @@ function readTexts(/** @type {string} */ line) {
 }
 
 /** Explains that a text is the line of one state, if the state's letter precedes it. */
-function findStateLine(/** @type {string} */ line, /** @type {Text} */ text) {
+function findStateLine(/** @type {string} */ line, /** @type {tokens.Text} */ text) {
   const group = tokens.joinWords(text);
   const isOther = group.includes("_") || text.arrays.length > 0 || text.isAddress;
   const found = isOther ? null : STATE.exec(line.slice(0, text.begin));
@@ -197,7 +195,7 @@ function findStateLine(/** @type {string} */ line, /** @type {Text} */ text) {
 }
 
 /** Explains a line without entries. */
-function explainNoText(/** @type {string} */ line, /** @type {Word[]} */ rows) {
+function explainNoText(/** @type {string} */ line, /** @type {tokens.Word[]} */ rows) {
   const rule = rows.find(({ text }) => text.length >= 6 || text === line.trim());
   if (rule !== undefined) {
     const what = rule.text.includes("-") ? "dashes" : "dots";
@@ -213,7 +211,7 @@ function explainNoText(/** @type {string} */ line, /** @type {Word[]} */ rows) {
 }
 
 /** @returns {Read[] | Reason} the text's reading, or those of its words if each is a machine */
-function readText(/** @type {Text} */ text) {
+function readText(/** @type {tokens.Text} */ text) {
   if (!text.isLast) {
     return reasonOf("none", NO_MACHINE, text.words[0].begin + 1);
   }
@@ -242,7 +240,7 @@ function readText(/** @type {Text} */ text) {
 }
 
 /** Explains a word that is a machine both with and without the dots at an end. */
-function findAmbiguousDots(/** @type {Word} */ { begin, text }) {
+function findAmbiguousDots(/** @type {tokens.Word} */ { begin, text }) {
   const isFound = (/** @type {string} */ part) =>
     part !== "" && "machine" in parseWords([{ begin, text: part }]);
   const [head, tail] = [text.slice(0, -3), text.slice(3)];
@@ -266,7 +264,7 @@ function selectMachine(/** @type {Read[]} */ found) {
     return /** @type {Reason} */ (longest[1]);
   }
   const isSetApart = read.every(([text]) => tokens.joinWords(text).includes("_"));
-  const isIgnored = (/** @type {Text} */ text) => isSetApart && tokens.isLoneEntry(text);
+  const isIgnored = (/** @type {tokens.Text} */ text) => isSetApart && tokens.isLoneEntry(text);
   const others = found.filter(([text, outcome]) => !("machine" in outcome) && !isIgnored(text));
   const { machine } = /** @type {ParsedMachine} */ (read[0][1]);
   const name = tokens.abbreviate(machine);

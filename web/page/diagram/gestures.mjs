@@ -11,8 +11,6 @@ const MOST_NOTCHES = 3;
 // Shorter movements are clicks.
 const CLICK_PIXELS = 4;
 
-/** @typedef {import("./viewport.mjs").Point} Point */
-
 export class Gestures {
   /**
    * @param {import("./diagram.mjs").Diagram} diagram
@@ -21,8 +19,8 @@ export class Gestures {
   constructor(diagram, tell) {
     this.diagram = diagram;
     this.report = tell;
-    /** @type {Map<number, Point>} in the window; the mouse is a finger */
-    this.fingers = new Map();
+    // In the window; the mouse is a finger.
+    this.fingers = /** @type {Map<number, import("./viewport.mjs").Point>} */ (new Map());
     this.moved = 0;
     /** The view, the middle between the fingers in the canvas, and their distance. */
     this.start = this.startGesture();

@@ -2,7 +2,6 @@
  * Paints a diagram: picture, heads, axes and marks.
  *
  * @typedef {import("./diagram.mjs").Picture} Picture
- * @typedef {import("./geometry.mjs").Place} Place
  * @typedef {{step: number, from: number | null, to: number | null, label: string}} Band cells of a row
  * @typedef {{bands: Band[], arrow: boolean}} Mark
  * @typedef {{x: number, y: number, wide: number, high: number}} Box
@@ -145,7 +144,7 @@ export class Painter {
   }
 
   /** Outlines the pointer of the keys. */
-  paintPlace(/** @type {Place} */ { step, position }) {
+  paintPlace(/** @type {import("./geometry.mjs").Place} */ { step, position }) {
     const [wide, high] = [this.view.wide, this.view.high].map((pixels) => Math.max(5, pixels));
     const box = { x: this.xOf(position), y: this.yOf(step), wide, high };
     this.outline(box, colourOf("--panel"), 4, -2);
