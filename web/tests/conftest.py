@@ -5,8 +5,9 @@ import pathlib
 from typing import Any, Dict, Iterator
 
 import pytest
-from support import TOP
+from support import TOP, require
 from support.browser import Page
+from support.node import Engine
 
 
 @pytest.fixture(scope="module")
@@ -23,6 +24,17 @@ def tab(browser: Page) -> Iterator[Page]:
     yield browser
     assert not browser.requests()
     assert not browser.errors()
+
+
+@pytest.fixture(scope="module")
+def engine(module: pathlib.Path, tmp_path_factory: pytest.TempPathFactory) -> Iterator[Engine]:
+    """The engine in a Node process."""
+    require("node")
+    opened = Engine(tmp_path_factory.mktemp("engine"), module)
+    if opened.about.get("unsupported"):
+        pytest.skip("this Node has no vectors; Node 16.4 or later has (package nodejs)")
+    yield opened
+    opened.end()
 
 
 @pytest.fixture(params=["light", "dark"])

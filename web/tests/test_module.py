@@ -4,7 +4,7 @@ import itertools
 import pathlib
 import random
 import re
-from typing import Any, Dict, Iterator, List, Tuple
+from typing import Any, Dict, List, Tuple
 
 import pytest
 from support import TOP
@@ -43,16 +43,6 @@ class Both:
         wanted = run_command([self.program, name, *words_of_plan(plan)], given)
         assert (reply.status, reply.reply) == (wanted.status, wanted.output), (name, plan, reply.answer)
         return reply
-
-
-@pytest.fixture(scope="module")
-def engine(module: pathlib.Path, tmp_path_factory: pytest.TempPathFactory) -> Iterator[Engine]:
-    """The engine in a Node process."""
-    opened = Engine(tmp_path_factory.mktemp("engine"), module)
-    if opened.about.get("unsupported"):
-        pytest.skip("this Node has no vectors; Node 16.4 or later has (package nodejs)")
-    yield opened
-    opened.end()
 
 
 @pytest.fixture

@@ -2,21 +2,17 @@
 
 import base64
 import json
-import pathlib
 import random
 import re
-import subprocess
 import time
-from typing import Any, Dict, List, Tuple
+from typing import Callable, Dict, List
 
 import pytest
-from support import TOP
 from support.browser import HEAD, Page, Row, format_number, soon, trace
 from support.gestures import Keys, cell_at, place_of
 from support.machines import CHAMPION, CHAMPION_OF_FOUR, seldom_halting
 from support.node import Engine
 from support.page_times import PAUSE, end, steps_seen, traced_views, views
-from support.program import run_command
 
 TRANSLATED = "1LB0LA_1RA---"
 # The champion of four states, with an endless run to the right instead of its halt.
@@ -56,7 +52,7 @@ return [...document.querySelectorAll("#tape-cells .cell")].filter((one) => !one.
 """
 
 
-def questions(source: random.Random) -> List[Dict[str, int]]:
+def row_requests(source: random.Random) -> List[Dict[str, int]]:
     """Return successive requests for rows; later ones repeat some rows."""
     every = source.choice([1, 2, 3, 4])
     begin = every * source.randrange(50)
@@ -69,27 +65,26 @@ def questions(source: random.Random) -> List[Dict[str, int]]:
     return found
 
 
-@pytest.mark.needs("node")
 @pytest.mark.parametrize("count", [20, pytest.param(200, marks=pytest.mark.slow)])
-def test_kept_rows_are_those_of_the_program(bb: str, module: object, rng: random.Random, count: int) -> None:
+def test_kept_rows_are_those_of_the_program(bb: str, engine: Engine, rng: random.Random, count: int) -> None:
     """Also those selected from others."""
     machines = [seldom_halting(rng, rng.randint(2, 5), rng.randint(2, 10)) for _ in range(count)]
-    asked = [(machine, questions(rng)) for machine in [CHAMPION, CHAMPION_OF_FOUR, LATE, TREE, *machines]]
-    given = "".join(json.dumps({"machine": one, "cells": 512, "asked": rows}) + "\n" for one, rows in asked)
-    command = ["node", str(TOP / "web/tests/row_cache.mjs"), str(module)]
-    replies = [json.loads(line) for line in run_command(command, given.encode()).output.splitlines()]
-    assert len(replies) == len(asked)
-    for (machine, rows), reply in zip(asked, replies):
+    machines += [CHAMPION, CHAMPION_OF_FOUR, LATE, TREE]
+    known = 0
+    for machine in machines:
+        requests = row_requests(rng)
+        plan = {"cells": 512, "requests": requests, "last": 5_000}
+        reply = json.loads(engine.call("rows", plan, machine.encode()).reply)
         run = {row.step: row for row in trace(bb, machine, 5_000, 512)}
-        for one, found in zip(rows, reply["lines"]):
+        for one, found in zip(requests, reply["lines"]):
             steps = range(one["from"], one["upto"] + 1, one["every"])
             wanted = ["%d %s %d %d %s" % run[step] for step in steps if step in run]
             assert found == wanted, (machine, one)
         end = max(run.values())
         assert reply["last"] == [end.step, end.low, len(end.cells)], machine
-    known = sum(reply["known"] for reply in replies)
-    print("%d machines; %d questions needed no trace" % (len(asked), known))
-    assert known > 2 * len(asked)
+        known += reply["known"]
+    print("%d machines; %d requests needed no trace" % (len(machines), known))
+    assert known > 2 * len(machines)
 
 
 @pytest.mark.parametrize(
@@ -119,17 +114,15 @@ def test_cells_have_their_colours(tab: Page, machine: str, upto: int, limits: st
 
 
 @pytest.fixture
-def sample(module: object, tmp_path: pathlib.Path) -> Any:
+def sample(engine: Engine) -> Callable[[str, int], Row]:
     """A function that returns a row of a machine by the engine's trace of that step."""
-    engine = Engine(tmp_path)
 
     def row(machine: str, step: int) -> Row:
         reply = engine.call("trace", {"steps": step, "from": step, "every": 1}, machine.encode())
         _, state, head, low, cells = reply.reply.decode().split()
         return Row(step, state, int(head), int(low), cells)
 
-    yield row
-    engine.end()
+    return row
 
 
 def require_means(tab: Page, source: random.Random, row: Row) -> None:
@@ -144,7 +137,7 @@ def require_means(tab: Page, source: random.Random, row: Row) -> None:
         assert all(abs(a - b) <= 1 for a, b in zip(pixel, means)), (row.step, x)
 
 
-def test_means_of_four_symbols(tab: Page, sample: Any, rng: random.Random) -> None:
+def test_means_of_four_symbols(tab: Page, sample: Callable[[str, int], Row], rng: random.Random) -> None:
     view = tab.open_machine(FOUR_SYMBOLS, "&steps=3000000")
     assert view["across"] > 1
     for number in (60, 200, 400):
@@ -152,7 +145,7 @@ def test_means_of_four_symbols(tab: Page, sample: Any, rng: random.Random) -> No
 
 
 @pytest.mark.slow
-def test_whole_run_of_the_champion(tab: Page, sample: Any, rng: random.Random) -> None:
+def test_whole_run_of_the_champion(tab: Page, sample: Callable[[str, int], Row], rng: random.Random) -> None:
     """The view shows all steps and cells; a pixel has the mean colour of its cells."""
     view, shown = tab.open_machine(CHAMPION, "&steps=50000000"), tab.text("diagram-text")
     every = int(view["every"])
@@ -236,7 +229,7 @@ def test_wheel_zooms_at_the_pointer(tab: Page) -> None:
 
 
 @pytest.mark.slow
-def test_going_to_a_step(tab: Page, sample: Any) -> None:
+def test_going_to_a_step(tab: Page, sample: Callable[[str, int], Row]) -> None:
     """The diagram shows its cells, and the tape its row."""
     tab.open_machine(CHAMPION, "&steps=50000000")
     tab.go_to("47,176,860")
