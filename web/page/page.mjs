@@ -161,23 +161,19 @@ function addListeners() {
   addEventListener("pagehide", () => input.store());
 }
 
-function start() {
-  createFields();
-  fillExampleMenu();
-  listenToFiles(useFile, (text) => {
-    input.resetExample();
-    input.setText(text);
-  });
-  addListeners();
-  if (isSupported()) {
-    openLink(isReload());
-  } else {
-    showError(
-      "This browser’s WebAssembly has no vectors (SIMD), which the engine needs, so nothing can be decided " +
-        "here. Chromium 156 is known to have them.",
-    );
-    /** @type {HTMLButtonElement} */ (byId("run")).disabled = true;
-  }
+createFields();
+fillExampleMenu();
+listenToFiles(useFile, (text) => {
+  input.resetExample();
+  input.setText(text);
+});
+addListeners();
+if (isSupported()) {
+  openLink(isReload());
+} else {
+  showError(
+    "This browser’s WebAssembly has no vectors (SIMD), which the engine needs, so nothing can be decided " +
+      "here. Chromium 156 is known to have them.",
+  );
+  /** @type {HTMLButtonElement} */ (byId("run")).disabled = true;
 }
-
-start();
