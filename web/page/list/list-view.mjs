@@ -7,8 +7,6 @@ import { RowTable } from "./row-table.mjs";
 // The performance mark of the first verdict.
 const FIRST_VERDICT = "first verdict";
 
-/** @typedef {import("./results.mjs").Results} Results */
-
 export class ListView {
   /**
    * @param {import("../machine/machine-view.mjs").MachineView} view
@@ -16,11 +14,7 @@ export class ListView {
    */
   constructor(view, work) {
     this.view = view;
-    view.replaceRow = (by, plan) => {
-      const isIn = this.replaceOpenRow(by, plan);
-      isIn && work.show();
-      return isIn;
-    };
+    view.replaceRow = (by, plan) => this.replaceOpenRow(by, plan);
     this.work = work;
     work.onShow = () => this.show();
     this.rows = new RowTable((row) => this.openRow(row, true));
@@ -58,7 +52,7 @@ export class ListView {
     this.showKinds();
     this.showRows();
     const { results, isRunning } = this.work;
-    this.refreshOpen(results);
+    this.refreshOpen();
     if (!this.wasOpened && results.lines > 0 && (results.hasFirstLine ? !results.isWaiting(0) : !isRunning)) {
       this.rows.choose(0, false);
       this.openRow(this.rows.rows[0] ?? 0, false);
@@ -73,19 +67,20 @@ export class ListView {
    * @param {import("../../worker/worker.mjs").Part} by @param {Record<string, any>} plan
    */
   replaceOpenRow(by, plan) {
-    const { openLine } = this;
-    const { results } = this.work;
+    const { openLine, work: { results } } = this;
     const row = openLine?.part.lines === null ? results.rowOf(openLine) : -1;
     if (row >= 0) {
       results.replace(Uint32Array.of(row), by, results.planNumber(plan));
       this.openText = results.rowAt(row).verdict.text;
+      this.work.show();
     }
     return row >= 0;
   }
 
   /** Updates the open line if the second pass has changed its verdict. */
-  refreshOpen(/** @type {Results} */ results) {
-    const row = this.openLine === null ? -1 : results.rowOf(this.openLine);
+  refreshOpen() {
+    const { openLine, work: { results } } = this;
+    const row = openLine === null ? -1 : results.rowOf(openLine);
     if (row >= 0 && !results.isWaiting(row) && this.openText !== results.rowAt(row).verdict.text) {
       this.openRow(row, false);
     }
@@ -126,16 +121,16 @@ export class ListView {
       this.rows.showRows(results, rows, true);
     }
     if (isSorted) {
-      this.showSorted(results, rows.slice(), order === "down");
+      this.showSorted(rows.slice(), order === "down");
     }
   }
 
   /**
    * Sorts rows by steps in a worker, and shows them unless others are shown meanwhile.
-   * @param {Results} results @param {Uint32Array} rows @param {boolean} down
+   * @param {Uint32Array} rows @param {boolean} down
    */
-  async showSorted(results, rows, down) {
-    const { turn } = this;
+  async showSorted(rows, down) {
+    const { turn, work: { results } } = this;
     const isLast = () => turn === this.turn && results === this.work.results;
     const steps = await results.stepsOf(rows, isLast);
     if (isLast()) {
