@@ -1,5 +1,6 @@
 """The page writes the program's bytes; its size, links and stops."""
 
+import base64
 import functools
 import http.server
 import pathlib
@@ -38,8 +39,12 @@ def test_size(page: pathlib.Path) -> None:
 
 
 def test_first_verdict_and_first_list(tab: Page) -> None:
-    """The opening list, and the README's first run."""
+    """The opening list with its diagram, and the README's first run."""
     assert "halts after 6 steps" in tab.text("machine-says")
+    tab.wait_until_drawn()
+    tab.until(lambda: "The row above shows it." in tab.text("behind"))
+    png = tab.js("return document.getElementById('diagram').toDataURL('image/png')").split(",")[1]
+    assert base64.b64decode(png).startswith(b"\x89PNG")
     assert tab.js("return performance.getEntriesByName('first verdict').length") == 1
     tab.require_same("decide", {}, README)
     tab.require_same("decide", {name: False for name in SWITCHES}, README)

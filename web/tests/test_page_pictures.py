@@ -1,6 +1,5 @@
 """Diagrams: pixels, scaling, zooming and marks; the tape and the backward tree."""
 
-import base64
 import json
 import random
 import re
@@ -238,10 +237,6 @@ def test_going_to_a_step(tab: Page, sample: Callable[[str, int], Row]) -> None:
     view, row = tab.wait_until_drawn(), sample(CHAMPION, 47_176_860)
     assert view["top"] <= 47_176_860 <= view["top"] + 400 / view["high"]
     assert tab.text("tape-text").startswith(tape_words(row))
-    tab.press("tape", Keys.END)
-    assert tab.tape_is_at("47,176,870: halted")
-    tab.go_to("many")
-    assert "whole number" in tab.text("tape-refused")
 
 
 def tape_words(row: Row) -> str:
@@ -369,10 +364,3 @@ def test_levels_of_a_tree(tab: Page) -> None:
     counts = tab.js(script)
     assert (len(counts), sum(counts)) == (int(levels), int(nodes))
     assert tab.js("return document.querySelector('#behind .error') === null")
-
-
-def test_picture_and_sentence_of_a_halt(tab: Page) -> None:
-    tab.open_machine("1RB1LB_1LA1RZ")
-    tab.until(lambda: "The row above shows it." in tab.text("behind"))
-    png = tab.js("return document.getElementById('diagram').toDataURL('image/png')").split(",")[1]
-    assert base64.b64decode(png).startswith(b"\x89PNG")
