@@ -104,10 +104,7 @@ function parseGroups(/** @type {Word[]} */ groups) {
   return parsed;
 }
 
-/**
- * Explains why a text of up to three characters is not an entry.
- * @param {string} text @param {number} number @param {number} place @param {boolean} isFollowed
- */
+/** @param {string} text @param {number} number @param {number} place @param {boolean} isFollowed by a group */
 function explainEntry(text, number, place, isFollowed) {
   const whole = text.length === 2 && isFollowed ? `${text}_` : text;
   if (LOST.test(whole)) {

@@ -50,10 +50,7 @@ let size = 1;
 // Milliseconds a line took in the batch before.
 let pace = Infinity;
 
-/**
- * Decides and checks a batch.
- * @param {Uint8Array} input @param {Pick<ListRequest, "mode" | "plan">} request
- */
+/** @param {Uint8Array} input @param {Pick<ListRequest, "mode" | "plan">} request */
 function answerBatch(input, { mode, plan }, starts = startsOf(input).slice()) {
   const { steps, cells, depth, nodes } = plan;
   const host = /** @type {Engine} */ (engine);

@@ -67,10 +67,7 @@ export class Results {
     return at >= 0 ? at : Math.min(MOST_PLANS, plans.push(plan) - 1);
   }
 
-  /**
-   * Replaces rows by the lines of a part, in the same order.
-   * @param {Uint32Array} rows in order @param {Part} by @param {number} plan its number
-   */
+  /** @param {Uint32Array} rows in order @param {Part} by its lines in the same order @param {number} plan */
   replace(rows, by, plan) {
     for (let first = 0; first < rows.length; ) {
       const { part, line } = this.placeOf(rows[first]);

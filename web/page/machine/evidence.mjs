@@ -115,10 +115,7 @@ function rowEvidence(/** @type {Verdict} */ verdict, /** @type {Row[]} */ rows) 
   return { bands, parts: [title, shownRows, note] };
 }
 
-/**
- * Compares the rows with the verdict.
- * @param {string} kind @param {Row[]} rows @param {Band[]} bands @param {number} score
- */
+/** @param {string} kind @param {Row[]} rows @param {Band[]} bands @param {number} score */
 function createComparison(kind, rows, bands, score) {
   const texts = rows.map((row, k) => (kind === "cycler" ? configurationOf(row) : stretchText(row, bands[k])));
   const nonzero = rows[0].cells.filter((symbol) => symbol !== 0).length;
@@ -142,10 +139,7 @@ function stretchText(/** @type {Row} */ row, /** @type {Band} */ { from, to }) {
   return row.state + Array.from({ length: to - from + 1 }, (_, k) => symbolAt(row, from + k)).join("");
 }
 
-/**
- * A row's step, state and cells, with the head and the agreeing cells marked.
- * @param {Row} row @param {Band} band @param {Row[]} rows @param {string} kind
- */
+/** @param {Row} row @param {Band} band its agreeing cells @param {Row[]} rows @param {string} kind */
 function createRowLine(row, band, rows, kind) {
   const side = kind === "translated" && band.from !== null ? row.head - rows[0].head : 0;
   const low = Math.min(...rows.map((one) => one.low - (side ? one.head - rows[0].head : 0)));
