@@ -15,7 +15,7 @@ from support.machines import CHAMPION, random_machines, seldom_halting
 from support.node import CallResult, Engine, documented_script
 from support.plans import FOUR, MOST, all_plans, random_plan
 from support.program import MAX_CELLS, SWITCHES, CommandResult, as_lines, processor_time, run_command
-from support.program import words_of_plan
+from support.program import plan_of, words_of_plan
 
 pytestmark = pytest.mark.needs("node")
 
@@ -23,6 +23,22 @@ Plan = Dict[str, Any]
 MOST_BYTES = 65_536
 LISTS = list(read_examples("decide", "check"))
 SMALL = {"steps": 100, "cells": 64, "depth": 20, "nodes": 100}
+REFUSED_LIMITS = (
+    "--steps 1000000000001, --cells 0, --cells 67108865, --depth 10001, --nodes 1000000000001, --cells 598, "
+    "--cells 0 --steps 10000000000000, --depth 10001 --nodes 10000000000000"
+)
+# Lines of LLVM IR with 64-bit pointers that are refused.
+WIDE = """
+@a = constant [1 x ptr] [ptr @b]
+  %a = alloca [2 x ptr], align 8
+  %a = alloca ptr, i64 2, align 8
+  %a = getelementptr ptr, ptr %b, i64 1
+  %a = inttoptr i64 %b to ptr
+  %a = insertvalue { ptr, i64 } %b, ptr %c, 0
+  %a = load <2 x ptr>, ptr %b, align 16
+  call void @a(ptr byval([8 x i8]) %b)
+  store { ptr, i64, i64 } %a, ptr %b, align 8
+"""
 # Bytes of memory for a small engine.
 MEMORY = 64 * 65_536
 
@@ -109,23 +125,11 @@ def test_noise(both: Both, rng: random.Random, name: str) -> None:
         both.require_same(name, {}, line)
 
 
-@pytest.mark.parametrize(
-    "plan",
-    [
-        {"steps": 10**12 + 1},
-        {"cells": 0},
-        {"cells": MAX_CELLS + 1},
-        {"depth": 10_001},
-        {"nodes": 10**12 + 1},
-        {"cells": 598},
-        {"cells": 0, "steps": 10**13},
-        {"depth": 10_001, "nodes": 10**13},
-    ],
-)
-def test_refused_limit(both: Both, plan: Plan) -> None:
+@pytest.mark.parametrize("words", REFUSED_LIMITS.split(", "))
+def test_refused_limit(both: Both, words: str) -> None:
     """The error has the program's message and names the limit."""
-    answer = both.engine.call("decide", plan, b"1RA1RA\n").answer
-    said = run_command([both.program, "decide", *words_of_plan(plan)]).error.decode()
+    answer = both.engine.call("decide", plan_of(words.split()), b"1RA1RA\n").answer
+    said = run_command([both.program, "decide", *words.split()]).error.decode()
     assert (answer["error"], answer["limit"]) == ("LimitsError", said[4:].split(" ")[0])
     assert said == "bb: %s\n" % answer["message"]
 
@@ -247,20 +251,7 @@ def test_narrowed_line(tmp_path: pathlib.Path, line: str, wanted: str) -> None:
     assert "|".join(one.strip() for one in text.splitlines()) == wanted
 
 
-@pytest.mark.parametrize(
-    "line",
-    [
-        "@a = constant [1 x ptr] [ptr @b]",
-        "  %a = alloca [2 x ptr], align 8",
-        "  %a = alloca ptr, i64 2, align 8",
-        "  %a = getelementptr ptr, ptr %b, i64 1",
-        "  %a = inttoptr i64 %b to ptr",
-        "  %a = insertvalue { ptr, i64 } %b, ptr %c, 0",
-        "  %a = load <2 x ptr>, ptr %b, align 16",
-        "  call void @a(ptr byval([8 x i8]) %b)",
-        "  store { ptr, i64, i64 } %a, ptr %b, align 8",
-    ],
-)
+@pytest.mark.parametrize("line", WIDE.strip("\n").split("\n"))
 def test_line_that_is_not_narrowed(tmp_path: pathlib.Path, line: str) -> None:
     """The line is refused with a message, and no file is written."""
     done, made = narrow(tmp_path, line)
