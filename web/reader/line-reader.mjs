@@ -292,11 +292,8 @@ function machineSpan(/** @type {string} */ line, /** @type {Read[]} */ read) {
   return isLink && line[address.end] === ")" ? [begin, address.end + 1] : [begin, end];
 }
 
-/** A span extended by the pairs of characters around it. */
+/** @returns {number[]} a span extended by the pairs of characters around it */
 function expandPairs(/** @type {string} */ line, /** @type {number} */ begin, /** @type {number} */ end) {
-  let [first, last] = [begin, end];
-  while (first > 0 && last < line.length && PAIRS.includes(line[first - 1] + line[last])) {
-    [first, last] = [first - 1, last + 1];
-  }
-  return [first, last];
+  const isEnclosed = PAIRS.includes(line.slice(Math.max(0, begin - 1), begin) + line.slice(end, end + 1));
+  return isEnclosed ? expandPairs(line, begin - 1, end + 1) : [begin, end];
 }
