@@ -113,7 +113,7 @@ function explainEntry(text, number, place, isFollowed) {
   }
   const hidden = findHidden(text);
   if (hidden >= 0) {
-    const name = codePointName(String.fromCodePoint(text.codePointAt(hidden) ?? 0));
+    const name = codePointName(text.slice(hidden));
     return reasonOf("hidden", `entry ${number} has ${name}, a character that doesn't show`, place + hidden);
   }
   return reasonOf("entry", `entry ${number} is no entry: ${text}`, place);
