@@ -8,7 +8,7 @@ from typing import Callable, Dict, List
 
 import pytest
 from support.browser import HEAD, Page, Row, format_number, soon, trace
-from support.gestures import Keys, cell_at, place_of
+from support.gestures import Keys, cell_at, place_of, send_mouse, window_point
 from support.machines import CHAMPION, CHAMPION_OF_FOUR, seldom_halting
 from support.node import Engine
 from support.page_times import PAUSE, end, steps_seen, traced_views, views
@@ -21,23 +21,11 @@ TREE = "1RB1LB_1LA0RC_0LD1RC_---1LA"
 FOUR_SYMBOLS = "1RB2LA1RA1RA_1LB1LA3RB1RZ"
 # Limits under which 1RA1RA is undecided and exceeds the cells.
 FEW_CELLS = "&steps=1000&cells=8&depth=2&cyclers=off&translated=off&backward=off"
-POINT = """
-const canvas = document.getElementById("diagram");
-const box = canvas.getBoundingClientRect();
-canvas.dispatchEvent(new PointerEvent("pointermove",
-  { clientX: box.x + arguments[0], clientY: box.y + arguments[1], bubbles: true }));
-"""
 TURN = """
 const canvas = document.getElementById("diagram");
 const box = canvas.getBoundingClientRect();
 canvas.dispatchEvent(new WheelEvent("wheel",
   { deltaY: -200, clientX: box.x + 300, clientY: box.y + 200, bubbles: true, cancelable: true }));
-"""
-# The number of colours left of the picture.
-AXES = """
-const pen = document.getElementById("diagram").getContext("2d");
-const data = pen.getImageData(0, 22, 76, 300).data;
-return new Set(Array.from({ length: data.length / 4 }, (_, k) => data.slice(4 * k, 4 * k + 3).join())).size;
 """
 GO_AND_PLAY = """
 const part = (name) => document.getElementById("tape-" + name);
@@ -216,9 +204,9 @@ def test_views_are_drawn_soon(tab: Page) -> None:
 def test_wheel_zooms_at_the_pointer(tab: Page) -> None:
     """If the picture has the focus: the step under the pointer stays."""
     before = tab.open_machine(CHAMPION, "&steps=10000000")
+    cell = cell_at(before, (300, 200))
     tab.js(TURN)
     assert tab.wait_until_drawn() == before
-    cell = cell_at(before, (300, 200))
     tab.js("document.getElementById('diagram').focus()")
     tab.js(TURN)
     tab.until(lambda: tab.wait_until_drawn() != before)
@@ -313,17 +301,17 @@ def test_tape_plays_once_its_row_is_there(tab: Page) -> None:
 def test_place_under_the_pointer(tab: Page) -> None:
     """Its description, and that of the cell under the keyboard cursor."""
     view = tab.open_machine(CHAMPION_OF_FOUR)
+    tab.scroll_to_diagram()
     for row in trace(tab.program, CHAMPION_OF_FOUR, 107)[::7]:
         for at in range(row.low, row.low + len(row.cells)):
-            x, y = place_of(view, row.step + 0.5, at + 0.5)
-            tab.js(POINT, x + 1, y + 1)
-            assert tab.text("place-text") == row.place_words(at)
+            place = window_point(tab, *place_of(view, row.step + 0.5, at + 0.5))
+            send_mouse(tab, "mouseMoved", place)
+            assert soon(lambda: tab.text("place-text") == row.place_words(at))
     tab.press("diagram", "0", *["+"] * 3, Keys.ARROW_DOWN, Keys.ARROW_DOWN, Keys.ARROW_RIGHT)
     tab.wait_until_drawn()
     assert "Step 2, state" in tab.text("place-text")
     tab.press("diagram", Keys.ENTER)
     assert tab.tape_is_at("2:")
-    assert tab.js(AXES) > 1
 
 
 def test_stretch_of_a_translated_cycler(tab: Page) -> None:
