@@ -104,7 +104,7 @@ function parseGroups(/** @type {Word[]} */ groups) {
   return parsed;
 }
 
-/** @param {string} text @param {number} number @param {number} place @param {boolean} isFollowed by a group */
+/** @param {string} text @param {number} number @param {number} place @param {boolean} isFollowed */
 function explainEntry(text, number, place, isFollowed) {
   const whole = text.length === 2 && isFollowed ? `${text}_` : text;
   if (LOST.test(whole)) {

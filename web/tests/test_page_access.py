@@ -36,7 +36,8 @@ const seen = (element) => element.checkVisibility() && element.getClientRects().
 const all = [...document.querySelectorAll("body *")].filter(seen);
 const hasText = (node) => node.nodeType === 3 && node.data.trim();
 const texts = all.filter((one) => [...one.childNodes].some(hasText));
-const controls = all.filter((one) => one.matches("button:not(:disabled), input[type=text], select, textarea"));
+const used = "button:not(:disabled), input[type=text], select, textarea";
+const controls = all.filter((one) => one.matches(used));
 const words = (one) => one.outerHTML.slice(0, 80);
 return [
   texts.map((one) => [parse(getComputedStyle(one).color), ground(one), words(one)]),

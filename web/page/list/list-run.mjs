@@ -103,7 +103,9 @@ export class ListRun {
     const holdouts = new Holdouts(results, rows, workers);
     this.startPool(workers, { mode: "decide", form: "machines", clean: false, plan }, {
       nextChunk: () => holdouts.next(),
-      part: (part) => results.replace(rows.subarray(part.first, part.first + part.kinds.length), part, number),
+      part: (part) => {
+        results.replace(rows.subarray(part.first, part.first + part.kinds.length), part, number);
+      },
       end: () => this.finish("Done"),
     });
   }

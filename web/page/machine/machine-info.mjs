@@ -73,7 +73,8 @@ export function normalForm(/** @type {string} */ text) {
   return text[1] === "L" ? mirrorImage(form) : form;
 }
 
-function completionsText(/** @type {About} */ { machine, verdict: { kind } }, /** @type {string} */ lastState) {
+/** @param {About} about @param {string} lastState the state of the run's last row */
+function completionsText({ machine, verdict: { kind } }, lastState) {
   if (!machine.includes("---")) {
     return "It has no undefined entry.";
   }
@@ -83,7 +84,8 @@ function completionsText(/** @type {About} */ { machine, verdict: { kind } }, /*
 /** A verdict's consequences for other starts than A on the blank tape. */
 function startsText(/** @type {Verdict} */ { kind, numbers: [levels] }) {
   return kind === "backward"
-    ? `From every state, at any position of any tape, it halts within ${formatCount(levels, "step")} or never.`
+    ? "From every state, at any position of any tape, it halts within " +
+        `${formatCount(levels, "step")} or never.`
     : "The verdict is about the start in A on the blank tape alone.";
 }
 
