@@ -55,15 +55,14 @@ function firstUses(/** @type {import("../../reader/machine.mjs").Machine} */ { s
     state = entry.next;
     found.add(state);
   }
-  return [...found];
+  return found;
 }
 
 /** The machine with states in the order of their first use, and the first move to the right. */
 export function normalForm(/** @type {string} */ text) {
   const machine = parseMachine(text);
   const { states, symbols, rules } = machine;
-  const used = firstUses(machine);
-  const order = [...used, ...Array.from({ length: states }, (_, k) => k).filter((k) => !used.includes(k))];
+  const order = [...new Set([...firstUses(machine), ...Array(states).keys()])];
   const groups = order.map((state) =>
     rules.slice(state * symbols, (state + 1) * symbols).map(({ entry }) => {
       return entryText(entry && { ...entry, next: entry.next < 0 ? -1 : order.indexOf(entry.next) });

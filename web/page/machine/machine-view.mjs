@@ -208,8 +208,7 @@ function sentenceOf(/** @type {About} */ { verdict, answer, isWaiting }) {
 
 /** A table with a row for each state and a column for each symbol. */
 function createTable(/** @type {import("../../reader/machine.mjs").Machine} */ machine) {
-  const column = (/** @type {number} */ symbol) => create("th", { scope: "col" }, String(symbol));
-  const symbols = Array.from({ length: machine.symbols }, (_, symbol) => column(symbol));
+  const symbols = Array.from({ length: machine.symbols }, (_, k) => create("th", { scope: "col" }, String(k)));
   const head = create("tr", {}, create("td", { "aria-label": "state and symbol" }), ...symbols);
   const rows = Array.from({ length: machine.states }, (_, state) => {
     const entries = machine.rules.slice(state * machine.symbols, (state + 1) * machine.symbols);
