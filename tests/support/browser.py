@@ -120,16 +120,15 @@ def format_number(number: int) -> str:
     return "{:,}".format(number).replace("-", "\u2212")
 
 
-def luminance(colour: Sequence[float]) -> float:
-    """Return the relative luminance of a colour by its channels, 0 to 255."""
-    parts = [part / 255 for part in colour[:3]]
-    linear = [part / 12.92 if part <= 0.03928 else ((part + 0.055) / 1.055) ** 2.4 for part in parts]
-    return float(sum(share * part for share, part in zip((0.2126, 0.7152, 0.0722), linear)))
-
-
 def contrast(one: Sequence[float], two: Sequence[float]) -> float:
-    """Return the contrast of two colours."""
-    high, low = sorted((luminance(one), luminance(two)), reverse=True)
+    """Return the contrast of two colours, by their channels from 0 to 255."""
+
+    def luminance(colour: Sequence[float]) -> float:
+        parts = [part / 255 for part in colour[:3]]
+        linear = [part / 12.92 if part <= 0.03928 else ((part + 0.055) / 1.055) ** 2.4 for part in parts]
+        return sum(share * part for share, part in zip((0.2126, 0.7152, 0.0722), linear))
+
+    high, low = sorted(map(luminance, (one, two)), reverse=True)
     return (high + 0.05) / (low + 0.05)
 
 
