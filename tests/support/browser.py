@@ -126,7 +126,7 @@ def contrast(one: Sequence[float], two: Sequence[float]) -> float:
     def luminance(colour: Sequence[float]) -> float:
         parts = [part / 255 for part in colour[:3]]
         linear = [part / 12.92 if part <= 0.03928 else ((part + 0.055) / 1.055) ** 2.4 for part in parts]
-        return sum(share * part for share, part in zip((0.2126, 0.7152, 0.0722), linear))
+        return float(sum(share * part for share, part in zip((0.2126, 0.7152, 0.0722), linear)))
 
     high, low = sorted(map(luminance, (one, two)), reverse=True)
     return (high + 0.05) / (low + 0.05)
