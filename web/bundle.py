@@ -12,7 +12,6 @@ nothing. The build is reproducible.
 import base64
 import hashlib
 import json
-import os
 import pathlib
 import shlex
 import subprocess
@@ -59,16 +58,16 @@ def source_of(text: str) -> str:
 
 def policy(script: str, style: str) -> str:
     """Return the content security policy: its own script, workers and engine, and no connections."""
-    allowed = {
-        "default-src": "'none'",
-        "script-src": source_of(script) + " 'wasm-unsafe-eval'",
-        "worker-src": "blob:",
-        "style-src": source_of(style),
-        "img-src": "data: blob:",
-        "base-uri": "'none'",
-        "form-action": "'none'",
-    }
-    return "; ".join("%s %s" % pair for pair in allowed.items())
+    allowed = [
+        "default-src 'none'",
+        "script-src %s 'wasm-unsafe-eval'" % source_of(script),
+        "worker-src blob:",
+        "style-src " + source_of(style),
+        "img-src data: blob:",
+        "base-uri 'none'",
+        "form-action 'none'",
+    ]
+    return "; ".join(allowed)
 
 
 def page_of(module: bytes) -> str:
@@ -83,23 +82,18 @@ def page_of(module: bytes) -> str:
         '<script type="text/plain" id="worker">%s</script>' % worker,
         '<script type="module">%s</script>' % script,
     ]
+    allowed = '<meta http-equiv="content-security-policy" content="%s">' % policy(script, style)
     text = (WEB / "page" / "page.html").read_text(encoding="utf-8")
-    parts = {
-        "policy": '<meta http-equiv="content-security-policy" content="%s">' % policy(script, style),
-        "style": "<style>%s</style>" % style,
-        "scripts": "\n".join(scripts),
-    }
     page = "\n".join(line.strip() for line in text.splitlines()) + "\n"
-    for place, part in parts.items():
-        page = page.replace("<!--%s-->" % place, part)
-    return page
+    page = page.replace("<!--policy-->", allowed).replace("<!--style-->", "<style>%s</style>" % style)
+    return page.replace("<!--scripts-->", "\n".join(scripts))
 
 
 def main() -> None:
     page = WEB / "out" / "bb.html"
     made = page.with_name(page.name + ".new")
     made.write_text(page_of((WEB / "out" / "bb.wasm").read_bytes()), encoding="utf-8")
-    os.replace(made, page)
+    made.replace(page)
 
 
 if __name__ == "__main__":

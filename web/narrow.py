@@ -11,7 +11,7 @@ end of 32-bit memory. Unknown forms of pointers are refused with exit status 1 a
 
 import re
 import sys
-from typing import Callable, Iterator, List, Match, NoReturn, Pattern, Tuple
+from typing import Iterator, List, NoReturn
 
 TARGET = 'target triple = "wasm32-unknown-unknown"\n'
 # Attributes of the original processor.
@@ -40,6 +40,7 @@ SAME = [
     r"declare %s %s%s #\d+" % (RESULT, NAME, ARGUMENTS),
     r"  ret (?:ptr|%s) %s" % (NUMBER, LOCAL),
     r"  %s = icmp (?:eq|ne) ptr %s, (?:%s|null)" % (LOCAL, LOCAL, LOCAL),
+    r"  %s = extractvalue \{ i\d+, i\d+ \} %s, [01]" % (LOCAL, LOCAL),
 ]
 KNOWN = re.compile("|".join("(?:%s)" % form for form in SAME))
 
@@ -53,53 +54,30 @@ def replace_pairs(line: str) -> str:
     return PAIR.sub(lambda pair: pair[0].replace("ptr", "i64"), line)
 
 
-def narrow_store(found: Match[str], at: str) -> List[str]:
-    """Store a pointer as a 64-bit number."""
-    value, place, rest = found.groups()
-    return ["  %s = ptrtoint ptr %s to i64" % (at, value), "  store i64 %s, ptr %s%s" % (at, place, rest)]
-
-
-def narrow_extract(found: Match[str], at: str) -> List[str]:
-    """Extract an element of a pair; pointers are numbers there."""
-    name, pair, value, which = found.groups()
-    kinds = PAIR.fullmatch(pair)
-    is_pointer = kinds is not None and kinds[int(which) + 1] == "ptr"
-    line = "  %s = extractvalue %s %s, %s" % (
-        at if is_pointer else name,
-        replace_pairs(pair),
-        value,
-        which,
-    )
-    return [line, "  %s = inttoptr i64 %s to ptr" % (name, at)] if is_pointer else [line]
-
-
-def narrow_alloca(found: Match[str], at: str) -> List[str]:
-    """Allocate 8 bytes for a local pointer."""
-    return ["  %s = alloca i64, align 8" % found[1]]
-
-
-def narrow_address(found: Match[str], at: str) -> List[str]:
-    """Convert a pointer to its address."""
-    return ["  %s = ptrtoint ptr %s to i64" % found.groups()]
-
-
-# Rewritten lines; the second argument is a fresh name.
-CHANGED: List[Tuple[Pattern[str], Callable[[Match[str], str], List[str]]]] = [
-    (re.compile(r"  store ptr (%s|%s|null), ptr (%s)%s" % (LOCAL, NAME, LOCAL, REST)), narrow_store),
-    (re.compile(r"  (%s) = extractvalue (\{ \w+, \w+ \}) (%s), ([01])" % (LOCAL, LOCAL)), narrow_extract),
-    (re.compile(r"  (%s) = alloca ptr, align 8" % LOCAL), narrow_alloca),
-    (re.compile(r"  (%s) = ptrtoaddr ptr (%s) to i64" % (LOCAL, LOCAL)), narrow_address),
-]
+# Rewritten lines, by the groups of their forms and a fresh name `%X`. A local pointer gets 8 bytes. Pointers
+# are stored, and extracted from pairs, as 64-bit numbers.
+CHANGED = {
+    rf"  store ptr ({LOCAL}|{NAME}|null), ptr ({LOCAL}){REST}": [
+        r"  %X = ptrtoint ptr \1 to i64",
+        r"  store i64 %X, ptr \2\3",
+    ],
+    rf"  ({LOCAL}) = extractvalue (\{{ ptr, \w+ \}} {LOCAL}, 0|\{{ \w+, ptr \}} {LOCAL}, 1)": [
+        r"  %X = extractvalue \2",
+        r"  \1 = inttoptr i64 %X to ptr",
+    ],
+    rf"  ({LOCAL}) = alloca ptr, align 8": [r"  \1 = alloca i64, align 8"],
+    rf"  ({LOCAL}) = ptrtoaddr ptr ({LOCAL}) to i64": [r"  \1 = ptrtoint ptr \2 to i64"],
+}
 
 
 def narrow_line(line: str, at: str) -> List[str]:
-    """Return the lines that do the same with 32-bit pointers."""
+    """Return the lines that do the same with 32-bit pointers; `at` is a fresh name."""
     if not POINTER.search(QUOTED.sub('""', line)):
         return [line]
-    for form, rewrite in CHANGED:
-        found = form.fullmatch(line)
+    for form, rewritten in CHANGED.items():
+        found = re.fullmatch(form, line)
         if found:
-            return rewrite(found, at)
+            return [replace_pairs(found.expand(one.replace("%X", at))) for one in rewritten]
     same = replace_pairs(line)
     if not KNOWN.fullmatch(same):
         refuse(line)

@@ -11,38 +11,14 @@ from support.program import GREATEST, run_command, options
 from support.second_checker import Claims, compare_answers, long_claims, quick_claims
 
 GIVEN = b"1RB1LB_1LA1RZ halt 6 4\n\n1RA1RA undecided steps\n------ halt 0 0"
-WORDS: List[List[str]] = [
-    ["--steps", "5"],
-    ["--steps=+5", "--cells", "009"],
-    options(GREATEST),
-    ["--depth", "3", "--cells", "5"],
-    ["--depth", "3", "--cells", "4"],
-    ["--steps", "1000000000001"],
-    ["--cells", "0"],
-    ["--cells", "67108865"],
-    ["--depth", "10001"],
-    ["--nodes", "1000000000001"],
-    ["--nodes", "99999999999999999999999999"],
-    ["--steps"],
-    ["--steps", "x"],
-    ["--steps", "0x10"],
-    ["--steps", "1_000"],
-    ["--steps="],
-    ["--steps", "-1"],
-    ["--steps", "1", "--steps", "2"],
-    ["--leaps", "5"],
-    ["--no-cyclers"],
-    ["-x"],
-    ["/no/such/file"],
-    ["/dev/null", "/dev/null"],
-    ["--", "/dev/null"],
-    ["--", "--steps"],
-    ["/"],
-    ["-"],
-    [""],
-    ["/dev/null"],
-    ["--help"],
-]
+# Command lines, separated by commas.
+LINES = (
+    "--steps 5, --steps=+5 --cells 009, --depth 3 --cells 5, --depth 3 --cells 4, --steps 1000000000001, "
+    "--cells 0, --cells 67108865, --depth 10001, --nodes 1000000000001, --nodes 99999999999999999999999999, "
+    "--steps, --steps x, --steps 0x10, --steps 1_000, --steps=, --steps -1, --steps 1 --steps 2, --leaps 5, "
+    "--no-cyclers, -x, /no/such/file, /dev/null /dev/null, -- /dev/null, -- --steps, /, -, /dev/null, --help"
+)
+WORDS: List[List[str]] = [options(GREATEST), [""], *(line.split(" ") for line in LINES.split(", "))]
 
 
 @pytest.mark.parametrize("words", WORDS, ids=" ".join)

@@ -9,7 +9,7 @@ import pathlib
 import signal
 import threading
 import time
-from typing import Any, Callable, Dict, List, NamedTuple, Optional, Tuple
+from typing import Any, Callable, Dict, List, NamedTuple, Optional, Sequence, Tuple
 
 from .program import LIMITS, SWITCHES, run_command, words_of_plan
 
@@ -57,17 +57,8 @@ canvas.dispatchEvent(new WheelEvent("wheel", {
   cancelable: true,
 }));
 """
-# The contrast of two CSS colours.
-CONTRAST = """
-const parse = (text) => (text.match(/[0-9.]+/g) ?? []).map(Number);
-const light = ([r, g, b]) => [r, g, b].map((part) => part / 255)
-  .map((part) => (part <= 0.03928 ? part / 12.92 : ((part + 0.055) / 1.055) ** 2.4))
-  .reduce((sum, part, k) => sum + part * [0.2126, 0.7152, 0.0722][k], 0);
-const contrast = (one, two) => {
-  const [a, b] = [light(one), light(two)].sort((x, y) => y - x);
-  return (a + 0.05) / (b + 0.05);
-};
-"""
+# Parses a CSS colour.
+COLOUR = "const parse = (text) => (text.match(/[0-9.]+/g) ?? []).map(Number);"
 PIXELS = """
 const pen = document.getElementById("diagram").getContext("2d");
 const { x, y, ratio } = pen.canvas.dataset;
@@ -127,6 +118,18 @@ class Row(NamedTuple):
 def format_number(number: int) -> str:
     """Format a number as the page does."""
     return "{:,}".format(number).replace("-", "\u2212")
+
+
+def contrast(one: Sequence[float], two: Sequence[float]) -> float:
+    """Return the contrast of two colours, by their channels from 0 to 255."""
+
+    def luminance(colour: Sequence[float]) -> float:
+        parts = [part / 255 for part in colour[:3]]
+        linear = [part / 12.92 if part <= 0.03928 else ((part + 0.055) / 1.055) ** 2.4 for part in parts]
+        return float(sum(share * part for share, part in zip((0.2126, 0.7152, 0.0722), linear)))
+
+    high, low = sorted(map(luminance, (one, two)), reverse=True)
+    return (high + 0.05) / (low + 0.05)
 
 
 def trace(program: str, machine: str, steps: int, cells: int = 65_536) -> List[Row]:
@@ -212,6 +215,11 @@ class Page:
         self.driver.get("file://" + self.path + link)
         self.wait_until_done()
 
+    def open_machine(self, machine: str, query: str = "") -> Dict[str, float]:
+        """Open a machine by a link with more parameters, and wait until its diagram is drawn."""
+        self.open("#machine=%s%s" % (machine, query))
+        return self.wait_until_drawn()
+
     def reload(self) -> None:
         """Reload the page, and wait for its list."""
         self.driver.refresh()
@@ -264,17 +272,14 @@ class Page:
 
     def choose_example(self, name: str) -> None:
         """Choose an example by its name, and wait for its results."""
-        script = (
-            "return [...document.getElementById('examples').options].find((one) => one.text === arguments[0])"
-        )
-        self.await_answer(lambda: self.choose_option("examples", self.js(script + ".value", name)))
+        names = "return [...document.getElementById('examples').options].map((one) => one.text)"
+        value = str(self.js(names).index(name) - 1)
+        self.await_answer(lambda: self.choose_option("examples", value))
 
     def dispatch(self, name: str, event: str) -> None:
         """Dispatch an event to an element."""
-        script = (
-            "document.getElementById(arguments[0]).dispatchEvent(new Event(arguments[1], { bubbles: true }))"
-        )
-        self.js(script, name, event)
+        script = "document.getElementById(arguments[0]).dispatchEvent(new Event(arguments[1], %s))"
+        self.js(script % "{ bubbles: true }", name, event)
 
     def await_answer(self, act: Callable[[], object]) -> None:
         """Run an action that starts a list, and wait for its results."""
@@ -282,12 +287,13 @@ class Page:
         act()
         self.wait_until_done()
 
-    def open_list(self, text: str) -> None:
-        """Type a list, removing a chosen file, and wait for its results."""
-        self.js(
-            "document.getElementById('file-shown').hidden || document.getElementById('file-remove').click()"
-        )
-        self.type("list", text)
+    def open_list(self, *lines: str, plan: Optional[Dict[str, Any]] = None, mode: str = "auto") -> None:
+        """Type a list, removing a chosen file, and wait for its results. A plan sets the fields first."""
+        if not self.get("file-shown", "hidden"):
+            self.click("file-remove")
+        if plan is not None:
+            self.plan(plan, mode, clean=mode == "auto")
+        self.type("list", "".join(line + "\n" for line in lines))
         self.await_answer(self.run)
 
     def open_row(self, row: int) -> None:

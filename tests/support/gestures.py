@@ -5,6 +5,7 @@ from typing import Any, Dict, List, Sequence, Tuple
 from .browser import Page
 
 Point = Tuple[float, float]
+View = Dict[str, float]
 # Key codes by name.
 KEY_NUMBERS = {"Tab": 9, "Enter": 13}
 SHIFT = 8
@@ -58,6 +59,19 @@ def points_between(begin: Point, end: Point) -> List[Point]:
     (x, y), (to_x, to_y) = begin, end
     shares = [k / MOVES for k in range(1, MOVES + 1)]
     return [(x + share * (to_x - x), y + share * (to_y - y)) for share in shares]
+
+
+def cell_at(view: View, place: Point) -> Tuple[int, int]:
+    """Return the step and the position at a place of the canvas."""
+    right, down = place[0] - view["x"], place[1] - view["y"]
+    step = view["top"] + down // view["high"] * view["every"]
+    return int(step), int(view["left"] + right // view["wide"] * view["across"])
+
+
+def place_of(view: View, step: float, position: float) -> Point:
+    """Return the place of the canvas where a step and a position begin."""
+    right = (position - view["left"]) / view["across"] * view["wide"]
+    return view["x"] + right, view["y"] + (step - view["top"]) / view["every"] * view["high"]
 
 
 def window_point(page: Page, right: float, down: float) -> Point:

@@ -18,7 +18,7 @@
  * @typedef {(...words: (bigint | boolean | number)[]) => number} Call addresses are numbers, other integers
  *   are 64-bit
  */
-import { LimitsError, RANGES, parseLimits, parseSwitches, throwLimitsError } from "./limits.mjs";
+import { LIMITS, LimitsError, RANGES, parseLimits, parseSwitches, throwLimitsError } from "./limits.mjs";
 import { Allocator, MemoryError, UnsupportedError, countLines, isSupported } from "./memory.mjs";
 
 export { LimitsError, MemoryError, RANGES, UnsupportedError, isSupported };
@@ -32,10 +32,7 @@ const VERDICT_BYTES = 98;
 const ANSWER_BYTES = 7;
 const STEP_BYTES = 64;
 const FIRST_TRACE_BYTES = 4_194_304;
-/** @type {Limit[]} */
-const LIMITS = ["steps", "cells", "depth", "nodes"];
-/** @type {Limit[]} */
-const TRACE_LIMITS = ["steps", "cells", "from", "every"];
+const TRACE_LIMITS = /** @type {Limit[]} */ (["steps", "cells", "from", "every"]);
 
 /** The engine; its calls are those of `include/bb.h`. */
 export class Engine {

@@ -15,6 +15,9 @@ export const RANGES = Object.freeze({
   every: { min: 1n, max: 2n ** 64n - 1n, default: 1n },
 });
 
+/** The limits of decisions and checks, in order. */
+export const LIMITS = /** @type {Limit[]} */ (["steps", "cells", "depth", "nodes"]);
+
 /** A limit is out of its range, or the depth doesn't fit in the cells. The message is the program's. */
 export class LimitsError extends RangeError {
   /** @param {Limit} limit @param {string} message */

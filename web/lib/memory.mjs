@@ -60,8 +60,7 @@ export function countLines(/** @type {Uint8Array} */ bytes) {
 export class Allocator {
   /** @param {number} most bytes of memory */
   constructor(most) {
-    /** @type {WebAssembly.Memory | undefined} */
-    this.memory = undefined;
+    this.memory = /** @type {WebAssembly.Memory | undefined} */ (undefined);
     this.base = 0;
     this.free = 0;
     this.last = 0;

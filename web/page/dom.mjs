@@ -1,10 +1,8 @@
 /** Elements, announcements, the clipboard and colours. Texts are inserted as text, never as HTML. */
 
-/**
- * @template {HTMLElement} [T=HTMLElement]
- * @param {string} id
- * @returns {T}
- */
+/** @typedef {Record<string, () => void>} Actions by key or by element id */
+
+/** @template {HTMLElement} [T=HTMLElement] @param {string} id @returns {T} */
 export const byId = (id) => /** @type {T} */ (document.getElementById(id));
 
 /**
@@ -37,15 +35,12 @@ export function setInactive(id, property, value, other) {
 }
 
 /** Adds click listeners by element id. */
-export function onClick(/** @type {Record<string, () => void>} */ listeners) {
+export function onClick(/** @type {Actions} */ listeners) {
   Object.entries(listeners).forEach(([id, listener]) => byId(id).addEventListener("click", listener));
 }
 
 /** Runs a key's action if no modifier but Shift is pressed. */
-export function dispatchKey(
-  /** @type {KeyboardEvent} */ event,
-  /** @type {Record<string, () => void>} */ actions,
-) {
+export function dispatchKey(/** @type {KeyboardEvent} */ event, /** @type {Actions} */ actions) {
   if (event.key in actions && !event.ctrlKey && !event.metaKey && !event.altKey) {
     event.preventDefault();
     actions[event.key]();
@@ -109,13 +104,10 @@ const colours = new Map();
 export const clearColours = () => colours.clear();
 
 export function colourOf(/** @type {string} */ name) {
-  const known = colours.get(name);
-  if (known !== undefined) {
-    return known;
+  if (!colours.has(name)) {
+    colours.set(name, getComputedStyle(document.documentElement).getPropertyValue(name).trim());
   }
-  const text = getComputedStyle(document.documentElement).getPropertyValue(name).trim();
-  colours.set(name, text);
-  return text;
+  return colours.get(name) ?? "";
 }
 
 /** The channels of the ten symbols' colours, of unvisited cells and of the head. */

@@ -7,15 +7,13 @@ import { ListInput, readStored } from "./input/list-input.mjs";
 import { ListRun, failureText, showError } from "./list/list-run.mjs";
 import { ListView } from "./list/list-view.mjs";
 import { MachineView } from "./machine/machine-view.mjs";
-import { errorFields } from "./worker-client.mjs";
+import { errorFields, examples } from "./worker-client.mjs";
 
 const MOST_COPIED = 50_000_000;
 const FIRST_LIST = "1RB1LB_1LA1RZ\n1RA1RA\n1rB1LB\n";
 
 const input = new ListInput();
-/** @type {ListRun} */
-const run = new ListRun(() => listView.show());
-/** @type {ListView} */
+const run = new ListRun();
 const listView = new ListView(new MachineView(), run);
 let runs = 0;
 
@@ -31,22 +29,22 @@ async function startRun(isOfLink = false) {
   byId("results").dataset.state = "requested";
   runs += 1;
   const own = runs;
-  const list = await input.read().catch((error) => (own === runs ? reportUnreadable(error) : null));
-  if (own === runs && list !== null) {
-    if (!isOfLink && location.hash !== "") {
-      history.replaceState(null, "", location.pathname + location.search);
-    }
-    input.store();
-    listView.reset();
-    const { blob, first, isText, mode, form } = list;
-    run.start(blob, first, { mode, form, clean: input.clean.checked, plan }, isText);
+  const list = await input.read().catch((/** @type {Error} */ error) => error);
+  if (own !== runs) {
+    return;
   }
-}
-
-function reportUnreadable(/** @type {Error} */ error) {
-  showError(failureText(errorFields(error)));
-  byId("results").dataset.state = "ended";
-  return null;
+  if (list instanceof Error) {
+    showError(failureText(errorFields(list)));
+    byId("results").dataset.state = "ended";
+    return;
+  }
+  if (!isOfLink && location.hash !== "") {
+    history.replaceState(null, "", location.pathname + location.search);
+  }
+  input.store();
+  listView.reset();
+  const { blob, first, isText, mode, form } = list;
+  run.start(blob, first, { mode, form, clean: input.clean.checked, plan }, isText);
 }
 
 /** The plan of the fields; null if a limit is refused, with the refusal shown beside it. */
@@ -68,7 +66,7 @@ function useFile(/** @type {File | null} */ file) {
 }
 
 // The lists of the examples, and the one selected by a click.
-const exampleLists = new Set([FIRST_LIST]);
+const exampleLists = new Set([FIRST_LIST, ...examples.map(({ lines }) => lines)]);
 let selectedExample = "";
 
 /** Selects an example at the first click, so that typing replaces it. */
@@ -90,11 +88,7 @@ function clearList() {
 
 function fillExampleMenu() {
   const menu = /** @type {HTMLSelectElement} */ (byId("examples"));
-  const examples = JSON.parse(byId("examples-data").textContent ?? "[]");
-  for (const [k, { name, lines }] of examples.entries()) {
-    menu.append(create("option", { value: String(k) }, name));
-    exampleLists.add(lines);
-  }
+  menu.append(...examples.map(({ name }, k) => create("option", { value: String(k) }, name)));
   menu.addEventListener("change", () => {
     const example = examples[Number(menu.value || -1)];
     if (example) {
@@ -119,14 +113,9 @@ function openLink(isAgain = false) {
     input.applySettings(before.plan, before.clean, before.mode, before.form);
     input.isExample = before.isExample;
   }
-  if (before !== null && before.gone !== "") {
-    input.setText("");
-    input.reportMissing(before.gone);
-    return;
-  }
   const list = link === null ? FIRST_LIST : `${link.machine}\n`;
   input.setText(before?.text ?? list);
-  startRun(link !== null && input.list.value === list);
+  before?.gone ? input.reportMissing(before.gone) : startRun(link !== null && input.list.value === list);
 }
 
 /** Whether the page was reloaded, or left and reopened. */
@@ -145,8 +134,12 @@ async function copyAll() {
   }
 }
 
+/** Saves the output, or its lines of some kinds. */
+async function save(/** @type {Set<number> | undefined} */ kinds) {
+  saveFile(await run.results.blobOf(kinds), run.info.mode === "check" ? "answers.txt" : "verdicts.txt");
+}
+
 function addListeners() {
-  const name = () => (run.info.mode === "check" ? "answers.txt" : "verdicts.txt");
   byId("form").addEventListener("submit", (event) => {
     event.preventDefault();
     startRun();
@@ -156,38 +149,31 @@ function addListeners() {
     list: selectExample,
     stop: () => run.stop(),
     left: () => run.redecideUndecided(),
-    save: async () => saveFile(await run.results.blobOf(), name()),
-    "save-shown": async () => saveFile(await run.results.blobOf(listView.kindsShown), name()),
+    save: () => save(undefined),
+    "save-shown": () => save(listView.kindsShown),
     copy: copyAll,
   });
   addEventListener("keydown", (event) => {
     const isField = event.target instanceof Element && event.target.matches("input, textarea, select");
-    const open = (/** @type {number} */ by, isUndecided = false) => {
-      return () => listView.openNeighbour(by, isUndecided);
-    };
-    isField || dispatchKey(event, { n: open(1), p: open(-1), N: open(1, true), P: open(-1, true) });
+    isField || dispatchKey(event, listView.neighbours);
   });
   addEventListener("hashchange", () => openLink());
   addEventListener("pagehide", () => input.store());
 }
 
-function start() {
-  createFields();
-  fillExampleMenu();
-  listenToFiles(useFile, (text) => {
-    input.resetExample();
-    input.setText(text);
-  });
-  addListeners();
-  if (isSupported()) {
-    openLink(isReload());
-  } else {
-    showError(
-      "This browser’s WebAssembly has no vectors (SIMD), which the engine needs, so nothing can be decided " +
-        "here. Chromium 156 is known to have them.",
-    );
-    /** @type {HTMLButtonElement} */ (byId("run")).disabled = true;
-  }
+createFields();
+fillExampleMenu();
+listenToFiles(useFile, (text) => {
+  input.resetExample();
+  input.setText(text);
+});
+addListeners();
+if (isSupported()) {
+  openLink(isReload());
+} else {
+  showError(
+    "This browser’s WebAssembly has no vectors (SIMD), which the engine needs, so nothing can be decided " +
+      "here. Chromium 156 is known to have them.",
+  );
+  /** @type {HTMLButtonElement} */ (byId("run")).disabled = true;
 }
-
-start();

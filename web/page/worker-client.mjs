@@ -8,6 +8,8 @@ const PATIENCE_MILLISECONDS = 400;
 
 const embeddedText = (/** @type {string} */ id) => byId(id).textContent ?? "";
 
+/** @typedef {{name: string, call: string, plan: Record<string, any>, lines: string}} Example */
+export const examples = /** @type {Example[]} */ (JSON.parse(embeddedText("examples-data")));
 const workerUrl = URL.createObjectURL(new Blob([embeddedText("worker")], { type: "text/javascript" }));
 /** @type {Promise<WebAssembly.Module | null>} the compiled module; null if unsupported */
 export const ready = isSupported()
@@ -16,10 +18,8 @@ export const ready = isSupported()
 const whenReady = (/** @type {(module: WebAssembly.Module | null) => void} */ act) => {
   ready.then(act, () => undefined);
 };
-/** @type {Worker[]} */
-const idleWorkers = [];
-/** @type {WeakSet<Worker>} */
-const warmWorkers = new WeakSet();
+const idleWorkers = /** @type {Worker[]} */ ([]);
+const warmWorkers = /** @type {WeakSet<Worker>} */ (new WeakSet());
 
 /** A new worker, which gets the module before all messages that wait for `ready`. */
 export function newWorker() {
@@ -51,15 +51,12 @@ export function prestartWorkers(/** @type {number} */ most, /** @type {() => boo
 }
 
 function warmUp(/** @type {Worker} */ worker) {
-  if (warmWorkers.has(worker)) {
-    return;
+  if (!warmWorkers.has(worker)) {
+    warmWorkers.add(worker);
+    const lists = examples.filter(({ call }) => call === "decide").map(({ lines }) => lines);
+    const list = new TextEncoder().encode(lists.join("\n"));
+    whenReady(() => worker.postMessage({ type: "warm-up", list }));
   }
-  warmWorkers.add(worker);
-  /** @type {{call: string, lines: string}[]} */
-  const examples = JSON.parse(embeddedText("examples-data"));
-  const lists = examples.filter(({ call }) => call === "decide").map(({ lines }) => lines);
-  const list = new TextEncoder().encode(lists.join("\n"));
-  whenReady(() => worker.postMessage({ type: "warm-up", list }));
 }
 
 /** An error as workers report it. */
@@ -72,10 +69,8 @@ export const errorFields = (/** @type {Error} */ { name, message }) => ({ error:
 export class WorkerClient {
   constructor(patience = PATIENCE_MILLISECONDS) {
     this.patience = patience;
-    /** @type {Worker | undefined} */
-    this.worker = undefined;
-    /** @type {(() => void) | null} */
-    this.pending = null;
+    this.worker = /** @type {Worker | undefined} */ (undefined);
+    this.pending = /** @type {(() => void) | null} */ (null);
     this.isBusy = false;
     this.sentAt = 0;
     this.timer = 0;

@@ -2,11 +2,9 @@
  * Reads a line of a list: its machine and the text around it, or a refusal. A machine is accepted only if one
  * reading is possible, and every rewriting is reported. The Python package's reader has the same tests.
  *
- * @typedef {import("./tokens.mjs").Text} Text
- * @typedef {import("./tokens.mjs").Word} Word
  * @typedef {import("./machine-parser.mjs").ParsedMachine} ParsedMachine
  * @typedef {import("./machine-parser.mjs").Reason} Reason
- * @typedef {[Text, ParsedMachine | Reason]} Read a text of the line and its reading
+ * @typedef {[tokens.Text, ParsedMachine | Reason]} Read a text of the line and its reading
  * @typedef {ParsedMachine & {kind: "machine", before: string, behind: string}} Machine
  * @typedef {Reason & {kind: "refusal"}} Refusal
  * @typedef {Machine | Refusal | {kind: "nothing"}} Reading
@@ -29,9 +27,11 @@ export const OF_MACHINES = /^[A-Za-z0-9_\-.\\\s]*$/;
 const QUOTES = ["``", '""', "''", "\u201c\u201d", "\u2018\u2019", "\u00ab\u00bb"];
 const PAIRS = [...QUOTES, "()", "[]", "{}", "<>", "**", "~~"];
 const BESIDE = /^[\s,;]+|[\s,;]+$/g;
+const NO_MACHINE = "no machine in this line";
+const NOTHING = /** @type {Reading} */ ({ kind: "nothing" });
 
-/** @type {Record<string, string>} advice for each kind of refusal */
-export const ADVICE = {
+/** Advice for each kind of refusal. */
+export const ADVICE = /** @type {Record<string, string>} */ ({
   none: "a machine is written as 1RB1LB_1LA1RZ",
   rule: "in the form machines a row of 6, 9, .. or 30 dashes is a machine",
   "rule-or-group": "write _ between the groups, or leave the row out",
@@ -59,7 +59,7 @@ export const ADVICE = {
   verdict: "a verdict line is written as 1RB1LB_1LA1RZ halt 6 4",
   row: "write a record a line, with the separator of the others",
   column: "write a machine into the column",
-};
+});
 
 /**
  * Reads a line without its newline. A table is read as text.
@@ -77,14 +77,13 @@ export function readLine(given, form = "text") {
     return readVerdictLine(line, bare);
   }
   if (isMachine(bare) && (form === "machines" || !DASHES.test(bare))) {
-    return machineReading(bare, "");
+    return readMachineFirst(bare);
   }
-  const [machine] = bare.split(" ", 1);
-  if (form !== "machines" && machine.includes("_") && isVerdictLine(bare)) {
-    return machineReading(machine, bare.slice(machine.length + 1));
+  if (form !== "machines" && /^[^ ]*_/.test(bare) && isVerdictLine(bare)) {
+    return readMachineFirst(bare);
   }
   if (isSkipped(bare)) {
-    return { kind: "nothing" };
+    return NOTHING;
   }
   const reading = readTextLine(line);
   return form === "machines" ? requireAlone(reading, bare) : reading;
@@ -94,9 +93,11 @@ export function readLine(given, form = "text") {
 const refuse = (/** @type {string} */ kind, /** @type {string} */ reason, /** @type {number} */ place) =>
   ({ kind: "refusal", ...reasonOf(kind, reason, place) });
 
-/** @returns {Machine} */
-const machineReading = (/** @type {string} */ machine, /** @type {string} */ behind) =>
-  ({ kind: "machine", machine, rewritten: [], before: "", behind });
+/** @returns {Machine} of a line that begins with the machine, and a space if more follows */
+function readMachineFirst(/** @type {string} */ bare) {
+  const [machine] = bare.split(" ", 1);
+  return { kind: "machine", machine, rewritten: [], before: "", behind: bare.slice(machine.length + 1) };
+}
 
 /** Whether a line is a verdict line; fields may follow a tab. */
 export function isVerdictLine(/** @type {string} */ bare) {
@@ -109,19 +110,17 @@ export function isVerdictLine(/** @type {string} */ bare) {
 function readVerdictLine(/** @type {string} */ line, /** @type {string} */ bare) {
   const place = line.length - line.trimStart().length + 1;
   if (REFUSED.test(bare)) {
-    return refuse("none", "no machine in this line", place);
+    return refuse("none", NO_MACHINE, place);
   }
   if (isVerdictLine(bare)) {
-    const [machine] = bare.split(" ", 1);
-    return machineReading(machine, bare.slice(machine.length + 1));
+    return readMachineFirst(bare);
   }
-  return isSkipped(bare) ? { kind: "nothing" } : refuse("verdict", "this is no verdict line", place);
+  return isSkipped(bare) ? NOTHING : refuse("verdict", "this is no verdict line", place);
 }
 
 /** @returns {Reading} a refusal if the line has more than the machine */
 function requireAlone(/** @type {Reading} */ reading, /** @type {string} */ bare) {
-  const isAlone = reading.kind !== "machine" || (reading.before === "" && reading.behind === "");
-  if (reading.kind !== "machine" || (isAlone && OF_MACHINES.test(bare))) {
+  if (reading.kind !== "machine" || (reading.before + reading.behind === "" && OF_MACHINES.test(bare))) {
     return reading;
   }
   return refuse("beside", `the line has more than the machine ${tokens.abbreviate(reading.machine)}`, 1);
@@ -173,8 +172,8 @@ function readTexts(/** @type {string} */ line) {
       return outcome;
     }
     const isPlain = "machine" in outcome && !tokens.joinWords(text).includes("_");
-    const row = isPlain ? tokens.findAdjacentRow(line, text, rows) : undefined;
-    if (row !== undefined) {
+    const row = isPlain && tokens.findAdjacentRow(line, text, rows);
+    if (row) {
       const sentence = `${tokens.abbreviate(row.text)} may be a rule or a group of the machine`;
       return reasonOf("rule-or-group", sentence, row.begin + 1);
     }
@@ -183,12 +182,10 @@ function readTexts(/** @type {string} */ line) {
 }
 
 /** Explains that a text is the line of one state, if the state's letter precedes it. */
-function findStateLine(/** @type {string} */ line, /** @type {Text} */ text) {
+function findStateLine(/** @type {string} */ line, /** @type {tokens.Text} */ text) {
   const group = tokens.joinWords(text);
-  if (group.includes("_") || text.arrays.length > 0 || text.isAddress) {
-    return null;
-  }
-  const found = STATE.exec(line.slice(0, text.begin));
+  const isOther = group.includes("_") || text.arrays.length > 0 || text.isAddress;
+  const found = isOther ? null : STATE.exec(line.slice(0, text.begin));
   if (found === null || (found[1] === undefined && group === group.toUpperCase())) {
     return null;
   }
@@ -198,25 +195,25 @@ function findStateLine(/** @type {string} */ line, /** @type {Text} */ text) {
 }
 
 /** Explains a line without entries. */
-function explainNoText(/** @type {string} */ line, /** @type {Word[]} */ rows) {
+function explainNoText(/** @type {string} */ line, /** @type {tokens.Word[]} */ rows) {
   const rule = rows.find(({ text }) => text.length >= 6 || text === line.trim());
   if (rule !== undefined) {
     const what = rule.text.includes("-") ? "dashes" : "dots";
     return reasonOf("rule", `a row of ${what} is a rule here, no machine`, rule.begin + 1);
   }
   const bare = line.trim();
-  const [first] = bare;
-  const isHidden = [...bare].every((character) => tokens.findHidden(character) === 0);
-  const sentence = isHidden
-    ? `${tokens.codePointName(first)} in this line, a character that doesn't show`
-    : "no machine in this line";
-  return reasonOf(isHidden ? "hidden" : "none", sentence, line.indexOf(bare) + 1);
+  const place = line.indexOf(bare) + 1;
+  if ([...bare].some((character) => tokens.findHidden(character) < 0)) {
+    return reasonOf("none", NO_MACHINE, place);
+  }
+  const sentence = `${tokens.codePointName(bare)} in this line, a character that doesn't show`;
+  return reasonOf("hidden", sentence, place);
 }
 
 /** @returns {Read[] | Reason} the text's reading, or those of its words if each is a machine */
-function readText(/** @type {Text} */ text) {
+function readText(/** @type {tokens.Text} */ text) {
   if (!text.isLast) {
-    return reasonOf("none", "no machine in this line", text.words[0].begin + 1);
+    return reasonOf("none", NO_MACHINE, text.words[0].begin + 1);
   }
   if (text.arrays.length > 0) {
     return [[text, parseArrays(text.arrays)]];
@@ -243,18 +240,14 @@ function readText(/** @type {Text} */ text) {
 }
 
 /** Explains a word that is a machine both with and without the dots at an end. */
-function findAmbiguousDots(/** @type {Word} */ { begin, text }) {
-  const isFound = (/** @type {number} */ at, /** @type {string} */ part) =>
-    "machine" in parseWords([{ begin: at, text: part }]);
+function findAmbiguousDots(/** @type {tokens.Word} */ { begin, text }) {
+  const isFound = (/** @type {string} */ part) =>
+    part !== "" && "machine" in parseWords([{ begin, text: part }]);
   const [head, tail] = [text.slice(0, -3), text.slice(3)];
+  const isBehind = text.endsWith("...") && isFound(head);
+  const isAmbiguous = (isBehind || (text.startsWith("...") && isFound(tail))) && isFound(text);
   const sentence = "... may be an undefined entry, or no part of the machine";
-  if (text.endsWith("...") && head !== "" && isFound(begin, head) && isFound(begin, text)) {
-    return reasonOf("dots", sentence, begin + head.length + 1);
-  }
-  if (text.startsWith("...") && tail !== "" && isFound(begin + 3, tail) && isFound(begin, text)) {
-    return reasonOf("dots", sentence, begin + 1);
-  }
-  return null;
+  return isAmbiguous ? reasonOf("dots", sentence, begin + (isBehind ? head.length : 0) + 1) : null;
 }
 
 function ambiguousWords(/** @type {number} */ count, /** @type {number} */ place) {
@@ -265,14 +258,14 @@ function ambiguousWords(/** @type {number} */ count, /** @type {number} */ place
 /** @returns {Read[] | Reason} the texts that are one machine */
 function selectMachine(/** @type {Read[]} */ found) {
   const read = found.filter(([, outcome]) => "machine" in outcome);
-  const isSetApart = read.every(([text]) => tokens.joinWords(text).includes("_"));
-  const isIgnored = (/** @type {Text} */ text) => read.length > 0 && isSetApart && tokens.isLoneEntry(text);
-  const others = found.filter(([text, outcome]) => !("machine" in outcome) && !isIgnored(text));
   if (read.length === 0) {
     const length = (/** @type {Read} */ one) => [...tokens.joinWords(one[0])].length;
-    const longest = others.reduce((best, one) => (length(one) > length(best) ? one : best));
+    const longest = found.reduce((best, one) => (length(one) > length(best) ? one : best));
     return /** @type {Reason} */ (longest[1]);
   }
+  const isSetApart = read.every(([text]) => tokens.joinWords(text).includes("_"));
+  const isIgnored = (/** @type {tokens.Text} */ text) => isSetApart && tokens.isLoneEntry(text);
+  const others = found.filter(([text, outcome]) => !("machine" in outcome) && !isIgnored(text));
   const { machine } = /** @type {ParsedMachine} */ (read[0][1]);
   const name = tokens.abbreviate(machine);
   if (others.length > 0) {
@@ -281,11 +274,10 @@ function selectMachine(/** @type {Read[]} */ found) {
     const sentence = `${part} beside the machine ${name} may be a part of it`;
     return reasonOf("part", sentence, text.words[0].begin + 1);
   }
-  for (const [text, outcome] of read) {
+  for (const [{ words: [{ begin }] }, outcome] of read) {
     const other = /** @type {ParsedMachine} */ (outcome).machine;
     if (other !== machine) {
-      const sentence = `two different machines: ${name} and ${tokens.abbreviate(other)}`;
-      return reasonOf("two", sentence, text.words[0].begin + 1);
+      return reasonOf("two", `two different machines: ${name} and ${tokens.abbreviate(other)}`, begin + 1);
     }
   }
   const plain = read.filter(([text]) => !text.isAddress && !tokens.joinWords(text).includes("_"));
@@ -300,11 +292,8 @@ function machineSpan(/** @type {string} */ line, /** @type {Read[]} */ read) {
   return isLink && line[address.end] === ")" ? [begin, address.end + 1] : [begin, end];
 }
 
-/** A span extended by the pairs of characters around it. */
+/** @returns {number[]} a span extended by the pairs of characters around it */
 function expandPairs(/** @type {string} */ line, /** @type {number} */ begin, /** @type {number} */ end) {
-  let [first, last] = [begin, end];
-  while (first > 0 && last < line.length && PAIRS.includes(line[first - 1] + line[last])) {
-    [first, last] = [first - 1, last + 1];
-  }
-  return [first, last];
+  const isEnclosed = PAIRS.includes(line.slice(Math.max(0, begin - 1), begin) + line.slice(end, end + 1));
+  return isEnclosed ? expandPairs(line, begin - 1, end + 1) : [begin, end];
 }

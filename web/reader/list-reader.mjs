@@ -3,7 +3,6 @@
  *
  * @typedef {"machines" | "verdicts" | "table" | "text"} Form one bare machine a line; verdict lines; a table
  *   with a column of machines; any text with one machine a line
- * @typedef {(line: Uint8Array, text: string) => Uint8Array | null} LineFilter returns null to skip a line
  * @typedef {{bytes: Uint8Array, numbers: Uint32Array | null, places: Uint32Array | null, skipped: number}}
  *   PreparedList the engine's input; the number of each of its lines in the original list, from 0, and the
  *   offset there, or null if all lines are unchanged; and the number of skipped lines
@@ -53,17 +52,15 @@ export const unchangedList = (/** @type {Uint8Array} */ bytes) => {
 };
 
 /**
+ * The lines that the engine is to read.
  * @param {Uint8Array} bytes @param {{mode: string, clean: boolean, form: Form}} request
  * @returns {PreparedList}
  */
 export function prepareList(bytes, { mode, clean, form }) {
-  /** @type {LineFilter} */
-  const machine = (line, text) => readMachine(line, text, form);
-  return clean ? selectLines(bytes, mode === "check" ? readClaim : machine) : unchangedList(bytes);
-}
-
-/** @returns {PreparedList} the lines that a filter returns */
-function selectLines(/** @type {Uint8Array} */ bytes, /** @type {LineFilter} */ read) {
+  if (!clean) {
+    return unchangedList(bytes);
+  }
+  const read = mode === "check" ? readClaim : readMachine;
   // ASCII lines are cut out of one text: browsers decode short texts slowly.
   const all = decoder.decode(bytes);
   const isAscii = all.length === bytes.length;
@@ -75,7 +72,7 @@ function selectLines(/** @type {Uint8Array} */ bytes, /** @type {LineFilter} */ 
     const end = lineEnd(bytes, from);
     const given = bytes.subarray(from, end);
     const isLong = given.length > LONGEST_LINE;
-    const line = isLong ? given : read(given, isAscii ? all.slice(from, end) : decoder.decode(given));
+    const line = isLong ? given : read(given, isAscii ? all.slice(from, end) : decoder.decode(given), form);
     if (line !== null) {
       lines.push(line, LINE_END);
       numbers.push(number);
@@ -111,8 +108,8 @@ function readMachine(/** @type {Uint8Array} */ line, /** @type {string} */ text,
   return reading.kind === "nothing" ? null : isWhole ? Uint8Array.of(SPACE, ...line) : line;
 }
 
-/** @type {LineFilter} a trimmed verdict line; null for a skipped line */
-function readClaim(line, given) {
+/** A trimmed verdict line; null for a skipped line. */
+function readClaim(/** @type {Uint8Array} */ line, /** @type {string} */ given) {
   const text = given.replace(/^\ufeff/, "").trim();
   if (VERDICT.test(text)) {
     return encoder.encode(text.split("\t")[0]);
@@ -125,44 +122,32 @@ function lineEnd(/** @type {Uint8Array} */ bytes, /** @type {number} */ from) {
   return newline < 0 ? bytes.length : newline;
 }
 
-/** The text of a line, `most` bytes at most. */
-export function lineAt(
-  /** @type {Uint8Array} */ bytes,
-  /** @type {number} */ from,
-  /** @type {number} */ most,
-) {
+/**
+ * The text of a line, `most` bytes at most.
+ * @param {Uint8Array} bytes @param {number} from @param {number} most
+ */
+export function lineAt(bytes, from, most) {
   const end = Math.min(lineEnd(bytes, from), from + most);
   return decoder.decode(bytes.subarray(from, bytes[end - 1] === RETURN ? end - 1 : end));
 }
 
 /** @returns {Form | null} the form of a list by its first lines; null if all of them are skipped. */
 export function detectForm(/** @type {Iterable<string>} */ lines) {
-  /** @type {string[]} */
-  const machines = [];
-  let verdicts = 0;
+  const used = /** @type {string[]} */ ([]);
   for (const line of lines) {
     const bare = line.trim();
-    if (machines.length === 0 && verdicts === 0 && isTableHeader(bare)) {
+    if (used.length === 0 && isTableHeader(bare)) {
       return "table";
     }
-    if (isSkipped(bare)) {
-      continue;
-    }
-    if (OF_MACHINES.test(bare) && readLine(bare, "machines").kind === "machine") {
-      machines.push(bare);
-    } else if (isVerdictLine(bare)) {
-      verdicts += 1;
-    } else {
-      return "text";
-    }
-    if (machines.length > 0 && verdicts > 0) {
-      return "text";
-    }
-    if (machines.length + verdicts === FIRST_LINES) {
+    isSkipped(bare) || used.push(bare);
+    if (used.length === FIRST_LINES) {
       break;
     }
   }
-  return verdicts > 0 ? "verdicts" : machines.length > 0 ? formOfMachines(machines) : null;
+  const isBare = (/** @type {string} */ line) =>
+    OF_MACHINES.test(line) && readLine(line, "machines").kind === "machine";
+  const form = used.every(isBare) ? formOfMachines(used) : used.every(isVerdictLine) ? "verdicts" : "text";
+  return used.length > 0 ? form : null;
 }
 
 /** @returns {Form} `text` if rows of dashes differ in length from the machines, and so are rules */

@@ -7,7 +7,7 @@
  *   from 1
  * @typedef {[number, string][]} Group entries with their offsets in the line
  */
-import { codePointName, findHidden } from "./tokens.mjs";
+import { codePointName, findAll, findHidden } from "./tokens.mjs";
 
 const STATES = "ABCDEFGHIJKLMNOPQRSTUVWXY";
 const MOST_SYMBOLS = 10;
@@ -27,14 +27,11 @@ export const REWRITINGS = {
   arrays: "arrays of entries read as groups",
 };
 
-/**
- * @param {string} refusal @param {string} reason @param {number} place
- * @returns {Reason}
- */
+/** @param {string} refusal @param {string} reason @param {number} place @returns {Reason} */
 export const reasonOf = (refusal, reason, place) => ({ refusal, reason, place });
 
-/** @type {Map<number, RegExp>} by the numbers of states and symbols */
-const PATTERNS = new Map();
+// By the numbers of states and symbols.
+const PATTERNS = /** @type {Map<number, RegExp>} */ (new Map());
 
 /** Whether the engine accepts a text as a machine. */
 export function isMachine(/** @type {string} */ text) {
@@ -63,7 +60,7 @@ export function parseWords(/** @type {Word[]} */ words) {
   if (words.length === 1 && words[0].text.includes("_") && isMachine(words[0].text)) {
     return { machine: words[0].text, rewritten: [] };
   }
-  const groups = words.length > 1 ? words : splitGroups(words[0]);
+  const groups = words.length > 1 ? words : findAll(words[0], /(?<![^_])[^_]*/g);
   const entries = parseGroups(groups);
   if (!Array.isArray(entries)) {
     return entries;
@@ -90,54 +87,24 @@ export function parseArrays(/** @type {Word[][]} */ groups) {
 
 /** @returns {Group[] | Reason} */
 function parseGroups(/** @type {Word[]} */ groups) {
-  /** @type {Group[]} */
-  const entries = [];
-  for (const [place, group] of groups.entries()) {
-    const before = entries.reduce((count, one) => count + one.length, 0);
-    const found = parseGroup(group, before, place, place + 1 < groups.length);
-    if (!Array.isArray(found)) {
-      return found;
+  const parsed = /** @type {Group[]} */ ([]);
+  for (const [k, { begin, text }] of groups.entries()) {
+    if (text === "") {
+      return reasonOf("empty-group", `group ${k + 1} is empty`, begin + 1);
     }
-    entries.push(found);
-  }
-  return entries;
-}
-
-function splitGroups(/** @type {Word} */ word) {
-  let { begin } = word;
-  return word.text.split("_").map((text) => {
-    const part = { begin, text };
-    begin += text.length + 1;
-    return part;
-  });
-}
-
-/**
- * @param {Word} group @param {number} before entries of earlier groups @param {number} place from 0
- * @param {boolean} isFollowed whether another group follows
- * @returns {Group | Reason}
- */
-function parseGroup(group, before, place, isFollowed) {
-  if (group.text === "") {
-    return reasonOf("empty-group", `group ${place + 1} is empty`, group.begin + 1);
-  }
-  /** @type {Group} */
-  const entries = [];
-  for (let at = 0; at < group.text.length; at += 3) {
-    const entry = group.text.slice(at, at + 3);
-    if (!ENTRY.test(entry)) {
-      const characters = [...group.text.slice(at, at + 6)].slice(0, 3).join("");
-      return explainEntry(characters, before + entries.length + 1, group.begin + at + 1, isFollowed);
+    const entries = text.match(/[^]{1,3}/g) ?? [];
+    const wrong = entries.findIndex((entry) => !ENTRY.test(entry));
+    if (wrong >= 0) {
+      const characters = [...text.slice(3 * wrong, 3 * wrong + 6)].slice(0, 3).join("");
+      const number = parsed.flat().length + wrong + 1;
+      return explainEntry(characters, number, begin + 3 * wrong + 1, k + 1 < groups.length);
     }
-    entries.push([group.begin + at, entry]);
+    parsed.push(entries.map((entry, at) => [begin + 3 * at, entry]));
   }
-  return entries;
+  return parsed;
 }
 
-/**
- * Explains why a text of up to three characters is not an entry.
- * @param {string} text @param {number} number @param {number} place @param {boolean} isFollowed
- */
+/** @param {string} text @param {number} number @param {number} place @param {boolean} isFollowed */
 function explainEntry(text, number, place, isFollowed) {
   const whole = text.length === 2 && isFollowed ? `${text}_` : text;
   if (LOST.test(whole)) {
@@ -146,7 +113,7 @@ function explainEntry(text, number, place, isFollowed) {
   }
   const hidden = findHidden(text);
   if (hidden >= 0) {
-    const name = codePointName(String.fromCodePoint(text.codePointAt(hidden) ?? 0));
+    const name = codePointName(text.slice(hidden));
     return reasonOf("hidden", `entry ${number} has ${name}, a character that doesn't show`, place + hidden);
   }
   return reasonOf("entry", `entry ${number} is no entry: ${text}`, place);
@@ -158,22 +125,23 @@ function letterRewritings(/** @type {Word[]} */ groups) {
   return text.includes("...") ? [...kinds, "undefined-entries"] : kinds;
 }
 
+/** @template T @returns {T[][]} the items in groups of a size */
+const chunk = (/** @type {T[]} */ items, /** @type {number} */ size) =>
+  Array.from({ length: items.length / size }, (_, k) => items.slice(k * size, (k + 1) * size));
+
 /** @returns {ParsedMachine | Reason} the machine if exactly one division into groups makes one */
 function divideEntries(/** @type {Group} */ entries, /** @type {string[]} */ rewritten) {
   const count = entries.length;
   const place = entries[0][0] + 1;
   const all = count === 1 ? "1 entry" : `${count} entries`;
-  const states = Array.from(STATES, (_, k) => k + 1).filter((number) => {
-    const size = count / number;
+  const sizes = Array.from(STATES, (_, k) => count / (k + 1)).filter((size) => {
     return Number.isInteger(size) && size >= 2 && size <= MOST_SYMBOLS;
   });
-  if (states.length === 0) {
+  if (sizes.length === 0) {
     return reasonOf("division", `${all} can't be divided into 1 to 25 groups of 2 to 10`, place);
   }
-  const outcomes = states.map((number) => {
-    const size = count / number;
-    const groups = Array.from({ length: number }, (_, k) => entries.slice(k * size, (k + 1) * size));
-    return buildMachine(groups, number > 1 ? [...rewritten, "underscores"] : rewritten);
+  const outcomes = sizes.map((size) => {
+    return buildMachine(chunk(entries, size), size < count ? [...rewritten, "underscores"] : rewritten);
   });
   const found = outcomes.filter((outcome) => "machine" in outcome);
   if (found.length === 1 || outcomes.length === 1) {
@@ -190,47 +158,37 @@ function buildMachine(/** @type {Group[]} */ groups, /** @type {string[]} */ rew
   if (wrong !== null) {
     return wrong;
   }
-  const letters = groups.flat().map(([, entry]) => entry[2].toUpperCase());
+  const capitals = groups.flat().map(([, entry]) => entry.toUpperCase().replace("...", "---"));
+  const letters = capitals.map((entry) => entry[2]);
   const haltsByH = letters.includes("H") && !letters.includes("Z") && groups.length <= MOST_BEFORE_H;
-  const entries = groups.flat().map(([begin, entry]) => ({ begin, entry: normalizeEntry(entry, haltsByH) }));
-  for (const [k, { begin, entry }] of entries.entries()) {
-    const reason = checkEntry(entry, k + 1, begin, groups.length, groups[0].length);
+  const entries = haltsByH ? capitals.map((entry) => entry.replace("H", "Z")) : capitals;
+  for (const [k, [begin]] of groups.flat().entries()) {
+    const reason = checkEntry(entries[k], k + 1, begin, groups.length, groups[0].length);
     if (reason !== null) {
       return reason;
     }
   }
-  const size = groups[0].length;
-  const capitals = entries.map(({ entry }) => entry);
-  const texts = groups.map((_, k) => capitals.slice(k * size, (k + 1) * size).join(""));
-  const kinds = haltsByH ? [...rewritten, "halting-state"] : rewritten;
-  const inOrder = Object.keys(REWRITINGS).filter((kind) => kinds.includes(kind));
-  return { machine: texts.join("_"), rewritten: inOrder };
-}
-
-function normalizeEntry(/** @type {string} */ text, /** @type {boolean} */ haltsByH) {
-  const entry = text.toUpperCase().replace("...", "---");
-  return haltsByH && entry[2] === "H" ? `${entry.slice(0, 2)}Z` : entry;
+  const texts = chunk(entries, groups[0].length).map((group) => group.join(""));
+  return { machine: texts.join("_"), rewritten: haltsByH ? [...rewritten, "halting-state"] : rewritten };
 }
 
 /** Explains why groups of these lengths make no machine; null if they can. */
 function checkSizes(/** @type {Group[]} */ groups) {
   const lengths = [...new Set(groups.map((group) => group.length))];
-  const place = groups[0][0][0] + 1;
-  if (lengths.length > 1) {
-    const other = /** @type {Group} */ (groups.find((group) => group.length !== lengths[0]));
-    const counts = `${lengths.slice(0, -1).join(", ")} and ${lengths[lengths.length - 1]}`;
-    return reasonOf("groups", `the groups have ${counts} entries`, other[0][0] + 1);
-  }
   const [size] = lengths;
+  const places = groups.map(([[begin]]) => begin + 1);
+  if (lengths.length > 1) {
+    const counts = `${lengths.slice(0, -1).join(", ")} and ${lengths[lengths.length - 1]}`;
+    const other = groups.findIndex((group) => group.length !== size);
+    return reasonOf("groups", `the groups have ${counts} entries`, places[other]);
+  }
   if (size < 2 || size > MOST_SYMBOLS) {
     const each = size === 1 ? "1 entry" : `${size} entries`;
-    return reasonOf("symbols", `the groups have ${each}, not 2 to 10`, place);
+    return reasonOf("symbols", `the groups have ${each}, not 2 to 10`, places[0]);
   }
-  if (groups.length > STATES.length) {
-    const [begin] = groups[STATES.length][0];
-    return reasonOf("states", `there are ${groups.length} groups, not 1 to 25`, begin + 1);
-  }
-  return null;
+  const isMany = groups.length > STATES.length;
+  const sentence = `there are ${groups.length} groups, not 1 to 25`;
+  return isMany ? reasonOf("states", sentence, places[STATES.length]) : null;
 }
 
 /**

@@ -66,6 +66,8 @@ export const formatCount = (/** @type {number} */ count, /** @type {string} */ n
 export const formatNumber = (/** @type {number | bigint} */ value) =>
   numberFormat.format(value).replace("-", "−");
 
+export const stateText = (/** @type {string} */ state) => (state === "Z" ? "halted" : `state ${state}`);
+
 /** A verdict in plain English. */
 export function verdictText(/** @type {Verdict} */ { kind, numbers, side }) {
   const [first, second, shift, length] = numbers;
@@ -78,18 +80,14 @@ export function verdictText(/** @type {Verdict} */ { kind, numbers, side }) {
     case "translated": {
       const extent = length === undefined ? "" : ` of ${formatCount(length, "cell")}`;
       const distance = shift === undefined ? "" : `, ${formatCount(shift, "cell")} farther out`;
-      const direction = side === "R" ? "right" : "left";
-      return (
-        `It never halts: at steps ${pair.join(" and ")} the head is farther ${direction} than before, ` +
-        `with the same pattern${extent} behind it${distance}.`
-      );
+      const place = `farther ${side === "R" ? "right" : "left"} than before`;
+      const pattern = `with the same pattern${extent} behind it${distance}`;
+      return `It never halts: at steps ${pair.join(" and ")} the head is ${place}, ${pattern}.`;
     }
     case "backward": {
-      const size = `${formatCount(second, "node")} in ${formatCount(first, "level")}`;
-      return (
-        `It never halts: the tree of configurations before a halt ends, with ${size}, ` +
-        "and the start matches none of them."
-      );
+      const size = `with ${formatCount(second, "node")} in ${formatCount(first, "level")}`;
+      const tree = `the tree of configurations before a halt ends, ${size}`;
+      return `It never halts: ${tree}, and the start matches none of them.`;
     }
     case "undecided":
       return side === "cells" ? NO_CELLS : NO_STEPS;

@@ -16,8 +16,6 @@ const isMachineColumn = (/** @type {string} */ name) => MACHINE_COLUMNS.has(norm
 
 const startsAsComment = (/** @type {string} */ bare) => bare.startsWith("#") || bare.startsWith("//");
 
-const hasNoTexts = (/** @type {string} */ bare) => tokenize(bare).texts.length === 0;
-
 /** Whether a comment contains a machine, or several entries of one. */
 export const isCommentWithMachine = (/** @type {string} */ bare) =>
   startsAsComment(bare) && tokenize(bare).texts.some((text) => !isLoneEntry(text));
@@ -28,7 +26,7 @@ export function isSkipped(/** @type {string} */ bare) {
     return !isCommentWithMachine(bare);
   }
   if (bare.startsWith("!") || FENCE.test(bare) || RULE.test(bare)) {
-    return hasNoTexts(bare);
+    return tokenize(bare).texts.length === 0;
   }
   const cells = bare.split(CELLS).map((cell) => cell.trim());
   const isShort = cells.every(({ length }) => length <= LONGEST_COLUMN_NAME);

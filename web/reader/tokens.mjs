@@ -22,7 +22,8 @@ const QUOTES = "`\"'\u2018\u2019\u201a\u201c\u201d\u201e\u00ab\u00bb";
 // Ends of addresses and words.
 const ENDS = `\\s,;|()\\[\\]{}<>*${QUOTES}`;
 const BEGIN = "(?:[A-Za-z][A-Za-z0-9+.-]*://|[A-Za-z][A-Za-z0-9-]*(?:\\.[A-Za-z0-9-]+)+/)";
-const TOKEN = new RegExp(`(?<address>${BEGIN}(?:(?!~~)[^${ENDS}])*)|[^${ENDS}:=#~]+`, "g");
+const ADDRESS = new RegExp(`^${BEGIN}`);
+const TOKEN = new RegExp(`${BEGIN}(?:(?!~~)[^${ENDS}])*|[^${ENDS}:=#~]+`, "g");
 const ENTRIES = /^(?:[0-9][LRlr][A-Za-z]|---|\.\.\.|_)*(?:[0-9][LRlr][A-Za-z]|---|\.\.\.)_*$/;
 const ROW = /^[-.]+$/;
 // A list number right before an entry.
@@ -30,6 +31,7 @@ const NUMBER = /^[0-9]+\.(?=[0-9-])/;
 // Groups as arrays of quoted entries, as in JSON and Python.
 const ENTRY = "[\"'](?:[0-9][LRlr][A-Za-z]|---|\\.\\.\\.)[\"']";
 const GROUP = `\\[\\s*${ENTRY}(?:\\s*,\\s*${ENTRY})*\\s*\\]`;
+const [ENTRIES_IN_GROUP, GROUPS_IN_ARRAYS] = [ENTRY, GROUP].map((text) => new RegExp(text, "g"));
 const ARRAYS = new RegExp(`\\[\\s*${GROUP}(?:\\s*,\\s*${GROUP})*\\s*\\]`, "g");
 // Substrings of machines, whole or damaged, and of nothing else.
 const FRAGMENTS = /[0-9][LR](?:[A-Z_.-]|$)|[0-9][lr][a-z](?=[0-9_])|(?<=[a-z_])[0-9][lr][a-z]/;
@@ -61,13 +63,10 @@ export function tokenize(/** @type {string} */ given) {
     (before, { begin, end }) => before.slice(0, begin) + "|".repeat(end - begin) + before.slice(end),
     given,
   );
-  /** @type {Word[]} */
-  const words = [];
-  /** @type {Word[]} */
-  const rows = [];
-  for (const match of line.matchAll(TOKEN)) {
-    const token = { begin: match.index ?? 0, text: match[0] };
-    if (match.groups?.address !== undefined) {
+  const words = /** @type {Word[]} */ ([]);
+  const rows = /** @type {Word[]} */ ([]);
+  for (const token of findAll({ begin: 0, text: line }, TOKEN)) {
+    if (ADDRESS.test(token.text)) {
       texts.push(...findAddressTexts(token));
       rows.push(...findAddressRows(token));
     } else if (ROW.test(token.text)) {
@@ -83,20 +82,20 @@ export function tokenize(/** @type {string} */ given) {
   return { texts, rows: rows.filter(({ begin }) => !inside.has(begin)) };
 }
 
+/** @returns {Word[]} the matches of a pattern in a word */
+export const findAll = (/** @type {Word} */ { begin, text }, /** @type {RegExp} */ pattern) =>
+  Array.from(text.matchAll(pattern), ({ index = 0, 0: found }) => ({ begin: begin + index, text: found }));
+
 /** @returns {Text[]} machines written as arrays of entries */
 function findArrays(/** @type {string} */ line) {
-  const found = line.includes("[") ? [...line.matchAll(ARRAYS)] : [];
-  return found.map((match) => {
-    const begin = match.index ?? 0;
-    const arrays = [...match[0].matchAll(new RegExp(GROUP, "g"))].map((group) =>
-      [...group[0].matchAll(new RegExp(ENTRY, "g"))].map((entry) => ({
-        begin: begin + (group.index ?? 0) + (entry.index ?? 0) + 1,
-        text: entry[0].slice(1, -1),
-      })),
+  const found = line.includes("[") ? findAll({ begin: 0, text: line }, ARRAYS) : [];
+  return found.map((word) => {
+    const quoted = findAll(word, GROUPS_IN_ARRAYS).map((group) => findAll(group, ENTRIES_IN_GROUP));
+    const arrays = quoted.map((group) =>
+      group.map(({ begin, text }) => ({ begin: begin + 1, text: text.slice(1, -1) })),
     );
-    const text = arrays.map((group) => group.map((word) => word.text).join("")).join("_");
-    const end = begin + match[0].length;
-    return { words: [{ begin, text }], begin, end, isAddress: false, isLast: true, arrays };
+    const text = arrays.map((group) => group.map((entry) => entry.text).join("")).join("_");
+    return { ...textOf([{ begin: word.begin, text }]), end: endOf(word), arrays };
   });
 }
 
@@ -115,12 +114,11 @@ function trimPunctuation(/** @type {Word} */ word) {
 
 /** @returns {Text[]} */
 function findAddressTexts(/** @type {Word} */ address) {
-  const last = address.text.replace(/\/+$/, "").lastIndexOf("/") + 1;
-  return [...address.text.matchAll(PART)].flatMap((match) => {
-    const at = match.index ?? 0;
-    const part = trimPunctuation({ begin: address.begin + at, text: match[0] });
+  const last = address.begin + address.text.replace(/\/+$/, "").lastIndexOf("/") + 1;
+  return findAll(address, PART).flatMap((found) => {
+    const words = [trimPunctuation(found)];
     const whole = { begin: address.begin, end: endOf(address), isAddress: true, arrays: [] };
-    return hasEntries(part.text) ? [{ words: [part], ...whole, isLast: at >= last }] : [];
+    return hasEntries(words[0].text) ? [{ words, ...whole, isLast: found.begin >= last }] : [];
   });
 }
 
@@ -148,16 +146,11 @@ function groupWords(/** @type {string} */ line, /** @type {Word[]} */ words, /**
 
 /** Words split into runs with only spaces between them. */
 function adjacentRuns(/** @type {string} */ line, /** @type {Word[]} */ words) {
-  /** @type {Word[][]} */
-  const runs = [];
-  for (const word of words) {
-    const before = runs[runs.length - 1];
-    if (before !== undefined && SPACES.test(line.slice(endOf(before[before.length - 1]), word.begin))) {
-      before.push(word);
-    } else {
-      runs.push([word]);
-    }
-  }
+  const runs = /** @type {Word[][]} */ ([]);
+  words.forEach((word, k) => {
+    const isNext = k > 0 && SPACES.test(line.slice(endOf(words[k - 1]), word.begin));
+    isNext ? runs[runs.length - 1].push(word) : runs.push([word]);
+  });
   return runs;
 }
 
@@ -176,23 +169,11 @@ export function findAdjacentRow(line, text, rows) {
 }
 
 const CONTROL = /\p{Cc}/u;
-// Characters drawn as nothing or as a space, except the plain space.
-const HIDDEN = /(?! )[\p{C}\p{Z}\u034f\u115f\u1160\u2800\u3164\uffa0\ufe00-\ufe0f]/u;
-const UNASSIGNED = /[\p{Co}\p{Cn}\p{Cs}]/u;
-
-const isHidden = (/** @type {string} */ character) => HIDDEN.test(character) && !UNASSIGNED.test(character);
+// Assigned characters drawn as nothing or as a space, except the plain space.
+const HIDDEN = /(?![ \p{Co}\p{Cn}\p{Cs}])[\p{C}\p{Z}\u034f\u115f\u1160\u2800\u3164\uffa0\ufe00-\ufe0f]/u;
 
 /** The offset of the first invisible character, or -1. */
-export function findHidden(/** @type {string} */ text) {
-  let at = 0;
-  for (const character of text) {
-    if (isHidden(character)) {
-      return at;
-    }
-    at += character.length;
-  }
-  return -1;
-}
+export const findHidden = (/** @type {string} */ text) => text.search(HIDDEN);
 
 /** The code point of a character, as `U+200B`. */
 export function codePointName(/** @type {string} */ character) {
@@ -207,7 +188,7 @@ export function abbreviate(/** @type {string} */ given) {
 }
 
 function escapeCharacter(/** @type {string} */ character) {
-  if (!isHidden(character)) {
+  if (!HIDDEN.test(character)) {
     return character;
   }
   const code = character.charCodeAt(0).toString(16).padStart(2, "0");

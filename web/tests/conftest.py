@@ -1,33 +1,53 @@
-"""A browser for the tests of the page, and forms of lines for its reader."""
+"""Fixtures of the page's tests: browsers, colour schemes and forms of lines."""
 
 import json
 import pathlib
 from typing import Any, Dict, Iterator
 
 import pytest
-from support import TOP
+from support import TOP, require
 from support.browser import Page
+from support.node import Engine
 
 
 @pytest.fixture(scope="module")
 def browser(page: pathlib.Path, bb: str, tmp_path_factory: pytest.TempPathFactory) -> Iterator[Page]:
-    """The page in a browser of a desk's width."""
+    """The page in a desktop browser."""
     with Page(page, tmp_path_factory.mktemp("saved"), program=bb) as opened:
         yield opened
 
 
 @pytest.fixture
 def tab(browser: Page) -> Iterator[Page]:
-    """The page, opened anew. It asks for no other address, and has no error in its console."""
+    """The page, opened anew. It sends no request and logs no error."""
     browser.open()
     yield browser
     assert not browser.requests()
     assert not browser.errors()
 
 
+@pytest.fixture(scope="module")
+def engine(module: pathlib.Path, tmp_path_factory: pytest.TempPathFactory) -> Iterator[Engine]:
+    """The engine in a Node process."""
+    require("node")
+    opened = Engine(tmp_path_factory.mktemp("engine"), module)
+    if opened.about.get("unsupported"):
+        pytest.skip("this Node has no vectors; Node 16.4 or later has (package nodejs)")
+    yield opened
+    opened.end()
+
+
+@pytest.fixture(params=["light", "dark"])
+def scheme(tab: Page, request: pytest.FixtureRequest) -> Iterator[str]:
+    """The colour schemes of the page."""
+    tab.media(prefers_color_scheme=request.param)
+    yield request.param
+    tab.media()
+
+
 @pytest.fixture(scope="session")
 def forms() -> Dict[str, Any]:
-    """Lines and lists with their readings, which the page and the package share."""
+    """Lines and lists with their expected readings, shared with the package."""
     found: Dict[str, Any] = json.loads((TOP / "tests/support/forms.json").read_text(encoding="utf-8"))
     return found
 

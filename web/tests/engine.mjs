@@ -1,12 +1,14 @@
 /**
- * Answers jobs by the engine's module, for `support.node`: one in a line of standard input, as JSON, and a
- * line back of what came of it. Bytes go through files.
+ * Runs the engine's calls for `support.node`. A line of standard input is a job as JSON; the reply is a line.
+ * Bytes pass through files.
  *
  * @typedef {{call: string, given: string, out: string, plan: any, memory?: number, times?: number}} Job
  */
 import { readFileSync, writeFileSync } from "node:fs";
 import { createInterface } from "node:readline";
 import { isSupported, load } from "../lib/bb.mjs";
+import { unpackRow } from "../worker/packed-rows.mjs";
+import { RowCache } from "../worker/row-cache.mjs";
 
 const bytes = readFileSync(process.argv[2]);
 const CALLS = { decide: "decideBytes", check: "checkBytes", trace: "traceBytes" };
@@ -14,7 +16,24 @@ const CALLS = { decide: "decideBytes", check: "checkBytes", trace: "traceBytes" 
 /** @param {import("../lib/bb.mjs").Engine} engine @param {Job} job */
 function runCall(engine, { call, given, plan }) {
   const list = new Uint8Array(readFileSync(given));
-  return call === "samples" ? traceAllSamples(engine, list, plan) : engine[CALLS[call]](list, plan);
+  const extra = { samples: traceAllSamples, rows: getCachedRows }[call];
+  return extra ? extra(engine, list, plan) : engine[CALLS[call]](list, plan);
+}
+
+/** Rows from the worker's cache: each request's lines, the requests without a trace, and the last row. */
+function getCachedRows(engine, line, { cells, requests, last }) {
+  const machine = Buffer.from(line).toString();
+  let traces = 0;
+  const counter = { traceInPlace: (...words) => ((traces += 1), engine.traceInPlace(...words)) };
+  const cache = new RowCache(counter, machine, cells);
+  const lines = requests.map((request) => {
+    const { rows } = cache.getRows(request, true);
+    const textOf = (k) => `${rows.states[k]} ${rows.heads[k]} ${rows.lows[k]} ${unpackRow(rows, k).join("")}`;
+    return Array.from(rows.steps, (step, k) => `${step} ${textOf(k)}`);
+  });
+  const { step, low, width } = new RowCache(engine, machine, cells).lastRow(last);
+  const found = { lines, known: requests.length - traces, last: [step, low, width] };
+  return { bytes: Buffer.from(JSON.stringify(found)), clean: true };
 }
 
 /** All traces from each step up to one, by each interval up to another, one behind the other. */
@@ -28,7 +47,7 @@ function traceAllSamples(engine, line, { from, every, ...limits }) {
   return { bytes: Buffer.concat(parts), clean: true };
 }
 
-/** What came of a job. @param {import("../lib/bb.mjs").Engine} engine @param {Job} job */
+/** @param {import("../lib/bb.mjs").Engine} engine @param {Job} job */
 function runJob(engine, job) {
   const begun = process.cpuUsage();
   try {

@@ -1,10 +1,10 @@
-"""The engine as WebAssembly, in Node, beside the program: the same bytes."""
+"""The WebAssembly engine in Node writes the program's bytes."""
 
 import itertools
 import pathlib
 import random
 import re
-from typing import Any, Dict, Iterator, List, Tuple
+from typing import Any, Dict, List, Tuple
 
 import pytest
 from support import TOP
@@ -14,7 +14,8 @@ from support.examples import README, Example, read_examples
 from support.machines import CHAMPION, random_machines, seldom_halting
 from support.node import CallResult, Engine, documented_script
 from support.plans import FOUR, MOST, all_plans, random_plan
-from support.program import MAX_CELLS, SWITCHES, as_lines, run_command, processor_time, words_of_plan
+from support.program import MAX_CELLS, SWITCHES, CommandResult, as_lines, processor_time, run_command
+from support.program import plan_of, words_of_plan
 
 pytestmark = pytest.mark.needs("node")
 
@@ -22,7 +23,23 @@ Plan = Dict[str, Any]
 MOST_BYTES = 65_536
 LISTS = list(read_examples("decide", "check"))
 SMALL = {"steps": 100, "cells": 64, "depth": 20, "nodes": 100}
-# How many bytes some pages of the module's memory have.
+REFUSED_LIMITS = (
+    "--steps 1000000000001, --cells 0, --cells 67108865, --depth 10001, --nodes 1000000000001, --cells 598, "
+    "--cells 0 --steps 10000000000000, --depth 10001 --nodes 10000000000000"
+)
+# Lines of LLVM IR with 64-bit pointers that are refused.
+WIDE = """
+@a = constant [1 x ptr] [ptr @b]
+  %a = alloca [2 x ptr], align 8
+  %a = alloca ptr, i64 2, align 8
+  %a = getelementptr ptr, ptr %b, i64 1
+  %a = inttoptr i64 %b to ptr
+  %a = insertvalue { ptr, i64 } %b, ptr %c, 0
+  %a = load <2 x ptr>, ptr %b, align 16
+  call void @a(ptr byval([8 x i8]) %b)
+  store { ptr, i64, i64 } %a, ptr %b, align 8
+"""
+# Bytes of memory for a small engine.
 MEMORY = 64 * 65_536
 
 
@@ -33,26 +50,15 @@ class Both:
         self.program, self.engine = program, engine
 
     def program_output(self, name: str, plan: Plan, given: bytes) -> bytes:
-        """What the program writes."""
+        """Return the program's output."""
         return run_command([self.program, name, *words_of_plan(plan)], given).output
 
     def require_same(self, name: str, plan: Plan, given: bytes) -> CallResult:
-        """Requires that a call's reply is the program's, and gives it."""
+        """Require a call's reply to be the program's, and return it."""
         reply = self.engine.call(name, plan, given)
         wanted = run_command([self.program, name, *words_of_plan(plan)], given)
-        assert reply.status == wanted.status, reply.answer
-        assert reply.reply == wanted.output, (name, plan)
+        assert (reply.status, reply.reply) == (wanted.status, wanted.output), (name, plan, reply.answer)
         return reply
-
-
-@pytest.fixture(scope="module")
-def engine(module: pathlib.Path, tmp_path_factory: pytest.TempPathFactory) -> Iterator[Engine]:
-    """A process of Node with the engine."""
-    opened = Engine(tmp_path_factory.mktemp("engine"), module)
-    if opened.about.get("unsupported"):
-        pytest.skip("this Node has no vectors; Node 16.4 or later has (package nodejs)")
-    yield opened
-    opened.end()
 
 
 @pytest.fixture
@@ -70,7 +76,7 @@ def test_example(both: Both, example: Example) -> None:
 
 
 def test_all_plans(both: Both) -> None:
-    """The first run of the README, and all plans at the rows of limits."""
+    """The README's first run, and all plans at each row of limits."""
     both.require_same("decide", {}, README)
     both.require_same("decide", {name: False for name in SWITCHES}, README)
     given = b"".join(example.lines for example in LISTS if example.name in ("verdicts", "small_limits"))
@@ -82,7 +88,7 @@ def test_all_plans(both: Both) -> None:
 
 @pytest.mark.parametrize("count", [1_000, pytest.param(20_000, marks=pytest.mark.slow)])
 def test_random_machines_and_claims(both: Both, rng: random.Random, count: int) -> None:
-    """At random limits; half of the claims are forged."""
+    """At random limits, with half of the claims forged."""
     machines = random_machines(count, rng)
     for k in range(0, count, 100):
         reply = both.require_same("decide", random_plan(rng), as_lines(machines[k : k + 100])).reply
@@ -95,7 +101,6 @@ def test_random_machines_and_claims(both: Both, rng: random.Random, count: int) 
 
 @pytest.mark.slow
 def test_four_states(both: Both, four_states: List[str]) -> None:
-    """All machines of four states, decided and checked; their times."""
     given = as_lines(four_states)
     assert len(four_states) == 858_909
     before = processor_time()
@@ -111,7 +116,7 @@ def test_four_states(both: Both, four_states: List[str]) -> None:
 @pytest.mark.slow
 @pytest.mark.parametrize("name", ["decide", "check"])
 def test_noise(both: Both, rng: random.Random, name: str) -> None:
-    """Bytes that are no list, lines without an end, and a line of 10 MB."""
+    """Random bytes, lists without a final newline, and a line of 10 MB."""
     for length in (0, 1, 2, 100, 10_000, 100_000):
         noise = rng.randbytes(length)
         both.require_same(name, {}, noise)
@@ -120,23 +125,11 @@ def test_noise(both: Both, rng: random.Random, name: str) -> None:
         both.require_same(name, {}, line)
 
 
-@pytest.mark.parametrize(
-    "plan",
-    [
-        {"steps": 10**12 + 1},
-        {"cells": 0},
-        {"cells": MAX_CELLS + 1},
-        {"depth": 10_001},
-        {"nodes": 10**12 + 1},
-        {"cells": 598},
-        {"cells": 0, "steps": 10**13},
-        {"depth": 10_001, "nodes": 10**13},
-    ],
-)
-def test_refused_limit(both: Both, plan: Plan) -> None:
-    """The error has the program's words and names the limit."""
-    answer = both.engine.call("decide", plan, b"1RA1RA\n").answer
-    said = run_command([both.program, "decide", *words_of_plan(plan)]).error.decode()
+@pytest.mark.parametrize("words", REFUSED_LIMITS.split(", "))
+def test_refused_limit(both: Both, words: str) -> None:
+    """The error has the program's message and names the limit."""
+    answer = both.engine.call("decide", plan_of(words.split()), b"1RA1RA\n").answer
+    said = run_command([both.program, "decide", *words.split()]).error.decode()
     assert (answer["error"], answer["limit"]) == ("LimitsError", said[4:].split(" ")[0])
     assert said == "bb: %s\n" % answer["message"]
 
@@ -156,7 +149,7 @@ def test_greatest_limits(both: Both, name: str) -> None:
 
 
 def test_script_of_the_documentation(both: Both, tmp_path: pathlib.Path) -> None:
-    """The script of docs/web.md decides a list and checks what it said, as it stands there."""
+    """The script of docs/web.md decides a list and checks the verdicts."""
     (tmp_path / "web").symlink_to(TOP / "web")
     (tmp_path / "decide.mjs").write_text(documented_script("A script"), encoding="utf-8")
     limits = {"steps": 100_000, "cells": 4096}
@@ -166,7 +159,7 @@ def test_script_of_the_documentation(both: Both, tmp_path: pathlib.Path) -> None
 
 
 def test_memory_that_cannot_be_had(engine: Engine) -> None:
-    """It is an error, after which the engine stays usable."""
+    """The engine stays usable after the error."""
     cases: List[Tuple[str, Plan, bytes]] = [
         ("decide", {"cells": 10**7}, b"1RA1RA\n"),
         ("check", {"cells": 10**7}, b"1RA1RA translated R 1 2\n"),
@@ -180,7 +173,7 @@ def test_memory_that_cannot_be_had(engine: Engine) -> None:
 
 @pytest.mark.slow
 def test_memory_stays(module: pathlib.Path, tmp_path: pathlib.Path) -> None:
-    """An engine of its own holds after a thousand lists what it holds after one."""
+    """A thousand lists need no more memory than one."""
     own = Engine(tmp_path, module)
     once = own.call("decide", SMALL, README * 1000).answer["held"]
     assert once == own.call("decide", SMALL, README * 1000, times=1000).answer["held"]
@@ -188,7 +181,7 @@ def test_memory_stays(module: pathlib.Path, tmp_path: pathlib.Path) -> None:
 
 
 def trace_lines(program: str, machine: str, steps: int, cells: int) -> List[bytes]:
-    """The program's rows as the engine's trace has them: with the lowest position before the cells."""
+    """Return the program's trace with the lowest position before the cells, as the engine writes it."""
     return [
         b"%d %s %d %d %s\n" % (row.step, row.state.encode(), row.head, row.low, row.cells.encode())
         for row in trace(program, machine, steps, cells)
@@ -197,7 +190,6 @@ def trace_lines(program: str, machine: str, steps: int, cells: int) -> List[byte
 
 @pytest.mark.parametrize("count", [5, pytest.param(100, marks=pytest.mark.slow)])
 def test_traces_of_some_rows(both: Both, rng: random.Random, count: int) -> None:
-    """Traces of random machines from each step by each interval."""
     for machine in random_machines(count, rng):
         plan = {"steps": rng.randint(0, 200), "cells": rng.randint(1, 60)}
         lines = trace_lines(both.program, machine, plan["steps"], plan["cells"])
@@ -209,7 +201,6 @@ def test_traces_of_some_rows(both: Both, rng: random.Random, count: int) -> None
 
 @pytest.mark.parametrize("count", [50, pytest.param(500, marks=pytest.mark.slow)])
 def test_traces_name_the_lowest_position(both: Both, rng: random.Random, count: int) -> None:
-    """Whole traces of machines that seldom halt."""
     machines = [seldom_halting(rng, rng.randint(2, 5), rng.randint(2, 4)) for _ in range(count)]
     for machine in [CHAMPION, *machines]:
         steps = rng.randint(100, 4_000)
@@ -230,10 +221,14 @@ def test_trace_at_the_greatest_limits(both: Both) -> None:
     assert (reply.status, reply.reply) == (1, b"refused 2\n")
 
 
-NARROW = ["python3", str(TOP / "web" / "narrow.py")]
+def narrow(folder: pathlib.Path, line: str) -> Tuple[CommandResult, pathlib.Path]:
+    """Narrow a line of intermediate code; return the result, and the path of what was made."""
+    given, made = folder / "wide", folder / "narrow"
+    given.write_text(line + "\n", encoding="ascii")
+    return run_command(["python3", str(TOP / "web" / "narrow.py"), str(given), str(made)]), made
 
 
-# Lines of intermediate code, and what they are with pointers of 32 bits.
+# Lines of LLVM IR, with 64-bit and with 32-bit pointers.
 @pytest.mark.parametrize(
     "line, wanted",
     [
@@ -250,37 +245,15 @@ NARROW = ["python3", str(TOP / "web" / "narrow.py")]
     ],
 )
 def test_narrowed_line(tmp_path: pathlib.Path, line: str, wanted: str) -> None:
-    given, made = tmp_path / "wide", tmp_path / "narrow"
-    given.write_text(line + "\n", encoding="ascii")
-    assert run_command([*NARROW, str(given), str(made)]).status == 0
+    done, made = narrow(tmp_path, line)
+    assert done.status == 0
     text = re.sub(r"%narrow\.\d+", "%X", made.read_text(encoding="ascii")).replace("%X = ", "")
     assert "|".join(one.strip() for one in text.splitlines()) == wanted
 
 
-@pytest.mark.parametrize(
-    "line",
-    [
-        "@a = constant [1 x ptr] [ptr @b]",
-        "  %a = alloca [2 x ptr], align 8",
-        "  %a = alloca ptr, i64 2, align 8",
-        "  %a = getelementptr ptr, ptr %b, i64 1",
-        "  %a = inttoptr i64 %b to ptr",
-        "  %a = insertvalue { ptr, i64 } %b, ptr %c, 0",
-        "  %a = load <2 x ptr>, ptr %b, align 16",
-        "  call void @a(ptr byval([8 x i8]) %b)",
-        "  store { ptr, i64, i64 } %a, ptr %b, align 8",
-    ],
-)
+@pytest.mark.parametrize("line", WIDE.strip("\n").split("\n"))
 def test_line_that_is_not_narrowed(tmp_path: pathlib.Path, line: str) -> None:
-    """It is refused, with a line that says so, and nothing is written."""
-    given, made = tmp_path / "wide", tmp_path / "narrow"
-    given.write_text(line + "\n", encoding="ascii")
-    status, _, error = run_command([*NARROW, str(given), str(made)])
-    assert (status, error) == (1, b"narrow: %s isn't known here\n" % line.strip().encode())
+    """The line is refused with a message, and no file is written."""
+    done, made = narrow(tmp_path, line)
+    assert (done.status, done.error) == (1, b"narrow: %s isn't known here\n" % line.strip().encode())
     assert not made.exists()
-
-
-@pytest.mark.needs("tsc")
-def test_types_of_the_modules() -> None:
-    status, output, _ = run_command(["tsc", "-p", str(TOP / "web")])
-    assert status == 0, output.decode()

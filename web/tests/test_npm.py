@@ -1,4 +1,4 @@
-"""The npm package of the engine: installed by npm into an empty folder, with no network."""
+"""The npm package, installed by npm into an empty folder without a network."""
 
 import pathlib
 import subprocess
@@ -26,16 +26,16 @@ INSTALL = "npm install --offline --no-audit --no-fund --cache cache".split()
 
 
 def package(folder: pathlib.Path) -> pathlib.Path:
-    """The package, made into a folder."""
+    """Build the package in a folder."""
     done = run_command(["python3", str(TOP / "web" / "package.py"), "--out", str(folder)])
     assert done.status == 0, done.error
     return pathlib.Path(done.output.decode().strip())
 
 
 @pytest.fixture(scope="module")
-def installed(module: object, tmp_path_factory: pytest.TempPathFactory) -> pathlib.Path:
-    """A folder in which the package is installed, and nothing else."""
-    folder = tmp_path_factory.mktemp("installed")
+def installation(module: object, tmp_path_factory: pytest.TempPathFactory) -> pathlib.Path:
+    """A folder with only the installed package."""
+    folder = tmp_path_factory.mktemp("installation")
     made = package(tmp_path_factory.mktemp("package"))
     status, output, error = run_command([*INSTALL, str(made)], cwd=str(folder))
     assert status == 0, (output, error)
@@ -43,7 +43,7 @@ def installed(module: object, tmp_path_factory: pytest.TempPathFactory) -> pathl
 
 
 def run(folder: pathlib.Path, script: str, given: List[str]) -> str:
-    """What a script writes in the folder."""
+    """Run a script in the folder, and return its output."""
     (folder / "script.mjs").write_text(script, encoding="utf-8")
     done = run_command(["node", "script.mjs"], as_lines(given), cwd=str(folder))
     assert done.status == 0, done.error
@@ -55,24 +55,26 @@ def test_same_bytes_again(module: object, tmp_path: pathlib.Path) -> None:
     assert one.name == other.name and one.read_bytes() == other.read_bytes()
 
 
-def test_example_of_the_documentation(bb: str, installed: pathlib.Path) -> None:
+def test_example_of_the_documentation(bb: str, installation: pathlib.Path) -> None:
     limits = ["--steps", "100000", "--cells", "4096"]
     verdicts = run_command([bb, "decide", *limits], as_lines(MACHINES)).output
     wanted = (verdicts + run_command([bb, "check", *limits], verdicts).output).decode()
-    assert run(installed, documented_script("From npm's package"), MACHINES) == wanted
+    assert run(installation, documented_script("From npm's package"), MACHINES) == wanted
 
 
-def test_example_of_the_readme(bb: str, installed: pathlib.Path) -> None:
-    page = (installed / "node_modules" / "budlarem" / "README.md").read_text(encoding="utf-8")
+def test_example_of_the_readme(bb: str, installation: pathlib.Path) -> None:
+    page = (installation / "node_modules" / "budlarem" / "README.md").read_text(encoding="utf-8")
     script = "".join(line[4:] + "\n" for line in page.splitlines() if line.startswith("    "))
-    assert run(installed, script, []) == run_command([bb, "decide"], as_lines(MACHINES[:1])).output.decode()
+    assert (
+        run(installation, script, []) == run_command([bb, "decide"], as_lines(MACHINES[:1])).output.decode()
+    )
 
 
 @pytest.mark.parametrize("name, is_right", [("steps", True), ("stepps", False)])
-def test_types(installed: pathlib.Path, name: str, is_right: bool) -> None:
-    """The types are those of the calls; what is misspelled is named."""
+def test_types(installation: pathlib.Path, name: str, is_right: bool) -> None:
+    """Types accept right calls, and reject a misspelled name."""
     text = TYPED.replace("steps: 1_000", name + ": 1_000")
-    (installed / "typed.mts").write_text(text, encoding="utf-8")
-    done = subprocess.run([*TSC, "typed.mts"], cwd=installed, capture_output=True, text=True)
+    (installation / "typed.mts").write_text(text, encoding="utf-8")
+    done = subprocess.run([*TSC, "typed.mts"], cwd=installation, capture_output=True, text=True)
     assert (done.returncode == 0) == is_right, done.stdout
     assert is_right or "'stepps' does not exist in type 'Plan'" in done.stdout

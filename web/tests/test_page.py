@@ -1,5 +1,6 @@
-"""The built page: what it writes is what the program writes, byte for byte; its size, links and stops."""
+"""The page writes the program's bytes; its size, links and stops."""
 
+import base64
 import functools
 import http.server
 import pathlib
@@ -22,7 +23,7 @@ from support.program import SWITCHES, as_lines
 MOST_BYTES = 260_000
 # The examples that decide or check lists of their own.
 LISTS = list(read_examples("decide", "check"))
-# Goes on to the next undecided line a few times; the most milliseconds that it takes.
+# Opens the next undecided line three times, and returns the longest time in milliseconds.
 UNDECIDED = """
 const taken = [0, 0, 0].map(() => {
   const begun = performance.now();
@@ -38,8 +39,12 @@ def test_size(page: pathlib.Path) -> None:
 
 
 def test_first_verdict_and_first_list(tab: Page) -> None:
-    """What the page shows when it is opened, and the first run of the README."""
+    """The opening list with its diagram, and the README's first run."""
     assert "halts after 6 steps" in tab.text("machine-says")
+    tab.wait_until_drawn()
+    tab.until(lambda: "The row above shows it." in tab.text("behind"))
+    png = tab.js("return document.getElementById('diagram').toDataURL('image/png')").split(",")[1]
+    assert base64.b64decode(png).startswith(b"\x89PNG")
     assert tab.js("return performance.getEntriesByName('first verdict').length") == 1
     tab.require_same("decide", {}, README)
     tab.require_same("decide", {name: False for name in SWITCHES}, README)
@@ -47,7 +52,7 @@ def test_first_verdict_and_first_list(tab: Page) -> None:
 
 
 def test_machines_out_of_lines(tab: Page) -> None:
-    """Machines are taken out of their lines, as the recipe does, and lines without one are counted."""
+    """Machines are found in other text, and lines without one are counted."""
     tab.answer_file(b"# a list\n\n  1RB1LB_1LA1RZ # two states\n17, 1RA1RA,x\r\n1rB\nno machine\n")
     assert tab.save() == tab.program_output("decide", {}, b"1RB1LB_1LA1RZ\n1RA1RA\n1rB\nno machine\n")
     assert "2 decided, 0 undecided, 2 refused, 2 skipped" in tab.text("status")
@@ -65,7 +70,7 @@ def test_example_of_the_menu(tab: Page) -> None:
 
 @pytest.mark.parametrize("every", [9, pytest.param(1, marks=pytest.mark.slow)])
 def test_all_plans(tab: Page, every: int) -> None:
-    """All plans at the rows of limits, or some of them."""
+    """All plans at each row of limits, or every ninth."""
     given = b"".join(example.lines for example in LISTS if example.name in ("verdicts", "small_limits"))
     plans = list(all_plans())[::every]
     for plan in plans:
@@ -75,7 +80,7 @@ def test_all_plans(tab: Page, every: int) -> None:
 
 @pytest.mark.slow
 def test_random_machines_and_claims(tab: Page, rng: random.Random, count: int = 20_000) -> None:
-    """Random machines at random limits, and claims of which half are forged, told for what they are."""
+    """At random limits, with half of the claims forged."""
     machines = random_machines(count, rng)
     for k in range(0, count, 200):
         decided = tab.require_same("decide", random_plan(rng), as_lines(machines[k : k + 200]))
@@ -101,7 +106,7 @@ def test_random_machines_and_claims(tab: Page, rng: random.Random, count: int = 
     ],
 )
 def test_refused_limits(tab: Page, plan: Dict[str, Any], name: str, sentence: str) -> None:
-    """Refused limits are told beside the field, in the program's words."""
+    """The program's message is shown beside the field."""
     tab.plan(plan, "auto")
     tab.run()
     tab.until(lambda: tab.get(name, "ariaInvalid"))
@@ -112,14 +117,14 @@ def test_refused_limits(tab: Page, plan: Dict[str, Any], name: str, sentence: st
 @pytest.mark.slow
 @pytest.mark.parametrize("name", ["decide", "check"])
 def test_noise(tab: Page, rng: random.Random, name: str) -> None:
-    """Bytes that are no UTF-8, lines of noise, and a line of 100 MB."""
+    """Invalid UTF-8, lines of noise, and a line of 100 MB."""
     tab.require_same(name, {}, rng.randbytes(100_000) + b"\n<img src=x onerror=alert(1)>\n1RZ---")
     tab.require_same(name, {}, b"\xff<b>\n" * 1_000_000)
     tab.require_same(name, {}, b"1RB1LB_" * 14_000_000 + b"\n1RZ---\n")
 
 
 def test_stop_in_the_middle(tab: Page) -> None:
-    """A stop in the middle of 10^12 steps; what was decided stays, and the next list is decided."""
+    """Decided lines stay after a stop, and the next list runs."""
     tab.plan(ENDLESS, "decide")
     tab.submit_file(b"1RB1LB_1LA1RZ\n" * 40 + LONG.encode() + b"\n")
     tab.until(lambda: tab.text("status").startswith("Running") and "40 decided" in tab.text("status"))
@@ -130,7 +135,7 @@ def test_stop_in_the_middle(tab: Page) -> None:
 
 
 def test_link_opens_a_machine(tab: Page) -> None:
-    """A link opens a machine, its limits and switches again."""
+    """With its limits and switches."""
     tab.open("#machine=1RA1RA&steps=9&cells=700&translated=off&cyclers=off&backward=off")
     assert tab.save() == b"1RA1RA undecided steps\n"
     tab.click("link")
@@ -138,20 +143,13 @@ def test_link_opens_a_machine(tab: Page) -> None:
     assert tab.js("return location.hash") == wanted
 
 
-class Quiet(http.server.SimpleHTTPRequestHandler):
-    """Serves a folder, and tells nothing of it."""
-
-    def log_message(self, *_: object) -> None:
-        pass
-
-
 def test_page_of_the_documentation(browser: Page, module: pathlib.Path, tmp_path: pathlib.Path) -> None:
-    """The page of docs/web.md decides its list, served with the files that are named there."""
+    """The page of docs/web.md decides its list."""
     for path in [*(TOP / "web" / "lib").glob("*.mjs"), module]:
         shutil.copy(path, tmp_path)
     (tmp_path / "favicon.ico").touch()
     (tmp_path / "index.html").write_text(documented_script("A page"), encoding="utf-8")
-    handler = functools.partial(Quiet, directory=str(tmp_path))
+    handler = functools.partial(http.server.SimpleHTTPRequestHandler, directory=str(tmp_path))
     with http.server.ThreadingHTTPServer(("127.0.0.1", 0), handler) as server:
         threading.Thread(target=server.serve_forever, daemon=True).start()
         browser.driver.get("http://127.0.0.1:%d/" % server.server_port)
@@ -165,8 +163,7 @@ def test_page_of_the_documentation(browser: Page, module: pathlib.Path, tmp_path
 @pytest.mark.slow
 @pytest.mark.timing
 def test_four_states(tab: Page, four_states: List[str]) -> None:
-    """All machines of four states as a dropped file; the page never stands still for long beside the time
-    that they take, also when it goes on to an undecided line, and when it sorts them."""
+    """The page stays responsive during the run, on opening undecided lines, and during sorting."""
     given = as_lines(four_states)
     tab.js("window.longest = 0")
     begun = time.monotonic()
@@ -185,7 +182,7 @@ def test_four_states(tab: Page, four_states: List[str]) -> None:
 
 
 def test_browser_without_vectors(page: pathlib.Path, tmp_path: pathlib.Path) -> None:
-    """A browser without vectors hears that it lacks them, and can't decide."""
+    """A browser without SIMD gets a message and can't run lists."""
     with Page(page, tmp_path) as bare:
         bare.add_script("WebAssembly.validate = () => false")
         bare.driver.get("file://" + bare.path)

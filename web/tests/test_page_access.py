@@ -1,29 +1,29 @@
-"""Whether everyone can use the page: contrasts, names and roles, widths, live text, and what it may send."""
+"""Accessibility of the page: contrasts, names, roles, widths, live text; and its content security policy."""
 
 import pathlib
 import re
 import time
-from typing import Dict, List
+from typing import Dict
 
 import pytest
 from support import TOP
-from support.browser import CONTRAST, Page, soon, trace
+from support.browser import COLOUR, Page, contrast, soon, trace
 from support.gestures import Keys
 from support.machines import CHAMPION
 
 TEXT, MARK = 4.5, 3.0
-# Its head comes to each of ten symbols, and halts at step 19.
+# Its head visits ten symbols, and it halts at step 19.
 COUNTER = "1RB2RB3RB4RB5RB6RB7RB8RB9RB9RZ_1LA2LA3LA4LA5LA6LA7LA8LA9LA9LA"
-# It has marks late, over cells of a pixel.
+# Its marks are late, over cells of a pixel.
 LATE = "1RB1LB_1LA0LC_1RE1LD_1RD0RA_1RE1RE"
-# The pixels above a marked row: its outline, what is about that, and one that only a label reaches.
+# Pixels above a marked row: two of its outline, one outside, and one that only a label reaches.
 ABOVE = (-1, -2, -3, -6)
-# Texts and what is behind them: the smallest contrast of each element's text, computed in the page.
-CONTRASTS = """
-const over = (upper, lower) => {
-  const alpha = upper[3] ?? 1;
-  return [0, 1, 2].map((k) => upper[k] * alpha + lower[k] * (1 - alpha));
-};
+# The colours of texts and of controls' borders, and those behind them.
+COLOURS = (
+    COLOUR
+    + """
+const over = ([red, green, blue, alpha = 1], lower) =>
+  [red, green, blue].map((part, k) => part * alpha + lower[k] * (1 - alpha));
 const ground = (element) => {
   const layers = [];
   for (let one = element; one; one = one.parentElement) {
@@ -36,16 +36,16 @@ const seen = (element) => element.checkVisibility() && element.getClientRects().
 const all = [...document.querySelectorAll("body *")].filter(seen);
 const hasText = (node) => node.nodeType === 3 && node.data.trim();
 const texts = all.filter((one) => [...one.childNodes].some(hasText));
-const bad = texts.map((one) => [contrast(parse(getComputedStyle(one).color), ground(one)), one])
-  .filter(([ratio]) => ratio < arguments[0]).map(([ratio, one]) => one.outerHTML.slice(0, 80) + " " + ratio);
 const used = "button:not(:disabled), input[type=text], select, textarea";
 const controls = all.filter((one) => one.matches(used));
-const borders = controls.map((one) => [contrast(parse(getComputedStyle(one).borderTopColor),
-  ground(one.parentElement)), one]).filter(([ratio]) => ratio < arguments[1])
-  .map(([ratio, one]) => one.outerHTML.slice(0, 80) + " " + ratio);
-return [bad, borders];
+const words = (one) => one.outerHTML.slice(0, 80);
+return [
+  texts.map((one) => [parse(getComputedStyle(one).color), ground(one), words(one)]),
+  controls.map((one) => [parse(getComputedStyle(one).borderTopColor), ground(one.parentElement), words(one)]),
+];
 """
-# What has no name, though it is used; and what names what isn't there.
+)
+# Controls without a name, and references to missing or repeated ids.
 NAMES = """
 const nodes = arguments[0];
 const named = ["button", "textbox", "combobox", "checkbox", "link", "grid", "img", "image", "listbox",
@@ -71,32 +71,19 @@ const violations = [];
 addEventListener("securitypolicyviolation", (event) => violations.push(event.effectiveDirective));
 const image = new Image();
 image.src = "https://example.invalid/x.png";
+const request = new XMLHttpRequest();
+request.open("GET", "https://example.invalid/");
+const script = document.createElement("script");
+script.textContent = "window.ran = true";
+const opened = (one, sent) => new Promise((end, fail) => Object.assign(one, { [sent]: end, onerror: fail }));
 const tried = [
-  fetch("https://example.invalid/").then(() => "sent", () => "refused"),
-  new Promise((end) => {
-    try {
-      const request = new XMLHttpRequest();
-      request.onload = () => end("sent");
-      request.onerror = () => end("refused");
-      request.open("GET", "https://example.invalid/");
-      request.send();
-    } catch { end("refused"); }
-  }),
-  new Promise((end) => {
-    try {
-      const socket = new WebSocket("wss://example.invalid/");
-      socket.onopen = () => end("sent");
-      socket.onerror = () => end("refused");
-    } catch { end("refused"); }
-  }),
-  new Promise((end) => {
-    const script = document.createElement("script");
-    script.textContent = "window.ran = true";
-    document.body.append(script);
-    end(window.ran ? "sent" : "refused");
-  }),
+  () => fetch("https://example.invalid/"),
+  () => (request.send(), opened(request, "onload")),
+  () => opened(new WebSocket("wss://example.invalid/"), "onopen"),
+  () => (document.body.append(script), window.ran || Promise.reject()),
 ];
-Promise.all(tried).then((ends) => setTimeout(() => done([ends, violations]), 300));
+const ends = tried.map(async (send) => send()).map((end) => end.then(() => "sent", () => "refused"));
+Promise.all(ends).then((all) => setTimeout(() => done([all, violations]), 300));
 """
 WORKER = """
 const done = arguments[arguments.length - 1];
@@ -127,24 +114,11 @@ return document.getElementById("diagram").dataset.x - 9 - pen.measureText(argume
 WIDTH = "return document.documentElement.scrollWidth"
 
 
-def luminance(colour: List[int]) -> float:
-    parts = [part / 255 for part in colour]
-    linear: List[float] = [
-        part / 12.92 if part <= 0.03928 else ((part + 0.055) / 1.055) ** 2.4 for part in parts
-    ]
-    return 0.2126 * linear[0] + 0.7152 * linear[1] + 0.0722 * linear[2]
-
-
-def contrast(one: List[int], two: List[int]) -> float:
-    high, low = sorted((luminance(one), luminance(two)), reverse=True)
-    return (high + 0.05) / (low + 0.05)
-
-
-@pytest.mark.parametrize("scheme", [0, 1], ids=["light", "dark"])
-def test_colours_of_the_style(scheme: int) -> None:
-    """The letter in a head, which is its halo's colour, marks and texts."""
+@pytest.mark.parametrize("part", [0, 1], ids=["light", "dark"])
+def test_colours_of_the_style(part: int) -> None:
+    """Contrasts of heads' letters, marks and texts."""
     style = (TOP / "web" / "page" / "page.css").read_text(encoding="utf-8")
-    text = style.split("@media (prefers-color-scheme: dark)")[scheme].split("* { box-sizing")[0]
+    text = style.split("@media (prefers-color-scheme: dark)")[part].split("* { box-sizing")[0]
     found: Dict[str, str] = dict(re.findall(r"--([a-z0-9-]+): #([0-9a-f]{6})", text))
     colours = {name: list(bytes.fromhex(digits)) for name, digits in found.items()}
     for symbol in range(10):
@@ -157,12 +131,10 @@ def test_colours_of_the_style(scheme: int) -> None:
     assert contrast(colours["good"], colours["wash"]) >= TEXT
 
 
-@pytest.mark.parametrize("scheme", ["light", "dark"])
-def test_heads_have_halos(tab: Page, scheme: str) -> None:
-    """The frame of a head is seen beside its halo on each symbol."""
-    tab.media(prefers_color_scheme=scheme)
-    tab.open("#machine=" + COUNTER)
-    view, rows = tab.wait_until_drawn(), trace(tab.program, COUNTER, 18)
+@pytest.mark.usefixtures("scheme")
+def test_heads_have_halos(tab: Page) -> None:
+    """A head's frame contrasts with its halo on each symbol."""
+    view, rows = tab.open_machine(COUNTER), trace(tab.program, COUNTER, 18)
     assert {row.symbol(row.head) for row in rows} == set(range(10))
     assert view["high"] >= 12 and view["every"] == 1
     for row in rows:
@@ -170,15 +142,12 @@ def test_heads_have_halos(tab: Page, scheme: str) -> None:
         frame, ring = tab.pixels([[x + 1, y], [x + 2, y]])
         assert contrast(frame, ring) >= MARK
         assert frame == tab.colour("--head")
-    tab.media()
 
 
-@pytest.mark.parametrize("scheme", ["light", "dark"])
-def test_marks_have_halos(tab: Page, scheme: str) -> None:
-    """A mark over cells of a pixel has a halo of the panel's colour."""
-    tab.media(prefers_color_scheme=scheme)
-    tab.open("#machine=%s" % LATE)
-    tab.wait_until_drawn()
+@pytest.mark.usefixtures("scheme")
+def test_marks_have_halos(tab: Page) -> None:
+    """A mark over cells of a pixel contrasts with its halo."""
+    tab.open_machine(LATE)
     tab.click("fit")
     soon(lambda: tab.wait_until_drawn()["top"] == 0)
     view, mark = tab.wait_until_drawn(), tab.colour("--mark")
@@ -189,26 +158,23 @@ def test_marks_have_halos(tab: Page, scheme: str) -> None:
     columns = [found[k : k + len(ABOVE)] for k in range(0, len(found), len(ABOVE))]
     outer = [about for one, two, about, label in columns if one == two == mark != label]
     assert outer and min(contrast(mark, about) for about in outer) >= MARK
-    tab.media()
 
 
-@pytest.mark.parametrize("scheme", ["light", "dark"])
-def test_contrasts(tab: Page, scheme: str) -> None:
-    """All texts and controls that are seen."""
-    tab.media(prefers_color_scheme=scheme)
+@pytest.mark.usefixtures("scheme")
+def test_contrasts(tab: Page) -> None:
+    """Of all visible texts and controls."""
     tab.put("limits", "open", True)
-    tab.open_list("1RB1LB_1LA1RZ\n1RB1LH_1LA1RZ\n1RA1RA halt 6 4\n1LB0LA_1RA---\n")
+    tab.open_list("1RB1LB_1LA1RZ", "1RB1LH_1LA1RZ", "1RA1RA halt 6 4", "1LB0LA_1RA---")
     for row in range(4):
         tab.open_row(row)
         time.sleep(0.2)
-        texts, borders = tab.js(CONTRAST + CONTRASTS, TEXT, MARK)
-        assert not texts and not borders
-    tab.media()
+        for found, least in zip(tab.js(COLOURS), (TEXT, MARK)):
+            assert found and not [words for one, ground, words in found if contrast(one, ground) < least]
 
 
 def test_names_and_references(tab: Page) -> None:
-    """What is used has a name; ids that are named exist, and once; the chosen row exists or isn't named."""
-    tab.open_list("1RA1RA\n" * 500)
+    """Controls have names, and references point at existing unique ids, also while rows scroll."""
+    tab.open_list(*["1RA1RA"] * 500)
     assert not tab.js(NAMES, tab.command("Accessibility.getFullAXTree")["nodes"])
     assert not tab.js(REFERENCES)
     tab.press("rows", Keys.END)
@@ -221,13 +187,13 @@ def test_names_and_references(tab: Page) -> None:
 
 
 def test_live_text(tab: Page) -> None:
-    """Live text is told at most once a second and at the end; opening a row tells its verdict."""
+    """Announcements are at least a second apart; the end of a run and an opened verdict are announced."""
 
     def is_announced(words: str) -> bool:
         return any(words in text for _, text in tab.js("return window.live"))
 
     tab.js(LIVE)
-    tab.open_list("1RA1RA\n1RB1LB_1LA1RZ\n")
+    tab.open_list("1RA1RA", "1RB1LB_1LA1RZ")
     tab.until(lambda: is_announced("Done"))
     tab.press("rows", Keys.ARROW_DOWN, Keys.ENTER)
     tab.until(lambda: is_announced("It halts after 6 steps"))
@@ -242,7 +208,7 @@ def test_live_text(tab: Page) -> None:
 
 
 def test_page_sends_nothing(tab: Page) -> None:
-    """The browser refuses it, also in a worker; the page works all the same."""
+    """The policy blocks requests and scripts, also in workers, and the page still works."""
     policy = tab.js("return document.querySelector('meta[http-equiv]').content")
     assert "default-src 'none'" in policy and "connect-src" not in policy
     ends, violations = tab.wait_for_js(SEND)
@@ -252,28 +218,26 @@ def test_page_sends_nothing(tab: Page) -> None:
     assert tab.wait_for_js(WORKER) == "refused"
     # What was tried is in the console.
     assert tab.requests() and tab.errors()
-    tab.open_list("1RA1RA\n")
+    tab.open_list("1RA1RA")
     assert tab.save() == b"1RA1RA translated R 1 2 1 1\n"
 
 
 def test_row_fits_at_a_desk(tab: Page) -> None:
-    """At a desk's width the list has room for 34 characters and a `translated` verdict."""
+    """A machine of 34 characters and a `translated` verdict fit."""
     tab.plan({}, "check", True)
-    tab.open_list("%s translated R 1234 5678 12 34\n1RB1LB_1LA1RZ halt 7\n" % CHAMPION)
+    tab.open_list(CHAMPION + " translated R 1234 5678 12 34", "1RB1LB_1LA1RZ halt 7")
     assert not tab.js(CLIPPED)
 
 
 @pytest.mark.slow
 @pytest.mark.parametrize("width, height", [(390, 844), (320, 640)])
 def test_narrow_page(page: pathlib.Path, bb: str, tmp_path: pathlib.Path, width: int, height: int) -> None:
-    """Nothing is wider than the page, and rows have two lines; a line is chosen by keys; on a narrow axis
-    there is room for the digits of all steps."""
+    """Nothing exceeds the width, rows have two lines, and the axis has room for long steps."""
     with Page(page, tmp_path, width, height, is_phone=True, program=bb) as phone:
         phone.open()
         phone.press("rows", Keys.ARROW_DOWN, Keys.ENTER)
         phone.until(lambda: phone.text("machine-text") == "1RA1RA")
-        phone.plan({"steps": 1000}, "auto", True)
-        phone.open_list("1RA1RA\n%s\n1RB1LH_1LA1RZ\n1LB0LA_1RA---\n" % CHAMPION)
+        phone.open_list("1RA1RA", CHAMPION, "1RB1LH_1LA1RZ", "1LB0LA_1RA---", plan={"steps": 1000})
         for row in range(4):
             phone.open_row(row)
             assert phone.js(WIDTH) <= width
@@ -281,10 +245,9 @@ def test_narrow_page(page: pathlib.Path, bb: str, tmp_path: pathlib.Path, width:
         assert tops[1] < tops[2]
         assert width < 390 or not phone.js(CLIPPED)
         for line in ("`1rb1la_1lc1re_1ld1rf_1ra0lb_0re1lc_1rz0rd`", "1RA1RA %s" % ("x" * 90)):
-            phone.open_list(line + "\n")
+            phone.open_list(line)
             assert phone.js(WIDTH) <= width
         for steps in (999_999, 9_999_999, 50_000_000):
-            phone.open("#machine=%s&steps=%d" % (CHAMPION, steps))
-            phone.wait_until_drawn()
+            phone.open_machine(CHAMPION, "&steps=%d" % steps)
             assert phone.js(DIGITS, "{:,}".format(steps)) >= 0
         assert not phone.errors()

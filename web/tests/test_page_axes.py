@@ -1,17 +1,16 @@
-"""The axes of a diagram, whose numbers stand where the view has them, and what is shown at the pointer and of
-what keys point at."""
+"""Axes of a diagram, and descriptions of the cells under the pointer and the keyboard cursor."""
 
 import re
 from typing import Dict, List, NamedTuple, Tuple
 
 from support.browser import HEAD, Page, Row, soon, trace
-from support.gestures import Keys, window_point, send_mouse
+from support.gestures import Keys, cell_at, send_mouse, window_point
 from support.machines import CHAMPION, CHAMPION_OF_FOUR
 
 STEPS = 10_000
-# A step at which both ends of the tape are in view.
+# A step with both ends of the tape in view.
 EARLY = 301
-# What was painted of the diagram since it was drawn the last time: texts and the marks beside them.
+# Records the texts and rectangles of the last drawing.
 PAINTED = """
 window.painted = { texts: [], marks: [] };
 const pen = CanvasRenderingContext2D.prototype;
@@ -26,12 +25,12 @@ painting("scale", () => { window.painted = { texts: [], marks: [] }; });
 painting("fillText", ({ textAlign }, [text, x, y]) => window.painted.texts.push([text, x, y, textAlign]));
 painting("fillRect", (_, words) => window.painted.marks.push(words));
 """
-# How far ticks are apart at least, in pixels, so that their numbers can be read.
+# The least distances of ticks in pixels, for legible numbers.
 STEPS_APART, POSITIONS_APART = 20, 40
 
 
 class Tick(NamedTuple):
-    """A number on an axis, and where its text and its mark stand along the axis."""
+    """A number on an axis, and the offsets of its text and its mark."""
 
     number: int
     text: float
@@ -43,7 +42,7 @@ def number_of(text: str) -> int:
 
 
 def ticks(tab: Page, view: Dict[str, float]) -> Tuple[List[Tick], List[Tick]]:
-    """The numbers of the steps and of the positions, with their marks."""
+    """Return the ticks of the steps and of the positions."""
     painted = tab.js("return window.painted")
     texts, marks = painted["texts"], painted["marks"]
     downs = [y for x, y, wide, high in marks if (x, wide, high) == (view["x"] - 4, 4, 1)]
@@ -56,8 +55,7 @@ def ticks(tab: Page, view: Dict[str, float]) -> Tuple[List[Tick], List[Tick]]:
 
 
 def require_ticks(tab: Page) -> None:
-    """Each number stands at the pixel where the view has it, with a mark there that is seen on the canvas,
-    beside ground of the panel."""
+    """Require each number to be at its pixel, beside a visible mark."""
     view = tab.wait_until_drawn()
     steps, positions = ticks(tab, view)
     down, right = view["high"] / view["every"], view["wide"] / view["across"]
@@ -80,7 +78,7 @@ def require_ticks(tab: Page) -> None:
 
 
 def require_rows(tab: Page, rows: Dict[int, Row]) -> None:
-    """At a step's number stands its row, with its head, each cell where the positions' numbers say."""
+    """Require the rows at the steps' numbers to have their cells and heads at the positions' numbers."""
     colours, view = tab.palette(), tab.wait_until_drawn()
     steps, positions = ticks(tab, view)
     first, last = positions[0], positions[-1]
@@ -97,26 +95,24 @@ def require_rows(tab: Page, rows: Dict[int, Row]) -> None:
 
 
 def require_places(tab: Page, rows: Dict[int, Row]) -> None:
-    """At the pointer the program's row of that step is shown."""
+    """Require the description of the cell under the pointer to be the program's."""
     view = tab.wait_until_drawn()
     width, height = tab.size()
     for right, down in ((0.05, 0.03), (0.5, 0.5), (0.97, 0.4), (0.3, 0.9), (0.52, 0.2)):
         x = int(view["x"] + right * (width - view["x"] - 1))
         y = int(view["y"] + down * (height - view["y"] - 1))
         send_mouse(tab, "mouseMoved", window_point(tab, x, y))
-        step = int(view["top"] + (y - view["y"]) // view["high"] * view["every"])
-        position = int(view["left"] + (x - view["x"]) // view["wide"] * view["across"])
+        step, position = cell_at(view, (x, y))
         wanted = rows[step].place_words(position) if step in rows else None
         assert wanted is None or soon(lambda: tab.text("place-text") == wanted), wanted
 
 
 def test_axes_and_pointer(tab: Page) -> None:
-    """From the whole to single cells, moved and zoomed."""
+    """From the whole run to single cells."""
     made = tab.add_script(PAINTED)
-    tab.open("#machine=%s&steps=%d" % (CHAMPION, STEPS))
+    assert tab.open_machine(CHAMPION, "&steps=%d" % STEPS)["every"] > 1
     tab.scroll_to_diagram()
     rows = {row.step: row for row in trace(tab.program, CHAMPION, STEPS)}
-    assert tab.wait_until_drawn()["every"] > 1
     require_ticks(tab)
     require_places(tab, rows)
     for _ in range(3):
@@ -132,16 +128,15 @@ def test_axes_and_pointer(tab: Page) -> None:
     tab.remove_script(made)
 
 
-def step_shown(tab: Page) -> int:
-    """The step that is told of the place that keys point at; -1 where none is."""
+def shown_step(tab: Page) -> int:
+    """Return the step in the description of the keyboard cursor, or -1."""
     found = re.match(r"Step ([\d,]+)", tab.text("place-text"))
     return number_of(found[1]) if found else -1
 
 
 def test_keys_name_the_row_that_enter_shows(tab: Page) -> None:
-    """Where a row stands for many steps, keys point at the step that is told: Enter shows its tape."""
-    tab.open("#machine=%s&steps=50000000" % CHAMPION)
-    tab.wait_until_drawn()
+    """Also if a row is many steps: Enter shows the tape at the described step."""
+    tab.open_machine(CHAMPION, "&steps=50000000")
     tab.go_to("1000000")
     assert tab.tape_is_at("1,000,000")
     tab.press("diagram", "0")
@@ -149,22 +144,21 @@ def test_keys_name_the_row_that_enter_shows(tab: Page) -> None:
     every = tab.wait_until_drawn()["every"]
     for way in ((Keys.ARROW_DOWN,), (Keys.ARROW_DOWN, Keys.ARROW_RIGHT), (Keys.ARROW_UP,) * 3):
         tab.press("diagram", *way)
-        told = step_shown(tab)
+        told = shown_step(tab)
         assert told >= 0 and told % every == 0
         tab.press("diagram", Keys.ENTER)
         assert tab.tape_is_at("{:,}:".format(told))
 
 
 def test_keys_beyond_the_view(tab: Page) -> None:
-    """Their place is told once the picture has it."""
-    tab.open("#machine=%s" % CHAMPION_OF_FOUR)
-    tab.wait_until_drawn()
+    """The cell is described once the picture has it."""
+    tab.open_machine(CHAMPION_OF_FOUR)
     tab.press("diagram", "+", "+")
     top = tab.wait_until_drawn()["top"]
     for _ in range(3):
         tab.press("diagram", *[Keys.ARROW_DOWN] * 13)
         assert soon(lambda: tab.text("place-text") != "", 2)
     assert tab.wait_until_drawn()["top"] > top
-    told = step_shown(tab)
+    told = shown_step(tab)
     tab.press("diagram", Keys.ENTER)
     assert tab.tape_is_at("{:,}:".format(told))

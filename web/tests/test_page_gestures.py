@@ -1,17 +1,16 @@
-"""Moving and zooming a diagram by mouse and fingers: which steps and positions are in view then."""
+"""Moving and zooming a diagram by mouse and fingers."""
 
-from typing import Dict, Tuple
+from typing import Tuple
 
 import pytest
 from support.browser import Page, soon, trace
-from support.gestures import Point, drag, window_point, pinch, swipe, tap
+from support.gestures import View, Point, cell_at, drag, pinch, place_of, swipe, tap, window_point
 from support.machines import CHAMPION
 
-View = Dict[str, float]
 STEPS = 10_000
-# Cells are large enough there to be seen one by one.
+# A step to open, with legible cells.
 NEAR = 6_000
-# What the browser tells where the mouse is dragged by its right button.
+# The events of a drag by the right button.
 OTHER_BUTTON = """
 const canvas = document.getElementById("diagram");
 canvas.setPointerCapture = () => {};
@@ -27,7 +26,7 @@ delete canvas.setPointerCapture;
 
 
 def visible_area(tab: Page) -> Tuple[float, float, float, float]:
-    """The first and the last step, the first and the last position in view."""
+    """Return the first and last step and the first and last position in view."""
     view = tab.wait_until_drawn()
     width, height = tab.size()
     down, right = (height - view["y"]) / view["high"], (width - view["x"]) / view["wide"]
@@ -35,24 +34,9 @@ def visible_area(tab: Page) -> Tuple[float, float, float, float]:
     return view["top"], last, view["left"], end
 
 
-def cell_at(view: View, place: Point) -> Tuple[int, int]:
-    """The step and the position at a place of the canvas."""
-    right, down = place[0] - view["x"], place[1] - view["y"]
-    step = view["top"] + down // view["high"] * view["every"]
-    return int(step), int(view["left"] + right // view["wide"] * view["across"])
-
-
-def place_of(view: View, cell: Tuple[int, int]) -> Point:
-    """The place of the canvas at which a step and a position begin."""
-    step, position = cell
-    right = (position - view["left"]) / view["across"] * view["wide"]
-    return view["x"] + right, view["y"] + (step - view["top"]) / view["every"] * view["high"]
-
-
 def open_near(tab: Page) -> View:
-    """Opens a run at a step whose cells are seen one by one."""
-    tab.open("#machine=%s&steps=%d" % (CHAMPION, STEPS))
-    tab.wait_until_drawn()
+    """Open a run at a step with legible cells."""
+    tab.open_machine(CHAMPION, "&steps=%d" % STEPS)
     tab.go_to(str(NEAR))
     soon(lambda: tab.wait_until_drawn()["top"] > 0)
     tab.scroll_to_diagram()
@@ -60,7 +44,7 @@ def open_near(tab: Page) -> View:
 
 
 def require_cells(tab: Page) -> None:
-    """The cells in view have the colours of the program's rows at these steps and positions."""
+    """Require the cells in view to have the colours of the program's rows."""
     colours, view = tab.palette(), tab.wait_until_drawn()
     first, last = int(view["top"]), int(view["top"] + 12)
     rows = {row.step: row for row in trace(tab.program, CHAMPION, last)}
@@ -74,7 +58,7 @@ def require_cells(tab: Page) -> None:
 
 
 def test_mouse_moves_the_picture(tab: Page) -> None:
-    """The mouse moves the picture: what was under it stays there, in steps and positions."""
+    """The cell under the mouse stays under it."""
     before = open_near(tab)
     high, wide = before["high"], before["wide"]
     assert before["every"] == 1 and high >= 6
@@ -100,7 +84,6 @@ def test_mouse_moves_the_picture(tab: Page) -> None:
 
 
 def test_other_button_moves_nothing(tab: Page) -> None:
-    """Another button than the main one moves nothing."""
     before = open_near(tab)
     tab.js(OTHER_BUTTON)
     assert not soon(lambda: tab.wait_until_drawn() != before, 0.5)
@@ -108,9 +91,8 @@ def test_other_button_moves_nothing(tab: Page) -> None:
 
 @pytest.mark.slow
 def test_drag_ends_at_the_edges(tab: Page) -> None:
-    """A drag doesn't go before the first step, nor away from all cells."""
-    tab.open("#machine=%s&steps=%d" % (CHAMPION, STEPS))
-    before = tab.wait_until_drawn()
+    """At the first step, and before the last visited cells leave the view."""
+    before = tab.open_machine(CHAMPION, "&steps=%d" % STEPS)
     tab.scroll_to_diagram()
     begin, end = window_point(tab, 150, 100), window_point(tab, 350, 300)
     for _ in range(4):
@@ -122,15 +104,15 @@ def test_drag_ends_at_the_edges(tab: Page) -> None:
 
 
 def require_place(view: View, cell: Tuple[int, int], middle: Point) -> None:
-    """The cell that was between the fingers is there still, within a cell."""
-    x, y = place_of(view, cell)
+    """Require a cell to be at a place, within a cell."""
+    x, y = place_of(view, *cell)
     assert abs(x - middle[0]) <= 1 + 2 * view["wide"]
     assert abs(y - middle[1]) <= 1 + 2 * view["high"]
 
 
 @pytest.mark.slow
 def test_two_fingers_zoom(phone: Page) -> None:
-    """Two fingers zoom: apart to fewer steps and positions, together to more; what is between them stays."""
+    """Around the cell between them, in both directions."""
     before = open_near(phone)
     tap(phone, window_point(phone, before["x"] + 100, before["y"] + 100))
     soon(lambda: phone.js("return document.activeElement.id") == "diagram")
@@ -156,9 +138,8 @@ def test_two_fingers_zoom(phone: Page) -> None:
 
 @pytest.mark.slow
 def test_one_finger_scrolls_or_moves(phone: Page) -> None:
-    """On a phone one finger scrolls the page; the picture is moved only after a tap into it."""
-    phone.open("#machine=%s&steps=100000" % CHAMPION)
-    before = phone.wait_until_drawn()
+    """One finger scrolls the page until the picture is tapped, and then moves the picture."""
+    before = phone.open_machine(CHAMPION, "&steps=100000")
     phone.scroll_to_diagram()
     assert "Tap into the picture first" in phone.get("diagram-keys", "innerText")
     width, height = phone.size()

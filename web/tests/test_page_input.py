@@ -1,4 +1,4 @@
-"""What the page is given: its first list, settings, files, dropped texts, and what a reload keeps."""
+"""Input to the page: lists, settings, files, dropped texts, and what a reload keeps."""
 
 import pathlib
 import time
@@ -33,7 +33,7 @@ def list_of(tab: Page) -> str:
 
 
 def select_by_click(tab: Page) -> object:
-    """Clicks into the list by the mouse; how many characters are selected then."""
+    """Click into the list, and return the number of selected characters, or `all`."""
     for kind in ("mousePressed", "mouseReleased"):
         send_mouse(tab, kind, tab.js(MIDDLE), button="left", clickCount=1)
     return tab.js(SELECTED)
@@ -44,7 +44,7 @@ def is_refused(tab: Page, name: str) -> bool:
 
 
 def test_first_click_selects_an_example(tab: Page) -> None:
-    """What is typed replaces it then; a second click doesn't, nor does one into a list of somebody's own."""
+    """Typing replaces it. A second click, or one into another list, selects nothing."""
     assert select_by_click(tab) == "all"
     assert select_by_click(tab) == 0
     tab.open()
@@ -57,7 +57,7 @@ def test_first_click_selects_an_example(tab: Page) -> None:
 
 
 def test_clear_empties_the_list(tab: Page) -> None:
-    """It takes a file away, and the list gets the focus; also by keys."""
+    """It also removes a file, and focuses the list."""
     tab.press("clear", "\n")
     assert list_of(tab) == ""
     assert tab.focus() == "list"
@@ -71,7 +71,7 @@ def test_clear_empties_the_list(tab: Page) -> None:
 
 
 def test_words_fold_out(tab: Page) -> None:
-    """What the words of the rows mean folds out beside them, by keys too: each kind and each answer."""
+    """The explanation of kinds and answers opens by keyboard."""
     found: List[str] = tab.js(
         "return [...document.querySelectorAll('#words dt')].map((one) => one.textContent)"
     )
@@ -92,7 +92,7 @@ def test_button_says_what_a_file_gets(tab: Page) -> None:
 
 
 def test_defaults_take_back_a_refusal(tab: Page) -> None:
-    """They let each example be chosen again, too."""
+    """Each example can be chosen again, too."""
     tab.type("steps", "many")
     tab.run()
     assert soon(lambda: is_refused(tab, "steps"))
@@ -104,7 +104,7 @@ def test_defaults_take_back_a_refusal(tab: Page) -> None:
 
 
 def test_examples_bring_their_settings(tab: Page) -> None:
-    """They go with its list; the button for the defaults resets all."""
+    """Another list and the button for the defaults reset them."""
 
     def settings() -> List[object]:
         return [tab.get("steps", "value"), tab.get("clean", "checked"), tab.get("mode", "value")]
@@ -123,31 +123,26 @@ def test_examples_bring_their_settings(tab: Page) -> None:
 
 @pytest.mark.parametrize("text", ["1,5e3", "1,5", "1,00,000", ",100", "1 5", "1_5", "1,000 000", "1 000 00"])
 def test_limit_that_is_no_number(tab: Page, text: str) -> None:
-    """What separates digits stands between groups of three, or the number is refused."""
+    """Separators elsewhere than between groups of three digits are refused."""
     tab.type("steps", text)
     tab.run()
     assert soon(lambda: is_refused(tab, "steps"))
 
 
-@pytest.mark.parametrize("text", ["47 176 870", "47\u202f176\u202f870", "47_176_870", " +47,176,870 "])
-def test_limit_in_groups_of_digits(tab: Page, text: str) -> None:
-    tab.type("steps", text)
-    tab.open_list("%s\n" % CHAMPION)
-    assert soon(lambda: tab.text("machine-says").startswith("It halts after 47,176,870 steps"))
-
-
 def test_limits_as_people_write_them(tab: Page) -> None:
-    for text, steps in (("1e3", 1000), ("1_000", 1000), ("10^3", 1000), ("1.5e3", 1500), ("1,000", 1000)):
-        tab.plan({"steps": text}, "decide", True)
-        tab.open_list("%s\n" % CHAMPION)
+    """With separators between groups of three digits, or by a power of ten."""
+    grouped = ("47 176 870", "47\u202f176\u202f870", "47_176_870", " +47,176,870 ")
+    written = {"1e3": 1000, "1_000": 1000, "10^3": 1000, "1.5e3": 1500, "1,000": 1000}
+    for text, steps in {**dict.fromkeys(grouped, 47_176_870), **written}.items():
+        tab.open_list(CHAMPION, plan={"steps": text})
+        assert tab.text("machine-says").startswith("It halts after 47,176,870 steps") == (text in grouped)
         tab.click("link")
-        assert "steps=%d" % steps in tab.js(HASH)
+        assert tab.js(HASH).endswith("&steps=%d" % steps)
 
 
 def test_step_is_written_as_a_limit(tab: Page) -> None:
-    """A refusal is told, and stays until another step is shown, or another machine."""
-    tab.open("#machine=%s" % CHAMPION_OF_FOUR)
-    tab.wait_until_drawn()
+    """A refusal is announced, and stays until another step or machine is shown."""
+    tab.open_machine(CHAMPION_OF_FOUR)
     tab.go_to("1e2")
     assert soon(lambda: tab.text("tape-text").startswith("Step 100:"))
     tab.go_to("many")
@@ -155,7 +150,7 @@ def test_step_is_written_as_a_limit(tab: Page) -> None:
     shows: List[Callable[[], object]] = [
         lambda: tab.click("tape-on"),
         lambda: tab.go_to("7"),
-        lambda: tab.open_list("1RB1LB_1LA1RZ\n"),
+        lambda: tab.open_list("1RB1LB_1LA1RZ"),
     ]
     for show in shows:
         tab.go_to("many")
@@ -167,7 +162,7 @@ def test_step_is_written_as_a_limit(tab: Page) -> None:
 
 
 def test_changed_file_is_named(tab: Page) -> None:
-    """Where a file has changed since it was chosen, the page says so, and it can be chosen again."""
+    """A file that changed since it was chosen is reported, and can be chosen again."""
     tab.answer_file(b"1RA1RA\n")
     path = pathlib.Path(tab.folder) / "list"
     time.sleep(1.1)
@@ -182,7 +177,7 @@ def test_changed_file_is_named(tab: Page) -> None:
 
 
 def test_dropped_text(tab: Page) -> None:
-    """A text that is dropped into the list is the browser's to insert; beside it, it becomes the list."""
+    """The browser inserts a text dropped into the list. Elsewhere it replaces the list."""
     given = list_of(tab)
     assert not tab.js(DROP_TEXT, "#list") and list_of(tab) == given
     # A text of the page's own stays where it is.
@@ -207,11 +202,11 @@ def test_refused_limit_leaves_the_work_alone(tab: Page) -> None:
 
 
 def test_reload_keeps_a_link_or_the_list_after_it(tab: Page) -> None:
-    """A list that is run after a link is kept, and the address no longer names the link."""
+    """A list run after a link is kept and removes the link from the address."""
     tab.open("#1RA1RA")
     tab.reload()
     assert (tab.js(HASH), list_of(tab)) == ("#1RA1RA", "1RA1RA\n")
-    tab.open_list("%s\n" % LONG)
+    tab.open_list(LONG)
     assert tab.js(HASH) == ""
     tab.reload()
     assert list_of(tab) == "%s\n" % LONG
@@ -224,7 +219,7 @@ def test_reload_keeps_a_link_or_the_list_after_it(tab: Page) -> None:
 
 
 def test_reload_keeps_what_is_typed(tab: Page) -> None:
-    """A list and a limit are kept, also where they weren't run, or what was left is decided again."""
+    """List and limits, run or not, also after undecided lines are decided again."""
     for given in ("1RA1RA\n%s\n" % LONG, "1RB1LB_1LA1RZ\n%s\n" % CHAMPION_OF_FOUR):
         tab.type("list", given)
         tab.type("steps", "50")
@@ -236,10 +231,9 @@ def test_reload_keeps_what_is_typed(tab: Page) -> None:
 
 
 def test_reload_names_a_list_that_is_gone(tab: Page) -> None:
-    """That of a file, also after what was left of it is decided again, and one that is too long; a list that
-    is typed takes the words away."""
+    """A file, or a list too long to store. Typing a list removes the message."""
 
-    def gone() -> str:
+    def missing_text() -> str:
         tab.driver.refresh()
         return str(tab.until(lambda: tab.text("list-gone")))
 
@@ -247,11 +241,11 @@ def test_reload_names_a_list_that_is_gone(tab: Page) -> None:
     tab.answer_file(b"%s\n" % CHAMPION_OF_FOUR.encode())
     tab.await_answer(lambda: tab.click("left"))
     for _ in range(2):
-        assert gone().startswith("The file list isn\u2019t kept")
+        assert missing_text().startswith("The file list isn\u2019t kept")
     tab.type("list", "1RA1RA\n")
     assert tab.get("list-gone", "hidden")
-    tab.open_list("# " + "x" * 1_000_001 + "\n1RA1RA\n")
-    assert "1,000,0" in gone()
+    tab.open_list("# " + "x" * 1_000_001, "1RA1RA")
+    assert "1,000,0" in missing_text()
     tab.js("sessionStorage.clear()")
 
 

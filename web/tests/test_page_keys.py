@@ -1,14 +1,13 @@
-"""The page by keys alone: a way from its opening to a verdict, through all that it shows, and back; the keys
-of the tape."""
+"""The page by keyboard alone, and the keys of the tape."""
 
 from typing import List
 
-from support.browser import CONTRAST, Page, soon
+from support.browser import COLOUR, Page, contrast, soon
 from support.gestures import Keys, press_key, type_text
 from support.machines import CHAMPION, CHAMPION_OF_FOUR
 
 MACHINE = "1LB0LA_1RA---"
-# What the focus comes to, in order, by its name; before the verdict and behind it.
+# Names of the controls in focus order, before and after the verdict.
 BEFORE = (
     "Example, Clear, Machines or verdict lines, Decide, Choose a file, The lines are, Limits and deciders"
 ).split(", ")
@@ -18,7 +17,7 @@ BEHIND = (
     "Zoom in, Zoom out, Whole, Marked steps, Save PNG, Copy PNG, Tape. Step, First step, One step back, Play, "
     "One step on, Go to step, Go, Table of the machine"
 ).split(", ")
-# Whether what has the focus is seen, with an outline about it.
+# Whether the focused control is visible and outlined.
 FOCUS = """
 const one = document.activeElement;
 let ground = one.parentElement;
@@ -36,32 +35,32 @@ return {
   is_seen: one.checkVisibility() && width > 0 && height > 0 && isIn && one.contains(upper),
   is_outlined: one.matches(":focus-visible") && style.outlineStyle === "solid"
     && parseFloat(style.outlineWidth) >= 2,
-  contrast: contrast(parse(style.outlineColor), parse(getComputedStyle(ground).backgroundColor)),
+  colours: [style.outlineColor, getComputedStyle(ground).backgroundColor].map(parse),
 };
 """
 
 
 def name_of(tab: Page) -> str:
-    """The name of what has the focus, as it is told to those who hear the page."""
+    """Return the accessible name of the focused control."""
     return str(tab.driver.switch_to.active_element.accessible_name)
 
 
 def is_outside(tab: Page) -> bool:
-    """Whether nothing of the page has the focus."""
+    """Return whether nothing in the page has the focus."""
     return bool(tab.js("return document.activeElement === document.body"))
 
 
 def walk(tab: Page, names: List[str], back: bool = False) -> None:
-    """Goes on by Tab, or back, over what has these names; each is seen with an outline."""
+    """Press Tab, or Shift and Tab, through the controls of these names; each must be visible and outlined."""
     for wanted in names:
         press_key(tab, "Tab", back)
-        found, focus = name_of(tab), tab.js(CONTRAST + FOCUS)
+        found, focus = name_of(tab), tab.js(COLOUR + FOCUS)
         assert found.startswith(wanted) and not focus["is_body"]
-        assert focus["is_seen"] and focus["is_outlined"] and focus["contrast"] >= 3, (wanted, focus)
+        assert focus["is_seen"] and focus["is_outlined"] and contrast(*focus["colours"]) >= 3, (wanted, focus)
 
 
 def test_page_by_keys(tab: Page) -> None:
-    """A machine is typed and decided, all that is shown of it is come to and left again, all by keys."""
+    """A machine is typed and decided, and every control is reached in both directions."""
     tab.js("document.activeElement.blur(); scrollTo(0, 0)")
     walk(tab, BEFORE[:3])
     tab.js("document.getElementById('list').select()")
@@ -81,7 +80,7 @@ def test_page_by_keys(tab: Page) -> None:
 
 
 def leave_and_come_back(tab: Page) -> None:
-    """Behind the table only what scrolls takes the focus; then the page is left, and come to again."""
+    """Leave the page behind the table, past scrolling boxes only, and return to the table."""
     passed = 0
     press_key(tab, "Tab")
     while not is_outside(tab) and name_of(tab) != BEFORE[0] and passed < 4:
@@ -95,8 +94,8 @@ def leave_and_come_back(tab: Page) -> None:
 
 
 def test_keys_of_fields_and_buttons(tab: Page) -> None:
-    """Of the tape's keys a field has its own, and a button its Space."""
-    tab.open("#machine=%s" % CHAMPION_OF_FOUR)
+    """Fields keep the tape's keys for themselves, and buttons keep Space."""
+    tab.open_machine(CHAMPION_OF_FOUR)
     assert tab.tape_is_at("0:")
     tab.put("tape-step", "value", "")
     tab.press("tape-step", "1 000", Keys.HOME, "9")
@@ -111,9 +110,7 @@ def test_keys_of_fields_and_buttons(tab: Page) -> None:
 
 
 def test_late_row_is_dropped(tab: Page) -> None:
-    """Where a step is gone to while another one is asked for, the answer is too late."""
-    tab.open("#machine=%s&steps=50000000" % CHAMPION)
-    tab.wait_until_drawn()
+    tab.open_machine(CHAMPION, "&steps=50000000")
     assert tab.tape_is_at("0:")
     tab.press("tape", Keys.END, Keys.HOME)
     assert not soon(lambda: not tab.text("tape-text").startswith("Step 0:"), 2)

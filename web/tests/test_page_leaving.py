@@ -1,4 +1,4 @@
-"""What goes: a machine's pictures when another one is opened, focused buttons, what workers held."""
+"""Leaving a machine or a list: old pictures, focus, late replies, and memory of workers."""
 
 import time
 
@@ -8,8 +8,7 @@ from support.machines import CHAMPION, CHAMPION_OF_FOUR
 
 HALT = "1RB1LB_1LA1RZ"
 STEPS = 50_000_000
-# Opens the next line, and tells soon after it whether the diagram and the tape are empty; to trace the
-# champion's last row takes longer than that.
+# Opens the next line, and returns soon after what diagram and tape show; the champion's trace takes longer.
 NEXT = """
 const done = arguments[arguments.length - 1];
 const part = (name) => document.getElementById(name);
@@ -35,14 +34,14 @@ HEARING = "return window.workers.filter((one) => one.onmessage !== null || one.o
 
 
 def run_endless(tab: Page, given: str) -> None:
-    """Begins a list whose machines run for hours."""
+    """Start a list whose machines run for hours."""
     tab.plan(ENDLESS, "decide")
     tab.type("list", given)
     tab.run()
 
 
 def require_focus(tab: Page, name: str, wanted: str, times: int = 1) -> None:
-    """A button that is pressed so often gives its focus to what is wanted."""
+    """Press a button some times, and require the focus to be where it is wanted."""
     tab.js("document.getElementById(arguments[0]).focus()", name)
     for _ in range(times):
         press_key(tab, "Enter")
@@ -50,9 +49,7 @@ def require_focus(tab: Page, name: str, wanted: str, times: int = 1) -> None:
 
 
 def test_next_machine_shows_nothing_of_the_one_before(tab: Page) -> None:
-    """Nothing of it plays on or stays under the next one's name."""
-    tab.plan({"steps": STEPS}, "decide")
-    tab.open_list("1RA1RA\n%s\n" % CHAMPION)
+    tab.open_list("1RA1RA", CHAMPION, plan={"steps": STEPS}, mode="decide")
     tab.wait_until_drawn()
     assert tab.tape_is_at("")
     tab.click("tape-play")
@@ -65,23 +62,21 @@ def test_next_machine_shows_nothing_of_the_one_before(tab: Page) -> None:
 
 
 def test_slow_first_machine_hides_the_one_before(tab: Page) -> None:
-    """The focus goes to the rows; the next list's machine is shown again."""
-    tab.open_list("1RA1RA\n")
+    """The focus moves to the rows, and the next list's machine is shown."""
+    tab.open_list("1RA1RA")
     tab.wait_until_drawn()
     tab.js("document.getElementById('copy-text').focus()")
     run_endless(tab, "%s\n1RA1RA\n" % LONG)
     assert soon(lambda: tab.get("machine", "hidden"))
     assert tab.focus() == "rows" and tab.text("status").startswith("Running")
     tab.click("stop")
-    tab.plan({}, "auto", True)
-    tab.open_list("1RB1LB_1LA1RZ\n")
+    tab.open_list(HALT, plan={})
     assert not tab.get("machine", "hidden") and tab.text("machine-text") == HALT
 
 
 def test_machine_decided_again_is_left(tab: Page) -> None:
-    """Nothing is said of it under another list."""
-    tab.plan({"steps": STEPS // 10}, "decide")
-    tab.open_list("%s\n" % CHAMPION)
+    """Another list gets no reply for it."""
+    tab.open_list(CHAMPION, plan={"steps": STEPS // 10}, mode="decide")
     tab.click("again")
     assert tab.text("again") == "Stop"
     run_endless(tab, "%s\n" % LONG)
@@ -91,9 +86,8 @@ def test_machine_decided_again_is_left(tab: Page) -> None:
 
 
 def test_new_list_stays_where_another_is_decided_again(tab: Page) -> None:
-    """A list that is given while the undecided lines of another one are gathered isn't replaced by them."""
-    tab.plan({"steps": 50}, "decide")
-    tab.open_list("%s\n" % CHAMPION_OF_FOUR * 150_000)
+    """Undecided lines of the old list don't replace it."""
+    tab.open_list(*[CHAMPION_OF_FOUR] * 150_000, plan={"steps": 50}, mode="decide")
     tab.click("left")
     tab.type("list", "1RA1RA\n")
     tab.run()
@@ -102,9 +96,9 @@ def test_new_list_stays_where_another_is_decided_again(tab: Page) -> None:
 
 
 def test_button_keeps_the_focus(tab: Page) -> None:
-    """Where the page scrolls to a machine, the button that opened it keeps the focus."""
+    """If the page scrolls to a machine, the button that opened it keeps the focus."""
     tab.driver.set_window_size(800, 900)
-    tab.open_list("1RA1RA\n%s\n%s\n" % (HALT, LONG))
+    tab.open_list("1RA1RA", HALT, LONG)
     require_focus(tab, "row-next", "row-next")
     press_key(tab, "Enter")
     assert soon(lambda: tab.text("machine-text") == LONG)
@@ -112,20 +106,18 @@ def test_button_keeps_the_focus(tab: Page) -> None:
 
 
 def test_hidden_button_gives_its_focus(tab: Page) -> None:
-    """Where a button is hidden or disabled that has the focus, something beside it has it then."""
-    tab.open("#machine=%s" % HALT)
-    tab.wait_until_drawn()
+    """The focus moves to another control when the focused button is hidden or disabled."""
+    tab.open_machine(HALT)
     assert tab.tape_is_at("0")
     require_focus(tab, "tape-on", "tape", 6)
     require_focus(tab, "tape-first", "tape")
     require_focus(tab, "tape-on", "tape-on")
     require_focus(tab, "tape-back", "tape")
-    tab.plan({"steps": 50}, "auto", True)
     for name, wanted in (("again", "copy-text"), ("left", "rows")):
-        tab.open_list("%s\n" % CHAMPION_OF_FOUR)
+        tab.open_list(CHAMPION_OF_FOUR, plan={"steps": 50})
         require_focus(tab, name, wanted)
     tab.wait_until_done()
-    tab.open_list("1RA1RA\nno machine\n")
+    tab.open_list("1RA1RA", "no machine")
     tab.js("document.getElementById('diagram').focus()")
     tab.click("row-next")
     assert soon(lambda: tab.focus() == "row-next")
@@ -135,7 +127,7 @@ def test_hidden_button_gives_its_focus(tab: Page) -> None:
 
 
 def test_refused_memory_ends_the_list(tab: Page) -> None:
-    """Where the page itself is refused memory for a piece, it says so."""
+    """An allocation failure of the page is reported."""
     tab.js("Uint8Array.prototype.slice = () => { throw new RangeError('Array buffer allocation failed'); }")
     tab.type("list", "1RA1RA\n")
     tab.run()
@@ -144,10 +136,10 @@ def test_refused_memory_ends_the_list(tab: Page) -> None:
 
 
 def test_waiting_workers_keep_nothing(tab: Page) -> None:
-    """Neither of the list nor of the question before."""
+    """Their listeners for lists and requests are gone."""
     added = tab.add_script(WORKERS)
     tab.open()
-    tab.open_list("1RA1RA\n" * 200)
+    tab.open_list(*["1RA1RA"] * 200)
     tab.wait_until_drawn()
     tab.until(lambda: "\u2026" not in tab.text("facts"))
     assert tab.js("return window.workers.length") > 1

@@ -1,5 +1,4 @@
-"""Lists in the page: how their lines are read, by the same forms as in the package, and what is shown of
-them."""
+"""Lists in the page: reading of lines, as by the package, and their display."""
 
 import gzip
 import json
@@ -21,13 +20,13 @@ DISGUISES = [
     "%s", "  %s\r", "%s halt 6 4", "17. %s", "12,%s,x", "`%s`, it halts.", "\ufeff%s", "%s # a comment",
     "[%s](https://bbchallenge.org/{})", "https://bbchallenge.org/%s", "| %s | cycler |",
 ]  # fmt: skip
-# What is put into a line, or in the place of a character.
+# Texts that change a line.
 MORE = (*" \t_-.,;:|#*~`'\"[](){}<>!?\\/01LRABZHabr=\u200b\xa0\x1b\u00e9\u2013", "---", "1RB")
 SKIPPED = "3 skipped (empty lines, comments, code fences, rules and headers of tables)"
 
 
 def read_by_page(asked: List[Any]) -> List[Any]:
-    """The answers of the page's reader, the first of which are its sentences."""
+    """Return the sentences of the page's reader, and its replies."""
     given = "".join(json.dumps(one) + "\n" for one in asked).encode()
     done = run_command(["node", str(TOP / "web/tests/reader.mjs")], given)
     assert done.status == 0, done.error
@@ -35,7 +34,7 @@ def read_by_page(asked: List[Any]) -> List[Any]:
 
 
 def expected_reading(form: Dict[str, Any]) -> Dict[str, Any]:
-    """The reading that a form must have."""
+    """Return the reading of a form."""
     if "nothing" in form:
         return {"kind": "nothing"}
     if "refusal" in form:
@@ -46,7 +45,6 @@ def expected_reading(form: Dict[str, Any]) -> Dict[str, Any]:
 
 @pytest.mark.needs("node")
 def test_forms_have_their_readings(forms: Forms) -> None:
-    """The page's reader gives each form the reading that it must have."""
     lines = [[form["line"], form.get("form", "text")] for form in forms["forms"]]
     sentences, *found = read_by_page([*lines, *forms["lists"], *forms["encodings"]])
     assert sentences == {name: forms[name] for name in ("advice", "rewritings")}
@@ -59,7 +57,7 @@ def test_forms_have_their_readings(forms: Forms) -> None:
 
 
 def change(line: str, source: random.Random) -> str:
-    """A line with some characters more or less."""
+    """Insert, replace or remove some characters."""
     for _ in range(source.choice((0, 1, 1, 2, 3, 6))):
         at = source.randrange(len(line) + 1)
         more = source.choice(MORE)
@@ -68,7 +66,7 @@ def change(line: str, source: random.Random) -> str:
 
 
 def read_by_package(line: str, form: str) -> Dict[str, Any]:
-    """The package's reading of a line, as the page's reader gives it."""
+    """Return the package's reading of a line in the page's form."""
     reading = read_line(1, line, Form(form))
     if reading is None:
         return {"kind": "nothing"}
@@ -82,7 +80,7 @@ def read_by_package(line: str, form: str) -> Dict[str, Any]:
 @pytest.mark.needs("node")
 @pytest.mark.parametrize("count", [5_000, pytest.param(50_000, marks=pytest.mark.slow)])
 def test_package_and_page_read_alike(forms: Forms, rng: random.Random, count: int) -> None:
-    """Changed lines, in each form."""
+    """Of changed lines, in each form."""
     lines = [form["line"] for form in forms["forms"] if "\n" not in form["line"]]
     kinds = ("text", "text", "machines", "verdicts")
     asked = [[change(rng.choice(lines), rng), rng.choice(kinds)] for _ in range(count)]
@@ -92,7 +90,7 @@ def test_package_and_page_read_alike(forms: Forms, rng: random.Random, count: in
 
 
 def disguise(machine: str, source: random.Random) -> str:
-    """A machine in a form in which it must be found again."""
+    """Write a machine in another form."""
     form = source.choice(DISGUISES).replace("{}", machine)
     text = machine.lower() if source.random() < 0.3 and "_" in machine else machine
     if "_" in machine and source.random() < 0.2 and "http" not in form:
@@ -103,7 +101,7 @@ def disguise(machine: str, source: random.Random) -> str:
 @pytest.mark.needs("node")
 @pytest.mark.parametrize("count", [1_000, pytest.param(20_000, marks=pytest.mark.slow)])
 def test_disguised_machines_are_found(rng: random.Random, count: int) -> None:
-    """Random machines in random forms come back as they were, or are refused; none as another machine."""
+    """Or refused, seldom; never read as another machine."""
     machines = list(mixed_machines(count, rng.randrange(2**32)))
     _, *found = read_by_page([[disguise(machine, rng)] for machine in machines])
     taken = [one.get("machine") for one in found]
@@ -115,7 +113,7 @@ def test_disguised_machines_are_found(rng: random.Random, count: int) -> None:
 @pytest.mark.needs("node")
 @pytest.mark.parametrize("change, status", [("", 0), ('"huge", ', 1)])
 def test_kinds_of_one_letter_are_refused(tmp_path: pathlib.Path, change: str, status: int) -> None:
-    """Kinds that begin with the same letter, when the module loads."""
+    """When the module loads."""
     for name in ("worker/replies.mjs", "reader/machine.mjs", "lib/memory.mjs"):
         text = (TOP / "web" / name).read_text(encoding="utf-8")
         path = tmp_path / name
@@ -125,17 +123,17 @@ def test_kinds_of_one_letter_are_refused(tmp_path: pathlib.Path, change: str, st
 
 
 def test_file_of_all_forms(tab: Page, forms: Forms) -> None:
-    """Each line is decided as it is read, and shown with its own number."""
+    """Each line is decided by its reading, and shown with its number."""
     texts = [form for form in forms["forms"] if "form" not in form and "\n" not in form["line"]]
     # What marks the order of bytes stands at the begin of a file alone.
     lines = [form["line"].replace("\ufeff", "") for form in texts]
 
-    def given_to_program(form: Dict[str, Any], line: str) -> str:
+    def line_for_program(form: Dict[str, Any], line: str) -> str:
         # A rule that is read as a machine elsewhere is refused for a space before it.
         is_rule = "machine" not in form and line.strip("\r") in ("------", "------------")
         return str(form.get("machine", " " + line if is_rule else line))
 
-    given = [given_to_program(form, line) for form, line in zip(texts, lines) if "nothing" not in form]
+    given = [line_for_program(form, line) for form, line in zip(texts, lines) if "nothing" not in form]
     tab.plan({"steps": 1000}, "decide", True)
     tab.choose_option("list-form", "text")
     tab.answer_file(as_lines(lines))
@@ -155,18 +153,18 @@ def test_file_of_all_forms(tab: Page, forms: Forms) -> None:
     ],
 )
 def test_form_of_a_list_is_found(tab: Page, text: str, form: str, rows: List[str]) -> None:
-    """It is printed, with how many lines are passed over."""
+    """Form and skipped lines are in the status."""
     tab.plan({}, "decide", True)
-    tab.open_list(text)
+    tab.open_list(*text.splitlines())
     assert tab.text("status").endswith("Read as %s." % form)
     assert [row[1].partition(" \u2190")[0] for row in tab.rows()] == rows
     assert (SKIPPED in tab.text("status")) == (form == "a table")
 
 
 def test_form_of_a_list_is_chosen(tab: Page) -> None:
-    """It stays over a reload."""
+    """The choice survives a reload."""
     tab.choose_option("list-form", "machines")
-    tab.open_list("1RA1RA\n17. 1RA1RA\n")
+    tab.open_list("1RA1RA", "17. 1RA1RA")
     tab.open_row(1)
     assert "more than the machine 1RA1RA" in tab.text("machine-says")
     tab.reload()
@@ -174,8 +172,7 @@ def test_form_of_a_list_is_chosen(tab: Page) -> None:
 
 
 def test_packed_lists(tab: Page, forms: Forms) -> None:
-    """A list that gzip compressed is unpacked. Of one that is cut, in another encoding or compressed
-    otherwise the page says what it is, and decides nothing."""
+    """gzip is decompressed. Truncated files, and other encodings and formats are reported."""
     lines = b"1RB1LB_1LA1RZ\n1RA1RA\n" * 40_000
     tab.answer_file(gzip.compress(lines))
     assert tab.save() == tab.program_output("decide", {}, lines)
@@ -190,13 +187,13 @@ def test_packed_lists(tab: Page, forms: Forms) -> None:
     assert tab.text("status").count("not UTF-8") == 1
     tab.answer_file("1RA1RA \u00e9\n".encode())
     assert "UTF-8" not in tab.text("status")
-    tab.open_list("1RA1RA\n")
+    tab.open_list("1RA1RA")
     assert tab.text("error") == ""
 
 
 def test_refused_line(tab: Page) -> None:
-    """It shows its text, with a caret under the place, the reason in words and its number."""
-    tab.open_list("# a list\n\n1RB1LB 1LA1RZ\n1RB1LH_1LA1RZ\n")
+    """Its text is shown with a caret under the error, the reason and the line's number."""
+    tab.open_list("# a list", "", "1RB1LB 1LA1RZ", "1RB1LH_1LA1RZ")
     first, second = tab.rows()
     assert first[1] == "1RB1LB_1LA1RZ \u2190 1RB1LB 1LA1RZ"
     assert second == ["4", "1RB1LH_1LA1RZ", "refused 14", "\u2013"]
@@ -209,10 +206,10 @@ def test_refused_line(tab: Page) -> None:
 
 
 def test_lines_that_are_no_verdict_lines(tab: Page) -> None:
-    """Among verdict lines they are shown as such, and count as refused."""
+    """They are shown as unread, and count as refused."""
     tab.plan({}, "check", True)
     unread = ["foo bar", "hello world", "1RA1RA undecided foo", "1RB1LB_1LA1RZ halt 7"]
-    tab.open_list(as_lines([*unread, "1RB1LB_1LA1RZ halt 6 4", "1RA1RA translated R 1 2"]).decode())
+    tab.open_list(*unread, "1RB1LB_1LA1RZ halt 6 4", "1RA1RA translated R 1 2")
     assert "2 decided, 0 undecided, 4 refused" in tab.text("status")
     assert [row[3] for row in tab.rows()] == ["unread"] * 4 + ["ok"] * 2
     for row, line in enumerate(unread):
@@ -226,9 +223,8 @@ def test_lines_that_are_no_verdict_lines(tab: Page) -> None:
 
 
 def test_each_line_is_counted_once(tab: Page) -> None:
-    """As decided, undecided, refused or skipped; and the kinds have the same."""
-    tab.plan({"steps": 100}, "auto", True)
-    tab.open_list("1RB1LB_1LA1RZ\n1RA1RA\nno\n# c\n\n%s\n" % CHAMPION)
+    """As decided, undecided, refused or skipped; the kinds have the same counts."""
+    tab.open_list("1RB1LB_1LA1RZ", "1RA1RA", "no", "# c", "", CHAMPION, plan={"steps": 100})
     assert "2 decided, 1 undecided, 1 refused, 2 skipped" in tab.text("status")
     script = "return [...document.querySelectorAll('#kinds button')].map((one) => one.textContent)"
     kinds = {text.split()[0]: int(text.split()[1]) for text in tab.js(script)}
@@ -236,13 +232,13 @@ def test_each_line_is_counted_once(tab: Page) -> None:
 
 
 def test_verdict_lines_are_told(tab: Page) -> None:
-    """By whole ones; a button says what it does; comments aren't checked."""
+    """Only whole verdict lines are detected; comments aren't checked."""
     tab.type("list", "# the cycler 1RB\n1RB1LB_1LA1RZ halts\n1RA1RA cycler\n")
     assert tab.text("run") == "Decide"
-    claims = "# theirs\n1RB1LB_1LA1RZ halt 6 4\n\n1RA1RA cycler 1 2\r\n1RB1LB_1LA1RZ\n"
-    tab.type("list", claims)
+    claims = ["# theirs", "1RB1LB_1LA1RZ halt 6 4", "", "1RA1RA cycler 1 2\r", "1RB1LB_1LA1RZ"]
+    tab.type("list", "\n".join(claims))
     assert tab.text("run") == "Check"
-    tab.open_list(claims)
+    tab.open_list(*claims)
     assert tab.save() == b"ok\nbad\nunread\n"
     assert [row[0] for row in tab.rows()] == ["2", "4", "5"]
     tab.open_row(1)

@@ -1,4 +1,4 @@
-"""What the page tells of one machine beside its verdict, and going on from it."""
+"""The view of one machine: facts, copies, and opening other rows."""
 
 import math
 import pathlib
@@ -14,7 +14,7 @@ TREE = "1RB1LB_1LA0RC_0LD1RC_---1LA"
 MACHINES = [HALT, "1RA1RA", LONG, "1LB0LA_1RA---", "1LC1RZ_1RB---_1RA1LA", "1RB---_1LB1LA", TREE, CHAMPION]
 MACHINES.append("1RB1LB_1LA0LC_1RE1LD_1RD0RA_1RE1RE")
 ON_BLANK = "A on the blank tape alone"
-# Keeps what is copied.
+# Records copies.
 COPY = """
 window.copied = [];
 navigator.clipboard.writeText = async (text) => { window.copied.push(text); };
@@ -28,7 +28,6 @@ navigator.clipboard.write = async ([item]) => {
 @pytest.mark.slow
 @pytest.mark.parametrize("machine", MACHINES)
 def test_facts_are_those_of_the_package(tab: Page, library: pathlib.Path, machine: str) -> None:
-    """Normal form, mirror image and later steps."""
     verdict = budlarem.parse(tab.program_output("decide", {}, machine.encode()).decode().rstrip())
     tab.open("#machine=" + machine)
     tab.until(lambda: "\u2026" not in tab.text("facts"))
@@ -46,7 +45,7 @@ def test_facts_are_those_of_the_package(tab: Page, library: pathlib.Path, machin
 
 @pytest.mark.parametrize("machine", MACHINES)
 def test_growth(tab: Page, machine: str, steps: int = 5_000) -> None:
-    """How many cells are visited after a hundredth of the steps, a tenth and all; or with how many it ends."""
+    """Visited cells after a hundredth, a tenth and all of the steps, or at the halt."""
     tab.open("#machine=%s&steps=%d" % (machine, steps))
     tab.until(lambda: "\u2026" not in tab.text("facts"))
     rows = trace(tab.program, machine, steps)
@@ -64,21 +63,12 @@ def test_growth(tab: Page, machine: str, steps: int = 5_000) -> None:
     assert tab.text("fact-growth").startswith(wanted)
 
 
-@pytest.mark.parametrize(
-    "machine, words",
-    [
-        (HALT, "The run ends, with 4 cells."),
-        (
-            "1RA1RA",
-            "They grow as a line: 656, 6,551, 65,501 after a hundredth, a tenth and all of 65,535 steps;",
-        ),
-    ],
-)
-def test_growth_at_the_default_limits(tab: Page, machine: str, words: str) -> None:
-    """A run ends, or its cells do, long before the steps."""
-    tab.open("#machine=" + machine)
+def test_growth_up_to_the_limit_of_cells(tab: Page) -> None:
+    """Long before the limit of steps."""
+    tab.open("#machine=1RA1RA")
     tab.until(lambda: "\u2026" not in tab.text("facts"))
-    assert tab.text("fact-growth").startswith(words)
+    visited = "656, 6,551, 65,501 after a hundredth, a tenth and all of 65,535 steps"
+    assert tab.text("fact-growth").startswith("They grow as a line: %s;" % visited)
 
 
 @pytest.mark.parametrize(
@@ -91,7 +81,7 @@ def test_growth_at_the_default_limits(tab: Page, machine: str, words: str) -> No
     ],
 )
 def test_what_a_verdict_says_of_others(tab: Page, machine: str, completions: str, starts: str) -> None:
-    """Of the machines that fill a `---`, and of every start."""
+    """About completions of `---`, and other starts."""
     tab.open("#machine=" + machine)
     tab.until(lambda: tab.text("fact-completions") not in ("", "\u2026"))
     assert completions in tab.text("fact-completions")
@@ -102,7 +92,7 @@ def test_what_a_verdict_says_of_others(tab: Page, machine: str, completions: str
 def test_text_link_and_picture_are_copied(tab: Page) -> None:
     tab.command("Browser.grantPermissions", permissions=["clipboardReadWrite"])
     tab.js(COPY)
-    tab.open_list("1RA1RA\n")
+    tab.open_list("1RA1RA")
     tab.wait_until_drawn()
     for name in ("copy-text", "link", "copy-png"):
         tab.click(name)
@@ -112,10 +102,8 @@ def test_text_link_and_picture_are_copied(tab: Page) -> None:
 
 
 def test_keys_and_buttons_open_other_rows(tab: Page) -> None:
-    """The next and the previous row, of any kind or an undecided one."""
     mirrored = CHAMPION.translate(SWAPPED)
-    tab.plan({"steps": 100}, "auto", True)
-    tab.open_list("%s\n%s\n1RA1RA\n%s\n" % (HALT, CHAMPION, mirrored))
+    tab.open_list(HALT, CHAMPION, "1RA1RA", mirrored, plan={"steps": 100})
     for key, machine in zip("nnpNP", (CHAMPION, "1RA1RA", CHAMPION, mirrored, CHAMPION)):
         tab.press("rows", key)
         assert tab.text("machine-text") == machine
@@ -126,9 +114,8 @@ def test_keys_and_buttons_open_other_rows(tab: Page) -> None:
 
 
 def test_late_answers_are_dropped(tab: Page) -> None:
-    """What comes late of a line that was left isn't shown with the next one."""
-    tab.plan({"steps": 100}, "auto", True)
-    tab.open_list("1RA1RA\n%s\n%s\n" % (HALT, CHAMPION))
+    """Late replies for a line aren't shown with the next one."""
+    tab.open_list("1RA1RA", HALT, CHAMPION, plan={"steps": 100})
     tab.js("for (let k = 0; k < 2; k += 1) document.getElementById('row-next').click()")
     tab.until(lambda: tab.wait_until_drawn() and "\u2026" not in tab.text("facts"))
     time.sleep(0.5)
@@ -138,8 +125,7 @@ def test_late_answers_are_dropped(tab: Page) -> None:
 
 
 def test_kinds_are_saved_by_themselves(tab: Page) -> None:
-    tab.plan({"steps": 50}, "auto", True)
-    tab.open_list("%s\n%s\n" % (HALT, CHAMPION_OF_FOUR))
+    tab.open_list(HALT, CHAMPION_OF_FOUR, plan={"steps": 50})
     tab.click("kind-halt")
     tab.click("save-shown")
     assert tab.read_download() == b"%s undecided steps\n" % CHAMPION_OF_FOUR.encode()

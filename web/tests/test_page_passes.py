@@ -1,4 +1,4 @@
-"""The passes over a list: the first one of few steps, the second one by the limits, and rows decided again."""
+"""The passes over a list: a first one of few steps, a second one by the limits, and new decisions."""
 
 import re
 import time
@@ -10,20 +10,19 @@ from support.machines import CHAMPION_OF_FOUR
 from support.program import as_lines
 
 HALT = "1RB1LB_1LA1RZ"
-# Backward reasoning decides these within 1,000 steps, and a longer run finds that they are translated.
+# Backward reasoning decides these within 1,000 steps; a longer run finds them translated.
 FOUND_LATER = "1RB0LD_0LA1RC_1RE0RB_1RE1LA_1LD0RC 1RB0LE_1LE0RD_0RB1RC_0LD0RC_0LA1LA".split()
 HALTS_LATE = "halts after 107 steps"
 
 
 def percent(tab: Page) -> int:
-    """How much of the list is done, as the page prints it."""
+    """Return the percentage in the status."""
     found = re.search(r", (\d+) % done", tab.text("status"))
     return int(found[1]) if found else 0
 
 
 def test_first_pass_comes_before_long_machines(tab: Page) -> None:
-    """Machines that run long don't keep the others waiting: these are decided first. A stop saves what the
-    limits have settled, and names what it leaves out."""
+    """A stop saves final verdicts, and reports the omitted ones of the first pass."""
     tab.plan(ENDLESS, "decide")
     tab.submit_file(as_lines([LONG] * 32 + [HALT] * 6_368))
     tab.until(lambda: percent(tab) == 99)
@@ -36,7 +35,7 @@ def test_first_pass_comes_before_long_machines(tab: Page) -> None:
 
 
 def test_long_machine_is_named_while_others_are_decided(tab: Page) -> None:
-    """What is decided is shown while another machine takes long, which is named; a stop keeps it."""
+    """A stop keeps the others' verdicts."""
 
     def count_decided() -> int:
         found = re.search(r"([0-9,]+) decided", tab.text("status"))
@@ -55,7 +54,7 @@ def test_long_machine_is_named_while_others_are_decided(tab: Page) -> None:
 
 
 def test_second_pass_has_the_bytes_of_the_program(tab: Page) -> None:
-    """Also where a verdict isn't the first pass's."""
+    """Also if it changes a verdict of the first pass."""
     given = as_lines([*FOUND_LATER, CHAMPION_OF_FOUR, "no machine", "1RA1RA"] * 20)
     first = tab.program_output("decide", {"steps": 1_000}, given)
     assert first.count(b" backward ") > tab.require_same("decide", {}, given).count(b" backward ")
@@ -72,8 +71,7 @@ def test_two_passes_over_four_states(tab: Page, four_states: List[str], every: i
 @pytest.mark.slow
 @pytest.mark.timing
 def test_four_states_are_decided_soon(tab: Page, four_states: List[str]) -> None:
-    """Of all machines of four states 99 % are decided, by the default limits, in less time than the program
-    takes for all of them."""
+    """99 % of them in less time than the program takes for all."""
     given = as_lines(four_states)
 
     def time_call(what: Callable[[], object]) -> float:
@@ -91,18 +89,17 @@ def test_four_states_are_decided_soon(tab: Page, four_states: List[str]) -> None
 
 
 def test_claims_that_are_not_confirmed_are_counted(tab: Page) -> None:
-    """A claim that is refuted, or that these limits can't tell, isn't counted as decided."""
+    """Refuted claims, and those over the limits, aren't counted as decided."""
     tab.plan({"steps": 50}, "check")
     claims = [HALT + " halt 6 4", HALT + " halt 7 4", CHAMPION_OF_FOUR + " halt 107 13"]
-    tab.open_list(as_lines(claims).decode())
+    tab.open_list(*claims)
     assert "1 decided, 0 undecided, 0 refused" in tab.text("status")
     assert "2 not confirmed" in tab.text("status") and "1 bad, 1 over" in tab.text("status")
 
 
 def test_machine_decided_again_comes_into_its_row(tab: Page) -> None:
-    """It is marked there, and comes into what is saved."""
-    tab.plan({"steps": 50}, "auto", True)
-    tab.open_list("%s\n%s\n" % (HALT, CHAMPION_OF_FOUR))
+    """The row is marked, and saved."""
+    tab.open_list(HALT, CHAMPION_OF_FOUR, plan={"steps": 50})
     tab.press("rows", "n")
     tab.click("again")
     tab.until(lambda: HALTS_LATE in tab.text("machine-says"))
@@ -116,26 +113,25 @@ def test_machine_decided_again_comes_into_its_row(tab: Page) -> None:
 
 
 def test_undecided_machines_are_decided_again(tab: Page) -> None:
-    """They come into their rows, with larger limits each time; the list, its limits and the open line stay."""
-    tab.plan({"steps": 5}, "auto", True)
-    text = "%s\n%s\n# a comment\n1RA1RA\n" % (HALT, CHAMPION_OF_FOUR)
-    tab.open_list(text)
+    """In their rows, with larger limits each time; list, limits and open line stay."""
+    lines = [HALT, CHAMPION_OF_FOUR, "# a comment", "1RA1RA"]
+    tab.open_list(*lines, plan={"steps": 5})
     for steps, verdict in ((50, "undecided steps"), (500, "halt 107 13")):
         tab.await_answer(lambda: tab.click("left"))
         rows = tab.rows()
         assert [row[0] for row in rows] == ["1", "2", "4"]
         assert rows[1][2] == "%s again, %d steps" % (verdict, steps)
     assert rows[2][2].startswith("translated R") and rows[0][2] == "halt 6 4 again, 50 steps"
-    assert (tab.get("list", "value"), tab.get("steps", "value")) == (text, "5")
+    assert (tab.get("list", "value"), tab.get("steps", "value")) == ("\n".join([*lines, ""]), "5")
     assert "6 steps" in tab.text("machine-says")
     assert tab.save().endswith(b"halt 107 13\n1RA1RA translated R 1 2 1 1\n")
     assert tab.get("left", "hidden")
 
 
 def test_claim_stays(tab: Page) -> None:
-    """Also where its machine is decided again."""
+    """A checked claim is kept when its machine is decided again."""
     tab.plan({"steps": 50}, "check")
-    tab.open_list("%s undecided steps\n" % CHAMPION_OF_FOUR)
+    tab.open_list(CHAMPION_OF_FOUR + " undecided steps")
     tab.click("again")
     tab.until(lambda: HALTS_LATE in tab.text("machine-says"))
     assert tab.rows()[0][2] == "undecided steps"

@@ -1,48 +1,37 @@
-"""Diagrams of the page: their pixels, scaling, zooming, what is pointed at, and the tape below."""
+"""Diagrams: pixels, scaling, zooming and marks; the tape and the backward tree."""
 
-import base64
 import json
-import pathlib
 import random
 import re
-import subprocess
 import time
-from typing import Any, Dict, List, Tuple
+from typing import Callable, Dict, List
 
 import pytest
-from support import TOP
 from support.browser import HEAD, Page, Row, format_number, soon, trace
-from support.gestures import Keys
+from support.gestures import Keys, cell_at, place_of, send_mouse, window_point
 from support.machines import CHAMPION, CHAMPION_OF_FOUR, seldom_halting
 from support.node import Engine
 from support.page_times import PAUSE, end, steps_seen, traced_views, views
-from support.program import run_command
 
 TRANSLATED = "1LB0LA_1RA---"
-# The champion of four states, which goes to the right for ever in place of its halt.
+# The champion of four states, with an endless run to the right instead of its halt.
 LATE = "1RB1LB_1LA0LC_1RE1LD_1RD0RA_1RE1RE"
 TREE = "1RB1LB_1LA0RC_0LD1RC_---1LA"
-# A machine of four symbols, which halts after 3,932,964 steps.
+# A machine of four symbols; it halts after 3,932,964 steps.
 FOUR_SYMBOLS = "1RB2LA1RA1RA_1LB1LA3RB1RZ"
-# A machine without a verdict that visits more cells than it may.
+# Limits under which 1RA1RA is undecided and exceeds the cells.
 FEW_CELLS = "&steps=1000&cells=8&depth=2&cyclers=off&translated=off&backward=off"
-POINT = """
-const canvas = document.getElementById("diagram");
-const box = canvas.getBoundingClientRect();
-canvas.dispatchEvent(new PointerEvent("pointermove",
-  { clientX: box.x + arguments[0], clientY: box.y + arguments[1], bubbles: true }));
-"""
 TURN = """
 const canvas = document.getElementById("diagram");
 const box = canvas.getBoundingClientRect();
 canvas.dispatchEvent(new WheelEvent("wheel",
   { deltaY: -200, clientX: box.x + 300, clientY: box.y + 200, bubbles: true, cancelable: true }));
 """
-# The colours of the pixels at the left of the picture.
-AXES = """
-const pen = document.getElementById("diagram").getContext("2d");
-const data = pen.getImageData(0, 22, 76, 300).data;
-return new Set(Array.from({ length: data.length / 4 }, (_, k) => data.slice(4 * k, 4 * k + 3).join())).size;
+GO_AND_PLAY = """
+const part = (name) => document.getElementById("tape-" + name);
+part("form").requestSubmit();
+part("play").click();
+return [part("text").textContent, part("play").textContent];
 """
 CELLS = """
 return [...document.querySelectorAll("#tape-cells .cell")].filter((one) => !one.querySelector(".blank"))
@@ -50,8 +39,8 @@ return [...document.querySelectorAll("#tape-cells .cell")].filter((one) => !one.
 """
 
 
-def questions(source: random.Random) -> List[Dict[str, int]]:
-    """Rows that are asked for one after another, some of which are among those before."""
+def row_requests(source: random.Random) -> List[Dict[str, int]]:
+    """Return successive requests for rows; later ones repeat some rows."""
     every = source.choice([1, 2, 3, 4])
     begin = every * source.randrange(50)
     found = [{"from": begin, "every": every, "upto": begin + 600 * every}]
@@ -63,27 +52,26 @@ def questions(source: random.Random) -> List[Dict[str, int]]:
     return found
 
 
-@pytest.mark.needs("node")
 @pytest.mark.parametrize("count", [20, pytest.param(200, marks=pytest.mark.slow)])
-def test_kept_rows_are_those_of_the_program(bb: str, module: object, rng: random.Random, count: int) -> None:
-    """Also those that are picked out of others."""
+def test_kept_rows_are_those_of_the_program(bb: str, engine: Engine, rng: random.Random, count: int) -> None:
+    """Also those selected from others."""
     machines = [seldom_halting(rng, rng.randint(2, 5), rng.randint(2, 10)) for _ in range(count)]
-    asked = [(machine, questions(rng)) for machine in [CHAMPION, CHAMPION_OF_FOUR, LATE, TREE, *machines]]
-    given = "".join(json.dumps({"machine": one, "cells": 512, "asked": rows}) + "\n" for one, rows in asked)
-    command = ["node", str(TOP / "web/tests/row_cache.mjs"), str(module)]
-    replies = [json.loads(line) for line in run_command(command, given.encode()).output.splitlines()]
-    assert len(replies) == len(asked)
-    for (machine, rows), reply in zip(asked, replies):
+    machines += [CHAMPION, CHAMPION_OF_FOUR, LATE, TREE]
+    known = 0
+    for machine in machines:
+        requests = row_requests(rng)
+        plan = {"cells": 512, "requests": requests, "last": 5_000}
+        reply = json.loads(engine.call("rows", plan, machine.encode()).reply)
         run = {row.step: row for row in trace(bb, machine, 5_000, 512)}
-        for one, found in zip(rows, reply["lines"]):
+        for one, found in zip(requests, reply["lines"]):
             steps = range(one["from"], one["upto"] + 1, one["every"])
             wanted = ["%d %s %d %d %s" % run[step] for step in steps if step in run]
             assert found == wanted, (machine, one)
         end = max(run.values())
         assert reply["last"] == [end.step, end.low, len(end.cells)], machine
-    known = sum(reply["known"] for reply in replies)
-    print("%d machines; %d questions needed no trace" % (len(asked), known))
-    assert known > 2 * len(asked)
+        known += reply["known"]
+    print("%d machines; %d requests needed no trace" % (len(machines), known))
+    assert known > 2 * len(machines)
 
 
 @pytest.mark.parametrize(
@@ -96,9 +84,8 @@ def test_kept_rows_are_those_of_the_program(bb: str, module: object, rng: random
     ],
 )
 def test_cells_have_their_colours(tab: Page, machine: str, upto: int, limits: str) -> None:
-    """Each cell of a diagram has its symbol's colour, or the head's."""
-    tab.open("#machine=%s%s" % (machine, limits))
-    view, colours = tab.wait_until_drawn(), tab.palette()
+    """Of their symbols, or the head's."""
+    view, colours = tab.open_machine(machine, limits), tab.palette()
     wide, high, left = view["wide"], view["high"], view["left"]
     is_framed = wide >= 6 and high >= 6
     places, wanted = [], []
@@ -114,21 +101,19 @@ def test_cells_have_their_colours(tab: Page, machine: str, upto: int, limits: st
 
 
 @pytest.fixture
-def sampled(module: object, tmp_path: pathlib.Path) -> Any:
-    """A function that gives a step of a machine, by the engine's trace of that step alone."""
-    engine = Engine(tmp_path)
+def sample(engine: Engine) -> Callable[[str, int], Row]:
+    """A function that returns a row of a machine by the engine's trace of that step."""
 
     def row(machine: str, step: int) -> Row:
         reply = engine.call("trace", {"steps": step, "from": step, "every": 1}, machine.encode())
         _, state, head, low, cells = reply.reply.decode().split()
         return Row(step, state, int(head), int(low), cells)
 
-    yield row
-    engine.end()
+    return row
 
 
 def require_means(tab: Page, source: random.Random, row: Row) -> None:
-    """In a view of a whole run the pixels of a row have the mean colours of its cells."""
+    """Require pixels of a row to have the mean colours of their cells."""
     view, colours = tab.wait_until_drawn(), tab.palette()
     across = int(view["across"])
     columns = [source.randrange(1, tab.size()[0] - int(view["x"]) - 40) for _ in range(40)]
@@ -139,31 +124,28 @@ def require_means(tab: Page, source: random.Random, row: Row) -> None:
         assert all(abs(a - b) <= 1 for a, b in zip(pixel, means)), (row.step, x)
 
 
-def test_means_of_four_symbols(tab: Page, sampled: Any, rng: random.Random) -> None:
-    tab.open("#machine=%s&steps=3000000" % FOUR_SYMBOLS)
-    view = tab.wait_until_drawn()
+def test_means_of_four_symbols(tab: Page, sample: Callable[[str, int], Row], rng: random.Random) -> None:
+    view = tab.open_machine(FOUR_SYMBOLS, "&steps=3000000")
     assert view["across"] > 1
     for number in (60, 200, 400):
-        require_means(tab, rng, sampled(FOUR_SYMBOLS, number * int(view["every"])))
+        require_means(tab, rng, sample(FOUR_SYMBOLS, number * int(view["every"])))
 
 
 @pytest.mark.slow
-def test_whole_run_of_the_champion(tab: Page, sampled: Any, rng: random.Random) -> None:
-    """It is seen whole: a pixel has the mean colour of its cells."""
-    tab.open("#machine=%s&steps=50000000" % CHAMPION)
-    view, shown = tab.wait_until_drawn(), tab.text("diagram-text")
+def test_whole_run_of_the_champion(tab: Page, sample: Callable[[str, int], Row], rng: random.Random) -> None:
+    """The view shows all steps and cells; a pixel has the mean colour of its cells."""
+    view, shown = tab.open_machine(CHAMPION, "&steps=50000000"), tab.text("diagram-text")
     every = int(view["every"])
     assert "mean colour of %d cells" % view["across"] in shown and "all of 12,289 visited cells" in shown
     last = int(re.sub(r"\D", "", shown.split(" to ")[1].split(" every")[0]))
     assert last <= 47_176_870 < last + every and view["top"] == 0
     # The last row has a mark.
     for number in rng.sample(range(50, last // every - 6), 6):
-        require_means(tab, rng, sampled(CHAMPION, number * every))
+        require_means(tab, rng, sample(CHAMPION, number * every))
 
 
 def test_resized_window_shows_the_whole(tab: Page) -> None:
-    """A window of another width, as of a phone that is turned; a view that someone chose stays."""
-    tab.open("#machine=%s&steps=200" % CHAMPION_OF_FOUR)
+    """A chosen view stays."""
 
     def resize(width: int) -> Dict[str, float]:
         before = tab.size()[0]
@@ -173,7 +155,7 @@ def test_resized_window_shows_the_whole(tab: Page) -> None:
         time.sleep(0.2)
         return tab.wait_until_drawn()
 
-    tab.wait_until_drawn()
+    tab.open_machine(CHAMPION_OF_FOUR, "&steps=200")
     for width in (390, 1280):
         resize(width)
         assert "all of 14 visited cells" in tab.text("diagram-text")
@@ -185,9 +167,8 @@ def test_resized_window_shows_the_whole(tab: Page) -> None:
 
 @pytest.mark.slow
 def test_zoom_to_single_cells_and_back(tab: Page) -> None:
-    """From a glance at 10^7 steps to 100 steps in a few gestures, at the head; and back to the whole."""
-    tab.open("#machine=%s&steps=10000000" % CHAMPION)
-    whole, gestures = tab.wait_until_drawn(), 0
+    """From 10^7 steps to 100 at the head in at most nine gestures."""
+    whole, gestures = tab.open_machine(CHAMPION, "&steps=10000000"), 0
     assert steps_seen(tab) >= 10**7
     tab.click("fit")
     while steps_seen(tab) > 100 and gestures < 20:
@@ -208,8 +189,7 @@ def test_zoom_to_single_cells_and_back(tab: Page) -> None:
 @pytest.mark.slow
 @pytest.mark.timing
 def test_views_are_drawn_soon(tab: Page) -> None:
-    """Views are drawn sooner, most of them from rows that are kept, than those of which none are; and the
-    page stands still for less."""
+    """Views from cached rows are faster than traced ones, and block the page for less."""
     taken, traced = views(tab, PAUSE), traced_views(tab, PAUSE)
     assert len(taken) > 6 and steps_seen(tab) < 10**7
     last = end(tab)
@@ -222,40 +202,33 @@ def test_views_are_drawn_soon(tab: Page) -> None:
 
 
 def test_wheel_zooms_at_the_pointer(tab: Page) -> None:
-    """After a click: the step under it stays there."""
-    tab.open("#machine=%s&steps=10000000" % CHAMPION)
-    before = tab.wait_until_drawn()
+    """If the picture has the focus: the step under the pointer stays."""
+    before = tab.open_machine(CHAMPION, "&steps=10000000")
+    cell = cell_at(before, (300, 200))
     tab.js(TURN)
     assert tab.wait_until_drawn() == before
-    step = before["top"] + int(200 - before["y"]) // before["high"] * before["every"]
     tab.js("document.getElementById('diagram').focus()")
     tab.js(TURN)
     tab.until(lambda: tab.wait_until_drawn() != before)
     after = tab.wait_until_drawn()
     assert after["every"] < before["every"]
-    y = (step - after["top"]) / after["every"] * after["high"] + after["y"]
-    assert abs(y - 200) <= 2 + after["high"]
+    assert abs(place_of(after, *cell)[1] - 200) <= 2 + after["high"]
 
 
 @pytest.mark.slow
-def test_going_to_a_step(tab: Page, sampled: Any) -> None:
-    """It shows its cells and its tape; a step beyond the last one is the last one."""
-    tab.open("#machine=%s&steps=50000000" % CHAMPION)
-    tab.wait_until_drawn()
+def test_going_to_a_step(tab: Page, sample: Callable[[str, int], Row]) -> None:
+    """The diagram shows its cells, and the tape its row."""
+    tab.open_machine(CHAMPION, "&steps=50000000")
     tab.go_to("47,176,860")
     tab.until(lambda: "47,176,860" in tab.text("tape-text"))
     tab.until(lambda: tab.wait_until_drawn()["every"] == 1)
-    view, row = tab.wait_until_drawn(), sampled(CHAMPION, 47_176_860)
+    view, row = tab.wait_until_drawn(), sample(CHAMPION, 47_176_860)
     assert view["top"] <= 47_176_860 <= view["top"] + 400 / view["high"]
     assert tab.text("tape-text").startswith(tape_words(row))
-    tab.press("tape", Keys.END)
-    assert tab.tape_is_at("47,176,870: halted")
-    tab.go_to("many")
-    assert "whole number" in tab.text("tape-refused")
 
 
 def tape_words(row: Row) -> str:
-    """What the page says of a step, as far as where the head is."""
+    """Return the beginning of the tape's description of a row."""
     symbol = row.read(row.head)
     return "Step {:,}: state {} reads {} at position {}".format(
         row.step, row.state, symbol, format_number(row.head)
@@ -263,7 +236,7 @@ def tape_words(row: Row) -> str:
 
 
 def require_tape(tab: Page, row: Row) -> None:
-    """The tape shows a row: its cells, what is said of it, and the entry that is used next."""
+    """Require the tape to show a row's cells, description and next entry."""
     symbol = row.read(row.head)
     entry = CHAMPION_OF_FOUR.split("_")[ord(row.state) - ord("A")][3 * symbol : 3 * symbol + 3]
     assert tab.text("tape-text").startswith("%s; %s:" % (tape_words(row), entry))
@@ -274,9 +247,8 @@ def require_tape(tab: Page, row: Row) -> None:
 
 @pytest.mark.slow
 def test_tape_goes_step_by_step(tab: Page) -> None:
-    """On and back, by buttons and keys; it plays, or steps where that is wanted."""
-    tab.open("#machine=%s" % CHAMPION_OF_FOUR)
-    tab.wait_until_drawn()
+    """By buttons and keys. With reduced motion it steps instead of playing."""
+    tab.open_machine(CHAMPION_OF_FOUR)
     for row in trace(tab.program, CHAMPION_OF_FOUR, 107)[:60]:
         assert tab.tape_is_at("%d:" % row.step)
         require_tape(tab, row)
@@ -303,9 +275,8 @@ def test_tape_goes_step_by_step(tab: Page) -> None:
 
 @pytest.mark.parametrize("keys", [[Keys.END], [Keys.HOME, *[Keys.ARROW_RIGHT] * 7], [Keys.HOME, Keys.END]])
 def test_tape_ends_where_the_cells_do(tab: Page, keys: List[str]) -> None:
-    """The tape plays no farther than the limit of cells lets a run go."""
-    tab.open("#machine=1RA1RA" + FEW_CELLS)
-    tab.wait_until_drawn()
+    """The tape ends where the limit of cells ends the run."""
+    tab.open_machine("1RA1RA", FEW_CELLS)
     assert "the limit of cells ends the trace" in tab.text("diagram-text")
     tab.press("tape", *keys)
     assert tab.tape_is_at("7:") and soon(lambda: tab.get("tape-on", "disabled"))
@@ -316,17 +287,11 @@ def test_tape_ends_where_the_cells_do(tab: Page, keys: List[str]) -> None:
 
 @pytest.mark.slow
 def test_tape_plays_once_its_row_is_there(tab: Page) -> None:
-    """Also where it is to play from a step whose row takes long."""
-    tab.open("#machine=%s&steps=50000000" % CHAMPION)
-    tab.wait_until_drawn()
+    """From a step whose row takes long."""
+    tab.open_machine(CHAMPION, "&steps=50000000")
     assert tab.tape_is_at("0:")
     tab.put("tape-step", "value", "47000000")
-    script = (
-        "document.getElementById('tape-form').requestSubmit(); document.getElementById('tape-play').click();"
-    )
-    shown, play = tab.js(
-        script + "return ['tape-text', 'tape-play'].map((id) => document.getElementById(id).textContent)"
-    )
+    shown, play = tab.js(GO_AND_PLAY)
     assert shown.startswith("Step 0:") and play == "Pause"
     assert tab.tape_is_at("47,000,003:")
     tab.click("tape-play")
@@ -334,29 +299,26 @@ def test_tape_plays_once_its_row_is_there(tab: Page) -> None:
 
 
 def test_place_under_the_pointer(tab: Page) -> None:
-    """What is shown there, and of what keys point at: step, state, position, symbol."""
-    tab.open("#machine=%s" % CHAMPION_OF_FOUR)
-    view = tab.wait_until_drawn()
+    """Its description, and that of the cell under the keyboard cursor."""
+    view = tab.open_machine(CHAMPION_OF_FOUR)
+    tab.scroll_to_diagram()
     for row in trace(tab.program, CHAMPION_OF_FOUR, 107)[::7]:
         for at in range(row.low, row.low + len(row.cells)):
-            x = view["x"] + (at - view["left"] + 0.5) * view["wide"]
-            y = view["y"] + (row.step - view["top"] + 0.5) * view["high"]
-            tab.js(POINT, x + 1, y + 1)
-            assert tab.text("place-text") == row.place_words(at)
+            place = window_point(tab, *place_of(view, row.step + 0.5, at + 0.5))
+            send_mouse(tab, "mouseMoved", place)
+            assert soon(lambda: tab.text("place-text") == row.place_words(at))
     tab.press("diagram", "0", *["+"] * 3, Keys.ARROW_DOWN, Keys.ARROW_DOWN, Keys.ARROW_RIGHT)
     tab.wait_until_drawn()
     assert "Step 2, state" in tab.text("place-text")
     tab.press("diagram", Keys.ENTER)
     assert tab.tape_is_at("2:")
-    assert tab.js(AXES) > 1
 
 
 def test_stretch_of_a_translated_cycler(tab: Page) -> None:
-    """It is outlined where its line says."""
+    """Its cells are outlined."""
     line = tab.program_output("decide", {}, TRANSLATED.encode()).decode().split()
     first, second, _, length = map(int, line[3:])
-    tab.open("#machine=%s" % TRANSLATED)
-    view, mark = tab.wait_until_drawn(), tab.colour("--mark")
+    view, mark = tab.open_machine(TRANSLATED), tab.colour("--mark")
     tab.until(lambda: tab.js("return document.querySelectorAll('#behind .same').length") == 2 * length)
     tab.until(lambda: "show it" in tab.text("behind"))
     rows = trace(tab.program, TRANSLATED, second)
@@ -369,15 +331,13 @@ def test_stretch_of_a_translated_cycler(tab: Page) -> None:
 
 @pytest.mark.slow
 def test_late_marks_are_in_view(tab: Page) -> None:
-    """Records that agree late are in view when the verdict opens, apart from each other; the whole is a key
-    away."""
+    """The view opens on them, apart from each other."""
     line = tab.program_output("decide", {}, LATE.encode()).decode().split()
     first, second = int(line[3]), int(line[4])
     assert second - first < second / 40
-    tab.open("#machine=%s" % LATE)
-    view = tab.wait_until_drawn()
-    places = [(step - view["top"]) / view["every"] * view["high"] for step in (first, second)]
-    assert all(0 <= y < tab.size()[1] - view["y"] for y in places) and places[1] - places[0] >= 8
+    view = tab.open_machine(LATE)
+    upper, lower = (place_of(view, step, 0)[1] for step in (first, second))
+    assert view["y"] <= upper <= lower - 8 and lower < tab.size()[1]
     tab.click("fit")
     tab.until(lambda: tab.wait_until_drawn()["top"] == 0)
     tab.click("marked")
@@ -385,18 +345,10 @@ def test_late_marks_are_in_view(tab: Page) -> None:
 
 
 def test_levels_of_a_tree(tab: Page) -> None:
-    """They and the nodes are those of the line, and the page says nothing of a difference."""
-    tab.open("#machine=%s" % TREE)
+    """The page draws the levels and nodes of the line."""
+    tab.open("#machine=" + TREE)
     levels, nodes = tab.program_output("decide", {}, TREE.encode()).decode().split()[2:]
     script = "return [...document.querySelectorAll('.level')].map((one) => Number(one.dataset.count))"
     counts = tab.js(script)
     assert (len(counts), sum(counts)) == (int(levels), int(nodes))
     assert tab.js("return document.querySelector('#behind .error') === null")
-
-
-def test_picture_and_sentence_of_a_halt(tab: Page) -> None:
-    tab.open("#machine=1RB1LB_1LA1RZ")
-    tab.wait_until_drawn()
-    tab.until(lambda: "The row above shows it." in tab.text("behind"))
-    png = tab.js("return document.getElementById('diagram').toDataURL('image/png')").split(",")[1]
-    assert base64.b64decode(png).startswith(b"\x89PNG")

@@ -1,5 +1,4 @@
-"""The lines of a list in the page: which one is open, chosen and highlighted, also while more come, in
-another order, and where kinds are hidden."""
+"""The rows of a list: which one is open, chosen and highlighted, in any order and among hidden kinds."""
 
 import time
 from typing import List
@@ -24,23 +23,22 @@ def machines(tab: Page) -> List[str]:
 
 
 def is_marked(tab: Page, machine: str) -> bool:
-    """Whether this machine is open, and its line alone is highlighted."""
+    """Return whether this machine is open, and its row alone is highlighted."""
     return bool(tab.text("machine-text") == machine and tab.js(CHOSEN) == [machine])
 
 
 def test_first_line_is_opened(tab: Page) -> None:
-    """The first line of each list is opened, also where lines of later pieces come before it."""
+    """Also if other lines are answered before it."""
     for machine in ("1RA1RA", LONG):
-        tab.open_list("%s\n1RB1LB_1LA1RZ\n" % machine)
+        tab.open_list(machine, HALT)
         assert is_marked(tab, machine)
-    tab.plan({"steps": 50_000_000}, "decide")
-    tab.open_list("%s\n%s" % (CHAMPION, "%s\n" % HALT * 400))
+    tab.open_list(CHAMPION, *[HALT] * 400, plan={"steps": 50_000_000}, mode="decide")
     assert is_marked(tab, CHAMPION)
 
 
 def test_chosen_line_stays(tab: Page) -> None:
-    """The line that is open stays highlighted in another order; from a hidden one `p` goes on."""
-    tab.open_list("\n".join(LINES) + "\n")
+    """In another order, and among hidden kinds for `p`."""
+    tab.open_list(*LINES)
     tab.open_row(1)
     tab.js(ORDERS, ["down"])
     assert soon(lambda: machines(tab) != LINES)
@@ -55,31 +53,31 @@ def test_chosen_line_stays(tab: Page) -> None:
 
 
 def test_buttons_of_kinds_stay(tab: Page) -> None:
-    """So a click or the focus isn't lost."""
+    """Buttons are reused, so clicks and focus aren't lost."""
     tab.js("window.chip = document.getElementById('kind-halt')")
-    tab.open_list("%s\n%s\n" % (HALT, HALT))
+    tab.open_list(HALT, HALT)
     assert tab.js("return window.chip === document.getElementById('kind-halt')")
     assert tab.text("kind-halt") == "halt 2"
 
 
 def test_last_order_counts(tab: Page) -> None:
-    """Of two orders that are chosen at once the second one is shown."""
-    tab.open_list("\n".join(LINES) + "\n")
+    """Of two orders chosen at once."""
+    tab.open_list(*LINES)
     tab.js(ORDERS, ["down", "list"])
     time.sleep(1)
     assert machines(tab) == LINES
 
 
 def test_sorted_list_opens_its_first_line(tab: Page) -> None:
-    """Where an order by steps is chosen, the first line of a list is opened and highlighted all the same."""
+    """The first of the list, not of the order."""
     tab.js(ORDERS, ["down"])
-    tab.open_list("1RA1RA\n%s\n" % HALT)
+    tab.open_list("1RA1RA", HALT)
     assert soon(lambda: machines(tab) == [HALT, "1RA1RA"] and is_marked(tab, "1RA1RA"))
 
 
 def test_list_of_comments_shows_no_machine(tab: Page) -> None:
-    tab.open_list("1RA1RA\n")
-    tab.open_list("# nothing\n")
+    tab.open_list("1RA1RA")
+    tab.open_list("# nothing")
     assert soon(lambda: tab.get("machine", "hidden"))
-    tab.open_list("1RA1RA\n")
+    tab.open_list("1RA1RA")
     assert not tab.get("machine", "hidden")

@@ -49,7 +49,6 @@ export function unpackRow(/** @type {PackedRows} */ rows, /** @type {number} */ 
 /**
  * A copy of `count` rows, from one on at an interval.
  * @param {PackedRows} rows @param {number} first @param {number} interval @param {number} count
- * @returns {PackedRows}
  */
 export function selectRows(rows, first, interval, count) {
   const { bits } = rows;

@@ -6,6 +6,8 @@
  * @typedef {(k: number, from: number, to: number) => number} Mean of the cells `from` to `to` of row `k`
  * @typedef {(pixels: Uint32Array, k: number, first: number, end: number, cell: number) => void} PaintInner
  *   paints the columns `first` to `end` of row `k`, all visited, from a cell on
+ * @typedef {(rows: PackedRows, view: View, palette: number[][]) => {mean: Mean, paintInner: PaintInner}}
+ *   CreatePainter
  */
 import { FRAMED } from "../page/diagram/viewport.mjs";
 import { symbolAtCell } from "./packed-rows.mjs";
@@ -27,24 +29,15 @@ const pixelOf = (/** @type {number[]} */ [red, green, blue]) =>
  */
 export function paintRows(rows, view, columns, palette) {
   const image = new Uint32Array(columns * rows.steps.length);
-  const paint = createPainter(rows, view, palette);
+  const colours = Uint32Array.from(palette, pixelOf);
+  const painter = (rows.bits === 1 ? twoSymbolPainter : manySymbolPainter)(rows, view, palette);
   for (let k = 0; k < rows.steps.length; k += 1) {
-    paint(image.subarray(columns * k, columns * (k + 1)), k);
+    const pixels = image.subarray(columns * k, columns * (k + 1));
+    view.across === 1
+      ? paintCells(pixels, rows, k, view, colours)
+      : paintMeans(pixels, rows, k, view, painter);
   }
   return new Uint8ClampedArray(image.buffer);
-}
-
-/**
- * @param {PackedRows} rows @param {View} view @param {number[][]} palette
- * @returns {(pixels: Uint32Array, k: number) => void} paints a row
- */
-function createPainter(rows, view, palette) {
-  if (view.across === 1) {
-    const colours = Uint32Array.from(palette, pixelOf);
-    return (pixels, k) => paintCells(pixels, rows, k, view, colours);
-  }
-  const painter = (rows.bits === 1 ? twoSymbolPainter : manySymbolPainter)(rows, view, palette);
-  return (pixels, k) => paintMeans(pixels, rows, k, view, painter);
 }
 
 /**
@@ -84,12 +77,8 @@ function paintMeans(pixels, rows, k, { left, across }, { mean, paintInner }) {
   paintInner(pixels, k, first + 1, last, left + (first + 1) * across - low);
 }
 
-/**
- * Looks up means by the number of 1 cells.
- * @param {PackedRows} rows @param {View} view @param {number[][]} palette
- * @returns {{mean: Mean, paintInner: PaintInner}}
- */
-function twoSymbolPainter({ cells, offsets }, { across }, palette) {
+/** @type {CreatePainter} looks up means by the number of 1 cells */
+const twoSymbolPainter = ({ cells, offsets }, { across }, palette) => {
   const mixed = (/** @type {number} */ ones, /** @type {number} */ visited) =>
     pixelOf(
       palette[UNVISITED].map((unvisited, part) => {
@@ -108,12 +97,9 @@ function twoSymbolPainter({ cells, offsets }, { across }, palette) {
       }
     },
   };
-}
+};
 
-/**
- * Counts the 1 bits of a row's cells `from` to `to`.
- * @param {Uint8Array} cells @param {number} begin of the row @param {number} from @param {number} to
- */
+/** @param {Uint8Array} cells @param {number} begin of the row @param {number} from @param {number} to cell */
 function countOnes(cells, begin, from, to) {
   const first = begin + (from >> 3);
   const last = begin + (to >> 3);
@@ -129,11 +115,8 @@ function countOnes(cells, begin, from, to) {
   return ones;
 }
 
-/**
- * @param {PackedRows} rows @param {View} view @param {number[][]} palette
- * @returns {{mean: Mean, paintInner: PaintInner}}
- */
-function manySymbolPainter(rows, { across }, palette) {
+/** @type {CreatePainter} */
+const manySymbolPainter = (rows, { across }, palette) => {
   const [reds, greens, blues] = [0, 1, 2].map((part) => Int32Array.from(palette, (colour) => colour[part]));
   /** @type {Mean} */
   const mean = (k, from, to) => {
@@ -155,4 +138,4 @@ function manySymbolPainter(rows, { across }, palette) {
       }
     },
   };
-}
+};

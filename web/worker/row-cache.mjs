@@ -36,10 +36,9 @@ export class RowCache {
     this.machine = machine;
     this.cells = cells;
     this.symbols = parseMachine(machine).symbols;
-    /** @type {CachedRows[]} most recently used first */
-    this.cached = [];
-    /** @type {LastRow[]} */
-    this.lastRows = [];
+    // Most recently used first.
+    this.cached = /** @type {CachedRows[]} */ ([]);
+    this.lastRows = /** @type {LastRow[]} */ ([]);
   }
 
   /** The row of a step, or the last one before if the run or its cells end there. */
@@ -131,7 +130,6 @@ export class RowCache {
     this.cached = [added, ...others].filter(({ rows }) => (total += rows.cells.length) <= MOST_CACHED_BYTES);
   }
 
-  /** @returns {CachedRows} */
   trace(/** @type {RowRequest} */ { from, every, upto }, space = this.traceSize({ from, every, upto })) {
     const line = new TextEncoder().encode(this.machine);
     const options = { steps: upto, cells: this.cells, from, every };

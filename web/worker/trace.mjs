@@ -4,6 +4,7 @@
  * @typedef {{step: number, state: string, head: number, low: number, cells: Uint8Array}} Row
  * @typedef {import("../lib/bb.mjs").Engine} Engine
  * @typedef {import("./row-cache.mjs").RowRequest} RowRequest
+ * @typedef {import("./row-cache.mjs").AheadRequest} AheadRequest
  * @typedef {import("../page/diagram/viewport.mjs").View} View
  * @typedef {{machine: string, cells: number}} Run
  */
@@ -15,8 +16,7 @@ import { RowCache } from "./row-cache.mjs";
 // The exponents of the steps between which growth counts as a root.
 const ROOT = [0.2, 0.8];
 
-/** @type {RowCache | null} of the last machine */
-let cache = null;
+let cache = /** @type {RowCache | null} */ (null);
 
 const isCached = (/** @type {Run} */ run) => cache?.machine === run.machine && cache.cells === run.cells;
 
@@ -41,12 +41,8 @@ export function traceRows(/** @type {Engine} */ engine, /** @type {Run & RowRequ
 }
 
 /** Rows for another worker's cache. */
-export function traceAhead(
-  /** @type {Engine} */ engine,
-  /** @type {import("./row-cache.mjs").AheadRequest} */ request,
-) {
-  return cacheFor(engine, request).trace(request, request.space);
-}
+export const traceAhead = (/** @type {Engine} */ engine, /** @type {AheadRequest} */ request) =>
+  cacheFor(engine, request).trace(request, request.space);
 
 /** Caches another worker's rows if they belong to the current run. */
 export function storeRows(/** @type {Run & {cached: import("./row-cache.mjs").CachedRows}} */ message) {
@@ -56,7 +52,6 @@ export function storeRows(/** @type {Run & {cached: import("./row-cache.mjs").Ca
 /**
  * The growth of the visited cells, by their numbers after a hundredth, a tenth and all of the steps.
  * @param {Engine} engine @param {Run & {upto: number}} request
- * @returns {import("../page/machine/machine-info.mjs").Growth}
  */
 export function measureGrowth(engine, request) {
   const { upto } = request;

@@ -42,19 +42,15 @@ const WARM_UP_PLAN = { steps: 200, cells: 256, depth: 20, nodes: 1_000 };
 const WARM_UP_MACHINE = "1RB1LC_1RC1RB_1RD0LE_1LA1LD_1RZ0LA";
 const WARM_UP_TRACE = { steps: 10_000, cells: 256, from: 0, every: 100 };
 
-/** @type {Engine | undefined} */
-let engine;
-/** @type {Promise<void>} the page sends the module first */
-let engineLoaded = Promise.resolve();
+let engine = /** @type {Engine | undefined} */ (undefined);
+// The page sends the module first.
+let engineLoaded = /** @type {Promise<Engine | undefined>} */ (Promise.resolve(undefined));
 // The least bytes of the next batch; the first has one line.
 let size = 1;
 // Milliseconds a line took in the batch before.
 let pace = Infinity;
 
-/**
- * Decides and checks a batch.
- * @param {Uint8Array} input @param {Pick<ListRequest, "mode" | "plan">} request
- */
+/** @param {Uint8Array} input @param {Pick<ListRequest, "mode" | "plan">} request */
 function answerBatch(input, { mode, plan }, starts = startsOf(input).slice()) {
   const { steps, cells, depth, nodes } = plan;
   const host = /** @type {Engine} */ (engine);
@@ -69,9 +65,8 @@ function answerBatch(input, { mode, plan }, starts = startsOf(input).slice()) {
   }
   const kindCounts = countValues(lines.kinds, KINDS.length);
   const answerCounts = countValues(answers, ANSWERS.length);
-  const output =
-    mode === "decide" ? { bytes: verdicts, lines: null } : { bytes: reply, lines: verdicts.slice() };
-  return { ...output, ...lines, answers, kindCounts, answerCounts, memoryBytes: host.memoryBytes };
+  const [bytes, claims] = mode === "decide" ? [verdicts, null] : [reply, verdicts.slice()];
+  return { bytes, lines: claims, ...lines, answers, kindCounts, answerCounts, memoryBytes: host.memoryBytes };
 }
 
 /**
@@ -146,8 +141,7 @@ function nextSize(/** @type {number} */ milliseconds, /** @type {number} */ line
   const before = pace;
   pace = milliseconds / Math.max(1, lines);
   const isCheaper = lines > 0 && pace < SHARED * before;
-  const grows =
-    milliseconds < BATCH_MILLISECONDS / 2 || (milliseconds < 2 * BATCH_MILLISECONDS && isCheaper);
+  const grows = milliseconds < BATCH_MILLISECONDS * (isCheaper ? 2 : 1 / 2);
   const growth = milliseconds < SHORT_MILLISECONDS ? FAST_GROWTH : GROWTH;
   const factor = milliseconds > 2 * BATCH_MILLISECONDS ? 0.25 : grows ? growth : 1;
   return Math.max(1, Math.min(MOST_BYTES, Math.floor(size * factor)));
@@ -155,8 +149,8 @@ function nextSize(/** @type {number} */ milliseconds, /** @type {number} */ line
 
 function sendPart(/** @type {Part} */ part) {
   const { bytes, starts, kinds, answers, lines, source } = part;
-  const arrays = [bytes, starts, kinds, answers, ...(lines ? [lines] : []), ...(source ? [source] : [])];
-  postMessage(part, { transfer: arrays.map(({ buffer }) => /** @type {ArrayBuffer} */ (buffer)) });
+  const buffers = [bytes, starts, kinds, answers, lines, source].flatMap((array) => array?.buffer ?? []);
+  postMessage(part, { transfer: /** @type {ArrayBuffer[]} */ (buffers) });
 }
 
 /**
@@ -171,17 +165,9 @@ function sortRows(rows, steps, down) {
   return order.map((k) => rows[k]);
 }
 
-/** Loads the engine. If it fails, every request gets the error. */
-function loadModule(/** @type {WebAssembly.Module} */ module) {
-  engineLoaded = load(module).then((loaded) => {
-    engine = loaded;
-  });
-  engineLoaded.catch(() => undefined);
-}
-
 /**
- * Handlers of the messages besides `load`. They return a reply, and the buffers to transfer.
- * @type {Record<string, (message: any, host: Engine) => [any?, ArrayBuffer[]?]>}
+ * Handlers of the messages besides `load`. They return a reply if any, and the buffers to transfer.
+ * @type {Record<string, (message: any, host: Engine) => [any, ArrayBufferLike[]?] | void>}
  */
 const HANDLERS = {
   list: (message) => {
@@ -189,25 +175,18 @@ const HANDLERS = {
       [size, pace] = [message.size, Infinity];
     }
     answerList(message);
-    return [];
   },
-  "warm-up": ({ list }) => {
-    warmUp(list);
-    return [];
-  },
-  "store-rows": (message) => {
-    storeRows(message);
-    return [];
-  },
+  "warm-up": ({ list }) => warmUp(list),
+  "store-rows": (message) => storeRows(message),
   sort: ({ rows, steps, down }) => [{ order: sortRows(rows, steps, down) }],
   picture: (message, host) => {
     const picture = makePicture(host, message);
     // The rows stay in the cache, so they are copied.
-    return [{ picture }, [/** @type {ArrayBuffer} */ (picture.image.buffer)]];
+    return [{ picture }, [picture.image.buffer]];
   },
   "trace-ahead": ({ request }, host) => {
     const cached = traceAhead(host, request);
-    return [{ cached }, [/** @type {ArrayBuffer} */ (cached.rows.cells.buffer)]];
+    return [{ cached }, [cached.rows.cells.buffer]];
   },
   growth: (message, host) => [{ growth: measureGrowth(host, message) }],
   "decide-one": (message) => [decideOne(message)],
@@ -216,12 +195,14 @@ const HANDLERS = {
 
 async function onMessage(/** @type {any} */ message) {
   if (message.type === "load") {
-    loadModule(message.module);
+    engineLoaded = load(message.module);
+    // If it fails, every request gets the error.
+    engineLoaded.catch(() => undefined);
     return;
   }
-  await engineLoaded;
-  const [reply, transfer = []] = HANDLERS[message.type](message, /** @type {Engine} */ (engine));
-  reply && postMessage(reply, { transfer });
+  engine = await engineLoaded;
+  const reply = HANDLERS[message.type](message, /** @type {Engine} */ (engine));
+  reply && postMessage(reply[0], { transfer: /** @type {ArrayBuffer[]} */ (reply[1] ?? []) });
 }
 
 addEventListener("message", (event) => {

@@ -1,22 +1,16 @@
 /**
  * The space-time diagram: a row is a step, a column a position.
  *
- * @typedef {import("./viewport.mjs").View} View
- * @typedef {import("./viewport.mjs").Fit} Fit
- * @typedef {import("./viewport.mjs").Point} Point
- * @typedef {import("./geometry.mjs").Place} Place
- * @typedef {import("./geometry.mjs").Scene} Scene
- * @typedef {import("../../worker/row-cache.mjs").AheadRequest} AheadRequest
- * @typedef {{machine: string, cells: number, upto: number} & Omit<Fit, "opens">} DiagramRun
- * @typedef {{view: View, home: View, rows: import("../../worker/packed-rows.mjs").PackedRows, cut: boolean,
- *   every: number, columns: number, image: Uint8ClampedArray, low: number, high: number,
- *   ahead: AheadRequest[]}} Picture `ahead`: requests for rows of probable next views
+ * @typedef {viewport.View} View
+ * @typedef {geometry.Place} Place
+ * @typedef {{machine: string, cells: number, upto: number} & Omit<viewport.Fit, "opens">} DiagramRun
+ * @typedef {ReturnType<typeof import("../../worker/trace.mjs").makePicture>} Picture
  */
 import { byId, clearColours, readPalette } from "../dom.mjs";
 import { WorkerClient } from "../worker-client.mjs";
 import * as geometry from "./geometry.mjs";
 import { Painter, createSheet } from "./paint.mjs";
-import { FRAMED, closeView, isSameView, zoomView } from "./viewport.mjs";
+import * as viewport from "./viewport.mjs";
 
 // A picture may take this long before the next one interrupts it: its trace is of use.
 const PATIENCE_MILLISECONDS = 1_500;
@@ -28,14 +22,10 @@ export class Diagram {
     this.canvas = /** @type {HTMLCanvasElement} */ (byId("diagram"));
     this.client = new WorkerClient(PATIENCE_MILLISECONDS);
     this.aheadClient = new WorkerClient();
-    /** @type {DiagramRun | null} */
-    this.run = null;
-    /** @type {Picture | null} */
-    this.picture = null;
-    /** @type {HTMLCanvasElement | null} */
-    this.sheet = null;
-    /** @type {import("./paint.mjs").Mark[]} */
-    this.marks = [];
+    this.run = /** @type {DiagramRun | null} */ (null);
+    this.picture = /** @type {Picture | null} */ (null);
+    this.sheet = /** @type {HTMLCanvasElement | null} */ (null);
+    this.marks = /** @type {import("./paint.mjs").Mark[]} */ ([]);
     /** @type {View | null} null until the first picture */
     this.view = null;
     this.isOpening = true;
@@ -58,7 +48,6 @@ export class Diagram {
     return geometry.pictureArea(this.canvas, this.run?.last ?? 0);
   }
 
-  /** @returns {Scene | null} */
   get scene() {
     const { view, area, picture } = this;
     return view === null ? null : { view, area, picture };
@@ -111,17 +100,16 @@ export class Diagram {
     if (this.run === null) {
       return;
     }
-    const { machine, cells, upto, last, pair, end } = this.run;
+    const { machine, cells, upto, ...fit } = this.run;
     const { width, height } = this.area;
     if (this.picture === null) {
       byId("diagram-text").textContent = "Drawing …";
     }
     this.canvas.dataset.state = "requested";
     this.requests += 1;
-    const { requests } = this;
-    const fit = { last, pair, opens: this.isOpening, end };
-    const run = { machine, cells, upto, view: this.view, width, height, fit };
-    this.client.request({ type: "picture", ...run, palette: readPalette() }, (reply) => {
+    const { requests, view, isOpening: opens } = this;
+    const run = { machine, cells, upto, view, width, height, fit: { ...fit, opens }, palette: readPalette() };
+    this.client.request({ type: "picture", ...run }, (reply) => {
       this.receivePicture(reply, requests === this.requests);
     });
     this.scheduleDraw();
@@ -138,11 +126,8 @@ export class Diagram {
       byId("diagram-text").textContent = `No diagram: ${reply.message}.`;
       return;
     }
-    /** @type {Picture} */
-    const picture = reply.picture;
-    this.picture = picture;
-    this.sheet = createSheet(picture);
-    this.view ??= picture.view;
+    const picture = /** @type {Picture} */ (reply.picture);
+    Object.assign(this, { picture, sheet: createSheet(picture), view: this.view ?? picture.view });
     this.canvas.dataset.state = isLast ? "received" : "requested";
     this.draw();
     if (isLast) {
@@ -153,7 +138,7 @@ export class Diagram {
 
   /**
    * Traces rows of probable next views in another worker, for the cache of this one, until the next request.
-   * @param {AheadRequest[]} ahead @param {number} requests
+   * @param {Picture["ahead"]} ahead @param {number} requests
    */
   traceAhead([request, ...others], requests) {
     if (request === undefined || requests !== this.requests) {
@@ -171,34 +156,33 @@ export class Diagram {
     const { scene, run } = this;
     if (scene !== null && run !== null) {
       const view = geometry.clampView({ ...scene, view: wanted }, run.upto);
-      isSameView(view, scene.view) || this.setView(view);
+      viewport.isSameView(view, scene.view) || this.setView(view);
     }
   }
 
   /**
    * Zooms a view around a point, and moves the point to another.
-   * @param {View} from @param {number} factor @param {Point} point @param {Point} goal
+   * @param {View} from @param {number} factor @param {viewport.Point} point @param {viewport.Point} goal
    */
   moveAndZoom(from, factor, point, goal) {
     if (this.picture !== null) {
       const { x, y } = this.area;
       const at = { x: point.x - x, y: point.y - y };
-      const view = factor === 1 ? from : zoomView(from, this.picture.home, factor, at);
+      const view = factor === 1 ? from : viewport.zoomView(from, this.picture.home, factor, at);
       this.setNearView(geometry.moveView(view, point.x - goal.x, point.y - goal.y));
     }
   }
 
   /** Zooms around a point of the canvas; the default is the pointer, the tape's step or a head. */
-  zoom(/** @type {number} */ factor, /** @type {Point | undefined} */ point) {
-    const { scene, picture } = this;
+  zoom(/** @type {number} */ factor, /** @type {viewport.Point | undefined} */ point) {
+    const { scene, picture, area } = this;
     if (scene !== null && picture !== null) {
       const { x, y } = point ?? this.zoomCentre(scene);
-      const at = { x: x - scene.area.x, y: y - scene.area.y };
-      this.setView(zoomView(scene.view, picture.home, factor, at));
+      this.setView(viewport.zoomView(scene.view, picture.home, factor, { x: x - area.x, y: y - area.y }));
     }
   }
 
-  zoomCentre(/** @type {Scene} */ scene) {
+  zoomCentre(/** @type {geometry.Scene} */ scene) {
     return geometry.zoomCentre(scene, [this.pointed, this.tapePlace]);
   }
 
@@ -210,17 +194,10 @@ export class Diagram {
       return;
     }
     this.pointed = closes ? null : this.pointed;
-    if (closes || (!geometry.isVisible(scene, place) && scene.view.high >= FRAMED)) {
-      const { width, height } = scene.area;
-      this.setView(closeView(width, height, place.step, place.position, scene.view));
+    if (closes || (!geometry.isVisible(scene, place) && scene.view.high >= viewport.FRAMED)) {
+      this.setView(viewport.closeView(scene.area, place, scene.view));
     }
     this.scheduleDraw();
-  }
-
-  /** @returns {Place | null} */
-  placeAt(/** @type {number} */ x, /** @type {number} */ y) {
-    const { scene } = this;
-    return scene === null ? null : geometry.placeAt(scene, { x, y });
   }
 
   /** Moves the pointer of the keys by cells or by part of the view; the view follows. */
@@ -233,9 +210,9 @@ export class Diagram {
     const middle = isVisible ? null : geometry.placeAt(scene, this.zoomCentre(scene));
     const from = this.pointed ?? middle ?? tapePlace;
     this.pointed = geometry.nextPlace(scene, from, { right, down, far }, run.upto);
-    const offset = geometry.offsetTo(scene, this.pointed);
-    if (offset.right !== 0 || offset.down !== 0) {
-      this.setNearView(geometry.moveView(scene.view, offset.right, offset.down));
+    const { right: x, down: y } = geometry.offsetTo(scene, this.pointed);
+    if (x !== 0 || y !== 0) {
+      this.setNearView(geometry.moveView(scene.view, x, y));
     }
     this.scheduleDraw();
   }
@@ -259,13 +236,12 @@ export class Diagram {
     this.marks.forEach((mark) => painter.paintMark(mark));
     painter.paintAxes(this.tapePlace.step);
     this.pointed !== null && painter.paintPlace(this.pointed);
-    const isNew = canvas.dataset.state === "received" || canvas.dataset.state === "drawn";
+    const isNew = canvas.dataset.state !== "requested";
     Object.assign(canvas.dataset, { ...scene.view, x: scene.area.x, y: scene.area.y, ratio: painter.ratio });
     byId("diagram-text").textContent = geometry.pictureText(picture, scene.area.width);
     canvas.dataset.state = isNew ? "drawn" : "requested";
   }
 
-  /** @returns {Promise<Blob | null>} */
   async toPng() {
     return new Promise((resolve) => this.canvas.toBlob(resolve, "image/png"));
   }

@@ -9,7 +9,7 @@
  * @typedef {{view: View, area: Area, picture: Picture | null}} Scene the current view, and the last picture,
  *   which may show another view
  */
-import { formatCount, formatNumber } from "../../reader/machine.mjs";
+import { formatCount, formatNumber, stateText } from "../../reader/machine.mjs";
 import { symbolAt } from "../../worker/packed-rows.mjs";
 import { FRAMED, cellsPerPixel, isSameView, stepsPerPixel } from "./viewport.mjs";
 
@@ -25,10 +25,7 @@ const FAR_PIXELS = 120;
 // Cells of the view that stay inside the visited positions.
 const OVERLAP = 4;
 
-/**
- * @param {HTMLCanvasElement} canvas @param {number} last step
- * @returns {Area}
- */
+/** @param {HTMLCanvasElement} canvas @param {number} last step @returns {Area} */
 export function pictureArea({ clientWidth: width, clientHeight: height }, last) {
   const x = width < NARROW && last < MANY_STEPS ? LEFT_NARROW : LEFT;
   return { x, y: TOP, width: Math.max(1, width - x), height: Math.max(1, height - TOP) };
@@ -47,50 +44,36 @@ export function isVisible(/** @type {Scene} */ scene, /** @type {Place} */ place
   return right === 0 && down === 0;
 }
 
-/** The index of a step's row, or -1. */
-function rowIndex(/** @type {Picture | null} */ picture, /** @type {number} */ step) {
-  const k = picture === null ? -1 : Math.floor((step - picture.rows.steps[0]) / picture.every);
-  return k >= 0 && k < (picture?.rows.steps.length ?? 0) ? k : -1;
+/** The index of a step's row, and the place of its head; null if the picture lacks it. */
+function rowOf(/** @type {Picture | null} */ picture, /** @type {number} */ wanted) {
+  const { steps, heads } = picture?.rows ?? { steps: [], heads: [] };
+  const k = Math.floor((wanted - steps[0]) / (picture?.every ?? 1));
+  return k >= 0 && k < steps.length ? { k, step: steps[k], position: heads[k] } : null;
 }
 
 /** @returns {Place} the place moved to the step of its row, if it has one */
-export function snapToRow(/** @type {Picture | null} */ picture, /** @type {Place} */ place) {
-  const k = rowIndex(picture, place.step);
-  return picture === null || k < 0 ? place : { ...place, step: picture.rows.steps[k] };
-}
+export const snapToRow = (/** @type {Picture | null} */ picture, /** @type {Place} */ { step, position }) => {
+  return { step: rowOf(picture, step)?.step ?? step, position };
+};
 
-/** The index of the row at a height in the canvas, or -1. */
-const rowIndexAt = (/** @type {Scene} */ { view, area, picture }, /** @type {number} */ y) =>
-  rowIndex(picture, view.top + Math.floor((y - area.y) / view.high) * view.every);
+/** The row at a height in the canvas. */
+const rowAt = (/** @type {Scene} */ { view, area, picture }, /** @type {number} */ y) =>
+  rowOf(picture, view.top + Math.floor((y - area.y) / view.high) * view.every);
 
 /** @returns {Place | null} */
 export function placeAt(/** @type {Scene} */ scene, /** @type {Point} */ { x, y }) {
-  const { view, area, picture } = scene;
-  const k = rowIndexAt(scene, y);
-  if (picture === null || k < 0 || x < area.x || y < area.y) {
-    return null;
-  }
+  const { view, area } = scene;
+  const row = rowAt(scene, y);
   const position = view.left + Math.floor((x - area.x) * cellsPerPixel(view));
-  return { step: picture.rows.steps[k], position };
-}
-
-/** The head of the row at a height in the canvas, if visible. */
-function headPoint(/** @type {Scene} */ scene, /** @type {number} */ y) {
-  const k = rowIndexAt(scene, y);
-  if (scene.picture === null || k < 0) {
-    return null;
-  }
-  const { steps, heads } = scene.picture.rows;
-  const place = { step: steps[k], position: heads[k] };
-  return isVisible(scene, place) ? pointOf(scene, place) : null;
+  return row === null || x < area.x || y < area.y ? null : { step: row.step, position };
 }
 
 /** The fixed point of a zoom: the first visible place, the head in the middle row, or the middle. */
 export function zoomCentre(/** @type {Scene} */ scene, /** @type {(Place | null)[]} */ places) {
   const { x, y, width, height } = scene.area;
-  const wanted = places.find((one) => one !== null && isVisible(scene, one));
-  const center = { x: x + width / 2, y: y + height / 2 };
-  return wanted ? pointOf(scene, wanted) : headPoint(scene, center.y) ?? center;
+  const centre = { x: x + width / 2, y: y + height / 2 };
+  const wanted = [...places, rowAt(scene, centre.y)].find((one) => one !== null && isVisible(scene, one));
+  return wanted ? pointOf(scene, wanted) : centre;
 }
 
 /** The cells and steps of one move of the pointer by keys. */
@@ -107,7 +90,6 @@ function pointerStride(/** @type {View} */ view, /** @type {boolean} */ far) {
  * The pointer's next place, at a row.
  * @param {Scene} scene @param {Place} from @param {{right: number, down: number, far: boolean}} move
  * @param {number} upto the last step
- * @returns {Place}
  */
 export function nextPlace({ view, picture }, from, { right, down, far }, upto) {
   const { cells, steps } = pointerStride(view, far);
@@ -130,7 +112,6 @@ export function moveView(/** @type {View} */ view, /** @type {number} */ right, 
 /**
  * The view moved so that it contains visited cells.
  * @param {Scene} scene @param {number} upto the last step
- * @returns {View}
  */
 export function clampView({ view, area, picture }, upto) {
   const { low, high } = picture ?? { low: 0, high: 0 };
@@ -157,16 +138,15 @@ function overshoot(/** @type {number} */ at, /** @type {number} */ low, /** @typ
 
 /** A description of a place; empty if the picture lacks its row. */
 export function placeText(/** @type {Picture | null} */ picture, /** @type {Place} */ { step, position }) {
-  const k = rowIndex(picture, step);
-  if (picture === null || k < 0) {
+  const row = rowOf(picture, step);
+  if (picture === null || row === null) {
     return "";
   }
-  const { steps, heads, states } = picture.rows;
-  const symbol = symbolAt(picture.rows, k, position);
-  const head = heads[k] === position ? "the head is here" : `the head is at ${formatNumber(heads[k])}`;
-  const state = states[k] === "Z" ? "halted" : `state ${states[k]}`;
+  const symbol = symbolAt(picture.rows, row.k, position);
+  const head = row.position === position ? "here" : `at ${formatNumber(row.position)}`;
   const cell = symbol < 0 ? "not visited yet" : `symbol ${symbol}`;
-  return `Step ${formatNumber(steps[k])}, ${state}; position ${formatNumber(position)}: ${cell}; ${head}.`;
+  const place = `position ${formatNumber(position)}: ${cell}; the head is ${head}.`;
+  return `Step ${formatNumber(row.step)}, ${stateText(picture.rows.states[row.k])}; ${place}`;
 }
 
 /** A description of a picture, and how it is sampled and scaled. */

@@ -1,6 +1,6 @@
 /** Input to a diagram by wheel, keys, mouse and fingers. */
 import { byId, dispatchKey } from "../dom.mjs";
-import { snapToRow, placeText } from "./geometry.mjs";
+import { placeAt, placeText, snapToRow } from "./geometry.mjs";
 import { ZOOM } from "./viewport.mjs";
 
 const DOUBLE = 8;
@@ -11,11 +11,6 @@ const MOST_NOTCHES = 3;
 // Shorter movements are clicks.
 const CLICK_PIXELS = 4;
 
-/**
- * @typedef {import("./geometry.mjs").Point} Point
- * @typedef {{view: import("./viewport.mjs").View, middle: Point, apart: number}} GestureStart the view, the
- *   middle between the fingers in the canvas, and their distance
- */
 export class Gestures {
   /**
    * @param {import("./diagram.mjs").Diagram} diagram
@@ -24,11 +19,11 @@ export class Gestures {
   constructor(diagram, tell) {
     this.diagram = diagram;
     this.report = tell;
-    /** @type {Map<number, Point>} in the window; the mouse is a finger */
-    this.fingers = new Map();
+    // In the window; the mouse is a finger.
+    this.fingers = /** @type {Map<number, import("./viewport.mjs").Point>} */ (new Map());
     this.moved = 0;
-    /** @type {GestureStart | null} */
-    this.start = null;
+    /** The view, the middle between the fingers in the canvas, and their distance. */
+    this.start = this.startGesture();
     // One finger scrolls the page until the picture is tapped.
     this.canMove = false;
     const { canvas } = diagram;
@@ -102,9 +97,7 @@ export class Gestures {
       return;
     }
     this.canMove = event.pointerType === "mouse" || document.activeElement === canvas;
-    if (this.canMove) {
-      canvas.setPointerCapture(event.pointerId);
-    }
+    this.canMove && canvas.setPointerCapture(event.pointerId);
     this.fingers.set(event.pointerId, { x: event.clientX, y: event.clientY });
     this.moved = this.fingers.size > 1 ? CLICK_PIXELS : 0;
     this.start = this.startGesture();
@@ -115,7 +108,6 @@ export class Gestures {
     this.start = this.startGesture();
   }
 
-  /** @returns {GestureStart | null} */
   startGesture() {
     const { view } = this.diagram;
     return view === null || this.fingers.size === 0 ? null : { view, ...this.span() };
@@ -160,9 +152,10 @@ export class Gestures {
   }
 
   /** Describes the cell under the pointer, and returns its place. */
-  reportPointer(/** @type {PointerEvent} */ event) {
-    const place = this.diagram.placeAt(event.offsetX, event.offsetY);
-    this.report(place === null ? "" : placeText(this.diagram.picture, place), false);
+  reportPointer(/** @type {PointerEvent} */ { offsetX: x, offsetY: y }) {
+    const { scene, picture } = this.diagram;
+    const place = scene && placeAt(scene, { x, y });
+    this.report(place ? placeText(picture, place) : "", false);
     return place;
   }
 

@@ -1,10 +1,7 @@
 /**
  * Paints a diagram: picture, heads, axes and marks.
  *
- * @typedef {import("./viewport.mjs").View} View
  * @typedef {import("./diagram.mjs").Picture} Picture
- * @typedef {import("./geometry.mjs").Place} Place
- * @typedef {import("./geometry.mjs").Area} Area
  * @typedef {{step: number, from: number | null, to: number | null, label: string}} Band cells of a row
  * @typedef {{bands: Band[], arrow: boolean}} Mark
  * @typedef {{x: number, y: number, wide: number, high: number}} Box
@@ -39,7 +36,7 @@ export function createSheet(/** @type {Picture} */ { image, columns, rows: { ste
 
 /** Paints a view in an area of a canvas. */
 export class Painter {
-  /** @param {HTMLCanvasElement} canvas @param {{view: View, area: Area}} scene */
+  /** @param {HTMLCanvasElement} canvas @param {import("./geometry.mjs").Scene} scene */
   constructor(canvas, { view, area }) {
     this.ratio = window.devicePixelRatio || 1;
     canvas.width = Math.round(canvas.clientWidth * this.ratio);
@@ -147,7 +144,7 @@ export class Painter {
   }
 
   /** Outlines the pointer of the keys. */
-  paintPlace(/** @type {Place} */ { step, position }) {
+  paintPlace(/** @type {import("./geometry.mjs").Place} */ { step, position }) {
     const [wide, high] = [this.view.wide, this.view.high].map((pixels) => Math.max(5, pixels));
     const box = { x: this.xOf(position), y: this.yOf(step), wide, high };
     this.outline(box, colourOf("--panel"), 4, -2);

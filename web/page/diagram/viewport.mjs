@@ -45,12 +45,9 @@ const cellSize = (/** @type {number} */ pixels) => Math.max(1, ...SIZES.filter((
 
 /** The nearest scale to `units` per pixel: several units in one pixel, or one in several. */
 function unitScale(/** @type {number} */ units) {
-  if (units >= 1) {
-    return { many: Math.round(units), pixels: 1 };
-  }
-  const wanted = 1 / units;
-  const pixels = SIZES.reduce((best, one) => (Math.abs(one - wanted) < Math.abs(best - wanted) ? one : best));
-  return { many: 1, pixels };
+  const far = (/** @type {number} */ size) => Math.abs(size - 1 / units);
+  const pixels = SIZES.reduce((best, one) => (far(one) < far(best) ? one : best));
+  return units >= 1 ? { many: Math.round(units), pixels: 1 } : { many: 1, pixels };
 }
 
 /** An interval rounded up so that it halves repeatedly: closer views then share its rows. */
@@ -69,7 +66,6 @@ function nearestLevel(/** @type {number} */ steps, /** @type {View} */ home) {
  * The largest view of a range of steps and positions that fits in so many pixels.
  * @param {number} width @param {number} height
  * @param {{first: number, last: number, low: number, high: number}} range
- * @returns {View}
  */
 function fitView(width, height, { first, last, low, high }) {
   const [rows, span] = [last - first + 1, high - low + 3];
@@ -111,7 +107,6 @@ function cellsAt(/** @type {number} */ steps, /** @type {View} */ home) {
 /**
  * A view zoomed around a fixed point; a factor below 1 zooms out.
  * @param {View} view @param {View} home @param {number} factor @param {Point} point
- * @returns {View}
  */
 export function zoomView(view, home, factor, { x, y }) {
   const least = 1 / SIZES[SIZES.length - 1];
@@ -127,12 +122,11 @@ export function zoomView(view, home, factor, { x, y }) {
 }
 
 /**
- * A view centred on a step and position with visible cells; one with visible cells keeps its scale.
- * @param {number} width @param {number} height @param {number} step @param {number} position
+ * A view centred on a place with visible cells; one with visible cells keeps its scale.
+ * @param {{width: number, height: number}} area @param {{step: number, position: number}} place
  * @param {View} view the current one
- * @returns {View}
  */
-export function closeView(width, height, step, position, view) {
+export function closeView({ width, height }, { step, position }, view) {
   const isClose = view.every === 1 && view.across === 1 && view.high >= FRAMED && view.wide === view.high;
   const size = isClose ? view.high : CLOSE_PIXELS;
   const top = Math.max(0, step - Math.floor(height / size / 2));

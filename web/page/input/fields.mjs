@@ -1,27 +1,25 @@
 /** The fields of limits and deciders, and links with their values. */
-import { LimitsError, RANGES } from "../../lib/limits.mjs";
+import { LIMITS, LimitsError, RANGES } from "../../lib/limits.mjs";
 import { formatNumber } from "../../reader/machine.mjs";
 import { LONGEST_SHOWN } from "../../reader/tokens.mjs";
 import { byId, create } from "../dom.mjs";
 
-/** @typedef {"steps" | "cells" | "depth" | "nodes"} Name of a limit */
+/** @typedef {import("../../lib/limits.mjs").Limit} Limit */
 
-/** @type {Name[]} */
-const NAMES = ["steps", "cells", "depth", "nodes"];
 const SWITCHES = ["cyclers", "translated", "backward"];
-const LABELS = {
+const LABELS = /** @type {Record<string, string>} */ ({
   steps: "steps of one simulation",
   cells: "cells of one tape",
   depth: "levels of the backward tree",
   nodes: "nodes of the backward tree",
-};
+});
 // Digits in groups of three, with one kind of separator.
 const GROUPS = /^\d{1,3}([,\s_])\d{3}(?:\1\d{3})*(?![\d,\s_])/;
 
 const field = (/** @type {string} */ name) => /** @type {HTMLInputElement} */ (byId(name));
 
 export function createFields() {
-  for (const name of NAMES) {
+  for (const name of LIMITS) {
     const described = { "aria-describedby": `${name}-range` };
     const input = create("input", { type: "text", id: name, inputMode: "numeric", ...described });
     const label = create("label", { for: name }, `${name}: ${LABELS[name]}`);
@@ -32,7 +30,7 @@ export function createFields() {
 
 /** Lists the changed fields beside the closed panel. */
 function showChanges() {
-  const changed = NAMES.filter((name) => parseNumber(field(name).value) !== RANGES[name].default);
+  const changed = LIMITS.filter((name) => parseNumber(field(name).value) !== RANGES[name].default);
   const limits = changed.map((name) => {
     const { value } = field(name);
     return `${name} ${parseNumber(value)?.toLocaleString("en") ?? value}`;
@@ -43,7 +41,7 @@ function showChanges() {
 
 /** Sets all fields, missing ones to their defaults. */
 export function setPlan(/** @type {Record<string, any>} */ plan) {
-  NAMES.forEach((name) => (field(name).value = String(plan[name] ?? RANGES[name].default)));
+  LIMITS.forEach((name) => (field(name).value = String(plan[name] ?? RANGES[name].default)));
   SWITCHES.forEach((name) => (field(name).checked = plan[name] ?? true));
   clearRefusals();
   showChanges();
@@ -52,7 +50,7 @@ export function setPlan(/** @type {Record<string, any>} */ plan) {
 /** @returns {Record<string, any>} the fields' contents, as typed */
 export function fieldTexts() {
   const switches = SWITCHES.map((name) => [name, field(name).checked]);
-  return Object.fromEntries([...NAMES.map((name) => [name, field(name).value]), ...switches]);
+  return Object.fromEntries([...LIMITS.map((name) => [name, field(name).value]), ...switches]);
 }
 
 /** A plan with ten times the steps and four times the cells, up to the greatest. */
@@ -69,10 +67,7 @@ function digitsOf(/** @type {string} */ text) {
   return plain.replace(GROUPS, (digits) => digits.replace(/\D/g, ""));
 }
 
-/**
- * Parses a whole number with separators, or as `1e6` or `10^6`; null for other texts.
- * @returns {bigint | null}
- */
+/** Parses a whole number with separators, or as `1e6` or `10^6`; null for other texts. */
 export function parseNumber(/** @type {string} */ input) {
   const text = digitsOf(input);
   const power = /^(\d{1,15})(?:\.(\d{1,15}))?e\+?(\d{1,2})$/i.exec(text) ?? /^(1)()0\^(\d{1,2})$/.exec(text);
@@ -84,15 +79,12 @@ export function parseNumber(/** @type {string} */ input) {
   return rest < 0 ? null : BigInt(whole + fraction) * 10n ** BigInt(rest);
 }
 
-/**
- * The fields' plan. Throws LimitsError for a limit out of range or a text that isn't a number.
- * @returns {Record<string, any>}
- */
+/** The fields' plan. Throws LimitsError for a limit out of range or a text that isn't a number. */
 export function readPlan() {
   clearRefusals();
   /** @type {Record<string, any>} */
   const plan = Object.fromEntries(SWITCHES.map((name) => [name, field(name).checked]));
-  for (const name of NAMES) {
+  for (const name of LIMITS) {
     const text = field(name).value;
     const number = parseNumber(text);
     const { min, max } = RANGES[name];
@@ -108,11 +100,11 @@ export function readPlan() {
   return plan;
 }
 
-const rangeText = (/** @type {Name} */ name) =>
+const rangeText = (/** @type {Limit} */ name) =>
   `${formatNumber(Number(RANGES[name].min))} to ${formatNumber(Number(RANGES[name].max))}`;
 
 function clearRefusals() {
-  for (const name of NAMES) {
+  for (const name of LIMITS) {
     field(name).removeAttribute("aria-invalid");
     Object.assign(byId(`${name}-range`), { textContent: rangeText(name), className: "hint" });
   }
@@ -120,7 +112,7 @@ function clearRefusals() {
 
 /** Shows a refused limit beside its field: the program's message, and the valid values. */
 export function showRefusal(/** @type {string} */ limit, /** @type {string} */ message) {
-  const range = `enter ${rangeText(/** @type {Name} */ (limit))}`;
+  const range = `enter ${rangeText(/** @type {Limit} */ (limit))}`;
   const advice = message.includes("fit") ? "2 × depth − 1 is at most the cells" : range;
   /** @type {HTMLDetailsElement} */ (byId("limits")).open = true;
   field(limit).setAttribute("aria-invalid", "true");
@@ -131,7 +123,7 @@ export function showRefusal(/** @type {string} */ limit, /** @type {string} */ m
 /** The fragment of a link that opens a machine with a plan. */
 export function linkOf(/** @type {string} */ machine, /** @type {Record<string, any>} */ plan) {
   const words = new URLSearchParams({ machine });
-  const limits = NAMES.filter((name) => plan[name] !== RANGES[name].default);
+  const limits = LIMITS.filter((name) => plan[name] !== RANGES[name].default);
   limits.forEach((name) => words.set(name, String(plan[name])));
   SWITCHES.filter((name) => !plan[name]).forEach((name) => words.set(name, "off"));
   return words.toString();
@@ -154,7 +146,7 @@ export function readLink(/** @type {string} */ hash) {
   if (machine === null) {
     return null;
   }
-  const limits = NAMES.filter((name) => words.has(name)).map((name) => [name, words.get(name)]);
+  const limits = LIMITS.filter((name) => words.has(name)).map((name) => [name, words.get(name)]);
   const off = SWITCHES.filter((name) => words.get(name) === "off").map((name) => [name, false]);
   return { machine: machine.slice(0, LONGEST_SHOWN), plan: Object.fromEntries([...limits, ...off]) };
 }

@@ -1,5 +1,5 @@
 /** Files: choosing, dropping, detecting the encoding, decompressing. */
-import { byId } from "../dom.mjs";
+import { byId, onClick } from "../dom.mjs";
 
 // Magic numbers, and names of their encodings and formats. UTF-32 comes before UTF-16, whose mark it extends.
 const MARKS = /** @type {[number[], string][]} */ ([
@@ -26,15 +26,17 @@ const LEAST_BYTES = 4;
 export function listenToFiles(onFile, onText) {
   const field = /** @type {HTMLInputElement} */ (byId("file"));
   field.addEventListener("change", () => onFile(field.files?.[0] ?? null));
-  byId("file-choose").addEventListener("click", () => {
-    // Otherwise choosing the same file again fires no event.
-    field.value = "";
-    field.click();
-  });
-  byId("file-remove").addEventListener("click", () => {
-    field.value = "";
-    onFile(null);
-    byId("list").focus();
+  onClick({
+    "file-choose": () => {
+      // Otherwise choosing the same file again fires no event.
+      field.value = "";
+      field.click();
+    },
+    "file-remove": () => {
+      field.value = "";
+      onFile(null);
+      byId("list").focus();
+    },
   });
   // Texts dragged from the page or into a field are left to the browser.
   let isOwn = false;
@@ -53,42 +55,30 @@ export function listenToFiles(onFile, onText) {
   });
   addEventListener("drop", (event) => {
     byId("drop").hidden = true;
-    if (!accepts(event)) {
-      return;
+    if (accepts(event)) {
+      event.preventDefault();
+      const file = event.dataTransfer?.files[0];
+      const text = event.dataTransfer?.getData("text/plain");
+      file ? onFile(file) : text && onText(text);
     }
-    event.preventDefault();
-    const file = event.dataTransfer?.files[0];
-    const text = event.dataTransfer?.getData("text/plain");
-    file ? onFile(file) : text && onText(text);
   });
 }
 
 const startsWith = (/** @type {Uint8Array} */ bytes, /** @type {number[]} */ mark) =>
   bytes.length >= mark.length && mark.every((byte, at) => bytes[at] === byte);
 
-/**
- * The encoding or format of a file by its first bytes; null if they may be UTF-8.
- * @returns {string | null}
- */
+/** The encoding or format of a file by its first bytes; null if they may be UTF-8. */
 export function encodingOf(/** @type {Uint8Array} */ start) {
-  const mark = MARKS.find(([bytes]) => startsWith(start, bytes));
-  if (mark !== undefined) {
-    return mark[1];
-  }
   const first = start.subarray(0, EXAMINED_BYTES);
   const zeros = first.filter((byte) => byte === 0).length;
-  if (first.length < LEAST_BYTES || 3 * zeros < first.length || zeros === first.length) {
-    return null;
-  }
-  return 3 * zeros > 2 * first.length ? "UTF-32 text" : "UTF-16 text";
+  const isWide = first.length >= LEAST_BYTES && 3 * zeros >= first.length && zeros < first.length;
+  const [, name] = MARKS.find(([bytes]) => startsWith(start, bytes)) ?? [];
+  return name ?? (isWide ? `UTF-${3 * zeros > 2 * first.length ? 32 : 16} text` : null);
 }
 
 /** The list can't be read; the message gives the reason. */
 export class ListError extends Error {
-  constructor(/** @type {string} */ message) {
-    super(message);
-    this.name = "ListError";
-  }
+  name = "ListError";
 }
 
 /** A list's bytes, decompressed from gzip. */

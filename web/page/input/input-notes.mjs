@@ -55,21 +55,16 @@ function refusalText(reading, { numbers: [column], text }, isAccepted) {
 function rewritingText({ rewritten, before, behind }, text) {
   const kinds = rewritten.map((kind) => REWRITINGS[/** @type {"spaces"} */ (kind)]);
   const beside = [before, behind].filter((one) => one !== "").map((one) => `“${one}”`);
-  const parts = [
-    ...(kinds.length > 0 ? [`The line is “${text.trim()}”: ${kinds.join("; ")}`] : []),
-    ...(beside.length > 0 ? [`Beside the machine: ${beside.join(" and ")}`] : []),
-  ];
-  return parts.length > 0 ? `${parts.join(". ")}.` : "";
+  const line = kinds.length > 0 ? `The line is “${text.trim()}”: ${kinds.join("; ")}.` : "";
+  return beside.length > 0 ? `${line} Beside the machine: ${beside.join(" and ")}.`.trim() : line;
 }
 
 /** A line around a place, with a caret below it; its beginning without a place. */
 function caretText(/** @type {string} */ text, /** @type {number | null} */ place) {
   const characters = [...text.replace(/^\ufeff/, "")].map((one) => (/[\s\p{C}]/u.test(one) ? " " : one));
-  if (place === null) {
-    return characters.slice(0, 2 * AROUND).join("") + (characters.length > 2 * AROUND ? "…" : "");
-  }
-  const first = Math.max(0, place - 1 - AROUND);
-  const [head, tail] = [first > 0 ? "…" : "", place - 1 + AROUND < characters.length ? "…" : ""];
-  const shown = characters.slice(first, place - 1 + AROUND).join("");
-  return `${head}${shown}${tail}\n${" ".repeat(head.length + place - 1 - first)}^`;
+  const at = place === null ? AROUND : place - 1;
+  const first = Math.max(0, at - AROUND);
+  const [head, tail] = [first > 0 ? "…" : "", at + AROUND < characters.length ? "…" : ""];
+  const shown = `${head}${characters.slice(first, at + AROUND).join("")}${tail}`;
+  return place === null ? shown : `${shown}\n${" ".repeat(head.length + at - first)}^`;
 }

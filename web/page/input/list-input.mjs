@@ -10,7 +10,7 @@ import { decompress, requireUtf8 } from "./files.mjs";
  * @typedef {"decide" | "check"} Mode
  * @typedef {import("../../reader/list-reader.mjs").Form} Form
  * @typedef {{text: string, gone: string, plan: Record<string, any>, mode: string, clean: boolean,
- *   form?: string, isExample: boolean, hash: string}} StoredInput `gone`: the name of a list too long to be
+ *   form: string, isExample: boolean, hash: string}} StoredInput `gone`: the name of a list too long to be
  *   stored; `isExample`: the settings are an example's; `hash`: the fragment of the address
  */
 
@@ -23,8 +23,7 @@ export class ListInput {
     this.mode = /** @type {HTMLSelectElement} */ (byId("mode"));
     this.clean = /** @type {HTMLInputElement} */ (byId("clean"));
     this.form = /** @type {HTMLSelectElement} */ (byId("list-form"));
-    /** @type {File | null} */
-    this.file = null;
+    this.file = /** @type {File | null} */ (null);
     /** @type {Promise<Blob> | null} the file's decompressed bytes, once requested */
     this.bytes = null;
     // The name of a list that a reload doesn't restore.
@@ -102,9 +101,9 @@ export class ListInput {
     }
   }
 
-  reportMissing(/** @type {string} */ name) {
-    showText("list-gone", `${name} isn’t kept over a reload. Choose it again.`);
-    this.gone = name;
+  reportMissing(/** @type {string} */ gone) {
+    showText("list-gone", `${gone} isn’t kept over a reload. Choose it again.`);
+    this.gone = gone;
   }
 
   resetSettings() {
@@ -134,15 +133,14 @@ export class ListInput {
 
   /** Stores list and settings for a reload. */
   store() {
-    const { list, mode, clean, form, isExample } = this;
-    const isShort = this.gone === "" && list.value.length <= MOST_CHARACTERS;
-    const gone = isShort ? "" : this.gone || `The list of ${formatNumber(list.value.length)} characters`;
+    const { list: { value }, mode, clean, form, isExample } = this;
+    const isShort = this.gone === "" && value.length <= MOST_CHARACTERS;
+    const gone = isShort ? "" : this.gone || `The list of ${formatNumber(value.length)} characters`;
     const settings = { mode: mode.value, form: form.value, clean: clean.checked, isExample };
-    const text = isShort ? list.value : "";
-    const stored = { text, gone, plan: fieldTexts(), ...settings, hash: location.hash };
+    const list = { text: isShort ? value : "", gone, hash: location.hash };
     try {
       sessionStorage.removeItem(KEY);
-      sessionStorage.setItem(KEY, JSON.stringify(stored));
+      sessionStorage.setItem(KEY, JSON.stringify({ ...list, plan: fieldTexts(), ...settings }));
     } catch {
       // Storage is missing or full.
     }

@@ -33,11 +33,9 @@ export class ChunkReader {
   async next() {
     for (;;) {
       const newline = this.buffered.indexOf(NEWLINE, Math.min(this.size, this.buffered.length) - 1);
-      if (newline >= 0) {
-        return this.cutChunk(newline + 1);
-      }
-      if (this.pendingRead === null && this.offset >= this.blob.size) {
-        return this.buffered.length > 0 ? this.cutChunk(this.buffered.length) : null;
+      const isEnd = newline < 0 && this.pendingRead === null && this.offset >= this.blob.size;
+      if (newline >= 0 || isEnd) {
+        return this.cutChunk(isEnd ? this.buffered.length : newline + 1);
       }
       this.dropLongTail();
       const bytes = await this.read();
@@ -50,7 +48,7 @@ export class ChunkReader {
     const { line } = this;
     this.buffered = this.buffered.subarray(length);
     this.line += countLines(bytes);
-    return { bytes, line };
+    return length > 0 ? { bytes, line } : null;
   }
 
   /** Truncates a long line, and skips its rest. */
@@ -106,9 +104,5 @@ export class Holdouts {
     this.at += rows.length;
     const texts = Array.from(rows, (row) => `${this.results.machineAt(row)}\n`);
     return rows.length === 0 ? null : { bytes: encoder.encode(texts.join("")), line };
-  }
-
-  rowsOf(/** @type {import("../../worker/worker.mjs").Part} */ { first, kinds }) {
-    return this.rows.subarray(first, first + kinds.length);
   }
 }

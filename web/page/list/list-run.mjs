@@ -5,13 +5,10 @@ import { enlargePlan, showRefusal } from "../input/fields.mjs";
 import { prestartWorkers } from "../worker-client.mjs";
 import { ChunkReader, Holdouts } from "./chunks.mjs";
 import { WorkerPool } from "./pool.mjs";
-import { FIRST_PASS, Results } from "./results.mjs";
+import { Results } from "./results.mjs";
 import { slowLineText, statusText } from "./status.mjs";
 
-/**
- * @typedef {import("../../worker/worker.mjs").ListRequest} ListRequest
- * @typedef {import("../../worker/worker.mjs").Part} Part
- */
+/** @typedef {import("../../worker/worker.mjs").ListRequest} ListRequest */
 
 const MOST_WORKERS = 8;
 const REFRESH_MILLISECONDS = 250;
@@ -23,13 +20,12 @@ const UNDECIDED = KINDS.indexOf("undecided");
 const FIRST_STEPS = 1_000n;
 const NO_MEMORY = "Out of memory. Results so far are kept. Try fewer cells, or a browser with more memory.";
 const NO_FILE = "The file can’t be read: it is a folder, or has changed. Choose it again.";
-/** @type {Record<string, string>} */
-const FAILURES = {
+const FAILURES = /** @type {Record<string, string>} */ ({
   MemoryError: NO_MEMORY,
   RangeError: NO_MEMORY,
   NotReadableError: NO_FILE,
   NotFoundError: NO_FILE,
-};
+});
 
 /** A failure, with advice. */
 export const failureText = (/** @type {{error: string, message: string}} */ { error, message }) =>
@@ -38,17 +34,15 @@ export const failureText = (/** @type {{error: string, message: string}} */ { er
 /** Shows a message above the results. */
 export const showError = (/** @type {string} */ message) => showText("error", message);
 
-const maxWorkers = () => Math.min(MOST_WORKERS, navigator.hardwareConcurrency || 1);
-
-const workerCount = (/** @type {number} */ size) =>
-  Math.max(1, Math.min(maxWorkers(), Math.ceil(size / LEAST_BYTES)));
+/** The number of workers for a list of so many bytes. */
+const workerCount = (size = Infinity) =>
+  Math.max(1, Math.min(MOST_WORKERS, navigator.hardwareConcurrency || 1, Math.ceil(size / LEAST_BYTES)));
 
 export class ListRun {
-  /** @param {() => void} onShow called when results are shown */
-  constructor(onShow) {
-    this.onShow = onShow;
-    /** @type {WorkerPool | null} */
-    this.pool = null;
+  constructor() {
+    /** Called when results are shown. */
+    this.onShow = () => {};
+    this.pool = /** @type {WorkerPool | null} */ (null);
     this.results = new Results({});
     /** @type {import("./status.mjs").RunInfo} */
     this.info = { mode: "decide", plan: {}, form: null, isText: true, size: 0, begun: 0, taken: 0 };
@@ -72,23 +66,19 @@ export class ListRun {
   start(blob, first, request, isText) {
     const { mode, plan, clean } = request;
     const form = clean ? request.form : null;
-    this.info = { mode, plan, form, isText, size: blob.size, begun: performance.now(), taken: 0 };
-    this.announcedAt = this.info.begun;
-    this.plan = plan;
+    const begun = performance.now();
     const results = new Results(plan);
-    this.results = results;
-    this.isShown = false;
+    const info = { mode, plan, form, isText, size: blob.size, begun, taken: 0 };
+    Object.assign(this, { info, plan, results, isShown: false, announcedAt: begun });
     byId("results").hidden = false;
     const workers = workerCount(blob.size);
     const chunks = new ChunkReader(blob, first, workers);
     const isFirst = mode === "decide" && plan.steps > FIRST_STEPS;
     const firstPass = { ...request, plan: { ...plan, steps: FIRST_STEPS } };
-    /** @type {(part: Part, line: number) => boolean} */
-    const isProvisional = ({ plans }, line) => plans?.[line] === FIRST_PASS;
     this.startPool(workers, isFirst ? firstPass : request, {
       nextChunk: () => chunks.next(),
       part: (part, read) => (isFirst ? results.addFirstPass(part, read) : results.add(part, read)),
-      end: () => this.decideRows(results.filterRows(isProvisional), plan, 0),
+      end: () => this.decideRows(results.provisionalRows(), plan, 0),
     });
     this.startClock();
   }
@@ -113,7 +103,9 @@ export class ListRun {
     const holdouts = new Holdouts(results, rows, workers);
     this.startPool(workers, { mode: "decide", form: "machines", clean: false, plan }, {
       nextChunk: () => holdouts.next(),
-      part: (part) => results.replace(holdouts.rowsOf(part), part, number),
+      part: (part) => {
+        results.replace(rows.subarray(part.first, part.first + part.kinds.length), part, number);
+      },
       end: () => this.finish("Done"),
     });
   }
@@ -149,24 +141,18 @@ export class ListRun {
     byId("results").dataset.state = outcome.toLowerCase();
     this.show(outcome);
     announce(byId("status").textContent ?? "");
-    prestartWorkers(maxWorkers(), () => this.isRunning);
+    prestartWorkers(workerCount(), () => this.isRunning);
   }
 
   fail(/** @type {import("./pool.mjs").Failure} */ failure) {
     this.finish("Ended");
-    const { error, message, limit } = failure;
-    if (error === "LimitsError" && limit !== undefined) {
-      showRefusal(limit, message);
-    } else {
-      showError(failureText(failure));
-    }
+    const { limit, message } = failure;
+    limit === undefined ? showError(failureText(failure)) : showRefusal(limit, message);
   }
 
   stop() {
-    if (this.pool !== null) {
-      this.pool.stop();
-      this.finish("Stopped");
-    }
+    this.pool?.stop();
+    this.pool && this.finish("Stopped");
   }
 
   scheduleShow() {
@@ -177,13 +163,10 @@ export class ListRun {
   }
 
   tick() {
-    if (this.pool === null) {
-      return;
-    }
-    if (this.refreshTimer === 0) {
+    if (this.isRunning && this.refreshTimer === 0) {
       this.showProgress("Running");
     }
-    if (performance.now() - this.announcedAt > ANNOUNCE_MILLISECONDS) {
+    if (this.isRunning && performance.now() - this.announcedAt > ANNOUNCE_MILLISECONDS) {
       this.announcedAt = performance.now();
       announce(byId("status").textContent ?? "");
     }
@@ -199,15 +182,11 @@ export class ListRun {
     showText("under-way", slowLineText(this.pool?.slowestLine() ?? null));
   }
 
-  /** Shows results after a change. */
-  refresh() {
-    this.show(this.pool === null ? this.outcome : "Running");
-  }
-
-  show(/** @type {string} */ outcome) {
+  /** Shows the results, after a change of them or of the outcome. */
+  show(outcome = this.isRunning ? "Running" : this.outcome) {
     clearTimeout(this.refreshTimer);
     this.refreshTimer = 0;
-    if (outcome === "Running" && this.pool === null) {
+    if (outcome === "Running" && !this.isRunning) {
       return;
     }
     const { info, results: { counts, lines } } = this;

@@ -7,8 +7,6 @@ import { RowTable } from "./row-table.mjs";
 // The performance mark of the first verdict.
 const FIRST_VERDICT = "first verdict";
 
-/** @typedef {import("./results.mjs").Results} Results */
-
 export class ListView {
   /**
    * @param {import("../machine/machine-view.mjs").MachineView} view
@@ -16,12 +14,9 @@ export class ListView {
    */
   constructor(view, work) {
     this.view = view;
-    view.replaceRow = (by, plan) => {
-      const isIn = this.replaceOpenRow(by, plan);
-      isIn && work.refresh();
-      return isIn;
-    };
+    view.replaceRow = (by, plan) => this.replaceOpenRow(by, plan);
     this.work = work;
+    work.onShow = () => this.show();
     this.rows = new RowTable((row) => this.openRow(row, true));
     this.sorter = new WorkerClient();
     this.kindsShown = new Set(KINDS.keys());
@@ -29,25 +24,26 @@ export class ListView {
     byId("kinds").append(...this.kindButtons);
     this.order = /** @type {HTMLSelectElement} */ (byId("order"));
     this.wasOpened = false;
-    /** @type {import("./results.mjs").LinePlace | null} */
-    this.openLine = null;
+    this.openLine = /** @type {import("./results.mjs").LinePlace | null} */ (null);
     this.openText = "";
     // Counts displays, so that outdated sorts are dropped.
     this.turn = 0;
     this.order.addEventListener("change", () => this.showRows());
-    onClick({
-      "row-before": () => this.openNeighbour(-1, false),
-      "row-next": () => this.openNeighbour(1, false),
-      "open-before": () => this.openNeighbour(-1, true),
-      "open-next": () => this.openNeighbour(1, true),
-    });
+    /** Opens the next or the previous line, or an undecided one, by key. */
+    this.neighbours = {
+      n: () => this.openNeighbour(1, false),
+      p: () => this.openNeighbour(-1, false),
+      N: () => this.openNeighbour(1, true),
+      P: () => this.openNeighbour(-1, true),
+    };
+    const { n, p, N, P } = this.neighbours;
+    onClick({ "row-next": n, "row-before": p, "open-next": N, "open-before": P });
   }
 
   /** Prepares for a new list. The machine is hidden unless the first line comes soon. */
   reset() {
     this.rows.reset();
-    this.wasOpened = false;
-    this.openLine = null;
+    Object.assign(this, { wasOpened: false, openLine: null });
     this.view.scheduleClose();
   }
 
@@ -56,7 +52,7 @@ export class ListView {
     this.showKinds();
     this.showRows();
     const { results, isRunning } = this.work;
-    this.refreshOpen(results);
+    this.refreshOpen();
     if (!this.wasOpened && results.lines > 0 && (results.hasFirstLine ? !results.isWaiting(0) : !isRunning)) {
       this.rows.choose(0, false);
       this.openRow(this.rows.rows[0] ?? 0, false);
@@ -71,19 +67,20 @@ export class ListView {
    * @param {import("../../worker/worker.mjs").Part} by @param {Record<string, any>} plan
    */
   replaceOpenRow(by, plan) {
-    const { openLine } = this;
-    const { results } = this.work;
+    const { openLine, work: { results } } = this;
     const row = openLine?.part.lines === null ? results.rowOf(openLine) : -1;
     if (row >= 0) {
       results.replace(Uint32Array.of(row), by, results.planNumber(plan));
       this.openText = results.rowAt(row).verdict.text;
+      this.work.show();
     }
     return row >= 0;
   }
 
   /** Updates the open line if the second pass has changed its verdict. */
-  refreshOpen(/** @type {Results} */ results) {
-    const row = this.openLine === null ? -1 : results.rowOf(this.openLine);
+  refreshOpen() {
+    const { openLine, work: { results } } = this;
+    const row = openLine === null ? -1 : results.rowOf(openLine);
     if (row >= 0 && !results.isWaiting(row) && this.openText !== results.rowAt(row).verdict.text) {
       this.openRow(row, false);
     }
@@ -124,16 +121,16 @@ export class ListView {
       this.rows.showRows(results, rows, true);
     }
     if (isSorted) {
-      this.showSorted(results, rows.slice(), order === "down");
+      this.showSorted(rows.slice(), order === "down");
     }
   }
 
   /**
    * Sorts rows by steps in a worker, and shows them unless others are shown meanwhile.
-   * @param {Results} results @param {Uint32Array} rows @param {boolean} down
+   * @param {Uint32Array} rows @param {boolean} down
    */
-  async showSorted(results, rows, down) {
-    const { turn } = this;
+  async showSorted(rows, down) {
+    const { turn, work: { results } } = this;
     const isLast = () => turn === this.turn && results === this.work.results;
     const steps = await results.stepsOf(rows, isLast);
     if (isLast()) {
@@ -147,9 +144,8 @@ export class ListView {
     const { results, info } = this.work;
     const { machine, verdict, answer, given, number, plan } = results.rowAt(row);
     const isWaiting = results.isWaiting(row);
-    this.wasOpened = true;
-    this.openLine = results.placeOf(row);
-    this.openText = isWaiting ? "" : verdict.text;
+    const openText = isWaiting ? "" : verdict.text;
+    Object.assign(this, { wasOpened: true, openLine: results.placeOf(row), openText });
     const form = info.mode === "decide" ? info.form : null;
     this.view.open({ machine, verdict, answer, plan, isWaiting }, moves, { text: given, number, form });
   }

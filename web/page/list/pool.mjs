@@ -4,8 +4,8 @@
  * @typedef {import("../../worker/worker.mjs").Part} Part
  * @typedef {import("../../worker/worker.mjs").BatchNote} BatchNote
  * @typedef {{bytes: Uint8Array, line: number}} Chunk whole lines, and the number of the first
- * @typedef {Chunk & {job: number, begin: number, done: number, nextLine: number}} SentChunk its first sent
- *   byte, its next byte, and the number of that line
+ * @typedef {Chunk & {job: number, done: number, nextLine: number}} SentChunk its next byte to answer, and the
+ *   number of that line
  * @typedef {{worker: Worker, chunks: SentChunk[], note: BatchNote | null, since: number, memoryBytes: number,
  *   milliseconds: number, size: number | undefined}} PoolWorker `note` and `since`: the current batch;
  *   `milliseconds`: of the last batch; `size`: the bytes of the next batch, if set
@@ -37,8 +37,7 @@ export class WorkerPool {
     this.jobs = 0;
     this.isExhausted = false;
     this.isOver = false;
-    /** @type {Promise<any>} */
-    this.queue = Promise.resolve();
+    this.queue = /** @type {Promise<any>} */ (Promise.resolve());
     /** @type {PoolWorker[]} */
     this.workers = Array.from({ length: size }, () => ({ worker: acquireWorker(), chunks: [], ...FRESH }));
     this.workers.forEach((one) => this.listen(one));
@@ -67,19 +66,19 @@ export class WorkerPool {
       this.isExhausted = true;
       this.finish();
     } else if (!this.isOver) {
-      const sent = { ...chunk, job: this.jobs, begin: 0, done: 0, nextLine: chunk.line };
+      const sent = { ...chunk, job: this.jobs, done: 0, nextLine: chunk.line };
       one.chunks.push(sent);
       this.jobs += 1;
       await this.send(one, sent);
     }
   }
 
-  /** Sends the rest of a chunk, which the page keeps until it is answered. */
-  async send(/** @type {PoolWorker} */ one, /** @type {SentChunk} */ { job, bytes, line, done }) {
+  /** Sends a copy of a chunk, which the page keeps until it is answered. */
+  async send(/** @type {PoolWorker} */ one, /** @type {SentChunk} */ { job, bytes: kept, line }) {
     const { worker, size } = one;
     await ready;
-    const rest = bytes.slice(done);
-    worker.postMessage({ type: "list", job, bytes: rest, line, request: this.request, size }, [rest.buffer]);
+    const bytes = kept.slice();
+    worker.postMessage({ type: "list", job, bytes, line, request: this.request, size }, [bytes.buffer]);
     one.size = undefined;
   }
 
@@ -99,10 +98,9 @@ export class WorkerPool {
   addPart(/** @type {PoolWorker} */ one, /** @type {Part} */ part) {
     const { memoryBytes, milliseconds, next, nextLine, done } = part;
     const chunk = one.chunks[0];
-    const read = next - (chunk.done - chunk.begin);
+    const read = next - chunk.done;
     Object.assign(one, { note: null, memoryBytes, milliseconds });
-    chunk.done = chunk.begin + next;
-    chunk.nextLine = chunk.line + nextLine;
+    Object.assign(chunk, { done: next, nextLine: chunk.line + nextLine });
     this.task.part(part, read);
     if (done) {
       one.chunks.shift();
@@ -122,7 +120,7 @@ export class WorkerPool {
     Object.assign(one, { worker: newWorker(), note: null, size });
     this.listen(one);
     for (const chunk of chunks) {
-      Object.assign(chunk, { begin: chunk.done, line: chunk.nextLine });
+      Object.assign(chunk, { bytes: chunk.bytes.subarray(chunk.done), line: chunk.nextLine, done: 0 });
       this.send(one, chunk).catch((error) => this.fail(errorFields(error)));
     }
   }

@@ -14,10 +14,8 @@ const BUSY_MILLISECONDS = 20;
 const SPACE = 32;
 const decoder = new TextDecoder();
 const [UNDECIDED, BACKWARD] = [KINDS.indexOf("undecided"), KINDS.indexOf("backward")];
-/** The number of the first pass's limits. */
-export const FIRST_PASS = 1;
-/** The number of the first larger limits. */
-export const LARGER = 2;
+/** The numbers of the first pass's limits, and of the first larger ones. */
+export const [FIRST_PASS, LARGER] = [1, 2];
 const MOST_PLANS = 255;
 
 export class Results {
@@ -30,15 +28,13 @@ export class Results {
     this.waiting = 0;
     // Lines decided again with larger limits.
     this.redecided = 0;
-    /** @type {Part[][]} */
-    this.jobs = [];
+    this.jobs = /** @type {Part[][]} */ ([]);
     this.counts = KINDS.map(() => 0);
     this.answers = ANSWERS.map(() => 0);
     this.skipped = 0;
     this.read = 0;
     this.lines = 0;
-    /** @type {Part[] | null} */
-    this.flat = null;
+    this.flat = /** @type {Part[] | null} */ (null);
     this.firstRows = new Float64Array(1);
     // The numbers from 0.
     this.rowNumbers = new Uint32Array(0);
@@ -71,10 +67,7 @@ export class Results {
     return at >= 0 ? at : Math.min(MOST_PLANS, plans.push(plan) - 1);
   }
 
-  /**
-   * Replaces rows by the lines of a part, in the same order.
-   * @param {Uint32Array} rows in order @param {Part} by @param {number} plan its number
-   */
+  /** @param {Uint32Array} rows in order @param {Part} by its lines in the same order @param {number} plan */
   replace(rows, by, plan) {
     for (let first = 0; first < rows.length; ) {
       const { part, line } = this.placeOf(rows[first]);
@@ -117,7 +110,6 @@ export class Results {
     return this.flat;
   }
 
-  /** @returns {LinePlace} */
   placeOf(/** @type {number} */ row) {
     const parts = this.partsInOrder();
     let [low, high] = [0, parts.length];
@@ -147,15 +139,8 @@ export class Results {
 
   /** Whether the first line is answered; earlier chunks may have none. */
   get hasFirstLine() {
-    for (const parts of this.jobs) {
-      if (parts?.some(({ kinds }) => kinds.length > 0)) {
-        return true;
-      }
-      if (!parts?.some(({ done }) => done)) {
-        return false;
-      }
-    }
-    return false;
+    const first = this.jobs.find((parts) => !parts?.some(({ done }) => done) || hasLines(parts));
+    return first !== undefined && hasLines(first);
   }
 
   /** A row's number, verdict line, original line and limits. */
@@ -184,17 +169,19 @@ export class Results {
     return new Blob(parts, { type: "text/plain" });
   }
 
-  /** All rows, in a cached array. */
-  allRows() {
+  rowsOfKinds(/** @type {Set<number>} */ kinds) {
+    if (this.counts.some((count, kind) => count > 0 && !kinds.has(kind))) {
+      return this.filterRows(({ kinds: own }, line) => kinds.has(own[line]));
+    }
     if (this.rowNumbers.length < this.lines) {
       this.rowNumbers = new Uint32Array(Math.max(this.lines, 2 * this.rowNumbers.length)).map((_, k) => k);
     }
     return this.rowNumbers.subarray(0, this.lines);
   }
 
-  rowsOfKinds(/** @type {Set<number>} */ kinds) {
-    const isAll = this.counts.every((count, kind) => count === 0 || kinds.has(kind));
-    return isAll ? this.allRows() : this.filterRows(({ kinds: own }, line) => kinds.has(own[line]));
+  /** The rows that only the first pass has decided. */
+  provisionalRows() {
+    return this.filterRows(({ plans }, line) => plans?.[line] === FIRST_PASS);
   }
 
   filterRows(/** @type {(part: Part, line: number) => boolean} */ isIn) {
@@ -232,6 +219,8 @@ export class Results {
 }
 
 const pause = () => new Promise((done) => setTimeout(done));
+
+const hasLines = (/** @type {Part[] | undefined} */ parts) => parts?.some(({ kinds }) => kinds.length > 0);
 
 /** A part's lines of these kinds, as bytes; adjacent lines are joined. */
 function linesOf(/** @type {Part} */ part, /** @type {Set<number>} */ kinds) {

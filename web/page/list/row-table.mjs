@@ -23,8 +23,7 @@ export class RowTable {
   /** @param {(row: number) => void} open called when a row is opened */
   constructor(open) {
     this.open = open;
-    /** @type {Results | null} */
-    this.results = null;
+    this.results = /** @type {Results | null} */ (null);
     this.rows = new Uint32Array(0);
     /** @type {Map<number, DrawnRow>} by place */
     this.drawn = new Map();
@@ -33,8 +32,7 @@ export class RowTable {
     this.chosen = -1;
     // The place of the chosen line, or the next one if it is filtered out.
     this.gap = 0;
-    /** @type {import("./results.mjs").LinePlace | null} */
-    this.line = null;
+    this.line = /** @type {import("./results.mjs").LinePlace | null} */ (null);
     this.phone = matchMedia(PHONE);
     this.phone.addEventListener("change", () => this.onResize());
     this.box = byId("rows");
@@ -45,7 +43,7 @@ export class RowTable {
     // The box's inner height; reading it costs a layout.
     this.inner = 0;
     new ResizeObserver(() => {
-      this.measure();
+      this.inner = this.box.clientHeight;
       this.draw();
     }).observe(this.box);
   }
@@ -83,15 +81,11 @@ export class RowTable {
     byId("spacer").style.height = `${this.height}px`;
     // A full box keeps its height.
     if (fewer * this.pixels <= this.inner) {
-      this.measure();
+      this.inner = this.box.clientHeight;
     }
     this.box.setAttribute("aria-rowcount", String(rows.length + 1));
     this.top = Math.min(this.top, Math.max(0, rows.length - this.visibleCount));
     this.draw();
-  }
-
-  measure() {
-    this.inner = this.box.clientHeight;
   }
 
   /** @param {Results} results @param {Uint32Array} rows @param {boolean} isInOrder */
@@ -144,8 +138,7 @@ export class RowTable {
     const box = byId("shown");
     const at = this.isScaled ? this.box.scrollTop : this.top * this.pixels;
     box.style.transform = `translateY(${Math.max(0, at)}px)`;
-    /** @type {Map<number, DrawnRow>} */
-    const drawn = new Map();
+    const drawn = /** @type {Map<number, DrawnRow>} */ (new Map());
     for (let place = this.top; place < end; place += 1) {
       drawn.set(place, this.drawnRowAt(place));
     }
@@ -176,29 +169,28 @@ export class RowTable {
   createRow(/** @type {number} */ place) {
     const results = /** @type {Results} */ (this.results);
     const { machine, verdict, answer, kind, number, given, pass, plan } = results.rowAt(this.rows[place]);
-    const cell = (/** @type {string} */ text, name = "") =>
-      create("span", { role: "gridcell", class: name, title: text }, text);
+    const cell = (/** @type {string} */ text, name = "", more = "", title = text) => {
+      const origin = more === "" ? [] : [create("span", { class: "from" }, more)];
+      return create("span", { role: "gridcell", class: name, title }, text, ...origin);
+    };
     const isRefused = kind === "refused";
     // A refused machine has no claim to check.
     const hasNone = isRefused && answer !== "unread";
-    const text = isRefused ? cell((given ?? "").slice(0, LONGEST_SHOWN)) : cell(machine);
     const reading = given === null || isRefused ? null : readLine(given);
-    if (reading?.kind === "machine" && reading.rewritten.length > 0) {
-      text.append(create("span", { class: "from" }, ` ← ${given?.trim()}`));
-      text.title = `${machine} ← ${given?.trim()}`;
-    }
-    const says = cell(verdict.text);
+    const isRewritten = reading?.kind === "machine" && reading.rewritten.length > 0;
+    const from = isRewritten ? ` ← ${given?.trim()}` : "";
     const steps = formatNumber(Number(plan.steps));
     const mark = pass === FIRST_PASS ? "first pass" : pass >= LARGER ? `again, ${steps} steps` : "";
-    if (mark !== "") {
-      says.append(create("span", { class: "from" }, ` ${mark}`));
-      says.title = `${verdict.text} (${mark})`;
-    }
-    const cells = [text, says, hasNone ? cell("–", "none") : cell(answer, answer)];
-    const line = cell(formatNumber(number + 1), "number");
     const about = { role: "row", class: "row", id: `row-${place}`, "aria-rowindex": place + 2 };
     const chosen = { "aria-selected": place === this.chosen, "data-place": place };
-    return create("div", { ...about, ...chosen }, line, ...cells);
+    return create(
+      "div",
+      { ...about, ...chosen },
+      cell(formatNumber(number + 1), "number"),
+      isRefused ? cell((given ?? "").slice(0, LONGEST_SHOWN)) : cell(machine, "", from, machine + from),
+      mark === "" ? cell(verdict.text) : cell(verdict.text, "", ` ${mark}`, `${verdict.text} (${mark})`),
+      hasNone ? cell("–", "none") : cell(answer, answer),
+    );
   }
 
   onClick(/** @type {MouseEvent} */ event) {

@@ -26,35 +26,32 @@ export function statusText(outcome, share, info, results) {
   const seconds = (info.taken || performance.now() - info.begun) / 1000;
   const { counts, answers, lines, skipped, waiting, provisional, redecided } = results;
   const progress = outcome === "Done" ? "" : `, ${Math.floor(100 * share)} % done`;
-  const parts = [`${outcome}, ${seconds.toFixed(1)} s${progress}`];
   const unconfirmed = answers[BAD] + answers[OVER];
   const decided = lines - counts[UNDECIDED] - counts[REFUSED] - unconfirmed;
   const numbers = [
     `${formatNumber(decided)} decided`,
     `${formatNumber(counts[UNDECIDED] - waiting)} undecided`,
     `${formatNumber(counts[REFUSED])} refused`,
-    ...(skipped > 0 ? [`${formatNumber(skipped)} skipped (${SKIPPED})`] : []),
-    ...(unconfirmed > 0 ? [`${formatNumber(unconfirmed)} not confirmed`] : []),
-    ...(waiting > 0 ? [`${formatNumber(waiting)} waiting for the second pass`] : []),
-    ...(redecided > 0 ? [`${formatNumber(redecided)} decided again with larger limits`] : []),
+    skipped > 0 && `${formatNumber(skipped)} skipped (${SKIPPED})`,
+    unconfirmed > 0 && `${formatNumber(unconfirmed)} not confirmed`,
+    waiting > 0 && `${formatNumber(waiting)} waiting for the second pass`,
+    redecided > 0 && `${formatNumber(redecided)} decided again with larger limits`,
   ];
-  parts.push(numbers.join(", "));
-  if (provisional > 0 && (outcome === "Stopped" || outcome === "Ended")) {
-    parts.push(`Save and Copy omit ${formatCount(provisional, "line")} of the first pass`);
-  }
-  const checked = ANSWERS.flatMap((answer, k) =>
-    answers[k] > 0 && answer !== "open" ? [`${formatNumber(answers[k])} ${answer}`] : [],
-  );
+  const isCut = provisional > 0 && (outcome === "Stopped" || outcome === "Ended");
+  const checked = ANSWERS.map((answer, k) => {
+    return answers[k] > 0 && answer !== "open" && `${formatNumber(answers[k])} ${answer}`;
+  });
   const claims = `These are ${formatCount(lines, "verdict line")}, checked`;
   const subject = info.mode === "check" ? claims : "The checker";
-  parts.push(`${subject}: ${checked.join(", ") || "nothing to confirm"}`);
-  if (info.form !== null && info.mode === "decide") {
-    parts.push(`Read as ${FORMS[info.form]}`);
-  }
-  if (!info.isText) {
-    parts.push("Some bytes are not UTF-8; convert the list");
-  }
-  return `${parts.join(". ")}.`;
+  const sentences = [
+    `${outcome}, ${seconds.toFixed(1)} s${progress}`,
+    numbers.filter(Boolean).join(", "),
+    isCut && `Save and Copy omit ${formatCount(provisional, "line")} of the first pass`,
+    `${subject}: ${checked.filter(Boolean).join(", ") || "nothing to confirm"}`,
+    info.form !== null && info.mode === "decide" && `Read as ${FORMS[info.form]}`,
+    !info.isText && "Some bytes are not UTF-8; convert the list",
+  ];
+  return `${sentences.filter(Boolean).join(". ")}.`;
 }
 
 /** Names a slow line; empty for others. */

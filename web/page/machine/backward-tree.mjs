@@ -6,34 +6,23 @@
  * @typedef {{levels: Node[][], count: number, ended: boolean}} Tree `ended`: it has all levels
  */
 
-/** The nodes of undefined entries and of those into Z. */
-function haltingNodes(/** @type {Machine} */ machine) {
-  /** @type {Node[]} */
-  const nodes = [];
-  for (const { state, symbol, entry } of machine.rules) {
-    if (entry === null || entry.next === -1) {
-      nodes.push({ state, known: new Map([[0, symbol]]) });
-    }
-  }
-  return nodes;
+/** @returns {Node[]} the nodes of undefined entries and of those into Z */
+function haltingNodes(/** @type {Machine} */ { rules }) {
+  const halting = rules.filter(({ entry }) => entry === null || entry.next === -1);
+  return halting.map(({ state, symbol }) => ({ state, known: new Map([[0, symbol]]) }));
 }
 
-/** One node for each entry into the node's state, unless the cell behind the head has another symbol. */
-function predecessors(/** @type {Machine} */ machine, /** @type {Node} */ node) {
-  /** @type {Node[]} */
-  const nodes = [];
-  for (const { state, symbol, entry } of machine.rules) {
-    if (entry === null || entry.next !== node.state) {
-      continue;
+/** @returns {Node[]} one for each entry into the node's state that wrote the cell behind the head */
+function predecessors(/** @type {Machine} */ { rules }, /** @type {Node} */ node) {
+  return rules.flatMap(({ state, symbol, entry }) => {
+    const left = entry?.move === 1 ? -1 : 1;
+    const there = node.known.get(left) ?? entry?.write;
+    if (entry?.next !== node.state || there !== entry.write) {
+      return [];
     }
-    const left = entry.move > 0 ? -1 : 1;
-    const there = node.known.get(left);
-    if (there === undefined || there === entry.write) {
-      const known = new Map([...node.known].map(([distance, value]) => [distance - left, value]));
-      nodes.push({ state, known: known.set(0, symbol) });
-    }
-  }
-  return nodes;
+    const known = new Map([...node.known].map(([distance, value]) => [distance - left, value]));
+    return [{ state, known: known.set(0, symbol) }];
+  });
 }
 
 /** @returns {Tree} the levels until one is empty, or until the tree exceeds `most` nodes */
@@ -52,11 +41,10 @@ export function buildTree(/** @type {Machine} */ machine, /** @type {number} */ 
 /** The cells from left to right, unknown ones as `.`, the head's in brackets. */
 export function nodeText(/** @type {Node} */ node) {
   const distances = [...node.known.keys()];
-  const parts = [];
-  for (let at = Math.min(...distances); at <= Math.max(...distances); at += 1) {
-    const symbol = node.known.get(at);
-    const shown = symbol === undefined ? "." : String(symbol);
-    parts.push(at === 0 ? `[${shown}]` : shown);
-  }
-  return parts.join("");
+  const low = Math.min(...distances);
+  const cells = Array.from({ length: Math.max(...distances) - low + 1 }, (_, k) => {
+    const shown = String(node.known.get(low + k) ?? ".");
+    return low + k === 0 ? `[${shown}]` : shown;
+  });
+  return cells.join("");
 }

@@ -1,12 +1,14 @@
 /** The evidence for a verdict: marks on the diagram, and rows or the backward tree below it. */
-import { formatCount, parseMachine, formatNumber, stateLetter } from "../../reader/machine.mjs";
+import { formatCount, parseMachine, formatNumber, stateLetter, stateText } from "../../reader/machine.mjs";
 import { create, byId } from "../dom.mjs";
+import { symbolAt } from "../tape/tape-row.mjs";
 import { WorkerClient } from "../worker-client.mjs";
 import { nodeText, buildTree } from "./backward-tree.mjs";
 
 /**
  * @typedef {import("../../reader/machine.mjs").Verdict} Verdict
  * @typedef {import("../../worker/trace.mjs").Row} Row
+ * @typedef {import("../diagram/paint.mjs").Band} Band
  * @typedef {import("../diagram/paint.mjs").Mark} Mark
  * @typedef {import("../diagram/viewport.mjs").Fit} Fit
  */
@@ -21,7 +23,6 @@ const FIRST_STEPS = 100;
 const MOST_STEPS = 100_000_000;
 const NODE_WORDS =
   "A node is a state and the known cells. The head’s cell is in brackets, a dot is an unknown cell.";
-const SHOW = ["The rows above show it.", "The rows above don’t show"];
 const NO_EXTENT = "The line doesn’t name the cells that agree.";
 const NO_TREE = "No entry halts, so the tree is empty.";
 const client = new WorkerClient();
@@ -46,23 +47,6 @@ export function diagramSteps(/** @type {Verdict} */ { kind, numbers }, /** @type
   return { last: kind === "undecided" ? upto : Math.min(upto, FIRST_STEPS), upto };
 }
 
-/** Requests the two rows of a pair, or the last row of a halt. */
-function requestRows(/** @type {any} */ about, /** @type {(rows: Row[]) => void} */ done) {
-  const { machine, cells, verdict } = about;
-  const [first, second] = verdict.numbers;
-  const pair = verdict.kind !== "halt";
-  const sample = pair ? { every: second - first, upto: second } : { every: 1, upto: first };
-  const question = { type: "trace", machine, cells, from: first, ...sample };
-  client.request(question, (answer) => done(answer.rows ?? []));
-}
-
-/**
- * The cells of a translated cycler that agree: the head's and those behind it.
- * @param {Row} row @param {string} side @param {number} length
- */
-const agreeingCells = ({ head }, side, length) =>
-  side === "R" ? [head - length + 1, head] : [head, head + length - 1];
-
 /**
  * Shows a verdict's evidence, and passes on the diagram's marks, the marked pair, and the last row of a halt.
  * @param {{machine: string, cells: number, verdict: Verdict}} about
@@ -70,54 +54,59 @@ const agreeingCells = ({ head }, side, length) =>
  */
 export function showEvidence(about, mark) {
   const box = byId("behind");
-  const { kind } = about.verdict;
-  shownVerdict = about.verdict;
+  const { machine, cells, verdict } = about;
+  const { kind, numbers: [from, second] } = verdict;
+  shownVerdict = verdict;
   box.replaceChildren();
   if (kind === "backward" || kind === "undecided") {
     box.append(...(kind === "backward" ? createTree(about) : []));
     mark([], null, null);
     return;
   }
-  requestRows(about, (rows) => {
-    if (shownVerdict !== about.verdict) {
+  // The two rows of a pair, or the last row of a halt.
+  const sample = kind === "halt" ? { every: 1, upto: from } : { every: second - from, upto: second };
+  client.request({ type: "trace", machine, cells, from, ...sample }, ({ rows = [] }) => {
+    if (shownVerdict !== verdict) {
       return;
     }
-    const { bands, parts } = rowEvidence(about.verdict, rows);
+    const { bands, parts } = rowEvidence(verdict, rows);
     box.replaceChildren(...parts);
     const [row] = kind === "halt" ? rows : [];
     const end = row === undefined ? null : { step: row.step, low: row.low, width: row.cells.length };
-    const pair = kind === "halt" ? null : markedPair(about.verdict, bands);
-    mark([{ bands, arrow: kind === "translated" }], pair, end);
+    mark([{ bands, arrow: kind === "translated" }], kind === "halt" ? null : markedPair(verdict, bands), end);
   });
 }
 
-/** @param {Verdict} verdict @param {import("../diagram/paint.mjs").Band[]} bands */
+/** @param {Verdict} verdict @param {Band[]} bands */
 function markedPair({ numbers: [first, second] }, bands) {
   const places = bands.flatMap(({ from, to }) => (from === null || to === null ? [] : [from, to]));
   const [low, high] = places.length > 0 ? [Math.min(...places), Math.max(...places)] : [null, null];
   return { first, second, low, high };
 }
 
+/** A row's band. Of a translated cycler the head's cell and those behind it agree. @returns {Band} */
+function bandOf(/** @type {Row} */ { step, head }, /** @type {Verdict} */ { kind, numbers, side }) {
+  const label = kind === "halt" ? "halt" : `step ${formatNumber(step)}`;
+  const beyond = kind === "translated" ? (numbers[3] ?? 0) - 1 : -1;
+  const [from, to] = side === "R" ? [head - beyond, head] : [head, head + beyond];
+  return beyond < 0 ? { step, from: null, to: null, label } : { step, from, to, label };
+}
+
 /** The bands and elements of a verdict's rows. */
-function rowEvidence(/** @type {Verdict} */ { kind, numbers, side }, /** @type {Row[]} */ rows) {
-  const [, second, shift, length] = numbers;
-  const wanted = kind === "halt" ? 1 : 2;
-  if (rows.length < wanted) {
+function rowEvidence(/** @type {Verdict} */ verdict, /** @type {Row[]} */ rows) {
+  const { kind, numbers: [, second, shift, length] } = verdict;
+  if (rows.length < (kind === "halt" ? 1 : 2)) {
     return { bands: [], parts: [create("p", { class: "error" }, "The rows can’t be traced.")] };
   }
-  const extent = length ?? 0;
   const isBare = kind === "translated" && length === undefined;
-  const bands = rows.map((row) => {
-    const [from, to] = kind === "translated" && extent > 0 ? agreeingCells(row, side, extent) : [null, null];
-    return { step: row.step, from, to, label: kind === "halt" ? "halt" : `step ${formatNumber(row.step)}` };
-  });
+  const bands = rows.map((row) => bandOf(row, verdict));
   const lines = rows.map((row, k) => createRowLine(row, bands[k], rows, kind));
   /** @type {Record<string, string>} */
   const titles = {
     halt: `The last row: ${formatCount(second, "nonzero cell")}`,
     cycler: "The two equal rows",
     translated:
-      `The two records: the same ${formatCount(extent, "cell")}, ` +
+      `The two records: the same ${formatCount(length ?? 0, "cell")}, ` +
       `${formatCount(shift ?? 0, "cell")} farther out`,
   };
   const title = create("h3", {}, isBare ? "The two records" : titles[kind]);
@@ -126,27 +115,14 @@ function rowEvidence(/** @type {Verdict} */ { kind, numbers, side }, /** @type {
   return { bands, parts: [title, shownRows, note] };
 }
 
-/**
- * Compares the rows with the verdict.
- * @param {string} kind @param {Row[]} rows @param {any[]} bands @param {number} score
- */
+/** @param {string} kind @param {Row[]} rows @param {Band[]} bands @param {number} score */
 function createComparison(kind, rows, bands, score) {
-  let holds = rows.length > 0;
-  if (kind === "halt") {
-    holds = rows[0].cells.filter((symbol) => symbol !== 0).length === score;
-  } else if (kind === "cycler") {
-    holds = configurationOf(rows[0]) === configurationOf(rows[1]);
-  } else if (bands[0].from !== null) {
-    const parts = rows.map((row, k) => {
-      const { from, to } = bands[k];
-      const cells = Array.from({ length: to - from + 1 }, (_, at) => symbolOf(row, from + at));
-      return row.state + cells.join("");
-    });
-    holds = parts[0] === parts[1];
-  }
-  const shows = kind === "halt" ? ["The row above shows it.", "The row above doesn’t show"] : SHOW;
-  const words = holds ? shows[0] : `${shows[1]} what the verdict says.`;
-  return create("p", { class: holds ? "hint" : "error" }, words);
+  const texts = rows.map((row, k) => (kind === "cycler" ? configurationOf(row) : stretchText(row, bands[k])));
+  const nonzero = rows[0].cells.filter((symbol) => symbol !== 0).length;
+  const holds = kind === "halt" ? nonzero === score : texts[0] === texts[1];
+  const [name, shows, denies] = kind === "halt" ? ["row", "shows", "doesn’t"] : ["rows", "show", "don’t"];
+  const words = holds ? `${shows} it` : `${denies} show what the verdict says`;
+  return create("p", { class: holds ? "hint" : "error" }, `The ${name} above ${words}.`);
 }
 
 /** A row's state, head and nonzero cells as a text. */
@@ -155,13 +131,15 @@ function configurationOf(/** @type {Row} */ { state, head, low, cells }) {
   return [state, head, ...content.filter(Boolean)].join(" ");
 }
 
-const symbolOf = (/** @type {Row} */ row, /** @type {number} */ position) =>
-  row.cells[position - row.low] ?? 0;
+/** A row's state and agreeing cells as a text; empty without such cells. */
+function stretchText(/** @type {Row} */ row, /** @type {Band} */ { from, to }) {
+  if (from === null || to === null) {
+    return "";
+  }
+  return row.state + Array.from({ length: to - from + 1 }, (_, k) => symbolAt(row, from + k)).join("");
+}
 
-/**
- * A row's step, state and cells, with the head and the agreeing cells marked.
- * @param {Row} row @param {any} band @param {Row[]} rows @param {string} kind
- */
+/** @param {Row} row @param {Band} band its agreeing cells @param {Row[]} rows @param {string} kind */
 function createRowLine(row, band, rows, kind) {
   const side = kind === "translated" && band.from !== null ? row.head - rows[0].head : 0;
   const low = Math.min(...rows.map((one) => one.low - (side ? one.head - rows[0].head : 0)));
@@ -170,12 +148,12 @@ function createRowLine(row, band, rows, kind) {
   const last = Math.min(Math.max(...rows.map((one) => one.low + one.cells.length - 1)), first + CELLS_SHOWN);
   const cells = [];
   for (let at = first; at <= last; at += 1) {
-    const isIn = kind === "cycler" || (band.from !== null && at >= band.from && at <= band.to);
+    const isIn = kind === "cycler" || (at >= (band.from ?? Infinity) && at <= (band.to ?? -Infinity));
     const isSeen = at >= row.low && at < row.low + row.cells.length;
     const names = [isIn && isSeen ? "same" : "", at === row.head ? "at" : ""].filter(Boolean).join(" ");
-    cells.push(create("b", { class: names }, isSeen ? String(symbolOf(row, at)) : " "));
+    cells.push(create("b", { class: names }, isSeen ? String(symbolAt(row, at)) : " "));
   }
-  const words = `step ${formatNumber(row.step)}, ${row.state === "Z" ? "halted" : `state ${row.state}`}`;
+  const words = `step ${formatNumber(row.step)}, ${stateText(row.state)}`;
   return create("div", {}, create("span", { class: "step" }, words), ...cells);
 }
 

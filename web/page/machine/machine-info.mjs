@@ -15,18 +15,27 @@ const MOST_GROWTH_STEPS = 1_000_000;
 const FEWEST_GROWTH_STEPS = 100;
 const LATER = 10n ** 15n;
 const SAME_VERDICT = "Any completion of its --- has the same verdict.";
-/** @type {Record<string, string>} */
-const GROWTHS = {
+// The consequences of a verdict for completions of undefined entries.
+const COMPLETIONS = /** @type {Record<string, string>} */ ({
+  halt: SAME_VERDICT,
+  cycler: SAME_VERDICT,
+  translated: SAME_VERDICT,
+  backward: "No completion of its --- halts; the tree may differ.",
+  undecided: "Nothing is known: the machine is undecided.",
+});
+const HALT_ON_UNDEFINED =
+  "It halts on a ---. Completions of only the other --- have the same verdict; nothing is known of " +
+  "completions of that one.";
+const GROWTHS = /** @type {Record<string, string>} */ ({
   stays: "They stay",
   logarithm: "They grow as a logarithm",
   root: "They grow as a root",
   line: "They grow as a line",
-  halts: "The run ends",
-};
+});
 const client = new WorkerClient();
 const growthClient = new WorkerClient();
-/** @type {About | null} replies for another machine are dropped */
-let current = null;
+// Replies for another machine are dropped.
+let current = /** @type {About | null} */ (null);
 
 export const mirrorImage = (/** @type {string} */ text) =>
   text.replace(/[LR]/g, (move) => (move === "L" ? "R" : "L"));
@@ -46,15 +55,14 @@ function firstUses(/** @type {import("../../reader/machine.mjs").Machine} */ { s
     state = entry.next;
     found.add(state);
   }
-  return [...found];
+  return found;
 }
 
 /** The machine with states in the order of their first use, and the first move to the right. */
 export function normalForm(/** @type {string} */ text) {
   const machine = parseMachine(text);
   const { states, symbols, rules } = machine;
-  const used = firstUses(machine);
-  const order = [...used, ...Array.from({ length: states }, (_, k) => k).filter((k) => !used.includes(k))];
+  const order = [...new Set([...firstUses(machine), ...Array(states).keys()])];
   const groups = order.map((state) =>
     rules.slice(state * symbols, (state + 1) * symbols).map(({ entry }) => {
       return entryText(entry && { ...entry, next: entry.next < 0 ? -1 : order.indexOf(entry.next) });
@@ -64,25 +72,12 @@ export function normalForm(/** @type {string} */ text) {
   return text[1] === "L" ? mirrorImage(form) : form;
 }
 
-/** A verdict's consequences for completions of undefined entries. */
-function completionsText(/** @type {About} */ { machine, verdict }, /** @type {string} */ lastState) {
+/** @param {About} about @param {string} lastState the state of the run's last row */
+function completionsText({ machine, verdict: { kind } }, lastState) {
   if (!machine.includes("---")) {
     return "It has no undefined entry.";
   }
-  switch (verdict.kind) {
-    case "cycler":
-    case "translated":
-      return SAME_VERDICT;
-    case "halt":
-      return lastState === "Z"
-        ? SAME_VERDICT
-        : "It halts on a ---. Completions of only the other --- have the same verdict; nothing is known of " +
-            "completions of that one.";
-    case "backward":
-      return "No completion of its --- halts; the tree may differ.";
-    default:
-      return "Nothing is known: the machine is undecided.";
-  }
+  return kind === "halt" && lastState !== "Z" ? HALT_ON_UNDEFINED : COMPLETIONS[kind];
 }
 
 /** A verdict's consequences for other starts than A on the blank tape. */
@@ -123,9 +118,11 @@ export function showMachineInfo(/** @type {About} */ about) {
   });
   byId("facts").replaceChildren(...parts);
   requestGrowth(about);
-  if (isConfirmed) {
-    requestLaterRow(about);
-  }
+  isConfirmed && requestLaterRow(about);
+}
+
+function showFact(/** @type {string} */ id, /** @type {string} */ words) {
+  byId(`fact-${id}`).textContent = words;
 }
 
 /** Requests the row for the late step, or for the halting entry. */
@@ -134,21 +131,20 @@ function requestLaterRow(/** @type {About} */ about) {
   const { kind, numbers } = verdict;
   const isPair = kind === "cycler" || kind === "translated";
   if (!isPair && kind !== "halt") {
-    byId("fact-completions").textContent = completionsText(about, "");
-    byId("fact-later").textContent = "The verdict doesn’t say.";
+    showFact("completions", completionsText(about, ""));
+    showFact("later", "The verdict doesn’t say.");
     return;
   }
   const { early, farther } = isPair ? laterStep(verdict) : { early: numbers[0], farther: 0n };
-  client.request({ type: "trace", machine, cells, from: early, every: 1, upto: early }, (answer) => {
-    const row = answer.rows?.[0];
-    if (row === undefined || current !== about) {
+  client.request({ type: "trace", machine, cells, from: early, every: 1, upto: early }, ({ rows }) => {
+    if (!rows?.length || current !== about) {
       return;
     }
-    byId("fact-completions").textContent = completionsText(about, row.state);
+    const [{ state, head }] = rows;
+    showFact("completions", completionsText(about, state));
     const isWithout = kind === "translated" && numbers[2] === undefined;
-    const place = `state ${row.state}, head at ${formatNumber(BigInt(row.head) + farther)}`;
-    const later = kind === "halt" ? "It has halted." : isWithout ? "The line has no shift." : `${place}.`;
-    byId("fact-later").textContent = later;
+    const place = `state ${state}, head at ${formatNumber(BigInt(head) + farther)}.`;
+    showFact("later", kind === "halt" ? "It has halted." : isWithout ? "The line has no shift." : place);
   });
 }
 
@@ -156,22 +152,20 @@ function requestGrowth(/** @type {About} */ about) {
   const { machine, cells, steps } = about;
   const upto = Math.min(steps, MOST_GROWTH_STEPS);
   if (upto < FEWEST_GROWTH_STEPS) {
-    byId("fact-growth").textContent = "Too few steps.";
+    showFact("growth", "Too few steps.");
     return;
   }
-  growthClient.request({ type: "growth", machine, cells, upto }, (answer) => {
-    if (current !== about) {
-      return;
+  growthClient.request({ type: "growth", machine, cells, upto }, ({ growth, message }) => {
+    if (current === about) {
+      showFact("growth", growth === undefined ? `Unknown: ${message}.` : growthText(growth));
     }
-    if (answer.growth === undefined) {
-      byId("fact-growth").textContent = `Unknown: ${answer.message}.`;
-      return;
-    }
-    const { growth, steps: last, visited } = /** @type {Growth} */ (answer.growth);
-    const many = visited.map(formatNumber).join(", ");
-    const all = formatCount(last, "step");
-    const looks = `${many} after a hundredth, a tenth and all of ${all}; a guess from these`;
-    const rest = growth === "halts" ? `, with ${formatCount(visited[2], "cell")}` : `: ${looks}`;
-    byId("fact-growth").textContent = `${GROWTHS[growth]}${rest}.`;
   });
+}
+
+function growthText(/** @type {Growth} */ { growth, steps, visited }) {
+  if (growth === "halts") {
+    return `The run ends, with ${formatCount(visited[2], "cell")}.`;
+  }
+  const counts = `${visited.map(formatNumber).join(", ")} after a hundredth, a tenth and all`;
+  return `${GROWTHS[growth]}: ${counts} of ${formatCount(steps, "step")}; a guess from these.`;
 }

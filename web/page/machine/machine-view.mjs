@@ -1,13 +1,17 @@
 /** The view of one machine: verdict, diagram, tape, table, evidence and facts. */
-import { entryText, parseMachine, verdictText, stateLetter } from "../../reader/machine.mjs";
+import {
+  entryText, formatNumber, parseMachine, parseVerdictLine, stateLetter, verdictText,
+} from "../../reader/machine.mjs";
 import { Diagram } from "../diagram/diagram.mjs";
 import { Gestures } from "../diagram/gestures.mjs";
 import { ZOOM } from "../diagram/viewport.mjs";
-import { copyText, copyPicture, create, onClick, byId, saveFile, announce } from "../dom.mjs";
-import { linkOf } from "../input/fields.mjs";
+import {
+  announce, byId, copyPicture, copyText, create, onClick, saveFile, setInactive, showText,
+} from "../dom.mjs";
+import { enlargePlan, linkOf } from "../input/fields.mjs";
 import { showInputNotes } from "../input/input-notes.mjs";
 import { Tape } from "../tape/tape.mjs";
-import { Redecider } from "./redecide.mjs";
+import { WorkerClient } from "../worker-client.mjs";
 import { clearEvidence, showEvidence, diagramSteps } from "./evidence.mjs";
 import { showMachineInfo } from "./machine-info.mjs";
 
@@ -16,12 +20,11 @@ const NARROW = "(max-width: 900px)";
 const BLANK_MILLISECONDS = 100;
 const CLOSE_MILLISECONDS = 250;
 const ELSEWHERE = "https://bbchallenge.org/";
-/** @type {Record<string, string>} */
-const DOUBTS = {
+const DOUBTS = /** @type {Record<string, string>} */ ({
   bad: "The checker refutes it.",
   over: "The checker needs larger limits.",
   unread: "The checker can’t read the line.",
-};
+});
 
 /**
  * @typedef {import("../../reader/machine.mjs").Verdict} Verdict
@@ -33,14 +36,14 @@ export class MachineView {
   constructor() {
     this.diagram = new Diagram((place) => this.tape.goTo(place.step));
     this.tape = new Tape((place, closes) => this.diagram.showStep(place, closes));
-    this.redecider = new Redecider((about, by) => this.showRedecided(about, by));
+    this.client = new WorkerClient();
+    this.isRedeciding = false;
     /**
      * Replaces the open machine's row after a new decision; returns whether it could.
      * @type {(by: import("../../worker/worker.mjs").Part, plan: Record<string, any>) => boolean}
      */
     this.replaceRow = () => false;
-    /** @type {About | null} */
-    this.about = null;
+    this.about = /** @type {About | null} */ (null);
     this.blankTimer = 0;
     this.closeTimer = 0;
     new Gestures(this.diagram, (words, byKeys) => {
@@ -57,6 +60,7 @@ export class MachineView {
       "copy-png": () => copyPicture(diagram.toPng(), byId("copy-png")),
       "copy-text": () => copyText(this.about?.machine ?? "", byId("copy-text")),
       link: () => this.copyLink(),
+      again: () => (this.isRedeciding ? this.stopRedeciding() : this.redecide()),
       back: () => byId("rows").focus(),
     });
   }
@@ -74,18 +78,15 @@ export class MachineView {
     this.leave();
     byId("machine").hidden = false;
     byId("machine-text").textContent = machine;
-    byId("machine-says").textContent = `${doubtText(about)}${verdictText(verdict)}`;
+    byId("machine-says").textContent = sentenceOf(about);
     showInputNotes(given, verdict);
     document.querySelectorAll(".picture, .columns, #tape, #about, #machine-links").forEach((box) => {
       /** @type {HTMLElement} */ (box).hidden = !isMachine;
     });
-    this.redecider.reset(about);
-    if (isMachine) {
-      this.show(about);
-    }
-    if (moves) {
-      announce(byId("machine-says").textContent ?? "");
-    }
+    showText("again-text", "");
+    byId("again").hidden = verdict.kind !== "undecided" || about.isWaiting === true;
+    isMachine && this.show(about);
+    moves && announce(byId("machine-says").textContent ?? "");
     if (moves && matchMedia(NARROW).matches) {
       byId("machine").scrollIntoView({ block: "start" });
       byId("machine").contains(document.activeElement) || byId("back").focus({ preventScroll: true });
@@ -115,7 +116,7 @@ export class MachineView {
 
   /** Stops playback and drops outstanding replies. */
   leave() {
-    this.redecider.stop();
+    this.stopRedeciding();
     clearEvidence();
     this.diagram.close();
     this.tape.close();
@@ -147,17 +148,43 @@ export class MachineView {
     showMachineInfo({ ...about, steps, verdict, isConfirmed });
   }
 
-  /**
-   * Shows a new decision, and replaces the row; returns whether it could.
-   * @param {About} about @param {import("../../worker/worker.mjs").Part} by
-   */
-  showRedecided(about, by) {
-    this.about = about;
-    const isIn = this.replaceRow(by, about.plan);
-    byId("machine-says").textContent = `${doubtText(about)}${verdictText(about.verdict)}`;
-    announce(byId("machine-says").textContent ?? "");
-    this.show(about);
-    return isIn;
+  /** Decides the machine again with larger limits, and replaces its row. */
+  redecide() {
+    const { machine, plan: before } = /** @type {About} */ (this.about);
+    const plan = enlargePlan(before);
+    const limits = `${formatNumber(plan.steps)} steps and ${formatNumber(plan.cells)} cells`;
+    this.isRedeciding = true;
+    byId("again").textContent = "Stop";
+    showText("again-text", `Deciding with ${limits} …`);
+    this.client.request({ type: "decide-one", machine, plan }, ({ error, message, line, answer, part }) => {
+      this.endRedeciding();
+      if (error) {
+        showText("again-text", `Not decided with ${limits}: ${message}.`);
+        return;
+      }
+      const { verdict } = parseVerdictLine(line);
+      const about = { machine, verdict, answer, plan };
+      this.about = about;
+      const where = this.replaceRow(part, plan) ? "Its row is updated." : "The list is unchanged.";
+      byId("machine-says").textContent = sentenceOf(about);
+      announce(sentenceOf(about));
+      this.show(about);
+      showText("again-text", `With ${limits}: ${verdict.text}. ${where}`);
+      setInactive("again", "hidden", verdict.kind !== "undecided", "copy-text");
+    });
+  }
+
+  stopRedeciding() {
+    if (this.isRedeciding) {
+      this.client.cancel();
+      this.endRedeciding();
+      showText("again-text", "Stopped. The list is unchanged.");
+    }
+  }
+
+  endRedeciding() {
+    this.isRedeciding = false;
+    byId("again").textContent = "Decide again with larger limits";
   }
 
   /** Sets the address to the machine's link, and copies it. */
@@ -169,19 +196,19 @@ export class MachineView {
   }
 }
 
-/** A warning before an unconfirmed verdict; empty for others. */
-function doubtText(/** @type {About} */ { verdict, answer, isWaiting }) {
+/** The verdict in words, with a warning before an unconfirmed one. */
+function sentenceOf(/** @type {About} */ { verdict, answer, isWaiting }) {
+  const words = verdictText(verdict);
   if (isWaiting) {
-    return "Waiting for the second pass, with the list’s limits. First pass: ";
+    return `Waiting for the second pass, with the list’s limits. First pass: ${words}`;
   }
   const isSure = answer === "ok" || verdict.kind === "undecided" || verdict.kind === "refused";
-  return isSure ? "" : `${DOUBTS[answer] ?? DOUBTS.unread} The line claims: `;
+  return isSure ? words : `${DOUBTS[answer] ?? DOUBTS.unread} The line claims: ${words}`;
 }
 
 /** A table with a row for each state and a column for each symbol. */
 function createTable(/** @type {import("../../reader/machine.mjs").Machine} */ machine) {
-  const column = (/** @type {number} */ symbol) => create("th", { scope: "col" }, String(symbol));
-  const symbols = Array.from({ length: machine.symbols }, (_, symbol) => column(symbol));
+  const symbols = Array.from({ length: machine.symbols }, (_, k) => create("th", { scope: "col" }, String(k)));
   const head = create("tr", {}, create("td", { "aria-label": "state and symbol" }), ...symbols);
   const rows = Array.from({ length: machine.states }, (_, state) => {
     const entries = machine.rules.slice(state * machine.symbols, (state + 1) * machine.symbols);

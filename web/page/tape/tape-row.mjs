@@ -3,22 +3,22 @@
  *
  * @typedef {import("../../worker/trace.mjs").Row} Row
  */
-import { entryText, parseMachine, formatNumber, stateLetter } from "../../reader/machine.mjs";
+import { entryText, parseMachine, formatNumber, stateLetter, stateText } from "../../reader/machine.mjs";
 import { create } from "../dom.mjs";
 
-const symbolOf = (/** @type {Row} */ { cells, head, low }) => cells[head - low] ?? 0;
+/** The symbol at a position, or at the head. */
+export const symbolAt = (/** @type {Row} */ { cells, head, low }, position = head) =>
+  cells[position - low] ?? 0;
 
 /** The next entry; null at a halt. */
-export function nextEntry(/** @type {Row} */ row, /** @type {string} */ text) {
-  if (row.state === "Z") {
-    return null;
-  }
-  const machine = parseMachine(text);
-  return machine.rules[(row.state.charCodeAt(0) - 65) * machine.symbols + symbolOf(row)].entry;
+export function nextEntry(/** @type {Row} */ row, /** @type {string} */ machine) {
+  const state = row.state.charCodeAt(0) - 65;
+  const rule = parseMachine(machine).rules.find((one) => one.state === state && one.symbol === symbolAt(row));
+  return rule?.entry ?? null;
 }
 
 export function highlightEntry(/** @type {Row} */ row) {
-  const used = `${row.state}${symbolOf(row)}`;
+  const used = `${row.state}${symbolAt(row)}`;
   document.querySelectorAll("#machine-table td[data-entry]").forEach((cell) => {
     const isUsed = /** @type {HTMLElement} */ (cell).dataset.entry === used;
     cell.classList.toggle("used", isUsed);
@@ -27,28 +27,30 @@ export function highlightEntry(/** @type {Row} */ row) {
 }
 
 export function stepText(/** @type {Row} */ row, /** @type {string} */ machine) {
-  const head = `Step ${formatNumber(row.step)}: `;
+  const now = `Step ${formatNumber(row.step)}: ${stateText(row.state)}`;
+  const place = `at position ${formatNumber(row.head)}`;
   if (row.state === "Z") {
-    return `${head}halted, at position ${formatNumber(row.head)}.`;
+    return `${now}, ${place}.`;
   }
   const entry = nextEntry(row, machine);
-  const now = `${head}state ${row.state} reads ${symbolOf(row)} at position ${formatNumber(row.head)}`;
+  const reads = `${now} reads ${symbolAt(row)} ${place}`;
   if (entry === null) {
-    return `${now}; no entry is defined there, so it halts.`;
+    return `${reads}; no entry is defined there, so it halts.`;
   }
   const { write, move, next } = entry;
   const goes = next < 0 ? "halts" : `goes to ${stateLetter(next)}`;
-  return `${now}; ${entryText(entry)}: it writes ${write}, moves ${move > 0 ? "right" : "left"} and ${goes}.`;
+  const moves = `moves ${move > 0 ? "right" : "left"}`;
+  return `${reads}; ${entryText(entry)}: it writes ${write}, ${moves} and ${goes}.`;
 }
 
 /** A cell in its symbol's colour, with the state above the head's. */
 export function createCell(/** @type {Row} */ row, /** @type {number} */ at) {
-  const isSeen = at >= row.low && at < row.low + row.cells.length;
-  const symbol = isSeen ? row.cells[at - row.low] : 0;
+  const symbol = symbolAt(row, at);
   const isHead = at === row.head;
+  const isSeen = isHead || (at >= row.low && at < row.low + row.cells.length);
   const state = create("span", { class: "state" }, isHead ? row.state : "");
-  const cell = create("span", { class: isSeen || isHead ? "symbol" : "symbol blank" }, String(symbol));
-  if (isSeen || isHead) {
+  const cell = create("span", { class: isSeen ? "symbol" : "symbol blank" }, String(symbol));
+  if (isSeen) {
     cell.style.background = `var(--s${symbol})`;
     cell.style.color = `var(--on${symbol})`;
   }

@@ -22,21 +22,16 @@ export class Tape {
   constructor(went) {
     this.onStep = went;
     this.client = new WorkerClient();
-    /** @type {About | null} */
-    this.about = null;
+    this.about = /** @type {About | null} */ (null);
     this.step = 0;
-    /** @type {Row[]} */
-    this.rows = [];
+    this.rows = /** @type {Row[]} */ ([]);
     this.closes = false;
     // Counts steps, so that outdated replies are dropped.
     this.requests = 0;
     this.timer = 0;
     this.reducedMotion = matchMedia("(prefers-reduced-motion: reduce)");
     this.box = byId("tape");
-    this.addListeners();
-  }
-
-  addListeners() {
+    this.field = /** @type {HTMLInputElement} */ (byId("tape-step"));
     onClick({
       "tape-first": () => this.goTo(0),
       "tape-back": () => this.goTo(this.step - 1),
@@ -79,8 +74,7 @@ export class Tape {
   }
 
   goToField() {
-    const field = /** @type {HTMLInputElement} */ (byId("tape-step"));
-    const number = parseNumber(field.value);
+    const number = parseNumber(this.field.value);
     this.pause();
     if (number !== null) {
       this.clearRefusal();
@@ -88,13 +82,13 @@ export class Tape {
       return;
     }
     const words = `A step is a whole number, 0 to ${formatNumber(this.about?.last ?? 0)}.`;
-    field.setAttribute("aria-invalid", "true");
+    this.field.setAttribute("aria-invalid", "true");
     byId("tape-refused").textContent = words;
     announce(words);
   }
 
   clearRefusal() {
-    byId("tape-step").removeAttribute("aria-invalid");
+    this.field.removeAttribute("aria-invalid");
     byId("tape-refused").textContent = "";
   }
 
@@ -107,11 +101,7 @@ export class Tape {
     this.requests += 1;
     this.step = Math.max(0, Math.min(step, this.about.last));
     this.closes = closes;
-    if (this.row !== undefined) {
-      this.showStep();
-      return;
-    }
-    this.requestRows(from);
+    this.row === undefined ? this.requestRows(from) : this.showStep();
   }
 
   /** Requests rows around a step, mostly in the direction of travel. */
@@ -124,15 +114,13 @@ export class Tape {
     const upto = begin + many;
     const { requests } = this;
     this.client.request({ type: "trace", machine, cells, from: begin, every: 1, upto }, (answer) => {
-      if (requests === this.requests) {
-        answer.error ? this.showFailure(answer.message) : this.setRows(answer.rows, answer.last, upto);
+      if (requests === this.requests && answer.error) {
+        this.pause();
+        byId("tape-text").textContent = `The tape can’t be shown: ${answer.message}.`;
+      } else if (requests === this.requests) {
+        this.setRows(answer.rows, answer.last, upto);
       }
     });
-  }
-
-  showFailure(/** @type {string} */ message) {
-    this.pause();
-    byId("tape-text").textContent = `The tape can’t be shown: ${message}.`;
   }
 
   /** @param {Row[]} rows @param {number} last step of the rows or the run @param {number} upto */
@@ -140,7 +128,8 @@ export class Tape {
     this.rows = rows;
     // Very wide rows are sampled.
     if (last < upto && (rows.length === 0 || last - rows[0].step === rows.length - 1)) {
-      this.limitTo(last);
+      this.about = this.about && { ...this.about, last: Math.min(this.about.last, last) };
+      this.step = Math.min(this.step, last);
     }
     if (this.row === undefined && rows.length === 0) {
       this.goTo(this.step, this.closes);
@@ -153,31 +142,17 @@ export class Tape {
     this.showStep();
   }
 
-  /** Ends the run at a step. */
-  limitTo(/** @type {number} */ step) {
-    const about = /** @type {About} */ (this.about);
-    this.about = { ...about, last: Math.min(about.last, step) };
-    this.step = Math.min(this.step, step);
-  }
-
   showStep() {
     this.draw();
-    const { row } = this;
-    if (row !== undefined) {
-      this.updateField(row.step);
-      this.onStep({ step: row.step, position: row.head }, this.closes);
+    const { row, field } = this;
+    if (row !== undefined && document.activeElement !== field) {
+      field.value = String(row.step);
+      this.clearRefusal();
     }
+    row && this.onStep({ step: row.step, position: row.head }, this.closes);
     this.closes = false;
   }
 
-  /** Shows the step in the field, unless it has the focus. */
-  updateField(/** @type {number} */ step) {
-    const field = /** @type {HTMLInputElement} */ (byId("tape-step"));
-    if (document.activeElement !== field) {
-      field.value = String(step);
-      this.clearRefusal();
-    }
-  }
 
   get hasNext() {
     const { row, about } = this;
@@ -236,11 +211,8 @@ export class Tape {
       return;
     }
     const around = Math.max(2, Math.floor((this.box.clientWidth / CELL_PIXELS - 1) / 2));
-    const cells = [];
-    for (let at = row.head - around; at <= row.head + around; at += 1) {
-      cells.push(createCell(row, at));
-    }
-    byId("tape-cells").replaceChildren(...cells);
+    const places = Array.from({ length: 2 * around + 1 }, (_, k) => row.head - around + k);
+    byId("tape-cells").replaceChildren(...places.map((at) => createCell(row, at)));
     const words = stepText(row, about.machine);
     byId("tape-text").textContent = words;
     this.box.setAttribute("aria-label", `Tape. ${words}`);
