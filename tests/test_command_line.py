@@ -2,7 +2,7 @@
 
 import pathlib
 import subprocess
-from typing import List, Union
+from typing import Union
 
 import pytest
 from support.program import run_command
@@ -53,14 +53,7 @@ CASES = [
     ),
     ("a check by a plan", ["check", "--no-cyclers"], b"", 2, b"", b"--no-cyclers"),
     ("a trace", ["trace", "--upto", "1", "1RZ---"], b"", 0, b"0 A 0 0\n1 Z 1 1\n", b""),
-    (
-        "a cut trace",
-        ["trace", "--upto", "5", "--cells", "2", "1RA1RA"],
-        b"",
-        1,
-        b"0 A 0 0\n1 A 1 10\n",
-        b"",
-    ),
+    ("a cut trace", ["trace", "--upto", "5", "--cells", "2", "1RA1RA"], b"", 1, b"0 A 0 0\n1 A 1 10\n", b""),
     ("a refused trace", ["trace", "--upto", "2", "1RB1LB_1LA1RC"], b"", 1, b"refused 14\n", b""),
 ]
 
@@ -80,13 +73,13 @@ def paths(tmp_path: pathlib.Path) -> "dict[str, str]":
 def test_command_line(
     bb: str,
     paths: "dict[str, str]",
-    words: List[Union[str, bytes]],
+    words: list[Union[str, bytes]],
     given: bytes,
     status: int,
     output: bytes,
     error: bytes,
 ) -> None:
-    command: List[Union[str, bytes]] = [bb]
+    command: list[Union[str, bytes]] = [bb]
     command += [paths.get(word, word) if isinstance(word, str) else word for word in words]
     done = subprocess.run(command, input=given, capture_output=True)
     assert (done.returncode, done.stdout) == (status, output)
@@ -94,7 +87,7 @@ def test_command_line(
 
 
 @pytest.mark.parametrize("command", [[], ["decide"], ["check"], ["trace"]])
-def test_help_goes_to_standard_output(bb: str, command: List[str]) -> None:
+def test_help_goes_to_standard_output(bb: str, command: list[str]) -> None:
     status, output, error = run_command([bb, *command, "--help"])
     assert status == 0 and b"Usage" in output and not error
     assert run_command([bb, "help", *command]) == (0, output, b"")

@@ -15,7 +15,7 @@ import signal
 import subprocess
 import sys
 import time
-from typing import Callable, Dict, List, Tuple, Union
+from typing import Callable
 
 import pytest
 from support import TOP, require, restore_signals
@@ -42,7 +42,7 @@ COUNTS = {
 }
 # A line of a list, and the machine that is taken out of it, or why there is none; None for a line that is
 # passed over in silence.
-TAKEN: List[Tuple[bytes, Union[bytes, None, str]]] = [
+TAKEN: list[tuple[bytes, bytes | str | None]] = [
     (b"1RB1LB_1LA1RZ", b"1RB1LB_1LA1RZ"),
     (b"\t 1RB1LB_1LA1RZ  # a comment, with 1RA1RA", "two different machines"),
     (b"\t 1RB1LB_1LA1RZ  # a comment", b"1RB1LB_1LA1RZ"),
@@ -115,9 +115,9 @@ if is_killed:
 """
 
 
-def read_recipes() -> Dict[str, List[str]]:
+def read_recipes() -> dict[str, list[str]]:
     """Read the blocks of commands of the document, by the heading above them."""
-    found: Dict[str, List[str]] = {}
+    found: dict[str, list[str]] = {}
     document = (TOP / "docs" / "recipes.md").read_text(encoding="utf-8")
     for section in re.split(r"^#+ ", document, flags=re.M)[1:]:
         heading, _, text = section.partition("\n")
@@ -191,7 +191,7 @@ def test_refused_lines_are_shown(folder: Folder, content: bytes) -> None:
     assert folder.run(RECIPES["Prepare a list"][2]) == (0, b"".join(shown), b"")
 
 
-def require_reasons(error: List[str]) -> None:
+def require_reasons(error: list[str]) -> None:
     """Require a sentence for each line that isn't taken, and for each that is rewritten."""
     for number, (line, found) in enumerate(TAKEN, 1):
         begin = "list.txt:%d: " % number
@@ -320,7 +320,7 @@ def test_publishing_what_was_decided(folder: Folder) -> None:
 
 
 @pytest.fixture(scope="module")
-def long_list(bb: str, list_machines: Callable[..., List[str]]) -> bytes:
+def long_list(bb: str, list_machines: Callable[..., list[str]]) -> bytes:
     """Some two megabytes of machines that halt, and a line that is refused."""
     verdicts = run_command([bb, "decide", "--steps=1000"], as_lines(list_machines(3))).output.splitlines()
     halts = [line.split()[0] for line in verdicts if line.split()[1] == b"halt"]
@@ -340,7 +340,7 @@ def test_whole_list_is_found_whole(folder: Folder, content: bytes) -> None:
 def test_list_that_is_not_whole_is_noticed(folder: Folder) -> None:
     folder.write("machines.txt", ANYTHING)
     lines = folder.decide(ANYTHING, "--steps=1000").splitlines(keepends=True)
-    broken: Dict[str, List[bytes]] = {
+    broken: dict[str, list[bytes]] = {
         "nothing": [],
         "a gap": lines[:4] + lines[8:],
         "a line left out": lines[:-1],
@@ -355,7 +355,7 @@ def test_list_that_is_not_whole_is_noticed(folder: Folder) -> None:
         assert status == 1 and output.count(b"\n") == 1, name
 
 
-def limits_of(commands: str) -> List[str]:
+def limits_of(commands: str) -> list[str]:
     """Return the words for limits in a recipe's commands."""
     return " ".join(re.findall(r"--(?:steps|cells|depth|nodes) \d+", commands)).split()
 

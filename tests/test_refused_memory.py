@@ -10,7 +10,6 @@ from __future__ import annotations
 import os
 import pathlib
 import subprocess
-from typing import Dict, List, Tuple
 
 import pytest
 from support import require
@@ -98,9 +97,9 @@ def folder(tmp_path_factory: pytest.TempPathFactory) -> pathlib.Path:
     return folder
 
 
-def refuse_in_turn(command: List[str], given: bytes, folder: pathlib.Path) -> List[CommandResult]:
+def refuse_in_turn(command: list[str], given: bytes, folder: pathlib.Path) -> list[CommandResult]:
     """Run a command with each of its allocations refused in turn, and return how it ends."""
-    ends: List[CommandResult] = []
+    ends: list[CommandResult] = []
     trace = folder / "trace"
     while True:
         refusal = {"LD_PRELOAD": str(folder / "refuser.so"), "REFUSE_TRACE": str(trace)}
@@ -113,8 +112,8 @@ def refuse_in_turn(command: List[str], given: bytes, folder: pathlib.Path) -> Li
 
 
 @pytest.mark.parametrize("run", RUNS, ids=[run[0] for run in RUNS])
-def test_refused_allocation(bb: str, cover: str, folder: pathlib.Path, run: Tuple[str, str, int]) -> None:
-    programs: Dict[str, str] = {"bb": bb, "cover": cover}
+def test_refused_allocation(bb: str, cover: str, folder: pathlib.Path, run: tuple[str, str, int]) -> None:
+    programs: dict[str, str] = {"bb": bb, "cover": cover}
     name, *words = run[0].split()
     command, given = [programs[name], *words], INPUTS[run[1]]
     ends, whole = refuse_in_turn(command, given, folder), run_command(command, given, cwd=str(folder))

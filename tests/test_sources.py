@@ -16,7 +16,7 @@ UNTYPED = "python/setup.py"
 PATIENCE = 120
 
 
-def list_files(*words: str) -> List[str]:
+def list_files(*words: str) -> list[str]:
     """List files that git knows, or would."""
     command = ["git", "ls-files", *words]
     names = subprocess.run(
@@ -30,13 +30,13 @@ def first_line(path: str) -> bytes:
         return file.readline(100)
 
 
-def python_files() -> List[str]:
+def python_files() -> list[str]:
     """List all files in Python, with or without the ending."""
     names = list_files("--cached", "--others", "--exclude-standard")
     return [name for name in names if name.endswith(".py") or first_line(name).endswith(b"python3\n")]
 
 
-def executables() -> List[str]:
+def executables() -> list[str]:
     """List the executables that take words: those in Python, and the wrappers."""
     names = [row.split("\t")[1] for row in list_files("--stage") if row.startswith("100755")]
     return [name for name in names if name in WRAPPERS or first_line(name).endswith(b"python3\n")]

@@ -11,7 +11,7 @@ import select
 import subprocess
 import threading
 import time
-from typing import Callable, Iterator, List, Optional, Sequence, Tuple
+from typing import Callable, Iterator, Sequence
 
 import pytest
 from support.program import kind_of
@@ -79,7 +79,7 @@ HINTS = [
 ]
 
 
-def last_shown(command: Sequence[str], given: bytes, output: str = os.devnull) -> Tuple[int, str]:
+def last_shown(command: Sequence[str], given: bytes, output: str = os.devnull) -> tuple[int, str]:
     """Return the status of a command, and what its terminal shows after the last line of progress."""
     with open(output, "wb") as file:
         status, shown = on_terminal(command, given, file)
@@ -98,8 +98,7 @@ def test_failed_reads_are_explained(bb: str, tmp_path: pathlib.Path, words: str,
 
 
 @pytest.mark.parametrize(
-    "word, cause",
-    [("check", "standard output: No space left on device (os error 28)\n"), ("--help", "")],
+    "word, cause", [("check", "standard output: No space left on device (os error 28)\n"), ("--help", "")]
 )
 def test_failed_writes_are_explained(bb: str, word: str, cause: str) -> None:
     expected = (3, "bb: write failed\n" + cause)
@@ -137,14 +136,14 @@ def test_other_words_give_no_hint(bb: str, word: str) -> None:
     assert status == 2 and "write the number" not in shown
 
 
-def parse(form: str, text: str) -> List[str]:
+def parse(form: str, text: str) -> list[str]:
     """Return the groups of a form that a whole text has, '' for those that it lacks."""
     found = re.fullmatch(form, text)
     assert found is not None, "%r isn't of the form %s" % (text, form)
     return list(found.groups(default=""))
 
 
-def progress_lines(shown: str, names: Sequence[str]) -> Iterator[Tuple[Optional[int], List[int]]]:
+def progress_lines(shown: str, names: Sequence[str]) -> Iterator[tuple[int | None, list[int]]]:
     """Yield the lines of progress that a terminal showed: the percent, if any, and each count."""
     for line in re.findall(r"\r([^\r\x1b]+)\x1b\[K", shown):
         percent, what = parse(r"(?:(\d+)% ?)?(.*)", line)
@@ -156,7 +155,7 @@ def progress_lines(shown: str, names: Sequence[str]) -> Iterator[Tuple[Optional[
 
 
 @pytest.fixture(scope="module")
-def progress(bb: str, tmp_path_factory: pytest.TempPathFactory) -> Tuple[int, str, bytes, pathlib.Path]:
+def progress(bb: str, tmp_path_factory: pytest.TempPathFactory) -> tuple[int, str, bytes, pathlib.Path]:
     """The status, what the terminal shows, and the output over a file, so long that it shows two lines."""
     listed = tmp_path_factory.mktemp("progress") / "list"
     times, shown = 1, ""
@@ -169,14 +168,14 @@ def progress(bb: str, tmp_path_factory: pytest.TempPathFactory) -> Tuple[int, st
 
 
 def test_progress_changes_neither_output_nor_status(
-    bb: str, progress: Tuple[int, str, bytes, pathlib.Path]
+    bb: str, progress: tuple[int, str, bytes, pathlib.Path]
 ) -> None:
     status, _, output, listed = progress
     plain = subprocess.run([bb, "decide", *SLOW, str(listed)], capture_output=True)
     assert (plain.returncode, plain.stdout, plain.stderr) == (status, output, b"")
 
 
-def test_progress_over_a_file(progress: Tuple[int, str, bytes, pathlib.Path]) -> None:
+def test_progress_over_a_file(progress: tuple[int, str, bytes, pathlib.Path]) -> None:
     _, shown, output, listed = progress
     lines = list(progress_lines(shown, list(KINDS.values())))
     assert len(lines) >= 2
@@ -191,7 +190,7 @@ def test_progress_over_a_file(progress: Tuple[int, str, bytes, pathlib.Path]) ->
     assert max(map(len, re.split(r"[\r\x1b]", shown))) <= 79
 
 
-def feed(command: Sequence[str], batch: bytes, is_enough: Callable[[bytes], object]) -> Tuple[bytes, int]:
+def feed(command: Sequence[str], batch: bytes, is_enough: Callable[[bytes], object]) -> tuple[bytes, int]:
     """Feed a command by a pipe, batch after batch, until what its terminal shows is enough.
 
     Returns what was shown, and how many batches there were. Standard output is the null device.

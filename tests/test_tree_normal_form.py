@@ -11,7 +11,7 @@ import os
 import pathlib
 import shutil
 import subprocess
-from typing import Callable, Dict, Iterator, List, Optional, Tuple
+from typing import Callable, Iterator
 
 import pytest
 from support import TOP, build, require
@@ -19,7 +19,7 @@ from support.machines import LETTERS, join_groups
 from support.program import run_command
 from support.simulation import simulate
 
-List_ = Callable[..., List[str]]
+List_ = Callable[..., list[str]]
 COUNTS = {1: 3, 2: 61, 3: 5_417, 4: 858_909}
 FIVE_STATES = 181_385_789
 LONGEST = {1: "------", 2: "1RB1LB_1LA---", 3: "1RB---_1LB0RC_1LC1LA", 4: "1RB1LB_1LA0LC_---1LD_1RD0RA"}
@@ -47,7 +47,7 @@ def lister() -> str:
     return str(build("lister", "tools/out/tree_normal_form"))
 
 
-def undefined_met(entries: List[str], symbols: int, steps: int) -> Optional[int]:
+def undefined_met(entries: list[str], symbols: int, steps: int) -> int | None:
     """Return the place of the undefined entry that a machine meets within so many steps, if any."""
     for now in simulate(join_groups(entries, symbols), steps):
         place = (now.state or 0) * symbols + now.tape.get(now.head, 0)
@@ -56,7 +56,7 @@ def undefined_met(entries: List[str], symbols: int, steps: int) -> Optional[int]
     return None
 
 
-def machines_by_definition(entries: List[str], symbols: int, steps: int) -> Iterator[str]:
+def machines_by_definition(entries: list[str], symbols: int, steps: int) -> Iterator[str]:
     """Yield a machine and those that it leads to, by the rules alone: each is run from its first step on."""
     yield join_groups(entries, symbols)
     met = undefined_met(entries, symbols, steps)
@@ -121,7 +121,7 @@ def test_parts_are_together_the_whole(list_machines: List_, states: int, parts: 
 
 @pytest.mark.parametrize("words", [[], ["--part", "2/3"]])
 @pytest.mark.parametrize("every", [1, 2, 7, 1_000, 100_000])
-def test_sample_is_each_so_many_th_line(list_machines: List_, every: int, words: List[str]) -> None:
+def test_sample_is_each_so_many_th_line(list_machines: List_, every: int, words: list[str]) -> None:
     assert list_machines(3, "--every", str(every), *words) == list_machines(3, *words)[every - 1 :: every]
 
 
@@ -148,7 +148,7 @@ def test_closed_pipe_and_full_disk(lister: str) -> None:
 
 
 @pytest.fixture
-def copy(tmp_path: pathlib.Path) -> Dict[str, pathlib.Path]:
+def copy(tmp_path: pathlib.Path) -> dict[str, pathlib.Path]:
     """A copy of the tool, which isn't compiled there: its script, its source and its program."""
     require("rustc")
     (tmp_path / "tools").mkdir()
@@ -159,7 +159,7 @@ def copy(tmp_path: pathlib.Path) -> Dict[str, pathlib.Path]:
     return {**paths, "program": tools / "out" / "tree_normal_form"}
 
 
-def test_compiled_at_its_first_use_and_after_a_change(copy: Dict[str, pathlib.Path]) -> None:
+def test_compiled_at_its_first_use_and_after_a_change(copy: dict[str, pathlib.Path]) -> None:
     script, program = str(copy["script"]), copy["program"]
     at_once = [subprocess.Popen([script, "--help"], stdout=subprocess.DEVNULL) for _ in range(3)]
     assert [process.wait() for process in at_once] == [0, 0, 0]
@@ -170,7 +170,7 @@ def test_compiled_at_its_first_use_and_after_a_change(copy: Dict[str, pathlib.Pa
     assert run_command([script, "--states", "1"]).status == 0 and program.stat().st_mtime_ns > before
 
 
-def test_missing_compiler_is_named(copy: Dict[str, pathlib.Path], tmp_path: pathlib.Path) -> None:
+def test_missing_compiler_is_named(copy: dict[str, pathlib.Path], tmp_path: pathlib.Path) -> None:
     found = tmp_path / "found"
     found.mkdir()
     for name in ("sh", "dirname", "find", "make", "sed", "mkdir"):

@@ -9,7 +9,7 @@ import pathlib
 import signal
 import threading
 import time
-from typing import Any, Callable, Dict, List, NamedTuple, Optional, Tuple
+from typing import Any, Callable, NamedTuple
 
 from .program import LIMITS, SWITCHES, run_command, words_of_plan
 
@@ -86,7 +86,7 @@ COMMAND, SCRIPT = 300, 290
 ENDING = 20
 # A machine that never halts, and limits at which it runs for hours.
 LONG = "0RB---_0LA---"
-ENDLESS: Dict[str, Any] = {"steps": 10**12, "cells": 64, "depth": 9, **{name: False for name in SWITCHES}}
+ENDLESS: dict[str, Any] = {"steps": 10**12, "cells": 64, "depth": 9, **{name: False for name in SWITCHES}}
 # The indexes of unvisited cells and of the head in the palette.
 UNVISITED, HEAD = 10, 11
 
@@ -129,7 +129,7 @@ def format_number(number: int) -> str:
     return "{:,}".format(number).replace("-", "\u2212")
 
 
-def trace(program: str, machine: str, steps: int, cells: int = 65_536) -> List[Row]:
+def trace(program: str, machine: str, steps: int, cells: int = 65_536) -> list[Row]:
     """Return the program's trace, each row with its lowest position."""
     command = [program, "trace", "--upto", str(steps), "--cells", str(cells), "--", machine]
     rows, low = [], 0
@@ -166,7 +166,7 @@ class Page:
         width: int = 1280,
         height: int = 900,
         is_phone: bool = False,
-        cores: Optional[int] = None,
+        cores: int | None = None,
         program: str = "",
     ) -> None:
         # Imported late: without selenium the page's tests are skipped.
@@ -294,9 +294,9 @@ class Page:
         """Click a visible row by its index."""
         self.js("document.querySelectorAll('#shown .row')[arguments[0]].click()", row)
 
-    def rows(self) -> List[List[str]]:
+    def rows(self) -> list[list[str]]:
         """Return the texts of the visible rows."""
-        found: List[List[str]] = self.js(ROWS)
+        found: list[list[str]] = self.js(ROWS)
         return found
 
     def media(self, **features: str) -> None:
@@ -316,19 +316,19 @@ class Page:
         """Return whether the tape soon shows a step; `step` is the beginning of its text."""
         return soon(lambda: self.text("tape-text").startswith("Step %s" % step))
 
-    def state(self) -> Optional[str]:
+    def state(self) -> str | None:
         """Return the state of the run: requested, running, done, stopped or ended."""
-        state: Optional[str] = self.js("return document.getElementById('results').dataset.state")
+        state: str | None = self.js("return document.getElementById('results').dataset.state")
         return state
 
     def wait_until_done(self) -> None:
         """Wait until the run is over."""
         self.until(lambda: self.state() in ("done", "stopped", "ended"))
 
-    def wait_until_drawn(self) -> Dict[str, float]:
+    def wait_until_drawn(self) -> dict[str, float]:
         """Wait until the diagram is drawn, and return the numbers of its view."""
         script = "return {...document.getElementById('diagram').dataset}"
-        drawn: Dict[str, str] = self.until(
+        drawn: dict[str, str] = self.until(
             lambda: (found := self.js(script)).get("state") == "drawn" and found
         )
         return {name: float(value) for name, value in drawn.items() if name != "state"}
@@ -341,7 +341,7 @@ class Page:
         """Return the seconds from a turn of the wheel until the diagram is drawn again."""
         return self.time_drawing(WHEEL, notches, right, down)
 
-    def size(self) -> Tuple[int, int]:
+    def size(self) -> tuple[int, int]:
         """Return the width and height of the diagram's canvas."""
         return self.get("diagram", "clientWidth"), self.get("diagram", "clientHeight")
 
@@ -354,22 +354,22 @@ class Page:
         self.put("tape-step", "value", step)
         self.js("document.getElementById('tape-form').requestSubmit()")
 
-    def colour(self, name: str) -> List[int]:
+    def colour(self, name: str) -> list[int]:
         """Return a colour of the page's style."""
         script = "return getComputedStyle(document.documentElement).getPropertyValue(arguments[0])"
         text = self.js(script, name).strip()
         return [int(text[at : at + 2], 16) for at in (1, 3, 5)]
 
-    def palette(self) -> List[List[int]]:
+    def palette(self) -> list[list[int]]:
         """Return the colours of the symbols, of unvisited cells and of the head."""
         return [self.colour(name) for name in [*map("--s{}".format, range(10)), "--unvisited", "--head"]]
 
-    def pixels(self, places: List[List[float]]) -> List[List[int]]:
+    def pixels(self, places: list[list[float]]) -> list[list[int]]:
         """Return the diagram's colours at places, in page pixels from the picture's corner."""
-        found: List[List[int]] = self.js(PIXELS, places)
+        found: list[list[int]] = self.js(PIXELS, places)
         return found
 
-    def plan(self, plan: Dict[str, Any], mode: str, clean: bool = False) -> None:
+    def plan(self, plan: dict[str, Any], mode: str, clean: bool = False) -> None:
         """Set the fields, missing ones to their defaults."""
         self.click("defaults")
         for name in LIMITS:
@@ -418,11 +418,11 @@ class Page:
         path.unlink()
         return given
 
-    def program_output(self, name: str, plan: Dict[str, Any], given: bytes) -> bytes:
+    def program_output(self, name: str, plan: dict[str, Any], given: bytes) -> bytes:
         """Return the program's output for a list."""
         return run_command([self.program, name, *words_of_plan(plan)], given).output
 
-    def require_same(self, name: str, plan: Dict[str, Any], given: bytes, drop: bool = False) -> bytes:
+    def require_same(self, name: str, plan: dict[str, Any], given: bytes, drop: bool = False) -> bytes:
         """Run a file, and require that the page saves the program's output."""
         self.plan(plan, name)
         self.answer_file(given, drop)
@@ -431,14 +431,14 @@ class Page:
         assert found == wanted, "%s %s differs at byte %s" % (name, plan, first)
         return found
 
-    def requests(self) -> List[str]:
+    def requests(self) -> list[str]:
         """Return the requested addresses, except the page's own."""
         messages = [json.loads(entry["message"])["message"] for entry in self.driver.get_log("performance")]
         sent = [one["params"] for one in messages if one["method"] == "Network.requestWillBeSent"]
         own = ("file://" + self.path, "blob:", "data:", "about:")
         return [one["request"]["url"] for one in sent if not one["request"]["url"].startswith(own)]
 
-    def errors(self) -> List[str]:
+    def errors(self) -> list[str]:
         """Return the errors in the console."""
         return [entry["message"] for entry in self.driver.get_log("browser") if entry["level"] == "SEVERE"]
 

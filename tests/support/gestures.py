@@ -1,10 +1,10 @@
 """Input events by mouse, fingers and keys."""
 
-from typing import Any, Dict, List, Sequence, Tuple
+from typing import Any, Sequence
 
 from .browser import Page
 
-Point = Tuple[float, float]
+Point = tuple[float, float]
 # Key codes by name.
 KEY_NUMBERS = {"Tab": 9, "Enter": 13}
 SHIFT = 8
@@ -39,7 +39,7 @@ def send_touch(page: Page, kind: str, places: Sequence[Point]) -> None:
 
 def press_key(page: Page, name: str, shift: bool = False) -> None:
     """Press a key in the focused element."""
-    words: Dict[str, Any] = {"key": name, "code": name, "windowsVirtualKeyCode": KEY_NUMBERS[name]}
+    words: dict[str, Any] = {"key": name, "code": name, "windowsVirtualKeyCode": KEY_NUMBERS[name]}
     words["modifiers"] = SHIFT if shift else 0
     if name == "Enter":
         words["text"] = "\r"
@@ -53,7 +53,7 @@ def type_text(page: Page, text: str) -> None:
     page.command("Input.insertText", text=text)
 
 
-def points_between(begin: Point, end: Point) -> List[Point]:
+def points_between(begin: Point, end: Point) -> list[Point]:
     """Return the places between two, with the last one."""
     (x, y), (to_x, to_y) = begin, end
     shares = [k / MOVES for k in range(1, MOVES + 1)]
@@ -68,7 +68,7 @@ def window_point(page: Page, right: float, down: float) -> Point:
 
 def drag(page: Page, begin: Point, end: Point) -> None:
     """Drag the mouse from one place of the window to another."""
-    button: Dict[str, Any] = {"button": "left", "buttons": 1, "clickCount": 1}
+    button: dict[str, Any] = {"button": "left", "buttons": 1, "clickCount": 1}
     send_mouse(page, "mouseMoved", begin)
     send_mouse(page, "mousePressed", begin, **button)
     for place in points_between(begin, end):
@@ -93,7 +93,7 @@ def pinch(page: Page, middle: Point, apart: float, then: float) -> None:
     """Move two fingers, one above the other, from one distance to another."""
     x, y = middle
 
-    def places(far: float) -> List[Point]:
+    def places(far: float) -> list[Point]:
         return [(x, y - far / 2), (x, y + far / 2)]
 
     send_touch(page, "touchStart", places(apart))

@@ -1,7 +1,6 @@
 """Times of the page's views of the five-state champion's run, by its own clock."""
 
 import time
-from typing import List
 
 from .browser import Page
 from .machines import CHAMPION
@@ -44,12 +43,12 @@ def zoom_late(page: Page, notches: float) -> float:
     return float(page.time_zoom(notches, RIGHT, min(max(down, 0), height(page) - LOWEST)))
 
 
-def views(page: Page, pause: float) -> List[float]:
+def views(page: Page, pause: float) -> list[float]:
     """Zoom from all steps to a hundred late ones, and back; return the seconds of each view."""
     page.open("#machine=%s&steps=%d" % (CHAMPION, STEPS))
     page.wait_until_drawn()
     time.sleep(1)
-    taken: List[float] = []
+    taken: list[float] = []
     while steps_seen(page) > SEEN and len(taken) < MOST_GESTURES:
         time.sleep(pause)
         taken.append(zoom_late(page, NOTCHES))
@@ -59,12 +58,12 @@ def views(page: Page, pause: float) -> List[float]:
     return taken
 
 
-def traced_views(page: Page, pause: float) -> List[float]:
+def traced_views(page: Page, pause: float) -> list[float]:
     """Zoom at the late step by small turns; return the seconds of each view."""
     page.open("#machine=%s&steps=%d" % (CHAMPION, STEPS))
     page.wait_until_drawn()
     time.sleep(1)
-    taken: List[float] = []
+    taken: list[float] = []
     for _ in range(SMALL_TURNS):
         time.sleep(pause)
         taken.append(zoom_late(page, SMALL_TURN))

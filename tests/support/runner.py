@@ -7,7 +7,7 @@ import contextlib
 import io
 import pathlib
 from concurrent.futures import Executor, Future
-from typing import Any, Callable, Optional, Sequence
+from typing import Any, Callable, Sequence
 
 import budlarem
 from budlarem import Limits
@@ -75,7 +75,7 @@ class Answering(Executor):
         return future
 
 
-def act(action: Callable[[], object], at: Optional[int] = None) -> Answering:
+def act(action: Callable[[], object], at: int | None = None) -> Answering:
     """An executor that acts before each reply, or before the reply with index `at`."""
 
     def change(reply: chunks.ChunkReply, before: int) -> chunks.ChunkReply:

@@ -83,11 +83,7 @@ class Case:
         self.words: list[str] = [word for limits in passes for word in ("--pass", words_of(limits))]
 
     def start(
-        self,
-        *more: str,
-        words: list[str] | None = None,
-        variables: dict[str, str] | None = None,
-        **how: Any,
+        self, *more: str, words: list[str] | None = None, variables: dict[str, str] | None = None, **how: Any
     ) -> Process:
         """Starts a run, which heeds interruptions; standard error is a file."""
         how.setdefault("preexec_fn", restore_signals)

@@ -12,7 +12,7 @@ import pathlib
 import string
 import tarfile
 import textwrap
-from typing import Any, BinaryIO, Dict, Iterator, List, Optional, Tuple
+from typing import Any, BinaryIO, Iterator
 
 from ._files import Checksum, FileTarget
 from .counts import VerdictCounts
@@ -83,8 +83,8 @@ class ArchivedFile:
 class Provenance:
     """The limits of each pass by which verdicts were decided, and the package, as far as known."""
 
-    passes: Tuple[Limits, ...] = ()
-    identity: Optional[Identity] = None
+    passes: tuple[Limits, ...] = ()
+    identity: Identity | None = None
 
 
 @dataclasses.dataclass(frozen=True)
@@ -92,20 +92,20 @@ class Contents:
     """The contents of an archive. The checker confirmed `confirmed` lines; `machines` is the list, if
     given."""
 
-    machines: Optional[ArchivedFile]
+    machines: ArchivedFile | None
     verdicts: ArchivedFile
     counts: VerdictCounts
     provenance: Provenance
     confirmed: int
 
-    def _inputs(self) -> List[ArchivedFile]:
+    def _inputs(self) -> list[ArchivedFile]:
         return [given for given in (self.machines, self.verdicts) if given is not None]
 
-    def _counts(self) -> Dict[str, int]:
+    def _counts(self) -> dict[str, int]:
         kinds = {**self.counts.kinds, "undecided": self.counts.undecided()}
         return {kind: kinds.get(kind, 0) for kind in KINDS}
 
-    def _greatest(self) -> Tuple[int, int, int]:
+    def _greatest(self) -> tuple[int, int, int]:
         """The greatest steps, levels and nodes of claims."""
         most = self.counts.most
         steps = most("halt steps", "cycler second", "translated second")
@@ -114,7 +114,7 @@ class Contents:
     def about(self) -> bytes:
         """The text of `about.json`."""
         decider = self.provenance.identity
-        fields: Dict[str, Any] = {
+        fields: dict[str, Any] = {
             "format": FORMAT,
             "lines": sum(self.counts.kinds.values()),
             "counts": self._counts(),

@@ -8,7 +8,7 @@ import mmap
 import os
 import pathlib
 import struct
-from typing import Any, BinaryIO, Callable, List, NamedTuple, Sequence, Tuple
+from typing import Any, BinaryIO, Callable, NamedTuple, Sequence
 
 from ._version import LIBRARY_BYTES
 
@@ -37,7 +37,7 @@ class LibraryError(OSError):
     """The library `libbb.so` is missing, truncated, or can't be loaded. The text has the paths."""
 
 
-def candidate_paths() -> List[pathlib.Path]:
+def candidate_paths() -> list[pathlib.Path]:
     """The paths of the library: that of the variable BB_LIBRARY alone, if set; else beside this package, then the
     output of `make library` in the repository."""
     named = os.environ.get(VARIABLE)
@@ -126,7 +126,7 @@ class ReplyCheck(NamedTuple):
 
     fits: bool
     lines: int
-    counts: Tuple[int, ...]
+    counts: tuple[int, ...]
 
 
 def validate_replies(lines: bytes, replies: bytes) -> ReplyCheck:

@@ -4,7 +4,6 @@ from __future__ import annotations
 
 import enum
 import unicodedata
-from typing import Optional
 
 # The bytes of a line for the library: no machine or verdict line is longer, and each call gives the same answer
 # to the start of a longer line as to all of it.
@@ -59,7 +58,7 @@ def is_hidden(character: str) -> bool:
     return character in _BLANK or unicodedata.category(character) in _CATEGORIES
 
 
-def first_hidden(text: str) -> Optional[int]:
+def first_hidden(text: str) -> int | None:
     """The index of the first invisible character, if any."""
     return next((place for place, character in enumerate(text) if is_hidden(character)), None)
 

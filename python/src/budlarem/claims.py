@@ -6,7 +6,7 @@ from __future__ import annotations
 import collections
 import dataclasses
 import re
-from typing import Counter, Dict, Iterable, Iterator, List, Optional, Tuple
+from typing import Counter, Iterable, Iterator
 
 from ._text import Words, quote
 from .numbers import number_of, numbers_in
@@ -38,7 +38,7 @@ _NEVER_HALTS = """nonhalt nonhalts nonhalting neverhalts doesnothalt infinite
     cps ngramcps closedpositionset repwl repeatedwordlist ctl closedtapelanguage"""
 _UNDECIDED = "undecided unknown unsolved holdout holdouts"
 # The known words in small letters, without spaces, hyphens and low lines.
-WORDS: Dict[str, Word] = {
+WORDS: dict[str, Word] = {
     **dict.fromkeys(_HALTS.split(), Word.HALTS),
     **dict.fromkeys(_NEVER_HALTS.split(), Word.NEVER_HALTS),
     **dict.fromkeys(_UNDECIDED.split(), Word.UNDECIDED),
@@ -57,12 +57,12 @@ class Claim:
     the word. A refusal has its verdict, and no machine."""
 
     reading: Reading
-    verdict: Optional[Verdict] = None
-    word: Optional[Word] = None
-    trouble: Optional[str] = None
-    steps: Optional[int] = None
-    score: Optional[int] = None
-    unjudged: Tuple[str, ...] = ()
+    verdict: Verdict | None = None
+    word: Word | None = None
+    trouble: str | None = None
+    steps: int | None = None
+    score: int | None = None
+    unjudged: tuple[str, ...] = ()
 
 
 class Claims(Iterator[Claim]):
@@ -70,7 +70,7 @@ class Claims(Iterator[Claim]):
     words of a table."""
 
     def __init__(
-        self, lines: Iterator[Numbered], form: ListForm, words: Optional[Dict[str, Word]] = None
+        self, lines: Iterator[Numbered], form: ListForm, words: dict[str, Word] | None = None
     ) -> None:
         self.skipped: Counter[Skipped] = collections.Counter()
         self._words = WORDS if words is None else words
@@ -91,12 +91,12 @@ class Claims(Iterator[Claim]):
                 self.skipped[skip_kind(line)] += 1
 
 
-def claim_in(number: int, line: str) -> Optional[Claim]:
+def claim_in(number: int, line: str) -> Claim | None:
     """The claim of a line of a text; None for a skipped line."""
     return _claim_of(number, line, ListForm(Form.TEXT), WORDS)
 
 
-def _claim_of(number: int, line: str, form: ListForm, words: Dict[str, Word]) -> Optional[Claim]:
+def _claim_of(number: int, line: str, form: ListForm, words: dict[str, Word]) -> Claim | None:
     """The claim of a line; None for a skipped line."""
     if form.form in (Form.VERDICTS, Form.TEXT):
         claim = _of_verdict_line(number, line)
@@ -113,7 +113,7 @@ def _claim_of(number: int, line: str, form: ListForm, words: Dict[str, Word]) ->
     return _of_text(reading)
 
 
-def _of_verdict_line(number: int, line: str) -> Optional[Claim]:
+def _of_verdict_line(number: int, line: str) -> Claim | None:
     """The claim of a verdict line, which may have fields behind a tab; None for another line."""
     bare, _, fields = line.rstrip("\r").partition("\t")
     try:
@@ -165,7 +165,7 @@ def _verdict_in(machine: str, text: str) -> Verdict:
     return verdict_of(machine, " ".join([kind, *side, *numbers]), whole_number)
 
 
-def _of_row(reading: Reading, layout: Layout, words: Dict[str, Word]) -> Claim:
+def _of_row(reading: Reading, layout: Layout, words: dict[str, Word]) -> Claim:
     """The claim of a record of a table."""
     assert reading.machine is not None and reading.row is not None
     cells = {role: reading.row[place] for role, place in layout.columns.items()}
@@ -193,7 +193,7 @@ def _of_row(reading: Reading, layout: Layout, words: Dict[str, Word]) -> Claim:
         return Claim(reading, trouble=str(error))
 
 
-def _of_halt(reading: Reading, halt: Optional[Halt], steps: Optional[int], score: Optional[int]) -> Claim:
+def _of_halt(reading: Reading, halt: Halt | None, steps: int | None, score: int | None) -> Claim:
     """The claim of a record with these numbers beside a word for halting, or beside a halt. Raises
     ValueError."""
     assert reading.machine is not None
@@ -213,7 +213,7 @@ def plain_word(text: str) -> str:
 
 
 # The names of the meanings in a file of words.
-MEANINGS: Dict[str, Word] = {
+MEANINGS: dict[str, Word] = {
     "halting": Word.HALTS,
     "never halting": Word.NEVER_HALTS,
     "nothing": Word.UNDECIDED,
@@ -222,11 +222,11 @@ MEANINGS: Dict[str, Word] = {
 _MOST_PRINTED, _MOST_COUNTED = 20, 100_000
 
 
-def read_words(path: str) -> Dict[str, Word]:
+def read_words(path: str) -> dict[str, Word]:
     """The known words, with those of a file in place of the package's. Each line of the file is `halting`,
     `never halting` or `nothing`, a colon, and words with commas between them. Raises OSError, ValueError."""
     words = dict(WORDS)
-    given: Dict[str, str] = {}
+    given: dict[str, str] = {}
     with open(path, encoding="utf-8") as file:
         for number, line in enumerate(file, 1):
             if not line.strip() or line.startswith("#"):
@@ -249,13 +249,13 @@ def read_words(path: str) -> Dict[str, Word]:
 class Translation:
     """The count of each word of a column, by its meaning."""
 
-    counts: Dict[str, Counter[str]]
+    counts: dict[str, Counter[str]]
 
     def __str__(self) -> str:
         return "\n".join(self.lines)
 
     @property
-    def lines(self) -> List[str]:
+    def lines(self) -> list[str]:
         """A line for each meaning, the most frequent words first."""
         lines = []
         for name in MEANINGS:
@@ -267,10 +267,10 @@ class Translation:
         return lines
 
 
-def translation_of(claims: Iterable[Claim], layout: Layout, words: Dict[str, Word]) -> Translation:
+def translation_of(claims: Iterable[Claim], layout: Layout, words: dict[str, Word]) -> Translation:
     """The translation of the words in a table's column of verdicts. Whole verdicts in it are no words."""
     column = layout.columns["verdict"]
-    counts: Dict[str, Counter[str]] = {name: collections.Counter() for name in MEANINGS}
+    counts: dict[str, Counter[str]] = {name: collections.Counter() for name in MEANINGS}
     for claim in claims:
         row = claim.reading.row
         if row is None or claim.reading.machine is None or not row[column]:

@@ -3,7 +3,6 @@
 from __future__ import annotations
 
 import dataclasses
-from typing import Union
 
 from .engine import Configuration, check, trace
 from .limits import Limits, in_range, whole
@@ -22,7 +21,7 @@ class Place:
         return "%d %s %d" % (self.step, self.state, self.position)
 
 
-def _confirm(verdict: Union[Halt, Cycler, Translated], cells: int) -> None:
+def _confirm(verdict: Halt | Cycler | Translated, cells: int) -> None:
     """Raises ValueError if the checker doesn't confirm a verdict, LimitsError if it names too many steps."""
     last = verdict.steps if isinstance(verdict, Halt) else max(verdict.first, verdict.second)
     (answer,) = check([verdict], Limits(steps=last, cells=cells, depth=0, nodes=0))

@@ -5,7 +5,7 @@ from __future__ import annotations
 import dataclasses
 import operator
 import re
-from typing import Any, ClassVar, Dict, Tuple
+from typing import Any, ClassVar
 
 from ._text import LONGEST_VALUE
 from .numbers import whole_number
@@ -75,7 +75,7 @@ class Limits:
     depth: int = 300
     nodes: int = 1_000_000
 
-    RANGES: ClassVar[Dict[str, Tuple[int, int]]] = {
+    RANGES: ClassVar[dict[str, tuple[int, int]]] = {
         "steps": (0, 1_000_000_000_000),
         "cells": (1, 67_108_864),
         "depth": (0, 10_000),
@@ -88,7 +88,7 @@ class Limits:
         if 2 * self.depth - 1 > self.cells:
             raise LimitsError("depth", 0, (self.cells + 1) // 2, self.depth)
 
-    def numbers(self) -> Tuple[int, int, int, int]:
+    def numbers(self) -> tuple[int, int, int, int]:
         return self.steps, self.cells, self.depth, self.nodes
 
 
@@ -104,7 +104,7 @@ def words_of(limits: Limits) -> str:
 def limits_of(words: str) -> Limits:
     """The limits of words such as `steps=1000,cells=1024`; the others are the program's. Raises ValueError,
     LimitsError."""
-    found: Dict[str, int] = {}
+    found: dict[str, int] = {}
     # A comma may also separate groups of digits.
     for word in re.split(",(?![0-9]{3}(?:,|$))", words):
         name, _, number = word.partition("=")
@@ -135,5 +135,5 @@ class Plan:
                 parts = (field.name, LONGEST_VALUE, given, type(given).__name__)
                 raise TypeError("%s is %.*r of type %s, but must be True or False" % parts)
 
-    def switches(self) -> Tuple[bool, bool, bool]:
+    def switches(self) -> tuple[bool, bool, bool]:
         return self.cyclers, self.translated, self.backward

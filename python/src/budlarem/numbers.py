@@ -3,7 +3,7 @@
 from __future__ import annotations
 
 import re
-from typing import Iterator, List, Sequence
+from typing import Iterator, Sequence
 
 from ._text import quote
 
@@ -61,7 +61,7 @@ def option_number(text: str) -> int:
         raise ArgumentTypeError("%s; 1000000, 1,000,000, 1_000_000 and 1e6 are" % error) from None
 
 
-def numbers_in(words: Sequence[str], counts: Sequence[int]) -> List[int]:
+def numbers_in(words: Sequence[str], counts: Sequence[int]) -> list[int]:
     """The numbers of these words, each of one word or of several groups. Raises ValueError unless there is one
     way to read them as one of these counts of numbers."""
     ways = [way for way in _ways(list(words), max(counts)) if len(way) in counts]
@@ -71,7 +71,7 @@ def numbers_in(words: Sequence[str], counts: Sequence[int]) -> List[int]:
     return [number_of(text) for text in ways[0]]
 
 
-def _ways(words: List[str], most: int) -> Iterator[List[str]]:
+def _ways(words: list[str], most: int) -> Iterator[list[str]]:
     """The ways to join words to at most so many numbers."""
     if not words:
         yield []

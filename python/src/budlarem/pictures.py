@@ -9,7 +9,7 @@ import math
 import os
 import struct
 import zlib
-from typing import Iterable, List, Optional, Sequence, Tuple, Union
+from typing import Iterable, Sequence
 
 from ._files import name_errors
 from .engine import Configuration, trace
@@ -49,7 +49,7 @@ class Picture:
     is_part: bool
     across: int = 1
 
-    def save(self, path: Union[str, "os.PathLike[str]"]) -> None:
+    def save(self, path: str | os.PathLike[str]) -> None:
         """Writes the PNG file. Raises PictureError for the name of another kind of file, OSError."""
         ending = os.path.splitext(os.fspath(path))[1]
         if ending.lower() not in ("", ".png"):
@@ -70,7 +70,7 @@ def _spacing(last: int, most: int) -> int:
     return every
 
 
-def sample_rows(machine: str, upto: int, cells: int, most: int) -> Tuple[List[Configuration], int]:
+def sample_rows(machine: str, upto: int, cells: int, most: int) -> tuple[list[Configuration], int]:
     """At most `most` steps of a run, evenly spaced, and their distance, a power of two. Only some steps are
     traced for it."""
     every = _spacing(upto, most)
@@ -87,8 +87,8 @@ def sample_rows(machine: str, upto: int, cells: int, most: int) -> Tuple[List[Co
 
 
 def visible_range(
-    chosen: Sequence[Configuration], columns: Optional[int], first: Optional[int], last: Optional[int]
-) -> Tuple[int, int, bool]:
+    chosen: Sequence[Configuration], columns: int | None, first: int | None, last: int | None
+) -> tuple[int, int, bool]:
     """The first and last position shown, and whether these aren't the visited ones: the given ones, else all,
     cut to `columns` about the middle."""
     low = min(row.low for row in chosen)
@@ -175,8 +175,8 @@ def _draw(
     every: int,
     is_cut: bool,
     scale: int,
-    columns: Optional[int],
-    *sides: Optional[int],
+    columns: int | None,
+    *sides: int | None,
 ) -> Picture:
     """The picture of these rows between these sides. Raises PictureError."""
     if not chosen:
@@ -203,11 +203,11 @@ def picture(
     upto: int,
     *,
     cells: int = 65_536,
-    every: Optional[int] = None,
+    every: int | None = None,
     rows: int = 2_000,
-    columns: Optional[int] = None,
-    left: Optional[int] = None,
-    right: Optional[int] = None,
+    columns: int | None = None,
+    left: int | None = None,
+    right: int | None = None,
     scale: int = 1,
 ) -> Picture:
     """The space-time picture of a run of `upto` steps, or as many as there are or the cells allow.

@@ -6,7 +6,7 @@ import contextlib
 import dataclasses
 import itertools
 import os
-from typing import Callable, List, NoReturn, Optional, Sequence, Tuple, Union
+from typing import Callable, NoReturn, Sequence, Union
 
 from ._archive import LINES, LIST, VERDICTS, ArchivedFile, Contents, Provenance, PublishError, write_new
 from ._calls import BatchPace, map_in_order
@@ -49,7 +49,7 @@ class Published:
 
 def _confirm_all(
     verdicts: ArchivedFile, limits: Limits, threads: int, progress: Callable[[int], None]
-) -> Tuple[int, int]:
+) -> tuple[int, int]:
     """Has the checker confirm all verdicts. Returns the number of lines with a claim, and without. Raises
     UnconfirmedError."""
     confirmed, free = 0, 0
@@ -78,7 +78,7 @@ def _raise_unconfirmed(
 def _count_beside(machines: ArchivedFile, verdicts: ArchivedFile) -> VerdictCounts:
     """The counts of verdicts. Raises PublishError unless each belongs to the line of the list at its place."""
     counts = VerdictCounts()
-    refused: List[Tuple[int, bytes, bytes]] = []
+    refused: list[tuple[int, bytes, bytes]] = []
     pairs = itertools.zip_longest(machines.lines(), verdicts.lines())
     for number, (line, verdict) in enumerate(pairs, 1):
         if line is None or verdict is None:
@@ -106,7 +106,7 @@ def _raise_mismatch(machines: ArchivedFile, verdicts: ArchivedFile, number: int,
 
 
 def _require_refused(
-    machines: ArchivedFile, verdicts: ArchivedFile, refused: Sequence[Tuple[int, bytes, bytes]]
+    machines: ArchivedFile, verdicts: ArchivedFile, refused: Sequence[tuple[int, bytes, bytes]]
 ) -> None:
     """Raises PublishError for a line of the list that isn't refused as its verdict says."""
     given = b"".join(line + b"\n" for _, line, _ in refused)
@@ -119,7 +119,7 @@ def _require_refused(
 def publish(
     path: Path,
     verdicts: Path,
-    machines: Optional[Path] = None,
+    machines: Path | None = None,
     *,
     passes: Sequence[Limits] = (),
     limits: Limits = GREATEST,

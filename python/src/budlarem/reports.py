@@ -15,7 +15,7 @@ import os
 import pathlib
 import re
 import string
-from typing import Any, Counter, Dict, Iterable, Iterator, List, Optional, Sequence, Tuple, Union
+from typing import Any, Counter, Iterable, Iterator, Sequence
 
 from ._files import FileTarget, write_blocks
 from .counts import KINDS, VerdictCounts
@@ -63,15 +63,15 @@ class Statistics(VerdictCounts):
     """The counts of a list, the distributions of its numbers, and the `most` smallest undecided machines. Raises
     ValueError with its place for a text that is no verdict line."""
 
-    def __init__(self, verdicts: Iterable[Union[str, Verdict]], most: int) -> None:
+    def __init__(self, verdicts: Iterable[str | Verdict], most: int) -> None:
         super().__init__()
-        self.bins: Dict[str, Counter[int]] = collections.defaultdict(collections.Counter)
-        self.smallest: List[Tuple[int, str]] = []
+        self.bins: dict[str, Counter[int]] = collections.defaultdict(collections.Counter)
+        self.smallest: list[tuple[int, str]] = []
         self._most = most
         for verdict in verdicts_of(verdicts, "verdicts"):
             self.add(str(verdict))
 
-    def _add_numbers(self, kind: str, numbers: Dict[str, int], line: str) -> None:
+    def _add_numbers(self, kind: str, numbers: dict[str, int], line: str) -> None:
         super()._add_numbers(kind, numbers, line)
         for name, number in numbers.items():
             plot = _PLOTTED.get("%s %s" % (kind, name))
@@ -94,7 +94,7 @@ def start_of(place: int) -> float:
     return place - 0.5 if place <= 10 else 10 ** (place / 10)
 
 
-def _import_matplotlib() -> Tuple[Any, Any, Any]:
+def _import_matplotlib() -> tuple[Any, Any, Any]:
     """The parts of matplotlib that a report uses. Raises ReportError."""
     try:
         from matplotlib import rc_context
@@ -170,7 +170,7 @@ class MachineDiagram:
     png: bytes
 
 
-def trace_all(machines: Sequence[str], steps: int, cells: int, threads: int) -> List[MachineDiagram]:
+def trace_all(machines: Sequence[str], steps: int, cells: int, threads: int) -> list[MachineDiagram]:
     """Traces machines for the report, on so many threads, in order."""
 
     def trace_machine(machine: str) -> MachineDiagram:
@@ -262,13 +262,13 @@ def _page(found: Statistics, machines: Sequence[MachineDiagram], title: str) -> 
 
 
 def report(
-    verdicts: Iterable[Union[str, Verdict]],
-    path: Union[str, "os.PathLike[str]"],
+    verdicts: Iterable[str | Verdict],
+    path: str | os.PathLike[str],
     *,
     diagrams: int = 100,
     steps: int = 1_000_000,
     cells: int = 65_536,
-    threads: Optional[int] = None,
+    threads: int | None = None,
     title: str = "Verdicts",
 ) -> Report:
     """Writes one HTML file on a list of verdicts or verdict lines: counts, distributions, the longest runs, and

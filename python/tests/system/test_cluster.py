@@ -9,7 +9,7 @@ import random
 import signal
 import subprocess
 import time
-from typing import Iterator, Tuple
+from typing import Iterator
 
 import pytest
 from support.clusters import Cluster, changed_package, cluster
@@ -94,7 +94,7 @@ WRONG_WORKERS: dict[str, tuple[str, list[tuple[str, str]], str]] = {
 
 
 # A list, and the verdicts of one process for each pass.
-Given = Tuple[bytes, bytes]
+Given = tuple[bytes, bytes]
 
 
 @pytest.fixture(scope="module")

@@ -6,7 +6,7 @@ import itertools
 import random
 import signal
 import sys
-from typing import Iterator, Sequence, Tuple
+from typing import Iterator, Sequence
 
 import budlarem
 import pytest
@@ -15,7 +15,7 @@ from support.machines import mixed_machines
 from support.program import PLANS, ROWS, SIMULATION, as_lines, run_command, options
 from support.runs import WHERE, interrupt
 
-Row = Tuple[int, int, int, int]
+Row = tuple[int, int, int, int]
 MEMORY = """
 import itertools, resource, sys, budlarem
 count = int(sys.argv[1])

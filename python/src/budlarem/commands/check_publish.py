@@ -8,7 +8,6 @@ import os
 import signal
 import sys
 from types import FrameType
-from typing import Optional
 
 from .._text import LONGEST_SHOWN, escape_controls
 from ..limits import Limits, limits_of
@@ -78,7 +77,7 @@ class _Ended(BaseException):
     """A signal that ends the process, once the half archive is removed."""
 
 
-def _raise_ended(number: int, frame: Optional[FrameType]) -> None:
+def _raise_ended(number: int, frame: FrameType | None) -> None:
     raise _Ended(number)
 
 

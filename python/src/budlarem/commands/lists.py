@@ -6,7 +6,7 @@ import argparse
 import collections
 import os
 import sys
-from typing import BinaryIO, Counter, Dict, Iterator, Optional, Union
+from typing import BinaryIO, Counter, Iterator
 
 from ..claims import WORDS, Claims, Translation, Word, read_words
 from ..comparison import Agreement, compare
@@ -39,10 +39,10 @@ class ClaimReader(ListReader):
     """Reads a list of claims. Prints its form, the translation of a table's words, and rewritten, refused and
     skipped lines on standard error."""
 
-    def __init__(self, path: Optional[str], asked: argparse.Namespace) -> None:
+    def __init__(self, path: str | None, asked: argparse.Namespace) -> None:
         super().__init__(path, None, form_of(asked), columns_of(asked))
-        self.words: Dict[str, Word] = WORDS if asked.words is None else read_words(asked.words)
-        self._word_file: Optional[str] = asked.words
+        self.words: dict[str, Word] = WORDS if asked.words is None else read_words(asked.words)
+        self._word_file: str | None = asked.words
 
     def verdicts(self) -> Iterator[Verdict]:
         """The verdict of each line that has one. Raises OSError, ValueError."""
@@ -66,7 +66,7 @@ class ClaimReader(ListReader):
         empty = {Skipped.EMPTY: source.empty} if source.empty else {}
         self.print_skipped(claims.skipped + collections.Counter(empty), source.undecoded)
 
-    def print_translation(self, translation: Optional[Translation]) -> None:
+    def print_translation(self, translation: Translation | None) -> None:
         for line in translation.lines if translation is not None else ():
             self.print_line(line)
 
@@ -87,7 +87,7 @@ def do_compare(asked: argparse.Namespace) -> int:
     return 1 if counts[Agreement.CONTRADICT] else max(first.status, second.status)
 
 
-def require_other_file(out: str, given: Union[str, BinaryIO]) -> None:
+def require_other_file(out: str, given: str | BinaryIO) -> None:
     """Raises ValueError if the output would replace the list."""
     try:
         listed = os.stat(given if isinstance(given, str) else given.fileno())

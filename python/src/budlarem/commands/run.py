@@ -13,7 +13,6 @@ import os
 import signal
 import sys
 from types import FrameType
-from typing import List, Optional
 
 from .._text import escape_controls
 from ..limits import Limits, limits_of
@@ -98,7 +97,7 @@ def install_signal_handlers(progress: Progress, folder: str) -> None:
         signal.SIGHUP: "ended by SIGHUP",
     }
 
-    def end(number: int, frame: Optional[FrameType]) -> None:
+    def end(number: int, frame: FrameType | None) -> None:
         line = "%sbudlarem: %s%s in %s\n"
         line %= (progress.erase_sequence(), words[signal.Signals(number)], _RESUME, escape_controls(folder))
         with contextlib.suppress(OSError):
@@ -181,7 +180,7 @@ def do_run(asked: argparse.Namespace) -> int:
     return 3
 
 
-def _decide_list(asked: argparse.Namespace, passes: List[Limits], progress: Progress) -> int:
+def _decide_list(asked: argparse.Namespace, passes: list[Limits], progress: Progress) -> int:
     """Decides a list; returns 0 or 1. Raises all other errors."""
     backend = _make_backend(asked, progress)
     with contextlib.ExitStack() as stack:

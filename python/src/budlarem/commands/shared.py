@@ -5,7 +5,7 @@ from __future__ import annotations
 import argparse
 import sys
 import textwrap
-from typing import TYPE_CHECKING, BinaryIO, Callable, Iterable, Iterator, Mapping, Optional, Tuple, Union
+from typing import TYPE_CHECKING, BinaryIO, Callable, Iterable, Iterator, Mapping
 
 from .._text import escape_controls, pluralize
 from ..limits import Limits
@@ -37,7 +37,7 @@ _ROLES = {
 }
 
 
-def source_of(path: Optional[str]) -> Union[str, BinaryIO]:
+def source_of(path: str | None) -> str | BinaryIO:
     """The path of a FILE, or standard input."""
     return sys.stdin.buffer if path is None or path == "-" else path
 
@@ -48,9 +48,9 @@ class ListReader:
 
     def __init__(
         self,
-        path: Optional[str],
-        progress: Optional[TerminalLine] = None,
-        form: Optional[Form] = None,
+        path: str | None,
+        progress: TerminalLine | None = None,
+        form: Form | None = None,
         columns: Columns = Columns(),
     ) -> None:
         self.name = "standard input" if path is None or path == "-" else path
@@ -67,7 +67,7 @@ class ListReader:
         """The machines alone."""
         return (reading.machine for reading in self.readings() if reading.machine is not None)
 
-    def print_line(self, text: str, number: Optional[int] = None) -> None:
+    def print_line(self, text: str, number: int | None = None) -> None:
         """Prints a message on the list, or on a line of it."""
         if self._progress is not None:
             self._progress.clear()
@@ -88,7 +88,7 @@ class ListReader:
             is_given = self.form is not None or self.columns != Columns()
             self.print_line(str(form) if is_given else "%s; --form overrides it" % form)
 
-    def print_unused_words(self, form: ListForm, words: Optional[str]) -> None:
+    def print_unused_words(self, form: ListForm, words: str | None) -> None:
         """Prints that the file of `--words` isn't used, if the list is no table."""
         if words is not None and form.layout is None:
             self.print_line("--words is for tables; nothing is translated in the form %s" % form.form)
@@ -134,7 +134,7 @@ class _PrintedReadings(Readings):
         self._reader.print_skipped(self.skipped, self.undecoded)
 
 
-def form_of(asked: argparse.Namespace) -> Optional[Form]:
+def form_of(asked: argparse.Namespace) -> Form | None:
     """The form of `--form`, or None."""
     return None if asked.form is None else Form(asked.form)
 
@@ -170,7 +170,7 @@ def limits_of(asked: argparse.Namespace) -> Limits:
 
 
 def add_number(
-    parser: argparse.ArgumentParser, name: str, help: str, default: Optional[int] = None, metavar: str = "N"
+    parser: argparse.ArgumentParser, name: str, help: str, default: int | None = None, metavar: str = "N"
 ) -> None:
     """Adds an option of a whole number."""
     help += "" if default is None else " (default: {:,})".format(default)
@@ -207,7 +207,7 @@ def add_command(
     do: Callable[[argparse.Namespace], int],
     help: str,
     text: str,
-    columns: Iterable[Tuple[str, str]] = (),
+    columns: Iterable[tuple[str, str]] = (),
     separator: str = "a tab",
 ) -> argparse.ArgumentParser:
     """Adds a command: its function, a line of help, a description, and the columns of its output with their

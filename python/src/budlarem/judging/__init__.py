@@ -4,7 +4,7 @@ from __future__ import annotations
 
 import collections
 import time
-from typing import Counter, Deque, Dict, Iterator, List, Optional, Tuple, Union
+from typing import Counter, Deque, Iterator
 
 from .._text import quote
 from ..claims import WORDS, Claim, Claims, Translation, Word, translation_of
@@ -27,17 +27,17 @@ _TOGETHER, _SECONDS = 4_096, 1.0
 
 def judge(
     theirs: Source,
-    listed: Union[Source, Readings, None] = None,
+    listed: Source | Readings | None = None,
     *,
     limits: Limits = Limits(),
     plan: Plan = Plan(),
     checker: Limits = GREATEST,
-    undefined_steps: Optional[bool] = None,
+    undefined_steps: bool | None = None,
     threads: int = 1,
     progress: ProgressCallback = lambda what, lines: None,
-    form: Optional[Form] = None,
+    form: Form | None = None,
     columns: Columns = Columns(),
-    words: Optional[Dict[str, Word]] = None,
+    words: dict[str, Word] | None = None,
 ) -> Judging:
     """Judges the claim of each line of a list, by the form of the list.
 
@@ -77,8 +77,8 @@ def judge(
 
 
 def translation_in(
-    source: RereadableList, words: Dict[str, Word], progress: ProgressCallback
-) -> Optional[Translation]:
+    source: RereadableList, words: dict[str, Word], progress: ProgressCallback
+) -> Translation | None:
     """The translation of a table's words, if there are any. Raises ValueError if two columns may have the
     verdicts or their numbers."""
     layout = source.form.layout
@@ -94,7 +94,7 @@ class JudgedList:
     """The judged list: its form, the translation of a table's words, and so far the number of skipped
     lines of each kind, and of lines that aren't UTF-8."""
 
-    def __init__(self, source: RereadableList, claims: Claims, translation: Optional[Translation]) -> None:
+    def __init__(self, source: RereadableList, claims: Claims, translation: Translation | None) -> None:
         self.form: ListForm = source.form
         self.translation = translation
         self._source, self._claims = source, claims
@@ -111,7 +111,7 @@ class JudgedList:
 
 def _decide_claims(
     claims: Iterator[Claim], limits: Limits, plan: Plan, threads: int
-) -> Iterator[Tuple[Claim, Optional[Verdict]]]:
+) -> Iterator[tuple[Claim, Verdict | None]]:
     """Each claim with our verdict on its machine, if it has one."""
     waiting: Deque[Claim] = collections.deque()
 
@@ -136,8 +136,8 @@ class Judging(Iterator[Judged]):
 
     def __init__(
         self,
-        decided: Iterator[Tuple[Claim, Optional[Verdict]]],
-        lists: Optional[ListOverlap],
+        decided: Iterator[tuple[Claim, Verdict | None]],
+        lists: ListOverlap | None,
         checker: Limits,
         undefined_steps: bool,
         threads: int,
@@ -158,17 +158,17 @@ class Judging(Iterator[Judged]):
             judged = next(self._held)
         return judged
 
-    def missing(self) -> List[Tuple[int, str]]:
+    def missing(self) -> list[tuple[int, str]]:
         """The machines of the other list that have no line, each with the number of its line there."""
         return [] if self._lists is None else self._lists.missing()
 
-    def foreign(self) -> List[Tuple[int, str]]:
+    def foreign(self) -> list[tuple[int, str]]:
         """The lines with machines missing from the other list: number and machine."""
         return [] if self._lists is None else self._lists.foreign()
 
-    def _judge_batch(self) -> List[Judged]:
+    def _judge_batch(self) -> list[Judged]:
         started = time.monotonic()
-        batch: List[Tuple[Claim, Optional[Verdict], Optional[Judged]]] = []
+        batch: list[tuple[Claim, Verdict | None, Judged | None]] = []
         for claim, ours in self._decided:
             if self._lists is not None:
                 self._lists.add(claim.reading)
@@ -186,7 +186,7 @@ class Judging(Iterator[Judged]):
             return with_steps(claim.verdict)
         return claim.verdict
 
-    def _judge_without_checker(self, claim: Claim, ours: Optional[Verdict]) -> Optional[Judged]:
+    def _judge_without_checker(self, claim: Claim, ours: Verdict | None) -> Judged | None:
         """The judgement of a claim, or None if it needs the checker."""
         if ours is None:
             text = str(claim.reading.reason or "a refusal names no machine")
@@ -225,7 +225,7 @@ class Judging(Iterator[Judged]):
         suffix = " with 1RZ for ---" if halt.machine != ours.machine else ""
         return Judged(Judgement.CONFIRMED, claim, ours, "%s, as ours says%s" % (_words_of(claim), suffix))
 
-    def _judge_by_answer(self, claim: Claim, ours: Optional[Verdict], answer: Answer) -> Judged:
+    def _judge_by_answer(self, claim: Claim, ours: Verdict | None, answer: Answer) -> Judged:
         suffix = " with 1RZ for ---" if self._checked_claim(claim) != claim.verdict else ""
         words = str(claim.verdict).partition(" ")[2]
         if answer is Answer.OK:

@@ -3,7 +3,7 @@
 from __future__ import annotations
 
 import dataclasses
-from typing import Callable, Dict, Iterable, Iterator, List, Optional, Set, Tuple, TypeVar
+from typing import Callable, Iterable, Iterator, TypeVar
 
 from .._text import Words, escape_controls
 from ..claims import Claim
@@ -32,7 +32,7 @@ class Judged:
 
     judgement: Judgement
     claim: Claim
-    ours: Optional[Verdict]
+    ours: Verdict | None
     reason: str
 
     @property
@@ -47,7 +47,7 @@ class Judged:
 
 
 # The number of a line, and its machine.
-NumberedMachine = Tuple[int, str]
+NumberedMachine = tuple[int, str]
 # Called with a description of the work, and the lines done.
 ProgressCallback = Callable[[str, int], None]
 _Item = TypeVar("_Item")
@@ -64,8 +64,8 @@ class ListOverlap:
     """The machines of two lists with their line numbers. Machines of one canonical form are the same."""
 
     def __init__(self, listed: Iterable[Reading], progress: ProgressCallback) -> None:
-        self._listed: Dict[str, int] = {}
-        self._theirs: Dict[str, List[int]] = {}
+        self._listed: dict[str, int] = {}
+        self._theirs: dict[str, list[int]] = {}
         self._progress = progress
         for reading in count_progress(listed, "of the list read", progress):
             if reading.machine is not None:
@@ -76,19 +76,19 @@ class ListOverlap:
         if reading.machine is not None:
             self._theirs.setdefault(reading.machine, []).append(reading.number)
 
-    def missing(self) -> List[NumberedMachine]:
+    def missing(self) -> list[NumberedMachine]:
         """The machines of the list without a line of theirs, each with its first line's number."""
         return [(self._listed[machine], machine) for machine in self._others(self._listed, self._theirs)]
 
-    def foreign(self) -> List[NumberedMachine]:
+    def foreign(self) -> list[NumberedMachine]:
         """Their lines with machines missing from the list."""
         found = self._others(self._theirs, self._listed)
         return sorted((number, machine) for machine in found for number in self._theirs[machine])
 
-    def _others(self, machines: Iterable[str], those: Dict[str, _Item]) -> Iterator[str]:
+    def _others(self, machines: Iterable[str], those: dict[str, _Item]) -> Iterator[str]:
         """The machines that aren't among those, in any form."""
         rest = [machine for machine in machines if machine not in those]
-        forms: Set[str] = set()
+        forms: set[str] = set()
         if rest:
             compared = count_progress(those, "compared by form", self._progress)
             forms.update(canonical_form(machine).text for machine in compared)

@@ -6,7 +6,7 @@ import itertools
 import os
 import stat
 import tempfile
-from typing import IO, Any, Iterator, List, Optional
+from typing import IO, Any, Iterator
 
 from ..reading.files import Lines, Numbered, Source
 from ..reading.forms import ListForm, form_of
@@ -20,12 +20,12 @@ _MOST_BUFFERED = 8_000_000
 class RereadableList:
     """The non-empty lines of a list, to be read more than once. `form` is the list's."""
 
-    def __init__(self, source: Source, form: Optional[Form] = None, columns: Columns = Columns()) -> None:
+    def __init__(self, source: Source, form: Form | None = None, columns: Columns = Columns()) -> None:
         self._source: Any = source
         self._lines = Lines(source)
-        self._ahead: List[Numbered] = []
-        self._buffered: Optional[List[Numbered]] = None
-        self._copy: Optional[IO[bytes]] = None
+        self._ahead: list[Numbered] = []
+        self._buffered: list[Numbered] | None = None
+        self._copy: IO[bytes] | None = None
         self._is_started = False
         self.form: ListForm = form_of(self._lines, self._ahead, form, columns)
 
@@ -66,7 +66,7 @@ class RereadableList:
 
     def _buffer(self) -> None:
         """Reads the list for the first time: holds a short one, copies one that can't be read again."""
-        held: List[Numbered] = []
+        held: list[Numbered] = []
         size = 0
         lines = itertools.chain(self._ahead, self._lines)
         for numbered in lines:

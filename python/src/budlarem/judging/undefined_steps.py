@@ -4,7 +4,7 @@ from __future__ import annotations
 
 import dataclasses
 import itertools
-from typing import Iterable, List, Optional
+from typing import Iterable
 
 from ..claims import Claim
 from ..engine import decide
@@ -47,7 +47,7 @@ def counts_undefined_steps(claims: Iterable[Claim], limits: Limits, checker: Lim
             is_counted = True
 
 
-def _complete_halt(claim: Claim, limits: Limits) -> Optional[Halt]:
+def _complete_halt(claim: Claim, limits: Limits) -> Halt | None:
     """The halt of a record that has one of its numbers; the other is that of the run."""
     machine = claim.reading.machine
     if machine is None or "---" not in machine or (claim.steps is None and claim.score is None):
@@ -61,7 +61,7 @@ def _complete_halt(claim: Claim, limits: Limits) -> Optional[Halt]:
     return Halt(machine, ours.steps if steps is None else steps, ours.score if score is None else score)
 
 
-def _counts_steps(halts: List[Halt], limits: Limits, checker: Limits, threads: int) -> List[bool]:
+def _counts_steps(halts: list[Halt], limits: Limits, checker: Limits, threads: int) -> list[bool]:
     """For each halt that is one at an undefined transition, as far as known: whether it counts a step."""
     verdicts = list(decide([halt.machine for halt in halts], limits, threads=threads))
     pairs = [(halt, ours) for halt, ours in zip(halts, verdicts) if isinstance(ours, (Halt, Undecided))]

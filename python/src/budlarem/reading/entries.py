@@ -4,7 +4,7 @@ from __future__ import annotations
 
 import dataclasses
 import re
-from typing import List, Sequence, Set, Tuple, Union
+from typing import Sequence, Union
 
 from .._text import pluralize, first_hidden, code_point
 from ..verdicts import MOST_SYMBOLS, STATES, is_machine
@@ -33,12 +33,12 @@ class Found:
     """A machine as `bb` reads it, and the rewritings."""
 
     machine: str
-    rewritten: Tuple[Rewriting, ...] = ()
+    rewritten: tuple[Rewriting, ...] = ()
 
 
 Outcome = Union[Found, Reason]
 # The entries of a group, each with its index in the line.
-Group = List[Tuple[int, str]]
+Group = list[tuple[int, str]]
 
 
 def read_words(words: Sequence[Word]) -> Outcome:
@@ -79,9 +79,9 @@ def read_arrays(groups: Sequence[Sequence[Word]]) -> Outcome:
     return _machine(entries, letters | {Rewriting.ARRAYS})
 
 
-def _entries_of_groups(groups: Sequence[Word]) -> Union[List[Group], Reason]:
+def _entries_of_groups(groups: Sequence[Word]) -> list[Group] | Reason:
     """The entries of each group, or why a group has others."""
-    entries: List[Group] = []
+    entries: list[Group] = []
     for place, group in enumerate(groups):
         found = _entries_of(group, sum(map(len, entries)), place, place + 1 < len(groups))
         if isinstance(found, Reason):
@@ -90,7 +90,7 @@ def _entries_of_groups(groups: Sequence[Word]) -> Union[List[Group], Reason]:
     return entries
 
 
-def _entries_of(group: Word, before: int, place: int, is_followed: bool) -> Union[Group, Reason]:
+def _entries_of(group: Word, before: int, place: int, is_followed: bool) -> Group | Reason:
     """The entries of a group behind so many entries and groups; `is_followed`: a `_` or a space follows."""
     if not group.text:
         return Reason("empty-group", "group %d is empty" % (place + 1), group.begin + 1)
@@ -116,7 +116,7 @@ def _no_entry(text: str, number: int, place: int, is_followed: bool) -> Reason:
     return Reason("entry", "entry %d is no entry: %s" % (number, text), place)
 
 
-def _letters(groups: Sequence[Word]) -> Set[Rewriting]:
+def _letters(groups: Sequence[Word]) -> set[Rewriting]:
     """The rewritings of the letters of these groups."""
     text = "".join(group.text for group in groups)
     found = set()
@@ -127,7 +127,7 @@ def _letters(groups: Sequence[Word]) -> Set[Rewriting]:
     return found
 
 
-def _divide(entries: Group, rewritten: Set[Rewriting]) -> Outcome:
+def _divide(entries: Group, rewritten: set[Rewriting]) -> Outcome:
     """The machine of a text without `_`, if one division into groups makes one."""
     count, begin = len(entries), entries[0][0]
     states = [number for number in range(1, len(STATES) + 1) if count % number == 0]
@@ -135,7 +135,7 @@ def _divide(entries: Group, rewritten: Set[Rewriting]) -> Outcome:
     if not sizes:
         sentence = "%s can't be divided into 1 to 25 groups of 2 to 10" % pluralize(count, "entry", "entries")
         return Reason("division", sentence, begin + 1)
-    outcomes: List[Outcome] = []
+    outcomes: list[Outcome] = []
     for number, size in sizes:
         more = {Rewriting.UNDERSCORES} if number > 1 else set()
         groups = [entries[k : k + size] for k in range(0, count, size)]
@@ -150,7 +150,7 @@ def _divide(entries: Group, rewritten: Set[Rewriting]) -> Outcome:
     return Reason("divisions", sentence, begin + 1)
 
 
-def _machine(groups: Sequence[Group], rewritten: Set[Rewriting]) -> Outcome:
+def _machine(groups: Sequence[Group], rewritten: set[Rewriting]) -> Outcome:
     """The machine of these groups."""
     wrong = _wrong_size(groups)
     if wrong is not None:
@@ -174,7 +174,7 @@ def _machine(groups: Sequence[Group], rewritten: Set[Rewriting]) -> Outcome:
     return Found("_".join(texts), tuple(kind for kind in Rewriting if kind in rewritten))
 
 
-def _wrong_size(groups: Sequence[Group]) -> Union[Reason, None]:
+def _wrong_size(groups: Sequence[Group]) -> Reason | None:
     """Why no machine has groups of these lengths, if so."""
     lengths = list(dict.fromkeys(map(len, groups)))
     begin = groups[0][0][0]
@@ -191,7 +191,7 @@ def _wrong_size(groups: Sequence[Group]) -> Union[Reason, None]:
     return None
 
 
-def _wrong_entry(entry: str, number: int, begin: int, states: int, symbols: int) -> Union[Reason, None]:
+def _wrong_entry(entry: str, number: int, begin: int, states: int, symbols: int) -> Reason | None:
     """Why no machine of so many states and symbols has this entry, if so."""
     if entry == "---":
         return None

@@ -8,7 +8,7 @@ import gzip
 import io
 import os
 import zlib
-from typing import Any, BinaryIO, Callable, Iterable, Iterator, Optional, Tuple, Union
+from typing import Any, BinaryIO, Callable, Iterable, Iterator, Union
 
 from .._text import BYTES_KEPT, LONGEST_UNENDED, LONGEST_VALUE
 
@@ -51,7 +51,7 @@ class EndlessLineError(ValueError):
         self.number = number
 
 
-def find_encoding(start: bytes) -> Optional[str]:
+def find_encoding(start: bytes) -> str | None:
     """The encoding or format of a file by its first bytes; None if it may be UTF-8."""
     for mark, name in _MARKS:
         if start.startswith(mark):
@@ -68,7 +68,7 @@ GZIP = b"\x1f\x8b"
 BLOCK = 1 << 19
 _EMPTY = frozenset((b"", b"\r"))
 # A line's number, from 1 on, and its text.
-Numbered = Tuple[int, str]
+Numbered = tuple[int, str]
 Source = Union[str, "os.PathLike[str]", BinaryIO, Iterable[str], Iterable[bytes]]
 
 
@@ -148,7 +148,7 @@ class Lines(Iterator[Numbered]):
                     self.undecoded += 1
                 yield number, text
 
-    def _split_lines(self, file: BytesFile) -> Iterator[Tuple[int, bytes]]:
+    def _split_lines(self, file: BytesFile) -> Iterator[tuple[int, bytes]]:
         """The lines of a file, each cut to BYTES_KEPT bytes. Raises EncodingError, EndlessLineError."""
         number, rest, unended = 1, b"", 0
         block = file.first(4)

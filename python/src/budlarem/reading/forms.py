@@ -5,7 +5,7 @@ from __future__ import annotations
 import collections
 import dataclasses
 import itertools
-from typing import Counter, Iterator, List, Optional
+from typing import Counter, Iterator
 
 from ..verdicts import is_machine
 from .files import Lines, Numbered, Source
@@ -23,16 +23,16 @@ class ListForm:
     """The form of a list, the layout of a table, and whether the form was detected."""
 
     form: Form
-    layout: Optional[Layout] = None
+    layout: Layout | None = None
     is_found: bool = False
 
     def __str__(self) -> str:
         return "form %s" % self.form if self.layout is None else "form %s: %s" % (self.form, self.layout)
 
 
-def find_form(lines: Iterator[Numbered], ahead: List[Numbered]) -> Optional[Form]:
+def find_form(lines: Iterator[Numbered], ahead: list[Numbered]) -> Form | None:
     """The form of the first lines, which are added to `ahead`; None if there are none."""
-    alone: List[str] = []
+    alone: list[str] = []
     verdicts = 0
     for number, line in lines:
         ahead.append((number, line))
@@ -70,7 +70,7 @@ def _is_alone(number: int, bare: str) -> bool:
 
 
 def form_of(
-    lines: Iterator[Numbered], ahead: List[Numbered], form: Optional[Form], columns: Columns
+    lines: Iterator[Numbered], ahead: list[Numbered], form: Form | None, columns: Columns
 ) -> ListForm:
     """The form of a list: the given one, a table if a column is given, or that of its first lines. Raises
     ValueError if the layout of a table isn't known."""
@@ -89,7 +89,7 @@ def form_of(
     return ListForm(form, find_layout(ahead, columns), True)
 
 
-def reading_of(number: int, line: str, form: ListForm) -> Optional[Reading]:
+def reading_of(number: int, line: str, form: ListForm) -> Reading | None:
     """The reading of a line of a list in this form; None for a skipped line."""
     if form.layout is not None:
         return read_row(number, line, form.layout)
@@ -100,11 +100,11 @@ class Readings(Iterator[Reading]):
     """The readings of a list's lines. `form` is the list's; `skipped` counts so far the skipped lines, and
     `undecoded` those that aren't UTF-8."""
 
-    def __init__(self, lines: Source, form: Optional[Form] = None, columns: Columns = Columns()) -> None:
+    def __init__(self, lines: Source, form: Form | None = None, columns: Columns = Columns()) -> None:
         self._source = Lines(lines)
         self._given = form, columns
-        self._form: Optional[ListForm] = None
-        self._ahead: List[Numbered] = []
+        self._form: ListForm | None = None
+        self._ahead: list[Numbered] = []
         self._skipped: Counter[Skipped] = collections.Counter()
         self._readings = self._read()
 

@@ -4,7 +4,7 @@ from __future__ import annotations
 
 import re
 import string
-from typing import List, Optional, Sequence, Tuple
+from typing import List, Sequence
 
 from .._text import LONGEST_LINE, code_point, is_hidden, quote
 from ..verdicts import Refused, Verdict, is_machine, parse
@@ -25,10 +25,10 @@ _STATE = re.compile(
 # The characters of machines, in any spelling.
 OF_MACHINES = frozenset(string.ascii_letters + string.digits + "_-.\\" + SPACES)
 # A text of the line, and its machine or reason.
-Read = Tuple[Text, Outcome]
+Read = tuple[Text, Outcome]
 
 
-def read_line(number: int, line: str, form: Form = Form.TEXT) -> Optional[Reading]:
+def read_line(number: int, line: str, form: Form = Form.TEXT) -> Reading | None:
     """The reading of a line without its newline, in a form other than that of a table; None for a skipped
     line."""
 
@@ -56,7 +56,7 @@ def read_line(number: int, line: str, form: Form = Form.TEXT) -> Optional[Readin
     return _require_alone(reading, bare) if form is Form.MACHINES else reading
 
 
-def verdict_in(bare: str) -> Optional[Verdict]:
+def verdict_in(bare: str) -> Verdict | None:
     """The verdict of a verdict line, which may have fields behind a tab; None of another line."""
     try:
         return parse(bare.partition("\t")[0])
@@ -64,7 +64,7 @@ def verdict_in(bare: str) -> Optional[Verdict]:
         return None
 
 
-def _read_verdict(number: int, line: str, bare: str) -> Optional[Reading]:
+def _read_verdict(number: int, line: str, bare: str) -> Reading | None:
     """The reading of a line in the form of verdicts."""
     verdict = verdict_in(bare)
     if verdict is None and skip_reason(bare) is not None:
@@ -104,7 +104,7 @@ def _read_plain(number: int, line: str) -> Reading:
     return Reading(number, line, found.machine, kinds, before, behind)
 
 
-def _unescape(line: str) -> Tuple[str, Sequence[int]]:
+def _unescape(line: str) -> tuple[str, Sequence[int]]:
     r"""The line with `_` for `\_`, and the place in the line of each of its places, its end too."""
     if "\\_" not in line:
         return line, range(len(line) + 1)
@@ -112,12 +112,12 @@ def _unescape(line: str) -> Tuple[str, Sequence[int]]:
     return "".join(line[place] for place in kept), [*kept, len(line)]
 
 
-def _read(line: str, parts: Parts) -> "List[Read] | Reason":
+def _read(line: str, parts: Parts) -> list[Read] | Reason:
     """The texts of a line that are its one machine, or why there is none."""
     if is_comment_of_machine(line.strip(SPACES)):
         place = parts.texts[0].begin + 1
         return Reason("comment", "a machine in a line that begins as a comment", place)
-    found: List[Read] = []
+    found: list[Read] = []
     for text in parts.texts:
         read = _state_line(line, text) or _read_text(text)
         if isinstance(read, Reason):
@@ -136,7 +136,7 @@ def _read(line: str, parts: Parts) -> "List[Read] | Reason":
     return _single_machine(found)
 
 
-def _state_line(line: str, text: Text) -> Optional[Reason]:
+def _state_line(line: str, text: Text) -> Reason | None:
     """Why a text behind the letter of a state is no machine: it is the line of that state."""
     if "_" in text.written or text.arrays or text.is_address:
         return None
@@ -164,7 +164,7 @@ def _no_text(line: str, parts: Parts) -> Reason:
     return Reason("none", "no machine in this line", place)
 
 
-def _read_text(text: Text) -> "List[Read] | Reason":
+def _read_text(text: Text) -> list[Read] | Reason:
     """The machine of a text; its words by themselves if each is a machine and the text can't be one."""
     if not text.is_last:
         return Reason("none", "no machine in this line", text.words[0].begin + 1)
@@ -188,7 +188,7 @@ def _read_text(text: Text) -> "List[Read] | Reason":
     return alone if is_each and len(machines) > 1 else [(text, together)]
 
 
-def _ambiguous_dots(word: Word) -> Optional[Reason]:
+def _ambiguous_dots(word: Word) -> Reason | None:
     """Why a word is no machine that is one with the dots at an end, and without them too."""
     for start, end in ((0, len(word.text) - 3), (3, len(word.text))):
         dots = word.begin + (end if start == 0 else 0)
@@ -205,7 +205,7 @@ def _several_machines(count: int, place: int) -> Reason:
     return Reason("words", sentence, place)
 
 
-def _single_machine(found: List[Read]) -> "List[Read] | Reason":
+def _single_machine(found: list[Read]) -> list[Read] | Reason:
     """The texts that are one machine, or why they aren't."""
     read = [(text, outcome) for text, outcome in found if isinstance(outcome, Found)]
     is_set_apart = all("_" in text.written for text, _ in read)
@@ -233,7 +233,7 @@ def _single_machine(found: List[Read]) -> "List[Read] | Reason":
     return [(text, outcome) for text, outcome in read]
 
 
-def _span(line: str, read: List[Read]) -> Tuple[int, int]:
+def _span(line: str, read: list[Read]) -> tuple[int, int]:
     """The place of the machine in a line, with enclosing pairs of characters, and with the address of a link
     whose text it is."""
     start, end = read[0][0].begin, read[0][0].end

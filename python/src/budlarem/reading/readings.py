@@ -3,7 +3,6 @@
 from __future__ import annotations
 
 import dataclasses
-from typing import Optional, Tuple
 
 from .._text import Words
 from ..engine import column_of
@@ -124,12 +123,12 @@ class Reading:
 
     number: int
     line: str
-    machine: Optional[str]
-    rewritten: Tuple[Rewriting, ...] = ()
+    machine: str | None
+    rewritten: tuple[Rewriting, ...] = ()
     before: str = ""
     behind: str = ""
-    reason: Optional[Reason] = None
-    row: Optional[Tuple[str, ...]] = None
+    reason: Reason | None = None
+    row: tuple[str, ...] | None = None
 
     @property
     def fields(self) -> str:
@@ -137,7 +136,7 @@ class Reading:
         return "\t".join(part for part in (self.before, self.behind) if part)
 
     @property
-    def column(self) -> Optional[int]:
+    def column(self) -> int | None:
         """The column at which `bb` refuses the line as it stands; None if there is a machine, or `bb` reads one
         that the list's form doesn't allow there. Raises LibraryError."""
         return column_of(self.line) if self.machine is None else None

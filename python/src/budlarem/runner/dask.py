@@ -19,7 +19,7 @@ import time
 import uuid
 import warnings
 from concurrent.futures import CancelledError, Future
-from typing import Any, Callable, Deque, Dict, Mapping, Optional
+from typing import Any, Callable, Deque, Mapping
 
 from .chunks import Job, Numbers, Task, bisect_job
 from .errors import RunError
@@ -56,7 +56,7 @@ class Submission:
     connection: Any
     key: str
     own: Any = None
-    since: Optional[float] = None
+    since: float | None = None
 
 
 class DaskBackend(ExecutorBackend):
@@ -73,13 +73,13 @@ class DaskBackend(ExecutorBackend):
         # It guards the jobs, which dask's thread ends.
         self._lock = threading.RLock()
         # Jobs that dask has, and jobs to submit again.
-        self._submissions: Dict[Job, Submission] = {}
+        self._submissions: dict[Job, Submission] = {}
         self._lost: Deque[Job] = collections.deque()
         # Jobs whose workers died, and their halves. One half at a time is submitted: dask blames all tasks of
         # a dead worker, and only one killed it.
         self._killed: Deque[Job] = collections.deque()
         self._halves: Deque[Job] = collections.deque()
-        self._suspect: Optional[Job] = None
+        self._suspect: Job | None = None
         self._workers, self._threads, self._next = 0, 0, 0.0
         self._missing = ""
         self._client: Any = None
@@ -92,7 +92,7 @@ class DaskBackend(ExecutorBackend):
         except Exception:
             self._report("the scheduler at %s has no page" % self._address)
 
-    def _connect(self) -> Optional[Exception]:
+    def _connect(self) -> Exception | None:
         """Makes a new client; returns the error, if any. A failed client leaves its thread behind, so all use
         the thread of the first one."""
         loop = None if self._client is None else self._client.loop
@@ -152,7 +152,7 @@ class DaskBackend(ExecutorBackend):
             error = cancelled
         self._finish(job, turn, None if error else inner.result(), error)
 
-    def _finish(self, job: Job, turn: int, reply: object, error: Optional[BaseException]) -> None:
+    def _finish(self, job: Job, turn: int, reply: object, error: BaseException | None) -> None:
         """Ends a job, unless its turn is over."""
         with self._lock:
             if turn != job.turn:

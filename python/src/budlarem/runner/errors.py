@@ -2,7 +2,6 @@
 
 from __future__ import annotations
 
-from typing import Optional
 
 from .._text import LONGEST_OF_ERROR
 
@@ -34,7 +33,7 @@ class CheckError(Exception):
 class ReplyError(Exception):
     """The reply for a chunk is invalid. `line` is the index of the line in the chunk, or None."""
 
-    def __init__(self, text: str, line: Optional[int] = None) -> None:
+    def __init__(self, text: str, line: int | None = None) -> None:
         super().__init__(text)
         self.line = line
 

@@ -13,7 +13,7 @@ import re
 import shlex
 import stat
 import string
-from typing import Any, Callable, Dict, Iterable, Iterator, List, Optional, Sequence, Tuple
+from typing import Any, Callable, Iterable, Iterator, Sequence
 
 from .._files import (
     Checksum,
@@ -102,7 +102,7 @@ def _open_pass(top: Directory, name: str) -> Iterator[Directory]:
         yield inside
 
 
-def require_own(top: Directory, known_passes: Optional[int]) -> None:
+def require_own(top: Directory, known_passes: int | None) -> None:
     """Raises FolderError for anything foreign in a folder. `known_passes` is the number of its passes; None
     without a configuration, when each file has to show that it is a run's."""
     names = top.names()
@@ -149,7 +149,7 @@ def require_own_pass(top: Directory, name: str) -> None:
             raise FolderError(text % (inside.path, foreign[0]))
 
 
-def require_other_list(top: Directory, listed: Optional[FileId]) -> None:
+def require_other_list(top: Directory, listed: FileId | None) -> None:
     """Raises FolderError if the list is one of the run's files here."""
     for name in top.names() if listed is not None else ():
         if name in (*FILES, LOCK) or _PART.fullmatch(name):
@@ -162,7 +162,7 @@ def require_other_list(top: Directory, listed: Optional[FileId]) -> None:
                     _require_other(inside, inner, listed)
 
 
-def _require_other(directory: Directory, name: str, listed: Optional[FileId]) -> None:
+def _require_other(directory: Directory, name: str, listed: FileId | None) -> None:
     """Raises FolderError if a name leads to the list, by a link too."""
     with contextlib.suppress(OSError):
         if id_of(os.stat(name, dir_fd=directory.handle)) == listed:
@@ -171,7 +171,7 @@ def _require_other(directory: Directory, name: str, listed: Optional[FileId]) ->
             )
 
 
-def require_separate_list(path: str, list_id: Optional[FileId]) -> None:
+def require_separate_list(path: str, list_id: FileId | None) -> None:
     """Raises FolderError if the list is one of the run's files here."""
     if os.path.isdir(path):
         with contextlib.closing(Directory.open(path)) as top:
@@ -226,12 +226,12 @@ class RunConfig:
     """The configuration of a run. `list_bytes` is known for an uncompressed file, `list_lines` once the first
     pass has seen the end."""
 
-    passes: List[Limits]
+    passes: list[Limits]
     keep: Retention
     identity: Identity
     list_name: str
-    list_bytes: Optional[int] = None
-    list_lines: Optional[int] = None
+    list_bytes: int | None = None
+    list_lines: int | None = None
 
     def text(self) -> str:
         """The text of `run.json`."""
@@ -277,7 +277,7 @@ class RunConfig:
         return "To check the verdicts again, and to publish them:\n\n%s\n    %s" % (check, publish)
 
     @classmethod
-    def read(cls, text: str) -> Optional[RunConfig]:
+    def read(cls, text: str) -> RunConfig | None:
         """The configuration of a text; None if it is truncated. Raises FolderError unless `text` could have
         returned it."""
         if _is_truncated(text):
@@ -323,15 +323,15 @@ class Folder:
     list's file, if it is one. Raises FolderError if another process has the lock, the folder has foreign
     files, or the run would write the list; OSError."""
 
-    def __init__(self, path: str, list_id: Optional[FileId] = None) -> None:
+    def __init__(self, path: str, list_id: FileId | None = None) -> None:
         self.path = path
         if os.path.exists(path) and not os.path.isdir(path):
             raise FolderError("%s is a file; give a folder, which need not exist yet" % path)
         os.makedirs(path, exist_ok=True)
         self._top = Directory.open(path)
-        self._locked: List[int] = []
+        self._locked: list[int] = []
         # The files that may be replaced.
-        self._pins: Dict[str, Pin] = {}
+        self._pins: dict[str, Pin] = {}
         try:
             self._lock()
             require_other_list(self._top, list_id)
@@ -367,7 +367,7 @@ class Folder:
         """The path of a file in it, for messages."""
         return self._top.at(name)
 
-    def read_config(self) -> Optional[RunConfig]:
+    def read_config(self) -> RunConfig | None:
         """Its configuration; None if missing or truncated. Raises FolderError if it was changed, is no file,
         or another version of this package wrote it."""
         require_regular(self._top, (RUN,))
@@ -454,11 +454,11 @@ class Folder:
         self._top.close()
 
 
-def _counts_of(fields: Dict[str, Any]) -> Counts:
+def _counts_of(fields: dict[str, Any]) -> Counts:
     return {kind: int(fields["counts"][kind]) for kind in KINDS}
 
 
-def _checksum_of(fields: Dict[str, Any]) -> Optional[Checksum]:
+def _checksum_of(fields: dict[str, Any]) -> Checksum | None:
     """The checksum of verdicts in a summary; None in one of an earlier version of this package."""
     return None if "verdicts" not in fields else Checksum.of_fields(fields["verdicts"])
 
@@ -471,19 +471,19 @@ class PassSummary:
     lines: int
     chunks: int
     counts: Counts
-    checksum: Optional[Checksum]
+    checksum: Checksum | None
 
 
 @dataclasses.dataclass(frozen=True)
 class RunSummary:
     """The summary of a run. `checksum` covers the verdicts."""
 
-    passes: Tuple[PassSummary, ...]
+    passes: tuple[PassSummary, ...]
     identity: Identity
     kept: str
     lines: int
     counts: Counts
-    checksum: Optional[Checksum]
+    checksum: Checksum | None
 
     @classmethod
     def read(cls, text: str) -> RunSummary:
@@ -574,7 +574,7 @@ class FinishedRun:
         text = "%s doesn't match %s: %s; run that folder's command again, which writes both"
         return FolderError(text % (path, name, why))
 
-    def require_verdicts(self, checksum: Checksum, counts: Dict[str, int]) -> None:
+    def require_verdicts(self, checksum: Checksum, counts: dict[str, int]) -> None:
         """Raises FolderError unless verdicts with this checksum and these counts are those of the summary."""
         known = self.summary.counts
         other = next((kind for kind in known if known[kind] != counts.get(kind, 0)), None)

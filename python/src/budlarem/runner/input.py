@@ -11,7 +11,7 @@ import os
 import select
 import stat
 import zlib
-from typing import Callable, Iterator, List, Optional, Protocol, Tuple, Union
+from typing import Callable, Iterator, Protocol
 
 from .._text import LONGEST_GIVEN, LONGEST_SHOWN, LONGEST_UNENDED, LONGEST_VALUE
 from ..engine import column_of
@@ -119,7 +119,7 @@ class FileLines:
                 return self._advance(line + b"\n", size, 1)
 
 
-def _end_of(held: bytes, start: int, lines: int) -> Tuple[Optional[int], int]:
+def _end_of(held: bytes, start: int, lines: int) -> tuple[int | None, int]:
     """The end of so many lines; None, and the number of missing lines, if there are fewer. It jumps by the
     length of the lines before; as many bytes as lines are missing can't pass the end."""
     jump = lines
@@ -165,7 +165,7 @@ def truncate_lines(lines: bytes) -> bytes:
     return lines
 
 
-def _poll(number: int, milliseconds: Optional[float] = None) -> bool:
+def _poll(number: int, milliseconds: float | None = None) -> bool:
     """Whether an open file has bytes or an end within this time."""
     poll = select.poll()
     poll.register(number, select.POLLIN)
@@ -202,25 +202,25 @@ class ListFile:
         return os.lseek(self._number, 0, os.SEEK_CUR)
 
     @property
-    def size(self) -> Optional[int]:
+    def size(self) -> int | None:
         """The bytes of the file on disk; None for anything else than a regular file."""
         return self._status.st_size if self.is_regular else None
 
     @property
-    def id(self) -> Tuple[int, int]:
+    def id(self) -> tuple[int, int]:
         """The numbers of its device and inode."""
         return self._status.st_dev, self._status.st_ino
 
-    def fraction(self, taken: int) -> Optional[float]:
+    def fraction(self, taken: int) -> float | None:
         """The estimated fraction of the file that so many bytes of the list are; None if unknown."""
         if not self.size:
             return None
         return min((self._offset() if self.is_compressed else taken) / self.size, 1.0)
 
-    def first_lines(self, most: int) -> List[bytes]:
+    def first_lines(self, most: int) -> list[bytes]:
         """Its first lines, each cut to LONGEST_GIVEN bytes; `lines` and `blocks` return them again. None
         if it pauses before so many came. Raises what `blocks` does."""
-        held: List[bytes] = []
+        held: list[bytes] = []
         count, size, is_paused = 0, 0, False
         while count < most and size < most * LONGEST_GIVEN and not is_paused:
             block = next(self._blocks, b"")
@@ -245,7 +245,7 @@ class ListFile:
 
     def _read_blocks(self) -> Iterator[bytes]:
         """The bytes, uncompressed. Raises RunError, also for a line that never ends."""
-        opened: Union[gzip.GzipFile, io.BufferedReader] = self._file
+        opened: gzip.GzipFile | io.BufferedReader = self._file
         if self.is_compressed:
             opened = gzip.GzipFile(fileobj=self._file)
         size = 0
@@ -284,7 +284,7 @@ def require_form(source: ListFile) -> None:
     """Raises FolderError if more than half of the first lines would be refused, RunError if the list can't be
     read."""
     lines = source.first_lines(SAMPLE_LINES)
-    refused: List[Tuple[int, str]] = []
+    refused: list[tuple[int, str]] = []
     for number, line in enumerate(lines, 1):
         text = line.decode("utf-8", "surrogateescape")
         if not is_machine(text):

@@ -7,7 +7,7 @@ import dataclasses
 import queue
 import threading
 import time
-from typing import Iterator, List, Optional
+from typing import Iterator
 
 from .._library import CLEAN, ReplyBuffer
 from ..engine import check_call, decide_call
@@ -39,11 +39,11 @@ class LocalRun(PassRun):
         self._feed, self._pace = threading.Lock(), threading.Lock()
         self._is_stopped = False
         # The error that ended each thread, or None.
-        self._ended: queue.SimpleQueue[Optional[BaseException]] = queue.SimpleQueue()
+        self._ended: queue.SimpleQueue[BaseException | None] = queue.SimpleQueue()
 
     def _decide(self, lines: LineSource) -> None:
         chunks = self._chunker.chunks(lines)
-        workers: List[threading.Thread] = []
+        workers: list[threading.Thread] = []
         for _ in range(self._threads):
             # Daemon threads let the process end in the middle of a machine.
             workers.append(threading.Thread(target=self._work, args=(chunks,), name="budlarem", daemon=True))

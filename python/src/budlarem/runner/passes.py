@@ -10,8 +10,7 @@ import datetime
 import json
 import threading
 import time
-from typing import Any, Callable, Counter, Dict, Iterator, List, NamedTuple, Optional, Protocol, Sequence, Set
-from typing import Tuple
+from typing import Any, Callable, Counter, Iterator, NamedTuple, Protocol, Sequence
 
 from .._files import Checksum
 from ..counts import KINDS, UNDECIDED
@@ -69,9 +68,9 @@ class Chunk:
     first: int
     given: bytes
     lines: int
-    record: Optional[Record] = None
-    written: Optional[bytes] = None
-    kept: Optional[bytes] = None
+    record: Record | None = None
+    written: bytes | None = None
+    kept: bytes | None = None
     is_resumed: bool = False
     seconds: float = 0.0
     submitted: float = 0.0
@@ -89,7 +88,7 @@ class Chunker:
     """Cuts the lines of a pass: chunks of the journal as they are there, others by the pace. `known` is the
     number of lines, if known."""
 
-    def __init__(self, folder: PassFolder, list_name: str, most: ChunkSize, known: Optional[int]) -> None:
+    def __init__(self, folder: PassFolder, list_name: str, most: ChunkSize, known: int | None) -> None:
         self._folder, self._list_name, self._known = folder, list_name, known
         self._most_bytes = most.bytes
         self.pace = ChunkPace(most.lines)
@@ -115,7 +114,7 @@ class Chunker:
             yield Chunk(index, first, given, found, record)
             index, first = index + 1, first + found
 
-    def _room_of(self, record: Optional[Record], index: int, first: int) -> Tuple[int, int, bool]:
+    def _room_of(self, record: Record | None, index: int, first: int) -> tuple[int, int, bool]:
         """The lines and bytes of the next chunk, and whether there must be so many lines."""
         if record is not None:
             return record.lines, _ANY_SIZE, True
@@ -150,13 +149,13 @@ class Writer:
         self._folder, self._most = folder, most
         self._changed = threading.Condition()
         # Chunks that wait, and the bytes of them to be written.
-        self._waiting: Dict[int, Chunk] = {}
+        self._waiting: dict[int, Chunk] = {}
         self._size = 0
         # The next chunk in order, since when it is missing, and later ones that were written ahead.
         self._next, self._since = 0, time.monotonic()
-        self._ahead: Set[int] = set()
+        self._ahead: set[int] = set()
         # Chunks written and not yet synced; the threads that are writing.
-        self._written: List[Chunk] = []
+        self._written: list[Chunk] = []
         self._writing, self._is_closed = 0, False
 
     def add(self, chunk: Chunk) -> None:
@@ -194,15 +193,15 @@ class Writer:
                 while self._writing:
                     self._changed.wait()
 
-    def pop_written(self) -> List[Chunk]:
+    def pop_written(self) -> list[Chunk]:
         """The chunks written since the last call."""
         with self._changed:
             chunks, self._written = self._written, []
         return chunks
 
-    def _pop_ready(self) -> List[Chunk]:
+    def _pop_ready(self) -> list[Chunk]:
         """The chunks whose turn it is, with places."""
-        due: List[Chunk] = []
+        due: list[Chunk] = []
         while self._next in self._waiting or self._next in self._ahead:
             self._ahead.discard(self._next)
             if self._next in self._waiting:
@@ -210,7 +209,7 @@ class Writer:
             self._next, self._since = self._next + 1, time.monotonic()
         return due
 
-    def _pop_all(self) -> List[Chunk]:
+    def _pop_all(self) -> list[Chunk]:
         """All waiting chunks, with places."""
         due = [self._assign_place(self._waiting[index]) for index in sorted(self._waiting)]
         self._ahead.update(self._waiting)
@@ -225,7 +224,7 @@ class Writer:
             chunk.record = dataclasses.replace(chunk.record, place=self._folder.reserve(len(chunk.kept)))
         return chunk
 
-    def _write(self, due: List[Chunk]) -> None:
+    def _write(self, due: list[Chunk]) -> None:
         try:
             for chunk in due:
                 if chunk.kept is not None and chunk.record is not None:
@@ -259,7 +258,7 @@ class PassResult:
         self.is_checked = self.is_checked and record.is_checked
         self.counts.update(record.counts_by_kind())
 
-    def fields(self) -> Dict[str, Any]:
+    def fields(self) -> dict[str, Any]:
         """The fields of a summary."""
         return {
             "limits": dict(zip(Limits.RANGES, self.limits.numbers())),
@@ -290,7 +289,7 @@ class RunOptions:
     identity: Identity
     progress: Progress
     list_name: str
-    most_lines: Optional[int] = None
+    most_lines: int | None = None
     is_checked: bool = False
     is_checked_here: bool = False
     keep: Retention = Retention()
@@ -306,7 +305,7 @@ class Pass:
     limits: Limits
     options: RunOptions
     before: Sequence[PassFolder]
-    known: Optional[int]
+    known: int | None
 
 
 # Bounds of the seconds between two syncs, and the least ratio to the time that one takes.
@@ -404,7 +403,7 @@ class PassRun:
             raise CheckError("%s: the checker answers %s: %s" % (where, error, line)) from None
         chunk.is_confirmed = True
 
-    def _describe_lines(self, first: int, last: Optional[int] = None) -> str:
+    def _describe_lines(self, first: int, last: int | None = None) -> str:
         """The numbers in the list of some lines of the pass, in words; both ends are included."""
         ends, suffix = [first, first if last is None else last], ""
         if self._before and self._options.keep.only_holdouts:
@@ -484,8 +483,8 @@ def _run_passes(folder: Folder, source: ListFile, passes: Sequence[Limits], opti
     started = time.time(), time.monotonic()
     config = start_or_resume(folder, source, passes, options)
     folder.write(README, config.readme(folder.path))
-    results: List[PassResult] = []
-    folders: List[PassFolder] = []
+    results: list[PassResult] = []
+    folders: list[PassFolder] = []
     with contextlib.ExitStack() as stack:
         for number, limits in enumerate(passes, 1):
             folder.require_named()
@@ -514,12 +513,10 @@ def _run_passes(folder: Folder, source: ListFile, passes: Sequence[Limits], opti
     return outcome
 
 
-def _total_estimator(
-    source: ListFile, lines: LineSource, known: Optional[int]
-) -> Callable[[int], Optional[float]]:
+def _total_estimator(source: ListFile, lines: LineSource, known: int | None) -> Callable[[int], float | None]:
     """A function that estimates the total number of lines from those done."""
 
-    def total(done: int) -> Optional[float]:
+    def total(done: int) -> float | None:
         if known is not None:
             return known
         fraction = source.fraction(lines.bytes_taken)
@@ -579,9 +576,9 @@ def summary_of(
     results: Sequence[PassResult],
     outcome: Outcome,
     options: RunOptions,
-    started: Tuple[float, float],
+    started: tuple[float, float],
     checksum: Checksum,
-) -> Dict[str, Any]:
+) -> dict[str, Any]:
     """The fields of the summary. `started` is a time of the wall clock and of the monotonic clock, by which the
     seconds are counted; `checksum` covers the verdicts."""
     seconds = time.monotonic() - started[1]
