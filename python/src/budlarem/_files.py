@@ -9,23 +9,13 @@ from __future__ import annotations
 import contextlib
 import dataclasses
 import errno
+import functools
 import os
 import stat
 import zlib
 from typing import Any, Callable, Iterable, Iterator, Mapping
 
 from .runner.errors import MovedError
-
-
-@contextlib.contextmanager
-def name_errors(path: str | os.PathLike[str]) -> Iterator[None]:
-    """Adds a path to errors without one, as that of a full disk."""
-    try:
-        yield
-    except OSError as error:
-        if error.filename is not None or error.errno is None:
-            raise
-        raise OSError(error.errno, error.strerror, os.fspath(path)) from None
 
 
 PART = ".part"
@@ -52,14 +42,18 @@ def kind_of(status: os.stat_result) -> str:
 
 
 @contextlib.contextmanager
-def _name_path(path: str) -> Iterator[None]:
-    """Gives errors the whole path in place of the last name."""
+def name_errors(path: str | os.PathLike[str], replaces: bool = False) -> Iterator[None]:
+    """Adds a path to errors without one, as that of a full disk; `replaces`: also in place of the last name."""
     try:
         yield
     except OSError as error:
-        if error.errno is None or isinstance(error, KindError):
+        is_named = isinstance(error, KindError) or (error.filename is not None and not replaces)
+        if is_named or error.errno is None:
             raise
-        raise OSError(error.errno, error.strerror, path) from None
+        raise OSError(error.errno, error.strerror, os.fspath(path)) from None
+
+
+_name_path = functools.partial(name_errors, replaces=True)
 
 
 class Pin:
@@ -123,10 +117,9 @@ class Directory:
     def require_named(self) -> None:
         """Raises MovedError unless its path still leads to it."""
         if not self.is_named():
-            raise MovedError(
-                "%s isn't the folder that was opened any more: that one was moved, removed or replaced, and"
-                " nothing is written elsewhere; put it back and run the same command to resume" % self.path
-            )
+            why = "that one was moved, removed or replaced, and nothing is written elsewhere"
+            how = "put it back and run the same command to resume"
+            raise MovedError(f"{self.path} isn't the folder that was opened any more: {why}; {how}")
 
     def status(self, name: str) -> os.stat_result | None:
         """The status of a name itself; None if it is missing."""
@@ -294,8 +287,8 @@ class FileTarget:
         def fill_here(number: int) -> None:
             fill(number)
             if not self._directory.is_named():
-                why = "its folder was moved, removed or replaced meanwhile"
-                raise OSError(errno.ENOENT, why, self._path)
+                moved = "its folder was moved, removed or replaced meanwhile"
+                raise OSError(errno.ENOENT, moved, self._path)
 
         write_atomically(self._directory, self._name, fill_here, self.over).close()
 

@@ -2,6 +2,7 @@
 
 from __future__ import annotations
 
+import contextlib
 import ctypes
 import functools
 import mmap
@@ -43,10 +44,8 @@ def candidate_paths() -> list[pathlib.Path]:
     named = os.environ.get(VARIABLE)
     if named:
         return [pathlib.Path(named)]
-    found = [_HERE / "libbb.so"]
-    if len(_HERE.parents) > 2:
-        found.append(_HERE.parents[2] / "crates" / "bb_c" / "out" / "libbb.so")
-    return found
+    built = [top / "crates" / "bb_c" / "out" / "libbb.so" for top in list(_HERE.parents)[2:3]]
+    return [_HERE / "libbb.so", *built]
 
 
 @functools.lru_cache(maxsize=None)
@@ -55,10 +54,9 @@ def load_library() -> ctypes.CDLL:
     candidates = candidate_paths()
     path = next((place for place in candidates if place.is_file()), None)
     if path is None:
-        raise LibraryError(
-            "libbb.so isn't at %s; install the wheel, build it by `make library`, or set the variable %s to its"
-            " path" % (" nor at ".join(map(str, candidates)), VARIABLE)
-        )
+        places = " nor at ".join(map(str, candidates))
+        how = f"install the wheel, build it by `make library`, or set the variable {VARIABLE} to its path"
+        raise LibraryError(f"libbb.so isn't at {places}; {how}")
     require_whole(path)
     try:
         return ctypes.CDLL(str(path))
@@ -71,42 +69,31 @@ def require_whole(path: pathlib.Path) -> None:
     The size is that of the wheel, or that of the headers."""
     try:
         with open(path, "rb") as file:
-            size = os.fstat(file.fileno()).st_size
-            if path == _HERE / "libbb.so" and LIBRARY_BYTES is not None and size != LIBRARY_BYTES:
-                raise LibraryError(
-                    "%s has %d bytes, and that of this package has %d: it was cut or changed; install the"
-                    " package again" % (path, size, LIBRARY_BYTES)
-                )
-            least = _least_size(file)
-    except struct.error:
-        raise LibraryError(
-            "%s was cut short: it ends in its headers; build or install it again" % path
-        ) from None
-    except LibraryError:
-        raise
+            size, least = os.fstat(file.fileno()).st_size, _least_size(file)
     except OSError as error:
-        raise LibraryError("%s can't be loaded as libbb.so: %s" % (path, error)) from None
-    if size < least:
-        raise LibraryError(
-            "%s was cut short: it has %d bytes, and its headers name %d; build or install it again"
-            % (path, size, least)
-        )
+        raise LibraryError(f"{path} can't be loaded as libbb.so: {error}") from None
+    if path == _HERE / "libbb.so" and LIBRARY_BYTES not in (None, size):
+        why = f"has {size} bytes, and that of this package has {LIBRARY_BYTES}: it was cut or changed"
+        raise LibraryError(f"{path} {why}; install the package again")
+    if least is None or size < least:
+        why = "ends in its headers" if least is None else f"has {size} bytes, and its headers name {least}"
+        raise LibraryError(f"{path} was cut short: it {why}; build or install it again")
 
 
-def _least_size(file: BinaryIO) -> int:
-    """The least size of a 64-bit ELF file by its headers; 0 for other files, which the system refuses to load.
-    Raises struct.error for truncated headers, OSError."""
+def _least_size(file: BinaryIO) -> int | None:
+    """The least size of a 64-bit ELF file by its headers, None if these are truncated; 0 for other files, which the
+    system refuses to load. Raises OSError."""
     head = file.read(_ELF.size)
     if not head.startswith(_ELF_BEGIN):
         return 0
-    fields = _ELF.unpack(head)
-    programs, sections, program_size, programs_count, section_size, sections_count = fields[1:]
-    least: int = max(sections + section_size * sections_count, programs + program_size * programs_count)
-    for place in range(programs_count):
-        file.seek(programs + place * program_size)
-        offset, size = _ELF_PROGRAM.unpack(file.read(_ELF_PROGRAM.size))
-        least = max(least, offset + size)
-    return least
+    with contextlib.suppress(struct.error):
+        _, programs, sections, program_size, programs_count, section_size, count = _ELF.unpack(head)
+        least: int = max(sections + section_size * count, programs + program_size * programs_count)
+        for place in range(programs_count):
+            file.seek(programs + place * program_size)
+            least = max(least, sum(_ELF_PROGRAM.unpack(file.read(_ELF_PROGRAM.size))))
+        return least
+    return None
 
 
 @functools.lru_cache(maxsize=None)

@@ -68,14 +68,14 @@ def code_point(character: str) -> str:
     return "U+%04X" % ord(character)
 
 
-def _name_hidden_character(character: str) -> str:
-    escaped = escape_controls(character)
-    return code_point(character) if escaped == character and is_hidden(character) else escaped
-
-
 def name_hidden(text: str) -> str:
     r"""The text with invisible characters by name: controls as `\x1b`, others as `U+200B`."""
-    return text if text.isascii() and text.isprintable() else "".join(map(_name_hidden_character, text))
+    if text.isascii() and text.isprintable():
+        return text
+    pairs = ((one, escape_controls(one)) for one in text)
+    return "".join(
+        code_point(one) if escaped == one and is_hidden(one) else escaped for one, escaped in pairs
+    )
 
 
 def quote(text: str) -> str:

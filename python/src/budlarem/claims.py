@@ -4,6 +4,7 @@ table's words."""
 from __future__ import annotations
 
 import collections
+import contextlib
 import dataclasses
 import re
 from typing import Counter, Iterable, Iterator
@@ -139,17 +140,13 @@ def _two_statements(first: str, second: str) -> str:
 def _of_text(reading: Reading) -> Claim:
     """The claim of a line of a text: the rest of the line, if that is one verdict."""
     assert reading.machine is not None
-    parts = [part.strip(_MARKS) for part in (reading.before, reading.behind)]
-    rest = [part for part in parts if part]
+    rest = list(filter(None, (part.strip(_MARKS) for part in (reading.before, reading.behind))))
     if not rest:
         return Claim(reading, trouble="nothing is said of the machine")
-    text = " ".join(rest)
-    try:
+    with contextlib.suppress(ValueError):
         if len(rest) == 1:
-            return Claim(reading, _verdict_in(reading.machine, text))
-    except ValueError:
-        pass
-    return Claim(reading, trouble="the rest of the line is no verdict of ours: %s" % quote(text))
+            return Claim(reading, _verdict_in(reading.machine, rest[0]))
+    return Claim(reading, trouble="the rest of the line is no verdict of ours: %s" % quote(" ".join(rest)))
 
 
 def _verdict_in(machine: str, text: str) -> Verdict:
@@ -172,20 +169,18 @@ def _of_row(reading: Reading, layout: Layout, words: dict[str, Word]) -> Claim:
     cell = cells.get("verdict", "")
     if not cell:
         return Claim(reading, trouble="no word says whether it halts")
-    word = words.get(plain_word(cell))
-    try:
-        verdict = None if word is not None else _verdict_in(reading.machine, cell)
-    except ValueError:
-        verdict = None
+    word, verdict = words.get(plain_word(cell)), None
+    if word is None:
+        with contextlib.suppress(ValueError):
+            verdict = _verdict_in(reading.machine, cell)
     if verdict is not None and not isinstance(verdict, Halt):
         return Claim(reading, verdict)
     numbers = tuple(cells[role] for role in ("steps", "score") if cells.get(role))
     if word is Word.NEVER_HALTS:
         return Claim(reading, word=word, unjudged=numbers)
     if verdict is None and word is not Word.HALTS:
-        return Claim(
-            reading, word=word, trouble=None if word is not None else "%s says neither" % quote(cell)
-        )
+        trouble = None if word is not None else "%s says neither" % quote(cell)
+        return Claim(reading, word=word, trouble=trouble)
     try:
         steps, score = (number_of(cells[role]) if cells.get(role) else None for role in ("steps", "score"))
         return _of_halt(reading, verdict, steps, score)
@@ -213,11 +208,7 @@ def plain_word(text: str) -> str:
 
 
 # The names of the meanings in a file of words.
-MEANINGS: dict[str, Word] = {
-    "halting": Word.HALTS,
-    "never halting": Word.NEVER_HALTS,
-    "nothing": Word.UNDECIDED,
-}
+MEANINGS = {"halting": Word.HALTS, "never halting": Word.NEVER_HALTS, "nothing": Word.UNDECIDED}
 # The most words printed of a meaning, and the most different words counted.
 _MOST_PRINTED, _MOST_COUNTED = 20, 100_000
 
@@ -258,12 +249,11 @@ class Translation:
     def lines(self) -> list[str]:
         """A line for each meaning, the most frequent words first."""
         lines = []
-        for name in MEANINGS:
-            counts = self.counts[name]
+        for name, counts in self.counts.items():
             parts = ["%s %d" % (quote(word), count) for word, count in counts.most_common(_MOST_PRINTED)]
-            more = len(counts) - len(parts)
-            text = ", ".join(parts) + (", and %d more words" % more if more > 0 else "")
-            lines.append("%s: %s" % (name, text or "no word"))
+            if len(counts) > len(parts):
+                parts.append("and %d more words" % (len(counts) - len(parts)))
+            lines.append("%s: %s" % (name, ", ".join(parts) or "no word"))
         return lines
 
 

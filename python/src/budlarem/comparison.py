@@ -53,10 +53,10 @@ def agreement(first: Verdict, second: Verdict, undefined_steps: bool = False) ->
     Verdicts that can't both be right contradict each other: halting and never halting, two different halts, a
     cycler and a translated cycler, translated cyclers to both sides, two different trees.
     """
-    if isinstance(first, Undecided) or isinstance(second, Undecided):
-        if isinstance(first, Undecided) and isinstance(second, Undecided):
-            return Agreement.AGREE
+    if isinstance(first, Undecided) != isinstance(second, Undecided):
         return Agreement.SECOND_DECIDES if isinstance(first, Undecided) else Agreement.FIRST_DECIDES
+    if isinstance(first, Undecided):
+        return Agreement.AGREE
     if isinstance(first, Halt) and isinstance(second, Halt):
         agree = _halts_agree(first, second, undefined_steps)
     elif isinstance(first, Translated) and isinstance(second, Translated):

@@ -70,9 +70,8 @@ def at(verdict: Verdict, step: int, cells: int = 65_536) -> Place:
     if step < 0:
         raise ValueError("step is %d, but must be 0 or more" % step)
     if not isinstance(verdict, (Halt, Cycler, Translated)):
-        raise ValueError(
-            "%s doesn't say where its machine is after %d steps; trace() runs a machine" % (verdict, step)
-        )
+        why = f"doesn't say where its machine is after {step} steps; trace() runs a machine"
+        raise ValueError(f"{verdict} {why}")
     if isinstance(verdict, Halt) and step > verdict.steps:
         raise ValueError("the machine halts after %d steps, so it makes no %d" % (verdict.steps, step))
     _confirm(verdict, cells)

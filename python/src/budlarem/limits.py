@@ -23,13 +23,8 @@ class LimitsError(ValueError):
         self.limit, self.lowest, self.highest, self.given = limit, lowest, highest, given
 
     def __str__(self) -> str:
-        text = "%s is %s, but may be %s to %s" % (
-            self.limit,
-            "{:,}".format(self.given),
-            "{:,}".format(self.lowest),
-            "{:,}".format(self.highest),
-        )
-        if self.limit == "depth" and self.given <= 10_000 and self.given >= 0:
+        text = f"{self.limit} is {self.given:,}, but may be {self.lowest:,} to {self.highest:,}"
+        if self.limit == "depth" and 0 <= self.given <= 10_000:
             text += " with so few cells: 2 * depth - 1 may be at most the cells"
         return text
 

@@ -51,10 +51,10 @@ class Picture:
 
     def save(self, path: str | os.PathLike[str]) -> None:
         """Writes the PNG file. Raises PictureError for the name of another kind of file, OSError."""
-        ending = os.path.splitext(os.fspath(path))[1]
+        name = os.fspath(path)
+        ending = os.path.splitext(name)[1]
         if ending.lower() not in ("", ".png"):
-            text = "%s: a picture is a PNG file, so not a name that ends in %s"
-            raise PictureError(text % (os.fspath(path), ending))
+            raise PictureError(f"{name}: a picture is a PNG file, so not a name that ends in {ending}")
         with name_errors(path), open(path, "wb") as file:
             file.write(self.png)
 
@@ -159,24 +159,16 @@ def png(rows: Sequence[bytes], scale: int) -> bytes:
 def _refuse_large(rows: int, columns: int, scale: int) -> None:
     """Raises PictureError for a picture that is too large."""
     pixels = rows * columns * scale**2
-    if pixels <= MOST_PIXELS:
-        return
-    size = "{:,} rows and {:,} columns at scale {:,} are {:,} pixels, more than {:,}".format(
-        rows, columns, scale, pixels, MOST_PIXELS
-    )
-    largest = math.isqrt(MOST_PIXELS // (rows * columns))
-    if largest:
-        raise PictureError("%s; lower scale to %d or less, or rows or columns" % (size, largest))
-    raise PictureError("%s; lower rows or columns" % size)
+    if pixels > MOST_PIXELS:
+        size = f"{rows:,} rows and {columns:,} columns at scale {scale:,} are {pixels:,} pixels"
+        largest = math.isqrt(MOST_PIXELS // (rows * columns))
+        advice = f"lower scale to {largest} or less, or rows or columns"
+        advice = advice if largest else "lower rows or columns"
+        raise PictureError(f"{size}, more than {MOST_PIXELS:,}; {advice}")
 
 
 def _draw(
-    chosen: Sequence[Configuration],
-    every: int,
-    is_cut: bool,
-    scale: int,
-    columns: int | None,
-    *sides: int | None,
+    chosen: list[Configuration], every: int, is_cut: bool, scale: int, columns: int | None, *sides: int | None
 ) -> Picture:
     """The picture of these rows between these sides. Raises PictureError."""
     if not chosen:
@@ -228,11 +220,7 @@ def picture(
             in_range(name, asked, 1, 2**64 - 1)
     sides = [side if side is None else whole(name, side) for name, side in (("left", left), ("right", right))]
     if every is None:
-        chosen, apart = sample_rows(machine, upto, cells, rows)
-        is_cut = False
-    else:
-        apart = in_range("every", every, 1, 2**64 - 1)
-        chosen = list(itertools.islice(trace(machine, upto, cells, every=apart), rows + 1))
-        is_cut = len(chosen) > rows
-        del chosen[rows:]
-    return _draw(chosen, apart, is_cut, scale, columns, *sides)
+        return _draw(*sample_rows(machine, upto, cells, rows), False, scale, columns, *sides)
+    apart = in_range("every", every, 1, 2**64 - 1)
+    chosen = list(itertools.islice(trace(machine, upto, cells, every=apart), rows + 1))
+    return _draw(chosen[:rows], apart, len(chosen) > rows, scale, columns, *sides)

@@ -4,11 +4,12 @@ from __future__ import annotations
 
 import argparse
 import collections
+import contextlib
 import os
 import sys
 from typing import BinaryIO, Counter, Iterator
 
-from ..claims import WORDS, Claims, Translation, Word, read_words
+from ..claims import WORDS, Claims, read_words
 from ..comparison import Agreement, compare
 from ..judging import Judgement, judge, translation_in
 from ..judging.rereadable import RereadableList
@@ -41,7 +42,7 @@ class ClaimReader(ListReader):
 
     def __init__(self, path: str | None, asked: argparse.Namespace) -> None:
         super().__init__(path, None, form_of(asked), columns_of(asked))
-        self.words: dict[str, Word] = WORDS if asked.words is None else read_words(asked.words)
+        self.words = WORDS if asked.words is None else read_words(asked.words)
         self._word_file: str | None = asked.words
 
     def verdicts(self) -> Iterator[Verdict]:
@@ -63,12 +64,9 @@ class ClaimReader(ListReader):
             else:
                 why = claim.trouble or "no verdict of %s" % claim.reading.machine
                 self.refuse(claim.reading.number, "refused: %s" % why)
-        empty = {Skipped.EMPTY: source.empty} if source.empty else {}
-        self.print_skipped(claims.skipped + collections.Counter(empty), source.undecoded)
-
-    def print_translation(self, translation: Translation | None) -> None:
-        for line in translation.lines if translation is not None else ():
-            self.print_line(line)
+        self.print_skipped(
+            claims.skipped + collections.Counter({Skipped.EMPTY: source.empty}), source.undecoded
+        )
 
 
 def do_compare(asked: argparse.Namespace) -> int:
@@ -89,28 +87,19 @@ def do_compare(asked: argparse.Namespace) -> int:
 
 def require_other_file(out: str, given: str | BinaryIO) -> None:
     """Raises ValueError if the output would replace the list."""
-    try:
+    with contextlib.suppress(OSError):
         listed = os.stat(given if isinstance(given, str) else given.fileno())
-        written = os.stat(out)
-    except OSError:
-        return
-    if os.path.samestat(listed, written):
-        raise ValueError("--out %s is the list itself, which would be replaced; give another name" % out)
+        if os.path.samestat(listed, os.stat(out)):
+            raise ValueError("--out %s is the list itself, which would be replaced; give another name" % out)
 
 
 def do_report(asked: argparse.Namespace) -> int:
     """Writes one HTML file on a list of verdict lines."""
     reader = ClaimReader(asked.file, asked)
     require_other_file(asked.out, reader.source)
-    report(
-        reader.verdicts(),
-        asked.out,
-        diagrams=asked.diagrams,
-        steps=asked.steps,
-        cells=asked.cells,
-        threads=asked.threads,
-        title=asked.title or os.path.basename(asked.file or "Verdicts"),
-    )
+    numbers = {name: getattr(asked, name) for name in ("diagrams", "steps", "cells", "threads")}
+    title = asked.title or os.path.basename(asked.file or "Verdicts")
+    report(reader.verdicts(), asked.out, title=title, **numbers)
     return reader.status
 
 
@@ -184,8 +173,7 @@ def do_judge(asked: argparse.Namespace) -> int:
     )
     theirs = judging.theirs
     reader.print_form(theirs.form)
-    for line in theirs.translation.lines if theirs.translation is not None else ():
-        reader.print_line(line)
+    reader.print_translation(theirs.translation)
     reader.print_unused_words(theirs.form, asked.words)
     counts: Counter[Judgement] = collections.Counter()
     for judged in judging:

@@ -3,12 +3,14 @@
 from __future__ import annotations
 
 import argparse
+import dataclasses
 import sys
 import textwrap
 from typing import TYPE_CHECKING, BinaryIO, Callable, Iterable, Iterator, Mapping
 
 from .._text import escape_controls, pluralize
-from ..limits import Limits
+from ..claims import Translation
+from ..limits import GREATEST, Limits
 from ..numbers import option_number
 from ..reading import Columns, Form, ListForm, Reading, Readings, Skipped
 from ..runner.progress import TerminalLine
@@ -88,6 +90,11 @@ class ListReader:
             is_given = self.form is not None or self.columns != Columns()
             self.print_line(str(form) if is_given else "%s; --form overrides it" % form)
 
+    def print_translation(self, translation: Translation | None) -> None:
+        """Prints the translation of a table's words, if there are any."""
+        for line in translation.lines if translation is not None else ():
+            self.print_line(line)
+
     def print_unused_words(self, form: ListForm, words: str | None) -> None:
         """Prints that the file of `--words` isn't used, if the list is no table."""
         if words is not None and form.layout is None:
@@ -158,11 +165,14 @@ def add_form(parser: argparse.ArgumentParser, roles: Iterable[str] = ("machine",
 def add_claims_form(parser: argparse.ArgumentParser) -> None:
     """Adds the options for the form of a list of claims, and the words of a table."""
     add_form(parser, _ROLES)
-    parser.add_argument(
-        "--words",
-        metavar="FILE",
-        help="words of a table: lines such as `halting: yes, true`, `never halting: no` and `nothing: open`",
-    )
+    help = "words of a table: lines such as `halting: yes, true`, `never halting: no` and `nothing: open`"
+    parser.add_argument("--words", metavar="FILE", help=help)
+
+
+def add_passes(parser: argparse.ArgumentParser, help: str) -> None:
+    """Adds `--pass`, the limits of a pass; it may be repeated."""
+    metavar = "steps=N,cells=N,depth=N,nodes=N"
+    parser.add_argument("--pass", action="append", dest="passes", metavar=metavar, help=help)
 
 
 def limits_of(asked: argparse.Namespace) -> Limits:
@@ -190,11 +200,11 @@ def add_greatest_limits(parser: argparse.ArgumentParser) -> None:
 
 def greatest_limits(asked: argparse.Namespace) -> Limits:
     """The given limits; the others are the greatest that go with the cells. Raises LimitsError."""
-    given = {name: getattr(asked, name) for name in Limits.RANGES}
-    highest = {name: most for name, (_, most) in Limits.RANGES.items()}
-    cells = highest["cells"] if given["cells"] is None else given["cells"]
+    given = {name: getattr(asked, name) for name in Limits.RANGES if getattr(asked, name) is not None}
+    highest = dataclasses.asdict(GREATEST)
+    cells = given.get("cells", highest["cells"])
     highest["depth"] = max(min(highest["depth"], (cells + 1) // 2), 0)
-    return Limits(**{name: highest[name] if given[name] is None else given[name] for name in given})
+    return Limits(**{**highest, **given})
 
 
 def add_file(parser: argparse.ArgumentParser) -> None:

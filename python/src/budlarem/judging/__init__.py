@@ -11,7 +11,7 @@ from ..claims import WORDS, Claim, Claims, Translation, Word, translation_of
 from ..comparison import Agreement, agreement
 from ..engine import decide
 from ..limits import GREATEST, Limits, Plan
-from ..reading import Columns, Form, ListForm, Readings, Skipped, read
+from ..reading import Columns, Form, Readings, Skipped, read
 from ..reading.files import Source
 from ..verdicts import Answer, Halt, Refused, Undecided, Verdict
 from ..verification import answers_of
@@ -95,14 +95,12 @@ class JudgedList:
     lines of each kind, and of lines that aren't UTF-8."""
 
     def __init__(self, source: RereadableList, claims: Claims, translation: Translation | None) -> None:
-        self.form: ListForm = source.form
-        self.translation = translation
+        self.form, self.translation = source.form, translation
         self._source, self._claims = source, claims
 
     @property
     def skipped(self) -> Counter[Skipped]:
-        empty = self._source.empty
-        return self._claims.skipped + collections.Counter({Skipped.EMPTY: empty} if empty else {})
+        return self._claims.skipped + collections.Counter({Skipped.EMPTY: self._source.empty})
 
     @property
     def undecoded(self) -> int:

@@ -118,8 +118,7 @@ class Readings(Iterator[Reading]):
     @property
     def skipped(self) -> Counter[Skipped]:
         """The number of skipped lines of each kind so far."""
-        empty = self._source.empty
-        return self._skipped + collections.Counter({Skipped.EMPTY: empty} if empty else {})
+        return self._skipped + collections.Counter({Skipped.EMPTY: self._source.empty})
 
     @property
     def undecoded(self) -> int:

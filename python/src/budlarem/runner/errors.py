@@ -42,11 +42,8 @@ class FatalLineError(Exception):
     """Every worker that decided a line died. `line` is its index in the chunk."""
 
     def __init__(self, line: int) -> None:
-        super().__init__(line)
+        super().__init__("every worker that decided it died")
         self.line = line
-
-    def __str__(self) -> str:
-        return "every worker that decided it died"
 
 
 def describe_error(error: BaseException) -> str:

@@ -15,17 +15,8 @@ import stat
 import string
 from typing import Any, Callable, Iterable, Iterator, Sequence
 
-from .._files import (
-    Checksum,
-    Directory,
-    FileId,
-    KindError,
-    Pin,
-    id_of,
-    kind_of,
-    write_atomically,
-    write_blocks,
-)
+from .._files import Checksum, Directory, FileId, KindError, Pin, id_of, kind_of, write_atomically
+from .._files import write_blocks
 from .._text import escape_controls
 from ..counts import KINDS
 from ..limits import Limits, limits_of, words_of
@@ -82,10 +73,9 @@ def _require_kind(directory: Directory, name: str, kind: int) -> None:
     """Raises FolderError for a name that leads to something else than `kind`, a regular file or a folder."""
     status = directory.status(name)
     if status is not None and stat.S_IFMT(status.st_mode) != kind:
-        raise FolderError(
-            "%s is %s, and a run has a %s there; take it away, or give another folder"
-            % (directory.at(name), kind_of(status), "folder" if kind == stat.S_IFDIR else "file")
-        )
+        found, wanted = kind_of(status), "folder" if kind == stat.S_IFDIR else "file"
+        why = f"is {found}, and a run has a {wanted} there; take it away, or give another folder"
+        raise FolderError(f"{directory.at(name)} {why}")
 
 
 def require_regular(directory: Directory, names: Sequence[str]) -> None:
@@ -110,7 +100,7 @@ def require_own(top: Directory, known_passes: int | None) -> None:
     if known_passes is None:
         foreign = next(_foreign_names(top, names, bool(passes)), None)
         if foreign is not None:
-            raise FolderError("%s has other files in it, as %s; give an empty folder" % (top.path, foreign))
+            raise _foreign_error(top, foreign)
     require_regular(top, (*FILES, LOCK))
     for name in passes:
         if known_passes is None:
@@ -118,6 +108,10 @@ def require_own(top: Directory, known_passes: int | None) -> None:
         elif int(name[len(_PASS_PREFIX) :]) <= known_passes:
             with _open_pass(top, name) as inside:
                 require_regular(inside, (KEPT, JOURNAL))
+
+
+def _foreign_error(directory: Directory, name: str) -> FolderError:
+    return FolderError(f"{directory.path} has other files in it, as {name}; give an empty folder")
 
 
 def _foreign_names(top: Directory, names: Sequence[str], has_passes: bool) -> Iterator[str]:
@@ -134,9 +128,8 @@ def require_own_pass(top: Directory, name: str) -> None:
     with _open_pass(top, name) as inside:
         names = inside.names()
         if _OLD_CHUNK in names:
-            raise FolderError(
-                "%s has chunks that another version of this package wrote; give another folder" % top.path
-            )
+            why = "has chunks that another version of this package wrote; give another folder"
+            raise FolderError(f"{top.path} {why}")
         require_regular(inside, (KEPT, JOURNAL))
         foreign = [one for one in names if one not in (KEPT, JOURNAL) and not _is_leftover(inside, one)]
         output = inside.status(KEPT)
@@ -145,8 +138,7 @@ def require_own_pass(top: Directory, name: str) -> None:
         elif JOURNAL not in names and output is not None and output.st_size:
             foreign.append(KEPT)
         if foreign:
-            text = "%s has other files in it, as %s; give an empty folder"
-            raise FolderError(text % (inside.path, foreign[0]))
+            raise _foreign_error(inside, foreign[0])
 
 
 def require_other_list(top: Directory, listed: FileId | None) -> None:
@@ -166,9 +158,8 @@ def _require_other(directory: Directory, name: str, listed: FileId | None) -> No
     """Raises FolderError if a name leads to the list, by a link too."""
     with contextlib.suppress(OSError):
         if id_of(os.stat(name, dir_fd=directory.handle)) == listed:
-            raise FolderError(
-                "the list is %s, which a run in that folder writes; give another" % directory.at(name)
-            )
+            path = directory.at(name)
+            raise FolderError(f"the list is {path}, which a run in that folder writes; give another")
 
 
 def require_separate_list(path: str, list_id: FileId | None) -> None:
@@ -411,10 +402,8 @@ class Folder:
         try:
             yield
         except FileExistsError:
-            raise RunError(
-                "%s was made or replaced by another process while the run worked, and stays as it is;"
-                " take it away" % self.at(name)
-            ) from None
+            why = "was made or replaced by another process while the run worked, and stays as it is"
+            raise RunError(f"{self.at(name)} {why}; take it away") from None
 
     def write_verdicts(self, only: PassFolder) -> None:
         """Writes the verdicts of a run of one pass. Raises RunError, OSError."""
@@ -454,13 +443,10 @@ class Folder:
         self._top.close()
 
 
-def _counts_of(fields: dict[str, Any]) -> Counts:
-    return {kind: int(fields["counts"][kind]) for kind in KINDS}
-
-
-def _checksum_of(fields: dict[str, Any]) -> Checksum | None:
-    """The checksum of verdicts in a summary; None in one of an earlier version of this package."""
-    return None if "verdicts" not in fields else Checksum.of_fields(fields["verdicts"])
+def _figures_of(fields: dict[str, Any]) -> tuple[int, Counts, Checksum | None]:
+    """Lines, counts and checksum of a summary or a pass in it; no checksum by an earlier version of this package."""
+    checksum = Checksum.of_fields(fields["verdicts"]) if "verdicts" in fields else None
+    return int(fields["lines"]), {kind: int(fields["counts"][kind]) for kind in KINDS}, checksum
 
 
 @dataclasses.dataclass(frozen=True)
@@ -468,8 +454,8 @@ class PassSummary:
     """A pass in a summary. `checksum` covers the output of its chunks."""
 
     limits: Limits
-    lines: int
     chunks: int
+    lines: int
     counts: Counts
     checksum: Checksum | None
 
@@ -489,18 +475,10 @@ class RunSummary:
     def read(cls, text: str) -> RunSummary:
         """The summary of a text. Raises ValueError, KeyError, TypeError."""
         fields = json.loads(text)
-        passes = tuple(
-            PassSummary(
-                Limits(**one["limits"]),
-                int(one["lines"]),
-                int(one["pieces"]),
-                _counts_of(one),
-                _checksum_of(one),
-            )
-            for one in fields["passes"]
-        )
-        kept, lines = str(parse_retention([fields["kept"]])), int(fields["lines"])
-        return cls(passes, Identity.of_fields(fields), kept, lines, _counts_of(fields), _checksum_of(fields))
+        pairs = ((Limits(**one["limits"]), one) for one in fields["passes"])
+        passes = tuple(PassSummary(limits, int(one["pieces"]), *_figures_of(one)) for limits, one in pairs)
+        kept = str(parse_retention([fields["kept"]]))
+        return cls(passes, Identity.of_fields(fields), kept, *_figures_of(fields))
 
 
 class FinishedRun:
@@ -521,9 +499,7 @@ class FinishedRun:
     def _read(self) -> RunSummary:
         path = self._top.path
         if self._top.status(RUN) is None:
-            raise FolderError(
-                "%s is a folder, but not of `budlarem run`; give a file of verdict lines" % path
-            )
+            raise FolderError(f"{path} is a folder, but not of `budlarem run`; give a file of verdict lines")
         for name in (SUMMARY, VERDICTS):
             if self._top.status(name) is None:
                 raise FolderError("%s has no %s: that run isn't finished; resume it" % (path, name))
@@ -534,9 +510,8 @@ class FinishedRun:
         except KindError as error:
             raise FolderError(str(error)) from None
         except (ValueError, KeyError, TypeError) as error:
-            raise FolderError(
-                "%s isn't as a run writes it: %s; run its command again" % (self._top.at(SUMMARY), error)
-            ) from None
+            why = f"isn't as a run writes it: {error}; run its command again"
+            raise FolderError(f"{self._top.at(SUMMARY)} {why}") from None
 
     def require_journals(self) -> None:
         """Raises FolderError if the journal of a pass is there, and isn't of this run; OSError."""
@@ -567,22 +542,19 @@ class FinishedRun:
             why = "it has %d lines, and the summary has %d" % (lines, one.lines)
         elif not why and one.checksum not in (None, checksum):
             why = "its chunks aren't those of the summary"
-        if why:
-            raise self._mismatch(os.path.join(self._top.at(pass_name(number)), JOURNAL), SUMMARY, why)
+        self._require_match(os.path.join(pass_name(number), JOURNAL), SUMMARY, why)
 
-    def _mismatch(self, path: str, name: str, why: str) -> FolderError:
-        text = "%s doesn't match %s: %s; run that folder's command again, which writes both"
-        return FolderError(text % (path, name, why))
+    def _require_match(self, name: str, other: str, why: str) -> None:
+        """Raises FolderError if there is a reason why two files don't match."""
+        if why:
+            text = "%s doesn't match %s: %s; run that folder's command again, which writes both"
+            raise FolderError(text % (self._top.at(name), other, why))
 
     def require_verdicts(self, checksum: Checksum, counts: dict[str, int]) -> None:
         """Raises FolderError unless verdicts with this checksum and these counts are those of the summary."""
-        known = self.summary.counts
-        other = next((kind for kind in known if known[kind] != counts.get(kind, 0)), None)
-        why = ""
-        if other is not None:
-            why = "it counts %d %s, and there are %d" % (known[other], other, counts.get(other, 0))
-        elif self.summary.checksum not in (None, checksum):
-            why = "the bytes differ"
-        if why:
-            raise self._mismatch(self._top.at(SUMMARY), VERDICTS, why)
+        for kind, known in self.summary.counts.items():
+            why = "it counts %d %s, and there are %d" % (known, kind, counts.get(kind, 0))
+            self._require_match(SUMMARY, VERDICTS, why if known != counts.get(kind, 0) else "")
+        is_same = self.summary.checksum in (None, checksum)
+        self._require_match(SUMMARY, VERDICTS, "" if is_same else "the bytes differ")
         self._top.require_named()

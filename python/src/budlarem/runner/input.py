@@ -253,8 +253,8 @@ class ListFile:
             for block in iter(lambda: opened.read1(BLOCK), b""):
                 size = size + len(block) if block.rfind(b"\n") < 0 else 0
                 if size > LONGEST_UNENDED:
-                    text = "%s has a line of more than {:,} bytes and no newline; a list has a machine a line"
-                    raise RunError(text.format(LONGEST_UNENDED) % self.name)
+                    text = f"has a line of more than {LONGEST_UNENDED:,} bytes and no newline"
+                    raise RunError(f"{self.name} {text}; a list has a machine a line")
                 yield block
         except (OSError, EOFError, zlib.error) as error:
             kind = "as gzip" if self.is_compressed else "to its end"
@@ -265,10 +265,9 @@ class ListFile:
         """Raises RunError if the file has changed since it was opened."""
         now, then = os.fstat(self._number), self._status
         if self.is_regular and (now.st_size, now.st_mtime_ns) != (then.st_size, then.st_mtime_ns):
-            raise RunError(
-                "%s changed while it was read (from %d to %d bytes); run again with the list as it was,"
-                " or with another folder" % (self.name, then.st_size, now.st_size)
-            )
+            sizes = f"from {then.st_size} to {now.st_size} bytes"
+            how = "run again with the list as it was, or with another folder"
+            raise RunError(f"{self.name} changed while it was read ({sizes}); {how}")
 
     def close(self) -> None:
         self._file.close()
@@ -283,22 +282,14 @@ SAMPLE_LINES = 1_000
 def require_form(source: ListFile) -> None:
     """Raises FolderError if more than half of the first lines would be refused, RunError if the list can't be
     read."""
-    lines = source.first_lines(SAMPLE_LINES)
-    refused: list[tuple[int, str]] = []
-    for number, line in enumerate(lines, 1):
-        text = line.decode("utf-8", "surrogateescape")
-        if not is_machine(text):
-            refused.append((number, text))
+    lines = [line.decode("utf-8", "surrogateescape") for line in source.first_lines(SAMPLE_LINES)]
+    refused = [(number, line) for number, line in enumerate(lines, 1) if not is_machine(line)]
     if 2 * len(refused) > len(lines):
         number, text = refused[0]
-        raise FolderError(
-            "%d of the first %d lines of %s would be refused, so nothing was decided; line %d: %.*r: %s."
-            " `budlarem read LIST` writes the machines of a list in other forms"
-            % (
-                *(len(refused), len(lines), source.name, number),
-                *(LONGEST_SHOWN, text, refusal_reason(number, text)),
-            )
-        )
+        count = f"{len(refused)} of the first {len(lines)} lines of {source.name} would be refused"
+        line = "line %d: %.*r: %s" % (number, LONGEST_SHOWN, text, refusal_reason(number, text))
+        advice = "`budlarem read LIST` writes the machines of a list in other forms"
+        raise FolderError(f"{count}, so nothing was decided; {line}. {advice}")
 
 
 def refusal_reason(number: int, line: str) -> str:

@@ -302,10 +302,8 @@ class PassFolder:
         return record
 
     def _changed_error(self, index: int) -> RunError:
-        return RunError(
-            "chunk %d in %s was cut or changed since the journal recorded it; run again to decide it again"
-            % (index + 1, self.path)
-        )
+        why = "was cut or changed since the journal recorded it; run again to decide it again"
+        return RunError(f"chunk {index + 1} in {self.path} {why}")
 
     def checksum(self) -> Checksum:
         """The checksum of all output in the list's order, by the journal. Raises RunError."""
@@ -358,13 +356,11 @@ class PassFolder:
 
     def restore(self) -> None:
         """Moves the file of the chunks back into this folder if it is `verdicts.txt`. Raises OSError."""
-        if not self.is_renamed:
-            return
-        if self.has_name():
+        if self.is_renamed and self.has_name():
             self._inside.install(VERDICTS, KEPT, None, self._top)
             self.is_renamed = False
             self.journal.clear_rename_mark()
-        else:
+        elif self.is_renamed:
             self._copy_chunks()
 
 

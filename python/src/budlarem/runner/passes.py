@@ -10,7 +10,7 @@ import datetime
 import json
 import threading
 import time
-from typing import Any, Callable, Counter, Iterator, NamedTuple, Protocol, Sequence
+from typing import Any, Callable, Counter, Iterator, NamedTuple, NoReturn, Protocol, Sequence
 
 from .._files import Checksum
 from ..counts import KINDS, UNDECIDED
@@ -105,10 +105,10 @@ class Chunker:
             given = lines.take(count, size)
             found = lines.lines_taken - before
             if (record is not None and not record.fits(given)) or (is_fixed and found != count):
-                raise self._mismatch(first, count, found)
+                self._raise_mismatch(first, count, found)
             known = self._known
             if known is not None and (first + found > known or (not found and first < known)):
-                raise self._other_list("that one had %d lines" % known)
+                self._raise_other_list(f"that one had {known} lines")
             if not given:
                 return
             yield Chunk(index, first, given, found, record)
@@ -124,17 +124,19 @@ class Chunker:
         chunks, count = gap
         return -(-count // chunks), _ANY_SIZE, True
 
-    def _other_list(self, why: str) -> FolderError:
+    def _raise_other_list(self, why: str) -> NoReturn:
         text = "%s isn't the list that this folder was started with; give that list, or another folder: %s"
-        return FolderError(text % (self._list_name, why))
+        raise FolderError(text % (self._list_name, why))
 
-    def _mismatch(self, first: int, count: int, found: int) -> FolderError:
+    def _raise_mismatch(self, first: int, count: int, found: int) -> NoReturn:
         if self._folder.number > 1:
-            text = "%s was decided from other lines than the holdouts of the pass before; remove it and run again"
-            return FolderError(text % self._folder.path)
-        if found < count:
-            return self._other_list("it ends after line %d" % (first + found))
-        return self._other_list("lines %d to %d differ" % (first + 1, first + count))
+            text = (
+                "was decided from other lines than the holdouts of the pass before; remove it and run again"
+            )
+            raise FolderError(f"{self._folder.path} {text}")
+        is_short = found < count
+        lines = f"lines {first + 1} to {first + count} differ"
+        self._raise_other_list(f"it ends after line {first + found}" if is_short else lines)
 
 
 # Chunks wait for earlier ones at most so many seconds, and so many bytes of them.
@@ -190,8 +192,7 @@ class Writer:
             self._write(due)
         finally:
             with self._changed:
-                while self._writing:
-                    self._changed.wait()
+                self._changed.wait_for(lambda: not self._writing)
 
     def pop_written(self) -> list[Chunk]:
         """The chunks written since the last call."""
@@ -261,7 +262,7 @@ class PassResult:
     def fields(self) -> dict[str, Any]:
         """The fields of a summary."""
         return {
-            "limits": dict(zip(Limits.RANGES, self.limits.numbers())),
+            "limits": dataclasses.asdict(self.limits),
             "lines": self.lines,
             "counts": {kind: self.counts[kind] for kind in KINDS},
             "pieces": self.chunks,
@@ -369,9 +370,9 @@ class PassRun:
         chunk.seconds = record.milliseconds / 1_000
         if self._needs_check(chunk):
             if self._options.keep.only_holdouts:
+                how = "resume without --check, or start again with it in another folder"
                 raise FolderError(
-                    "%s: verdicts were dropped before they were checked; resume without --check, or start"
-                    " again with it in another folder" % self._folder.path
+                    f"{self._folder.path}: verdicts were dropped before they were checked; {how}"
                 )
             chunk.written = kept
         return True
@@ -384,9 +385,8 @@ class PassRun:
         if chunk.record is None and chunk.written is not None:
             self._options.on_verdicts(chunk.written)
             chunk.kept = self._options.keep.select(chunk.written)
-            chunk.record = Record.of(
-                chunk.first, chunk.lines, chunk.given, chunk.kept, chunk.seconds, chunk.counts
-            )
+            data, seconds, counts = (chunk.given, chunk.kept), chunk.seconds, chunk.counts
+            chunk.record = Record.of(chunk.first, chunk.lines, *data, seconds, counts)
         if chunk.record is not None:
             chunk.record = dataclasses.replace(chunk.record, is_checked=chunk.is_confirmed)
         self._writer.add(chunk)
@@ -463,9 +463,8 @@ class Outcome:
 
     def __str__(self) -> str:
         undecided, refused = sum(self.counts[kind] for kind in UNDECIDED), self.counts["refused"]
-        return "{:,} lines: {:,} decided, {:,} undecided, {:,} refused".format(
-            self.lines, self.lines - undecided - refused, undecided, refused
-        )
+        decided = self.lines - undecided - refused
+        return f"{self.lines:,} lines: {decided:,} decided, {undecided:,} undecided, {refused:,} refused"
 
 
 def run(folder: Folder, source: ListFile, passes: Sequence[Limits], options: RunOptions) -> Outcome:
@@ -537,11 +536,9 @@ def start_or_resume(
         folder.write_config(config)
         return config
     _require_same(folder, config, passes, options)
-    if size is not None and config.list_bytes is not None and size != config.list_bytes:
-        raise FolderError(
-            "%s isn't the list that %s was started with; give that list, or another folder:"
-            " it has %d bytes, and that one had %d" % (source.name, folder.path, size, config.list_bytes)
-        )
+    if size is not None and config.list_bytes not in (None, size):
+        text = f"{source.name} isn't the list that {folder.path} was started with; give that list, or another"
+        raise FolderError(f"{text} folder: it has {size} bytes, and that one had {config.list_bytes}")
     folder.require_free(range(len(config.passes) + 1, len(passes) + 1))
     if list(passes) != config.passes:
         config.passes = list(passes)
@@ -555,20 +552,17 @@ def _require_same(folder: Folder, config: RunConfig, passes: Sequence[Limits], o
     def text_of(passes: Sequence[Limits]) -> str:
         return " ".join("--pass " + words_of(limits) for limits in passes)
 
-    sentence = ""
-    if config.identity.library != options.identity.library:
-        sentence = "another library: %s; here is %s; install that one, or give another folder"
-        sentence %= (config.identity, options.identity)
+    sentence, ours = "", options.identity
+    if config.identity.library != ours.library:
+        advice = "install that one, or give another folder"
+        sentence = f"another library: {config.identity}; here is {ours}; {advice}"
     elif list(passes[: len(config.passes)]) != config.passes:
-        sentence = (
-            "other passes: %s; here are %s; give the same ones, and more behind them, or another folder"
-        )
-        sentence %= (text_of(config.passes), text_of(passes))
+        advice = "give the same ones, and more behind them, or another folder"
+        sentence = f"other passes: {text_of(config.passes)}; here are {text_of(passes)}; {advice}"
     elif config.keep != options.keep:
-        sentence = "--keep %s; here is --keep %s; give the same, or another folder"
-        sentence %= (config.keep, options.keep)
+        sentence = f"--keep {config.keep}; here is --keep {options.keep}; give the same, or another folder"
     if sentence:
-        raise FolderError("%s was started with %s" % (folder.path, sentence))
+        raise FolderError(f"{folder.path} was started with {sentence}")
 
 
 def summary_of(
