@@ -16,7 +16,7 @@ from typing import Any, BinaryIO, Iterator
 
 from ._files import Checksum, FileTarget
 from .counts import VerdictCounts
-from .limits import Limits, words_of
+from .limits import GREATEST, Limits, words_of
 from .reading.files import BlockReader
 from .runner.chunks import Identity, identity
 from .runner.input import StreamLines, ListFile
@@ -129,11 +129,9 @@ class Contents:
     def _check_statement(self) -> str:
         """A statement of what was checked."""
         total = sum(self.counts.kinds.values())
-        sentences = [
-            "When this archive was made, Budlarem's checker confirmed each line that claims something: {:,}"
-            " of {:,}.".format(self.confirmed, total),
-            "The checker is proved to confirm no false claim, whatever its origin.",
-        ]
+        first = "When this archive was made, Budlarem's checker confirmed each line that claims something"
+        sentences = [f"{first}: {self.confirmed:,} of {total:,}."]
+        sentences.append("The checker is proved to confirm no false claim, whatever its origin.")
         if self.machines is not None:
             sentences.append("Each line of list.txt has its verdict on the same line of verdicts.txt.")
         if self.provenance.passes:
@@ -159,9 +157,8 @@ class Contents:
             "commit": own.commit,
             "files": "\n".join("  %-13s %s" % (name, _FILES[name]) for name in names),
             "checked": self._check_statement(),
-            "bb_limits": "--steps %d --cells %d --depth %d --nodes %d"
-            % (steps, Limits.RANGES["cells"][1], levels, nodes),
-            "recheck_limits": "--steps %d --nodes %d" % (steps, nodes),
+            "bb_limits": f"--steps {steps} --cells {GREATEST.cells} --depth {levels} --nodes {nodes}",
+            "recheck_limits": f"--steps {steps} --nodes {nodes}",
         }
         page = (_HERE / "archive.txt").read_text(encoding="utf-8")
         return string.Template(page).substitute(fields).encode()
@@ -180,15 +177,11 @@ class Contents:
                 size = inputs[name].checksum.size if name in inputs else len(small[name])
                 member = _member("%s/%s" % (folder, name), size)
                 blocks = inputs[name].blocks() if name in inputs else iter([small[name]])
-                reader = io.BufferedReader(_reader_of(blocks), _BYTES)
+                reader = io.BufferedReader(BlockReader(lambda size: next(blocks, b"")), _BYTES)
                 archive.addfile(member, reader)
                 # The end of a file is read too, where its sha256 is compared.
                 if reader.read(1):
                     raise PublishError(_CHANGED % name)
-
-
-def _reader_of(blocks: Iterator[bytes]) -> BlockReader:
-    return BlockReader(lambda size: next(blocks, b""))
 
 
 def _member(name: str, size: int) -> tarfile.TarInfo:

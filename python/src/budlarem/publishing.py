@@ -99,10 +99,9 @@ def _count_beside(machines: ArchivedFile, verdicts: ArchivedFile) -> VerdictCoun
 def _raise_mismatch(machines: ArchivedFile, verdicts: ArchivedFile, number: int, line: bytes) -> NoReturn:
     """Raises the error for a line of the list that has another verdict."""
     shown = repr(line[:LONGEST_SHOWN].decode("utf-8", "backslashreplace"))
-    raise PublishError(
-        "%s:%d: line %d of %s isn't the verdict on %s; the list has one machine a line, as `budlarem read`"
-        " writes them, in the order of the verdicts" % (machines.path, number, number, verdicts.path, shown)
-    )
+    advice = "the list has one machine a line, as `budlarem read` writes them, in the order of the verdicts"
+    what = f"line {number} of {verdicts.path} isn't the verdict on {shown}"
+    raise PublishError(f"{machines.path}:{number}: {what}; {advice}")
 
 
 def _require_refused(
@@ -174,9 +173,8 @@ def _provenance_of(run: FinishedRun) -> Provenance:
     """The provenance of a run's verdicts. Raises PublishError if it kept only some, FolderError if its journals
     don't match."""
     if run.summary.kept != str(Retention()):
-        raise PublishError(
-            "%s has only the verdicts that --keep %s kept, and all are published; decide the list without"
-            " --keep, in another folder" % (os.path.dirname(run.verdicts), run.summary.kept)
-        )
+        what = f"has only the verdicts that --keep {run.summary.kept} kept, and all are published"
+        advice = "decide the list without --keep, in another folder"
+        raise PublishError(f"{os.path.dirname(run.verdicts)} {what}; {advice}")
     run.require_journals()
     return Provenance(tuple(one.limits for one in run.summary.passes), run.summary.identity)

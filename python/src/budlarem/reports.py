@@ -53,10 +53,9 @@ class Report:
 
     def _repr_html_(self) -> str:
         # A frame keeps the styles of the page and the notebook apart.
-        return (
-            '<iframe title="%s" srcdoc="%s" style="width:100%%;height:40rem;border:1px solid #8886"></iframe>'
-            % (html.escape(self.title), html.escape(self.html))
-        )
+        title, page = html.escape(self.title), html.escape(self.html)
+        style = "width:100%;height:40rem;border:1px solid #8886"
+        return f'<iframe title="{title}" srcdoc="{page}" style="{style}"></iframe>'
 
 
 class Statistics(VerdictCounts):
@@ -101,10 +100,8 @@ def _import_matplotlib() -> tuple[Any, Any, Any]:
         from matplotlib.figure import Figure
         from matplotlib.ticker import MaxNLocator
     except ImportError as error:
-        raise ReportError(
-            "a report needs matplotlib (%s): pip install matplotlib, or on Debian apt install"
-            " python3-matplotlib" % error
-        ) from None
+        how = "pip install matplotlib, or on Debian apt install python3-matplotlib"
+        raise ReportError(f"a report needs matplotlib ({error}): {how}") from None
     return rc_context, Figure, MaxNLocator
 
 
@@ -114,9 +111,9 @@ def plot(counts: Counter[int], name: str) -> str:
     with rc_context({"svg.hashsalt": name, "svg.fonttype": "none", "font.size": 9, "text.color": _INK}):
         figure = figure_of(figsize=(4.6, 2.4), layout="constrained")
         axes = figure.subplots()
-        starts = [start_of(place) for place in sorted(counts)]
-        ends = [start_of(place + 1) for place in sorted(counts)]
-        heights = [counts[place] for place in sorted(counts)]
+        places = sorted(counts)
+        starts, ends = list(map(start_of, places)), [start_of(place + 1) for place in places]
+        heights = [counts[place] for place in places]
         widths = [0.9 * (end - start) for start, end in zip(starts, ends)]
         lefts = [start + width / 18 for start, width in zip(starts, widths)]
         axes.bar(lefts, heights, widths, align="edge", color=_BAR)
@@ -184,21 +181,14 @@ def trace_all(machines: Sequence[str], steps: int, cells: int, threads: int) -> 
         pool.shutdown(wait=False, cancel_futures=True)
 
 
-def _number(number: float) -> str:
-    return "{:,}".format(number)
-
-
 def _counts(found: Statistics) -> Iterator[str]:
     total = sum(found.kinds.values())
     for name in KINDS:
         count = found.kinds[name]
         share = 100 * count / total if total else 0
-        yield (
-            '<tr><th scope="row">%s</th><td>%s</td><td>%.2f %%</td>'
-            '<td class="share"><span style="width:%.2f%%"></span></td></tr>'
-            % (name, _number(count), share, share)
-        )
-    yield '<tr class="all"><th scope="row">all</th><td>%s</td><td></td><td></td></tr>' % _number(total)
+        bar = f'<td class="share"><span style="width:{share:.2f}%"></span></td>'
+        yield f'<tr><th scope="row">{name}</th><td>{count:,}</td><td>{share:.2f} %</td>{bar}</tr>'
+    yield f'<tr class="all"><th scope="row">all</th><td>{total:,}</td><td></td><td></td></tr>'
 
 
 def _longest(found: Statistics) -> Iterator[str]:
@@ -211,14 +201,10 @@ def _longest(found: Statistics) -> Iterator[str]:
 
 def _card(one: MachineDiagram) -> str:
     """A diagram with its caption."""
-    image = base64.b64encode(one.png).decode()
-    caption = "%s cells, last step %s" % (_number(one.growth.visited[-1]), _number(one.growth.steps))
-    machine = html.escape(one.machine)
-    return (
-        '<figure class="card"><img loading="lazy" alt="Space-time diagram of %s" '
-        'src="data:image/png;base64,%s">'
-        "<figcaption><code>%s</code><br>%s</figcaption></figure>" % (machine, image, machine, caption)
-    )
+    machine, data = html.escape(one.machine), base64.b64encode(one.png).decode()
+    image = f'<img loading="lazy" alt="Space-time diagram of {machine}" src="data:image/png;base64,{data}">'
+    caption = f"<code>{machine}</code><br>{one.growth.visited[-1]:,} cells, last step {one.growth.steps:,}"
+    return f'<figure class="card">{image}<figcaption>{caption}</figcaption></figure>'
 
 
 def _groups(machines: Sequence[MachineDiagram]) -> Iterator[str]:
@@ -228,7 +214,7 @@ def _groups(machines: Sequence[MachineDiagram]) -> Iterator[str]:
         group.sort(key=lambda one: (math.prod(size_of(one.machine)), one.growth.visited[-1], one.machine))
         if group:
             cards = "".join(map(_card, group))
-            yield '<h3>%s: %s</h3><div class="cards">%s</div>' % (_GROWTHS[kind], _number(len(group)), cards)
+            yield f'<h3>{_GROWTHS[kind]}: {len(group):,}</h3><div class="cards">{cards}</div>'
 
 
 _DIAGRAMS = (
@@ -248,8 +234,8 @@ _GROWTHS = {
 def _page(found: Statistics, machines: Sequence[MachineDiagram], title: str) -> str:
     undecided = "No machine is left undecided."
     if found.undecided():
-        pair = _number(len(machines)), _number(found.undecided())
-        undecided = "%s of %s undecided machines are shown." % pair + (" " + _DIAGRAMS if machines else "")
+        undecided = f"{len(machines):,} of {found.undecided():,} undecided machines are shown."
+        undecided += " " + _DIAGRAMS if machines else ""
     plots = ("<figure>%s</figure>" % plot(found.bins[name], name) for name in _PLOTS if found.bins[name])
     return string.Template(_PAGE.read_text(encoding="utf-8")).substitute(
         title=html.escape(title),

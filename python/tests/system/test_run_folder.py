@@ -217,6 +217,10 @@ def require_unchanged(case: Case, top: pathlib.Path) -> None:
 
 # What somebody else has in a folder that no run began: paths, and what is there.
 MINE: dict[str, dict[str, str]] = {
+    "a letter": {"letter.txt": "mine"},
+    "a page": {"README.txt": "mine"},
+    "a summary": {"summary.json": "mine"},
+    "verdicts": {"verdicts.txt": "mine"},
     "a pass": {"pass-1/diary.txt": "mine"},
     "pieces": {"pass-1/pieces": "mine"},
     "a journal": {"pass-1/journal": "mine"},
@@ -245,6 +249,7 @@ def test_files_of_somebody_else(tmp_path: pathlib.Path, files: dict[str, str]) -
         if not name.endswith("/"):
             path.write_text(text)
     require_unchanged(case, case.out)
+    assert os.path.basename(next(iter(files))) in case.output(), "the file is named"
 
 
 @pytest.mark.parametrize("name", LINKED)

@@ -23,22 +23,8 @@ import pytest
 from budlarem import Limits, _files, commands, counts
 from budlarem.runner import chunks, folder, input, journal, passes
 from budlarem.runner.errors import CheckError, FolderError, MovedError, RunError, UsageError
-from support.runner import (
-    KINDS,
-    LIST,
-    MIDDLE,
-    PASSES,
-    SMALL,
-    Answering,
-    KeptProgress,
-    Late,
-    RunCase,
-    act,
-    answer_with,
-    counts_of,
-    expected_verdicts,
-    reseal,
-)
+from support.runner import KINDS, LIST, MIDDLE, PASSES, SMALL, Answering, KeptProgress, Late, RunCase
+from support.runner import act, answer_with, counts_of, expected_verdicts, reseal
 
 
 def test_lists_and_passes(case: RunCase) -> None:
@@ -70,13 +56,9 @@ def test_lines_keep_their_numbers(case: RunCase) -> None:
     case.run_over()
     first, second = (case.open_last_pass(PASSES[:count]) for count in (1, 2))
     for limits, before in (([SMALL], [first]), (PASSES, [first, second])):
-        left = [
-            place
-            for place, line in enumerate(expected_verdicts(LIST, limits).splitlines(), 1)
-            if b" und" in line
-        ]
-        found = [journal.list_line_number(before, line) for line in range(len(left))]
-        assert found == left
+        lines = enumerate(expected_verdicts(LIST, limits).splitlines(), 1)
+        left = [place for place, line in lines if b" und" in line]
+        assert [journal.list_line_number(before, line) for line in range(len(left))] == left
     assert journal.list_line_number([], 7) == 8
 
 
@@ -161,21 +143,11 @@ def test_what_a_folder_was_begun_with() -> None:
 
 
 def test_two_runs_in_a_folder(case: RunCase) -> None:
-    first = folder.Folder(str(case.out))
-    with pytest.raises(FolderError, match="another run works in"):
-        case.run_over()
-    first.close()
-    case.run_over()
-
-
-def test_a_folder_of_something_else(case: RunCase) -> None:
-    case.out.mkdir()
-    for name in ("letters", "verdicts.txt", "summary.json", "README.txt"):
-        (case.out / name).write_text("kept")
-        with pytest.raises(FolderError, match=name):
+    with contextlib.closing(folder.Folder(str(case.out))):
+        assert list(case.out.iterdir()) == [], "the folder itself is locked"
+        with pytest.raises(FolderError, match="another run works in"):
             case.run_over()
-        assert [path.name for path in case.out.iterdir()] == [name]
-        (case.out / name).unlink()
+    case.run_over()
 
 
 def test_a_list_that_would_be_overwritten(case: RunCase) -> None:
@@ -286,11 +258,9 @@ def test_a_pass_is_added_to_verdicts_that_were_renamed(case: RunCase) -> None:
     os.link(case.out / "verdicts.txt", kept_lines)
     executor = Answering()
     case.run_over(executor, limits=PASSES)
-    assert (kept_lines.read_bytes(), case.verdicts()) == (
-        expected_verdicts(LIST, [SMALL]),
-        expected_verdicts(LIST),
-    )
-    assert (case.out / "pass-1" / "pieces").read_bytes() == expected_verdicts(LIST, [SMALL])
+    assert case.verdicts() == expected_verdicts(LIST)
+    for path in (kept_lines, case.out / "pass-1" / "pieces"):
+        assert path.read_bytes() == expected_verdicts(LIST, [SMALL])
     assert executor.count == len(case.records(PASSES))
     assert case.open_last_pass([SMALL]).journal.rename_mark() is None
     case.run_over(executor, limits=PASSES)
@@ -319,17 +289,13 @@ def test_verdicts_that_were_changed_in_place(case: RunCase) -> None:
 def test_a_folder_whose_verdicts_are_a_second_name(case: RunCase) -> None:
     """So an earlier version of this package left it."""
     case.run_over(limits=[SMALL])
-    chunks, verdicts, kept_lines = (
-        case.out / "pass-1" / "pieces",
-        case.out / "verdicts.txt",
-        case.top / "kept",
-    )
-    for change in (None, b"x" * 100):
+    verdicts, kept_lines = case.out / "verdicts.txt", case.top / "kept"
+    chunks = case.out / "pass-1" / "pieces"
+    for change in (b"", b"x" * 100):
         os.link(verdicts, chunks)
         os.link(verdicts, kept_lines)
-        if change is not None:
-            with open(kept_lines, "r+b") as file:
-                file.write(change)
+        with open(kept_lines, "r+b") as file:
+            file.write(change)
         before = kept_lines.read_bytes()
         case.run_over(limits=[SMALL])
         assert (case.verdicts(), kept_lines.read_bytes()) == (expected_verdicts(LIST, [SMALL]), before)
@@ -415,12 +381,12 @@ def writer(case: RunCase) -> WriterCase:
     return WriterCase(case)
 
 
-def test_a_little_out_of_order(writer: WriterCase) -> None:
-    assert writer.whole([2, 0, 1, 5, 4, 3, 6, 8, 7, 9], 50)
-
-
-def test_one_that_comes_last(writer: WriterCase) -> None:
-    assert not writer.whole([*range(1, 30), 0], 20)
+@pytest.mark.parametrize(
+    "order, most, is_in_order", [([2, 0, 1, 5, 4, 3, 6, 8, 7, 9], 50, True), ([*range(1, 30), 0], 20, False)]
+)
+def test_chunks_out_of_order(writer: WriterCase, order: list[int], most: int, is_in_order: bool) -> None:
+    """A little out of order, and one that comes last."""
+    assert writer.whole(order, most) == is_in_order
 
 
 def test_one_that_comes_late(writer: WriterCase) -> None:
@@ -640,43 +606,26 @@ def test_seconds_that_did_not_pass(case: RunCase) -> None:
         assert summary["passes"][0]["work_seconds"] < 600
 
 
-def call(case: RunCase, *arguments: str) -> tuple[int, str]:
-    """The status of the command, and what it writes to standard error."""
-    said = io.StringIO()
-    with contextlib.redirect_stderr(said):
-        with unittest.mock.patch("budlarem.commands.run.install_signal_handlers"):
-            status = commands.main(["run", str(case.list), "--out", str(case.out), *arguments])
-    return status, said.getvalue()
-
-
 def test_statuses(case: RunCase) -> None:
     small = "steps=30,cells=16,depth=3,nodes=5"
-    assert call(case, "--pass", small)[0] == 1
+    assert case.call("--pass", small)[0] == 1
     assert case.verdicts() == expected_verdicts(LIST, [SMALL])
-    status, said = call(case, "--pass", small, "--pass", "steps=1000,cells=128,depth=20,nodes=100", "--check")
+    status, said = case.call("--pass", small, "--pass", "steps=1000,cells=128,depth=20,nodes=100", "--check")
     assert (status, case.verdicts()) == (1, expected_verdicts(LIST))
     assert "370 lines: " in said
     case.list.write_bytes(b"1RZ---\n")
-    status, said = call(case, "--pass", small)
+    status, said = case.call("--pass", small)
     assert status == 2
     case.out = case.top / "other"
-    assert call(case)[0] == 0
+    assert case.call()[0] == 0
     case.list.unlink()
-    assert call(case)[0] == 3
+    assert case.call()[0] == 3
 
 
 def test_what_is_refused(case: RunCase) -> None:
-    for words in (
-        ["--pass", "steps=1,steps=2"],
-        ["--pass", "step=1"],
-        ["--pass", ""],
-        ["--pass", "steps=-1"],
-        ["--pass", "cells=0"],
-        ["--pass", "depth=300,cells=10"],
-        ["--threads", "0"],
-        ["--piece", "0"],
-    ):
-        status, said = call(case, *words)
+    limits = ("steps=1,steps=2", "step=1", "", "steps=-1", "cells=0", "depth=300,cells=10")
+    for words in (*(["--pass", value] for value in limits), ["--threads", "0"], ["--piece", "0"]):
+        status, said = case.call(*words)
         assert (status, case.out.exists()) == (2, False), words
         assert said.startswith("budlarem: ")
 
@@ -689,10 +638,8 @@ def test_a_terminal() -> None:
     shown._next = 0.0
     shown.tick("3 workers")
     text = shown.kept.getvalue()
-    assert re.search(
-        r"^\rpass 1 of 2, 1 chunks, 20k lines, 0%, \d+[kM]? lines/s, [0-9.]+ \w+ left, 3 work", text
-    )
-    assert len(text) < 81
+    figures = r"20k lines, 0%, \d+[kM]? lines/s, [0-9.]+ \w+ left, 3 work"
+    assert re.match(r"\rpass 1 of 2, 1 chunks, " + figures, text) and len(text) < 81
     shown.print_line("a sentence")
     assert shown.kept.getvalue().endswith("\rbudlarem: a sentence\n")
 
