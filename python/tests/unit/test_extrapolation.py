@@ -8,6 +8,8 @@ from typing import Any, Iterator
 import budlarem
 import pytest
 from budlarem import Cycler, Extent, Limits, LimitsError, Place, Translated, at, parse
+from support.machines import LETTERS
+from support.simulation import simulate
 
 CHAMPION = "1RB1LB_1LA1RZ"
 # Two translated cyclers with a shift above 1, to the left and to the right, and a cycler.
@@ -16,19 +18,8 @@ FAR = ["1RB0LA_0RC---_1RD0LD_1LA1RB", "1LB0RA_0LC---_1LD0RD_1RA1LB", "1LB1RB_1RA
 
 def plain(machine: str, steps: int) -> Iterator[tuple[str, int]]:
     """The states and positions of a machine, up to so many steps or its halt."""
-    groups = [[group[k : k + 3] for k in range(0, len(group), 3)] for group in machine.split("_")]
-    table = dict(zip("ABCDEFGHIJKLMNOPQRSTUVWXY", groups))
-    state, head = "A", 0
-    tape: dict[int, int] = {}
-    yield state, head
-    for _ in range(steps):
-        entry = table[state][tape.get(head, 0)] if state in table else "---"
-        if entry == "---":
-            return
-        tape[head] = int(entry[0])
-        head += 1 if entry[1] == "R" else -1
-        state = entry[2]
-        yield state, head
+    for now in simulate(machine, steps):
+        yield "Z" if now.state is None else LETTERS[now.state], now.head
 
 
 def small_machines() -> list[str]:

@@ -32,7 +32,7 @@ def one(line: str, form: Form = Form.TEXT) -> Reading:
 LISTED: dict[str, Any] = json.loads(FORMS.read_text(encoding="utf-8"))
 
 
-def expected(form: dict[str, Any]) -> list[Any]:
+def right_reading(form: dict[str, Any]) -> list[Any]:
     """What a form says that has to be read."""
     if "nothing" in form:
         return []
@@ -42,21 +42,19 @@ def expected(form: dict[str, Any]) -> list[Any]:
     return [form["machine"], rewritten, form.get("before", ""), form.get("behind", "")]
 
 
-def found(line: str, form: Form = Form.TEXT) -> list[Any]:
+def read_line(line: str, form: Form = Form.TEXT) -> list[Any]:
     """What is read of a line, in the same shape."""
-    readings = list(budlarem.read([line], form))
-    if not readings:
-        return []
-    (reading,) = readings
-    if reading.reason is not None:
-        return [reading.reason.kind, reading.reason.text, reading.reason.place]
-    return [reading.machine, list(map(str, reading.rewritten)), reading.before, reading.behind]
+    for reading in budlarem.read([line], form):
+        if reading.reason is not None:
+            return [reading.reason.kind, reading.reason.text, reading.reason.place]
+        return [reading.machine, list(map(str, reading.rewritten)), reading.before, reading.behind]
+    return []
 
 
 def test_each_form() -> None:
     assert len(LISTED["forms"]) >= 80
     for form in LISTED["forms"]:
-        assert found(form["line"], Form(form.get("form", "text"))) == expected(form)
+        assert read_line(form["line"], Form(form.get("form", "text"))) == right_reading(form)
 
 
 def test_sentences() -> None:
@@ -120,18 +118,15 @@ def machines(source: Any) -> list[Any]:
 def test_paths_files_and_lines(tmp_path: pathlib.Path) -> None:
     text = "\ufeff%s\r\n# c\r\n\r\n1ra1ra\r\nx" % CHAMPION
     right = [(1, CHAMPION), (4, "1RA1RA"), (5, None)]
-    path = str(tmp_path / "list.txt")
-    for content in (text.encode(), gzip.compress(text.encode()), gzip.compress(text.encode()) * 1):
-        with open(path, "wb") as file:
-            file.write(content)
-        assert machines(path) == right
-        assert machines(pathlib.Path(path)) == right
-        assert machines(io.BytesIO(content)) == right
+    path = tmp_path / "list.txt"
+    for content in (text.encode(), gzip.compress(text.encode())):
+        path.write_bytes(content)
         with open(path, "rb", buffering=0) as raw:
-            assert machines(raw) == right
-    assert machines(text.splitlines(keepends=True)) == right
-    assert machines(line.encode() for line in text.split("\n")) == right
-    assert machines(io.StringIO(text)) == right
+            for source in (str(path), path, io.BytesIO(content), raw):
+                assert machines(source) == right
+    encoded = (line.encode() for line in text.split("\n"))
+    for lines in (text.splitlines(keepends=True), encoded, io.StringIO(text)):
+        assert machines(lines) == right
 
 
 def test_bytes_that_are_no_text() -> None:
@@ -139,11 +134,8 @@ def test_bytes_that_are_no_text() -> None:
 
 
 def test_a_long_line_of_bytes() -> None:
-    assert machines(io.BytesIO(b"x" * 1_000_000 + b"\n1RA1RA\n" + b"1RA1RA," * 100_000)) == [
-        (1, None),
-        (2, "1RA1RA"),
-        (3, None),
-    ]
+    lines = b"x" * 1_000_000 + b"\n1RA1RA\n" + b"1RA1RA," * 100_000
+    assert machines(io.BytesIO(lines)) == [(1, None), (2, "1RA1RA"), (3, None)]
 
 
 def test_a_line_is_read_when_it_is_needed() -> None:
@@ -208,12 +200,8 @@ def test_tables() -> None:
     ):
         readings = list(budlarem.read(lines, columns=columns))
         assert [reading.machine for reading in readings] == machines, lines
-    kinds = [
-        reading.reason.kind
-        for reading in budlarem.read(["1;1RA1RA", "2;x", "3"], None, Columns("2"))
-        if reading.reason
-    ]
-    assert kinds == ["none", "row"]
+    reasons = [reading.reason for reading in budlarem.read(["1;1RA1RA", "2;x", "3"], None, Columns("2"))]
+    assert [reason.kind for reason in reasons if reason] == ["none", "row"]
 
 
 def test_tables_whose_layout_is_not_known() -> None:
