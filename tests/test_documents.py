@@ -7,7 +7,7 @@ or a row of a table that begins with crates names what is in them and below.
 import functools
 import os
 import re
-from typing import Iterator, List
+from typing import Iterator
 
 import pytest
 from support import TOP

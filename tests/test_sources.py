@@ -3,7 +3,6 @@
 from __future__ import annotations
 
 import subprocess
-from typing import List
 
 import pytest
 from support import TOP

@@ -9,7 +9,7 @@ import pathlib
 import shutil
 import signal
 import subprocess
-from typing import List, Sequence
+from typing import Sequence
 
 import pytest
 

@@ -5,6 +5,7 @@ The package and its library are found by the environment, as python/tests/confte
 
 from __future__ import annotations
 
+import contextlib
 import os
 import pathlib
 import random
@@ -13,7 +14,9 @@ import signal
 import subprocess
 import sys
 import time
-from typing import Any, Callable, Sequence
+from typing import Any, Callable, Iterator, Sequence
+
+import pytest
 
 from . import restore_signals
 from .machines import CHAMPION, mixed_machines
@@ -36,11 +39,8 @@ elif sys.argv[1] == "machine":
     print(list(budlarem.decide([sys.argv[2]], budlarem.Limits(steps=%(steps)d, cells=%(cells)d))))
 else:
     list(budlarem.trace(sys.argv[2], %(steps)d, %(cells)d, start=%(steps)d))
-""" % {
-    "steps": MAX_STEPS,
-    "cells": MAX_CELLS,
-    "champion": CHAMPION,
-}
+"""
+WAITS %= {"steps": MAX_STEPS, "cells": MAX_CELLS, "champion": CHAMPION}
 # How long something may take that must come, in seconds, before it is called missing.
 PATIENCE = 600
 
@@ -98,6 +98,16 @@ class Case:
         with self.start(*more, **how) as process:
             return process.wait()
 
+    def require_verdicts(self, right: bytes, *more: str, status: int = 1, **how: Any) -> None:
+        """Run to the end, with this status and these verdicts."""
+        found = self.run(*more, **how)
+        assert found == status and self.verdicts() == right, self.output()
+
+    def require_error(self, status: int, text: str, *more: str, **how: Any) -> None:
+        """Run, and require an end with this status and a text on standard error."""
+        found = self.run(*more, **how)
+        assert found == status and text in self.output(), self.output()
+
     def output(self) -> str:
         return self.errors.read_text(errors="replace")
 
@@ -124,13 +134,35 @@ def wait_until(process: Process, what: Callable[[], bool]) -> bool:
     return False
 
 
+@contextlib.contextmanager
+def stop(case: Case, process: Process, chunks: int = 3) -> Iterator[None]:
+    """Stop a run once so many chunks are stored, so that it can't come to its end meanwhile."""
+    was_seen = wait_until(process, lambda: case.chunks() >= chunks)
+    process.send_signal(signal.SIGSTOP)
+    try:
+        assert was_seen and not case.verdicts(), case.output()
+        yield
+    finally:
+        process.send_signal(signal.SIGCONT)
+
+
+@contextlib.contextmanager
+def small_disk(folder: pathlib.Path, kilobytes: int) -> Iterator[None]:
+    """Mount a small file system; skip the running test where that isn't allowed."""
+    mount = ["mount", "-t", "tmpfs", "-o", "size=%dk" % kilobytes, "tmpfs", str(folder)]
+    if os.getuid() != 0 or subprocess.run(mount, stderr=subprocess.DEVNULL).returncode != 0:
+        pytest.skip("a full disk: a file system can't be mounted here (it takes root)")
+    try:
+        yield
+    finally:
+        subprocess.run(["umount", str(folder)], check=True)
+
+
 def kill_after(case: Case, more: int, *words: str) -> bool:
     """Runs until so many more chunks stand, and kills it; whether that was before its end."""
-    before = case.chunks()
+    config, before = case.out / "run.json", case.chunks()
     with case.start(str(case.list), *words) as process:
-        was_seen = wait_until(
-            process, lambda: (case.out / "run.json").exists() and case.chunks() >= before + more
-        )
+        was_seen = wait_until(process, lambda: config.exists() and case.chunks() >= before + more)
         process.kill()
         process.wait()
     return was_seen and process.returncode == -signal.SIGKILL and not (case.out / "verdicts.txt").exists()

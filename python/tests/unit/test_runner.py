@@ -6,7 +6,6 @@ import contextlib
 import dataclasses
 import errno
 import gzip
-import io
 import itertools
 import json
 import os
@@ -20,7 +19,7 @@ from typing import Any, Callable, Sequence
 
 import budlarem
 import pytest
-from budlarem import Limits, _files, commands, counts
+from budlarem import Limits, _files, counts
 from budlarem.runner import chunks, folder, input, journal, passes
 from budlarem.runner.errors import CheckError, FolderError, MovedError, RunError, UsageError
 from support.runner import KINDS, LIST, MIDDLE, PASSES, SMALL, Answering, KeptProgress, Late, RunCase

@@ -4,7 +4,7 @@ from __future__ import annotations
 
 import re
 import string
-from typing import List, Sequence
+from typing import Sequence
 
 from .._text import LONGEST_LINE, code_point, is_hidden, quote
 from ..verdicts import Refused, Verdict, is_machine, parse
