@@ -9,19 +9,9 @@ from .machines import SWAPPED, table_of
 from .simulation import simulate
 
 KINDS = ("halt", "cycler", "translated L", "translated R", "backward", "undecided", "refused")
-# Numbers that no verdict has, or that are none.
-ODD_NUMBERS = (
-    "00",
-    "01",
-    "+1",
-    "-1",
-    "",
-    " ",
-    "1e3",
-    "18446744073709551615",
-    "18446744073709551616",
-    "9" * 40,
-)
+# Numbers that no verdict has, or that are none, also digits of other alphabets.
+ODD_NUMBERS = ["00", "01", "+1", "-1", "", " ", "1e3", "1_0", "1.0", "9" * 40, "\xb2", "\xd9\xa1"]
+ODD_NUMBERS += [str(2**64 - 1), str(2**64)]
 # What a text may get in place of a character.
 CHARACTERS = "0123456789LRABCDEYZ-_ \r\t\0\x7f\x80\xff"
 # A text longer than any line, so many bytes and more.
@@ -111,16 +101,8 @@ def lengthen(source: random.Random, fields: list[str]) -> list[str]:
 
 
 # The changes, and how often each is made beside the others.
-CHANGES = {
-    with_number: 6,
-    with_pair: 5,
-    with_side: 2,
-    with_kind: 2,
-    with_machine: 2,
-    with_text: 2,
-    with_odd_number: 1,
-    lengthen: 1,
-}
+CHANGES = {with_number: 6, with_pair: 5, with_side: 2, with_kind: 2, with_machine: 2, with_text: 2}
+CHANGES.update({with_odd_number: 1, lengthen: 1})
 
 
 def forge(source: random.Random, lines: Sequence[str], count: int) -> Iterator[str]:
