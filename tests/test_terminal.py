@@ -23,14 +23,8 @@ UNDECIDED = b"1RB0LA_0RC---_1RD0LD_1LA1RZ\n1RB1LC_1RC1RB_1RD0LE_1LA1LD_1RZ0LA\n"
 LONG = (LIST + UNDECIDED) * 200
 SLOW = ["--steps", "300000", "--cells", "4096"]
 # How the line of progress names the kinds of verdicts, and the answers of `check`.
-KINDS = {
-    "halt": "halt",
-    "cycler": "cycler",
-    "translated": "transl",
-    "backward": "back",
-    "undecided": "undec",
-    "refused": "ref",
-}
+KINDS = {"halt": "halt", "cycler": "cycler", "translated": "transl"}
+KINDS.update({"backward": "back", "undecided": "undec", "refused": "ref"})
 ANSWERS = ["ok", "bad", "over", "open", "unread"]
 # For so many seconds a list is fed until what is waited for shows; then it counts as lost.
 PATIENCE = 1_800
@@ -39,44 +33,32 @@ LONGER, LONGEST = 4, 4**6
 MOST = 10**12
 ABOVE = "%d is not within 0 to %d" % (MOST + 1, MOST)
 # Words, and the whole of standard error. FOLDER stands for a folder.
+DEEP = "--depth 300 needs --cells 599 or more; with --cells 256 a depth up to 128"
 REFUSED = [
     ("decide --steps %d" % (MOST + 1), "steps out of range", "--steps " + ABOVE),
     ("decide --cells 0", "cells out of range", "--cells 0 is not within 1 to 67108864"),
     ("decide --depth 10001", "depth out of range", "--depth 10001 is not within 0 to 10000"),
     ("decide --nodes %d" % (MOST + 1), "nodes out of range", "--nodes " + ABOVE),
-    (
-        "decide --cells 256",
-        "depth does not fit in cells",
-        "--depth 300 needs --cells 599 or more; with --cells 256 a depth up to 128",
-    ),
+    ("decide --cells 256", "depth does not fit in cells", DEEP),
     ("trace --upto %d 1RA1RA" % (MOST + 1), "steps out of range", "--upto " + ABOVE),
 ]
-UNREADABLE = [
-    ("check FOLDER/missing", "FOLDER/missing: No such file or directory (os error 2)"),
-    (
-        "decide -",
-        "-: No such file or directory (os error 2); - is no file name here, and without FILE standard input"
-        " is read",
-    ),
-    ("decide FOLDER", "FOLDER: Is a directory (os error 21)"),
-]
+MISSING = ": No such file or directory (os error 2)"
+UNREADABLE = {
+    "check FOLDER/missing": "FOLDER/missing" + MISSING,
+    "decide -": "-%s; - is no file name here, and without FILE standard input is read" % MISSING,
+    "decide FOLDER": "FOLDER: Is a directory (os error 21)",
+}
 MACHINE = b"1RB1LB_1LA1RZ"
-CARRIAGE_RETURN = "line 1 ends in a carriage return: remove them all first, by tr -d '\\r'\n"
-HINTS = [
-    (
-        "decide",
-        gzip.compress(MACHINE, mtime=0),
-        "the input is compressed by gzip: unpack it first, by gzip -dc\n",
-    ),
-    (
-        "decide",
-        MACHINE.decode().encode("utf-16"),
-        "the input is UTF-16: convert it first, by iconv -f UTF-16 -t UTF-8\n",
-    ),
-    ("decide", MACHINE + b"\r\n", CARRIAGE_RETURN),
-    ("check", MACHINE + b" halt 6 4\r\n", CARRIAGE_RETURN),
-    ("decide", MACHINE + b"\n1RA1RA\r\n", ""),
-]
+RETURN = "line 1 ends in a carriage return: remove them all first, by tr -d '\\r'\n"
+GZIP = "the input is compressed by gzip: unpack it first, by gzip -dc\n"
+UTF_16 = "the input is UTF-16: convert it first, by iconv -f UTF-16 -t UTF-8\n"
+HINTS = {
+    "gzip": ("decide", gzip.compress(MACHINE, mtime=0), GZIP),
+    "UTF-16": ("decide", MACHINE.decode().encode("utf-16"), UTF_16),
+    "machine, CR": ("decide", MACHINE + b"\r\n", RETURN),
+    "claim, CR": ("check", MACHINE + b" halt 6 4\r\n", RETURN),
+    "second line, CR": ("decide", MACHINE + b"\n1RA1RA\r\n", ""),
+}
 
 
 def last_shown(command: Sequence[str], given: bytes, output: str = os.devnull) -> tuple[int, str]:
@@ -91,7 +73,7 @@ def test_refused_limits_are_explained(bb: str, words: str, fault: str, advice: s
     assert last_shown([bb, *words.split()], b"") == (2, "bb: %s\n%s\n" % (fault, advice))
 
 
-@pytest.mark.parametrize("words, cause", UNREADABLE)
+@pytest.mark.parametrize("words, cause", UNREADABLE.items())
 def test_failed_reads_are_explained(bb: str, tmp_path: pathlib.Path, words: str, cause: str) -> None:
     named, expected = (text.replace("FOLDER", str(tmp_path)) for text in (words, cause))
     assert last_shown([bb, *named.split()], b"") == (3, "bb: read failed\n%s\n" % expected)
@@ -113,9 +95,7 @@ def test_closed_pipe_leaves_the_fixed_line_alone(bb: str) -> None:
     assert status == 3 and shown.endswith("bb: write failed\n") and "standard output" not in shown
 
 
-@pytest.mark.parametrize(
-    "command, given, hint", HINTS, ids=["gzip", "UTF-16", "machine, CR", "claim, CR", "second line, CR"]
-)
+@pytest.mark.parametrize("command, given, hint", HINTS.values(), ids=HINTS)
 def test_first_bytes_of_an_input_give_a_hint(bb: str, command: str, given: bytes, hint: str) -> None:
     assert last_shown([bb, command], given) == (1, hint)
     plain = subprocess.run([bb, command], input=given, capture_output=True)

@@ -107,24 +107,21 @@ def _no_entry(text: str, number: int, place: int, is_followed: bool) -> Reason:
     """Why a text of up to three characters is no entry."""
     whole = text + "_" if len(text) == 2 and is_followed else text
     if _LOST.fullmatch(whole):
-        sentence = "entry %d is %s: the %s that it writes would be lost" % (number, whole, whole[0])
-        return Reason("lost", sentence, place)
+        return Reason(
+            "lost", f"entry {number} is {whole}: the {whole[0]} that it writes would be lost", place
+        )
     hidden = first_hidden(text)
     if hidden is not None:
-        sentence = "entry %d has %s, a character that doesn't show" % (number, code_point(text[hidden]))
-        return Reason("hidden", sentence, place + hidden)
-    return Reason("entry", "entry %d is no entry: %s" % (number, text), place)
+        code = code_point(text[hidden])
+        return Reason("hidden", f"entry {number} has {code}, a character that doesn't show", place + hidden)
+    return Reason("entry", f"entry {number} is no entry: {text}", place)
 
 
 def _letters(groups: Sequence[Word]) -> set[Rewriting]:
     """The rewritings of the letters of these groups."""
     text = "".join(group.text for group in groups)
-    found = set()
-    if text != text.upper():
-        found.add(Rewriting.SMALL_LETTERS)
-    if "..." in text:
-        found.add(Rewriting.UNDEFINED_ENTRIES)
-    return found
+    found = {Rewriting.SMALL_LETTERS} if text != text.upper() else set()
+    return found | {Rewriting.UNDEFINED_ENTRIES} if "..." in text else found
 
 
 def _divide(entries: Group, rewritten: set[Rewriting]) -> Outcome:
@@ -133,8 +130,8 @@ def _divide(entries: Group, rewritten: set[Rewriting]) -> Outcome:
     states = [number for number in range(1, len(STATES) + 1) if count % number == 0]
     sizes = [(number, count // number) for number in states if 2 <= count // number <= MOST_SYMBOLS]
     if not sizes:
-        sentence = "%s can't be divided into 1 to 25 groups of 2 to 10" % pluralize(count, "entry", "entries")
-        return Reason("division", sentence, begin + 1)
+        what = pluralize(count, "entry", "entries")
+        return Reason("division", f"{what} can't be divided into 1 to 25 groups of 2 to 10", begin + 1)
     outcomes: list[Outcome] = []
     for number, size in sizes:
         more = {Rewriting.UNDERSCORES} if number > 1 else set()
@@ -142,12 +139,11 @@ def _divide(entries: Group, rewritten: set[Rewriting]) -> Outcome:
         outcomes.append(_machine(groups, rewritten | more))
     found = [outcome for outcome in outcomes if isinstance(outcome, Found)]
     if len(found) == 1 or len(outcomes) == 1:
-        return found[0] if found else outcomes[0]
+        return (found or outcomes)[0]
+    how = f"to divide {count} entries into groups"
     if not found:
-        sentence = "no way to divide %d entries into groups makes a machine" % count
-        return Reason("division", sentence, begin + 1)
-    sentence = "%d ways to divide %d entries into groups make a machine" % (len(found), count)
-    return Reason("divisions", sentence, begin + 1)
+        return Reason("division", f"no way {how} makes a machine", begin + 1)
+    return Reason("divisions", f"{len(found)} ways {how} make a machine", begin + 1)
 
 
 def _machine(groups: Sequence[Group], rewritten: set[Rewriting]) -> Outcome:
@@ -177,17 +173,16 @@ def _machine(groups: Sequence[Group], rewritten: set[Rewriting]) -> Outcome:
 def _wrong_size(groups: Sequence[Group]) -> Reason | None:
     """Why no machine has groups of these lengths, if so."""
     lengths = list(dict.fromkeys(map(len, groups)))
-    begin = groups[0][0][0]
     if len(lengths) > 1:
         other = next(group for group in groups if len(group) != lengths[0])
         numbers = "%s and %d" % (", ".join(map(str, lengths[:-1])), lengths[-1])
-        return Reason("groups", "the groups have %s entries" % numbers, other[0][0] + 1)
+        return Reason("groups", f"the groups have {numbers} entries", other[0][0] + 1)
     if not 2 <= lengths[0] <= MOST_SYMBOLS:
-        sentence = "the groups have %s, not 2 to 10" % pluralize(lengths[0], "entry", "entries")
-        return Reason("symbols", sentence, begin + 1)
+        what = pluralize(lengths[0], "entry", "entries")
+        return Reason("symbols", f"the groups have {what}, not 2 to 10", groups[0][0][0] + 1)
     if len(groups) > len(STATES):
         place = groups[len(STATES)][0][0] + 1
-        return Reason("states", "there are %d groups, not 1 to 25" % len(groups), place)
+        return Reason("states", f"there are {len(groups)} groups, not 1 to 25", place)
     return None
 
 
@@ -196,12 +191,11 @@ def _wrong_entry(entry: str, number: int, begin: int, states: int, symbols: int)
     if entry == "---":
         return None
     if int(entry[0]) >= symbols:
-        sentence = "entry %d writes %s, but there are %d symbols" % (number, entry[0], symbols)
-        return Reason("symbol", sentence, begin + 1)
+        what = f"entry {number} writes {entry[0]}, but there are {symbols} symbols"
+        return Reason("symbol", what, begin + 1)
     if entry[2] in STATES[:states] + "Z":
         return None
     if entry[2] == "H" and states <= MOST_BEFORE_H:
         return Reason("halting-state", "H: the halting state is Z here", begin + 3)
-    there_are = "there is 1 state" if states == 1 else "there are %d states" % states
-    sentence = "entry %d names state %s, but %s" % (number, entry[2], there_are)
-    return Reason("state", sentence, begin + 3)
+    there_are = "there is 1 state" if states == 1 else f"there are {states} states"
+    return Reason("state", f"entry {number} names state {entry[2]}, but {there_are}", begin + 3)

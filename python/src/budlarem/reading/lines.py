@@ -40,7 +40,7 @@ def read_line(number: int, line: str, form: Form = Form.TEXT) -> Reading | None:
         return Reading(number, line, line)
     line = line.lstrip("\ufeff").rstrip("\r")
     if len(line) > LONGEST_LINE:
-        text = "the line has more than {:,} characters".format(LONGEST_LINE)
+        text = f"the line has more than {LONGEST_LINE:,} characters"
         return Reading(number, line, None, reason=Reason("long", text, LONGEST_LINE + 1))
     bare = line.strip(SPACES)
     if form is Form.VERDICTS:
@@ -69,12 +69,11 @@ def _read_verdict(number: int, line: str, bare: str) -> Reading | None:
     verdict = verdict_in(bare)
     if verdict is None and skip_reason(bare) is not None:
         return None
-    place = len(line) - len(line.lstrip(SPACES)) + 1
-    if verdict is None:
-        return Reading(number, line, None, reason=Reason("verdict", "this is no verdict line", place))
-    if isinstance(verdict, Refused):
-        return Reading(number, line, None, reason=Reason("none", "no machine in this line", place))
-    return Reading(number, line, verdict.machine, behind=bare[len(verdict.machine) + 1 :])
+    if verdict is not None and verdict.machine is not None:
+        return Reading(number, line, verdict.machine, behind=bare[len(verdict.machine) + 1 :])
+    text = ("verdict", "this is no verdict line") if verdict is None else ("none", "no machine in this line")
+    reason = Reason(*text, len(line) - len(line.lstrip(SPACES)) + 1)
+    return Reading(number, line, None, reason=reason)
 
 
 def _require_alone(reading: Reading, bare: str) -> Reading:
@@ -82,7 +81,7 @@ def _require_alone(reading: Reading, bare: str) -> Reading:
     has_more = reading.before or reading.behind or not OF_MACHINES.issuperset(bare)
     if reading.machine is None or not has_more:
         return reading
-    reason = Reason("beside", "the line has more than the machine %s" % quote(reading.machine), 1)
+    reason = Reason("beside", f"the line has more than the machine {quote(reading.machine)}", 1)
     return Reading(reading.number, reading.line, None, reason=reason)
 
 
@@ -131,8 +130,8 @@ def _read(line: str, parts: Parts) -> list[Read] | Reason:
             return outcome
         row = row_beside(line, text, parts.rows) if isinstance(outcome, Found) else None
         if row is not None and "_" not in text.written:
-            sentence = "%s may be a rule or a group of the machine" % quote(row.text)
-            return Reason("rule-or-group", sentence, row.begin + 1)
+            what = f"{quote(row.text)} may be a rule or a group of the machine"
+            return Reason("rule-or-group", what, row.begin + 1)
     return _single_machine(found)
 
 
@@ -146,9 +145,8 @@ def _state_line(line: str, text: Text) -> Reason | None:
     group = letter.lastindex or 0
     if group == 2 and text.written == text.written.upper():
         return None
-    sentence = "%s before %s: a machine of a state a line isn't read"
-    words = (letter.group(group), quote(text.written))
-    return Reason("state-line", sentence % words, letter.start(group) + 1)
+    what = f"{letter.group(group)} before {quote(text.written)}: a machine of a state a line isn't read"
+    return Reason("state-line", what, letter.start(group) + 1)
 
 
 def _no_text(line: str, parts: Parts) -> Reason:
@@ -191,42 +189,35 @@ def _read_text(text: Text) -> list[Read] | Reason:
 def _ambiguous_dots(word: Word) -> Reason | None:
     """Why a word is no machine that is one with the dots at an end, and without them too."""
     for start, end in ((0, len(word.text) - 3), (3, len(word.text))):
-        dots = word.begin + (end if start == 0 else 0)
         rest = Word(word.begin + start, word.text[start:end])
         if word.text[:start] + word.text[end:] != "..." or not rest.text:
             continue
         if isinstance(read_words([rest]), Found) and isinstance(read_words([word]), Found):
+            dots = word.begin + (end if start == 0 else 0)
             return Reason("dots", "... may be an undefined entry, or no part of the machine", dots + 1)
     return None
 
 
 def _several_machines(count: int, place: int) -> Reason:
-    sentence = "each of %d words is a machine by itself, and they may be one together" % count
-    return Reason("words", sentence, place)
+    what = f"each of {count} words is a machine by itself, and they may be one together"
+    return Reason("words", what, place)
 
 
 def _single_machine(found: list[Read]) -> list[Read] | Reason:
     """The texts that are one machine, or why they aren't."""
     read = [(text, outcome) for text, outcome in found if isinstance(outcome, Found)]
-    is_set_apart = all("_" in text.written for text, _ in read)
-    others = [
-        (text, outcome)
-        for text, outcome in found
-        if isinstance(outcome, Reason) and not (read and is_set_apart and text.is_lone_entry)
-    ]
+    reasons = [(text, outcome) for text, outcome in found if isinstance(outcome, Reason)]
     if not read:
-        longest = max(others, key=lambda other: len(other[0].written))
-        assert isinstance(longest[1], Reason)
-        return longest[1]
-    machine = read[0][1].machine
-    if others:
-        other = others[0][0]
-        sentence = "%s beside the machine %s may be a part of it" % (quote(other.written), quote(machine))
-        return Reason("part", sentence, other.words[0].begin + 1)
+        return max(reasons, key=lambda other: len(other[0].written))[1]
+    machine, is_set_apart = read[0][1].machine, all("_" in text.written for text, _ in read)
+    for other, _ in reasons:
+        if not (is_set_apart and other.is_lone_entry):
+            what = f"{quote(other.written)} beside the machine {quote(machine)} may be a part of it"
+            return Reason("part", what, other.words[0].begin + 1)
     for text, outcome in read:
         if outcome.machine != machine:
-            sentence = "two different machines: %s and %s" % (quote(machine), quote(outcome.machine))
-            return Reason("two", sentence, text.words[0].begin + 1)
+            what = f"two different machines: {quote(machine)} and {quote(outcome.machine)}"
+            return Reason("two", what, text.words[0].begin + 1)
     plain = [text for text, _ in read if not text.is_address and "_" not in text.written]
     if len(plain) > 1:
         return _several_machines(len(plain), plain[1].begin + 1)

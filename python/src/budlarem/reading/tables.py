@@ -132,12 +132,8 @@ def _layout_by_position(records: Sequence[Numbered], separator: str, columns: Co
     place = _place_of(columns.machine or "", row)
     if _machine_in(0, row[place]).machine is None:
         return _with_header(records[0], separator, columns)
-    found = {
-        role: _place_of(given, row)
-        for role, given in dataclasses.asdict(columns).items()
-        if given is not None
-    }
-    return Layout(separator, len(row), (), found)
+    named = ((role, given) for role, given in dataclasses.asdict(columns).items() if given is not None)
+    return Layout(separator, len(row), (), {role: _place_of(given, row) for role, given in named})
 
 
 def _with_header(header: Numbered, separator: str, columns: Columns) -> Layout:
@@ -180,10 +176,8 @@ def _machine_in(number: int, cell: str) -> Reading:
     """The reading of a cell of the column of machines."""
     if is_machine(cell):
         return Reading(number, cell, cell)
-    reading = read_line(number, cell)
-    if reading is None:
-        return Reading(number, cell, None, reason=Reason("column", "no machine in this cell", 1))
-    return reading
+    nothing = Reading(number, cell, None, reason=Reason("column", "no machine in this cell", 1))
+    return read_line(number, cell) or nothing
 
 
 def read_row(number: int, line: str, layout: Layout) -> Reading | None:
@@ -194,20 +188,19 @@ def read_row(number: int, line: str, layout: Layout) -> Reading | None:
         return None
     place = len(line) - len(line.lstrip(SPACES)) + 1
     if bare.startswith("#"):
-        reason: Reason | None = Reason("comment", "a machine in a line that begins as a comment", place)
-        return Reading(number, line, None, reason=reason)
+        comment = Reason("comment", "a machine in a line that begins as a comment", place)
+        return Reading(number, line, None, reason=comment)
     try:
         row = cells_of(bare, layout.separator)
     except csv.Error as error:
-        return Reading(number, line, None, reason=Reason("row", "no record: %s" % error, place))
+        return Reading(number, line, None, reason=Reason("row", f"no record: {error}", place))
     if len(row) != layout.width:
-        sentence = "the record has %s, not %d" % (_cells(len(row)), layout.width)
-        return Reading(number, line, None, reason=Reason("row", sentence, place), row=row)
+        wrong = Reason("row", f"the record has {_cells(len(row))}, not {layout.width}", place)
+        return Reading(number, line, None, reason=wrong, row=row)
     column = layout.columns["machine"]
     found = _machine_in(number, row[column])
     reason = found.reason
     if reason is not None:
-        at = max(line.find(row[column]), 0)
-        reason = Reason(reason.kind, reason.text, at + reason.place)
+        reason = dataclasses.replace(reason, place=max(line.find(row[column]), 0) + reason.place)
     before, behind = (layout.separator.join(part) for part in (row[:column], row[column + 1 :]))
     return Reading(number, line, found.machine, found.rewritten, before, behind, reason, row)
