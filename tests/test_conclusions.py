@@ -44,7 +44,6 @@ def machines(request: pytest.FixtureRequest) -> list[str]:
 def decide(
     bb: str, machines: Sequence[str], plan: Sequence[str] = (), limits: Sequence[str] = LIMITS
 ) -> list[str]:
-    """Return the verdict on each machine, without its text."""
     verdicts = [verdict_of(line) for line in replies([bb, "decide", *limits, *plan], machines)]
     assert len(verdicts) == len(machines) > 0
     return verdicts
@@ -65,7 +64,6 @@ class Change(NamedTuple):
     symbols: Sequence[int]
 
     def entry(self, entry: str) -> str:
-        """Change one entry."""
         if entry == "---":
             return entry
         move = entry[1].translate(SWAPPED) if self.mirrored else entry[1]

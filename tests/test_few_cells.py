@@ -36,7 +36,6 @@ def derive_verdict(machine: str, steps: int, cells: int) -> str:
 
 
 def decide(bb: str, options: Sequence[str], machines: Sequence[str]) -> list[str]:
-    """Return the program's verdict on each machine."""
     return [verdict_of(line) for line in replies([bb, "decide", *options], machines)]
 
 

@@ -46,7 +46,6 @@ def decide(bb: str, limits: Mapping[str, int], machines: Sequence[str]) -> list[
 
 
 def undecided(lines: Sequence[str]) -> list[str]:
-    """Return the machines of undecided lines."""
     return [line.split(" ")[0] for line in lines if kind_of(line) == "undecided"]
 
 

@@ -58,7 +58,6 @@ def exchange(one: str, two: str) -> str:
 
 
 def run_with(header: str, library: pathlib.Path, folder: pathlib.Path) -> CommandResult:
-    """Compile the program with a header, and run it."""
     (folder / "bb.h").write_text(header, encoding="utf-8")
     defined = "-DTRACE_PARAMETERS=%s" % ",".join("given_" + name for name in parameters(header))
     command = ["gcc", "-std=c99", *WARNINGS, "-O1", defined, "-I", str(folder), str(SOURCES / "order.c")]

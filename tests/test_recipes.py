@@ -148,7 +148,6 @@ class Folder:
         return (self.path / name).read_bytes()
 
     def run(self, commands: str) -> CommandResult:
-        """Run commands, and return their status and what they write."""
         environment = dict(os.environ, PATH="%s:%s" % (self.path, os.environ["PATH"]))
         return run_command(["sh", "-e", "-c", commands], cwd=str(self.path), env=environment)
 

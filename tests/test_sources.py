@@ -42,7 +42,6 @@ def executables() -> list[str]:
 
 
 def require_pass(*command: str) -> None:
-    """Require a command to end with status 0."""
     done = subprocess.run(command, cwd=TOP, stdout=subprocess.PIPE, stderr=subprocess.STDOUT, text=True)
     assert done.returncode == 0, done.stdout
 

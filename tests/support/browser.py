@@ -107,7 +107,6 @@ class Row(NamedTuple):
 
     @property
     def state_words(self) -> str:
-        """The state in the page's words."""
         return "halted" if self.state == "Z" else "state " + self.state
 
     def place_words(self, position: int) -> str:
@@ -130,7 +129,6 @@ def format_number(number: int) -> str:
 
 
 def trace(program: str, machine: str, steps: int, cells: int = 65_536) -> list[Row]:
-    """Return the program's trace, each row with its lowest position."""
     command = [program, "trace", "--upto", str(steps), "--cells", str(cells), "--", machine]
     rows, low = [], 0
     for line in run_command(command).output.decode().splitlines():
@@ -151,7 +149,6 @@ def soon(what: Callable[[], object], patience: float = 10.0) -> bool:
 
 
 def is_whole(path: str) -> bool:
-    """Return whether a download is complete; an empty file isn't."""
     return os.path.exists(path) and os.path.getsize(path) > 0 and not os.path.exists(path + ".crdownload")
 
 
@@ -192,7 +189,6 @@ class Page:
         self.add_script(WATCH + (CORES % cores if cores else ""))
 
     def command(self, name: str, **words: Any) -> Any:
-        """Send a command of the DevTools protocol."""
         return self.driver.execute_cdp_cmd(name, words)
 
     def add_script(self, source: str) -> Any:
@@ -200,7 +196,6 @@ class Page:
         return self.command("Page.addScriptToEvaluateOnNewDocument", source=source)
 
     def remove_script(self, added: Any) -> None:
-        """Remove a script that was added."""
         self.command("Page.removeScriptToEvaluateOnNewDocument", **added)
 
     def open(self, link: str = "") -> None:
@@ -213,7 +208,6 @@ class Page:
         self.wait_until_done()
 
     def reload(self) -> None:
-        """Reload the page, and wait for its list."""
         self.driver.refresh()
         self.wait_until_done()
 
@@ -230,19 +224,15 @@ class Page:
         return self.js("return document.getElementById(arguments[0])[arguments[1]]", name, field)
 
     def put(self, name: str, field: str, value: Any) -> None:
-        """Set a property of an element."""
         self.js("document.getElementById(arguments[0])[arguments[1]] = arguments[2]", name, field, value)
 
     def text(self, name: str) -> str:
-        """Return the text of an element."""
         return str(self.get(name, "textContent"))
 
     def focus(self) -> str:
-        """Return the id of the focused element."""
         return str(self.js("return document.activeElement.id"))
 
     def click(self, name: str) -> None:
-        """Click an element."""
         self.js("document.getElementById(arguments[0]).click()", name)
 
     def press(self, name: str, *keys: str) -> None:
@@ -270,7 +260,6 @@ class Page:
         self.await_answer(lambda: self.choose_option("examples", self.js(script + ".value", name)))
 
     def dispatch(self, name: str, event: str) -> None:
-        """Dispatch an event to an element."""
         script = (
             "document.getElementById(arguments[0]).dispatchEvent(new Event(arguments[1], { bubbles: true }))"
         )
@@ -291,11 +280,9 @@ class Page:
         self.await_answer(self.run)
 
     def open_row(self, row: int) -> None:
-        """Click a visible row by its index."""
         self.js("document.querySelectorAll('#shown .row')[arguments[0]].click()", row)
 
     def rows(self) -> list[list[str]]:
-        """Return the texts of the visible rows."""
         found: list[list[str]] = self.js(ROWS)
         return found
 
@@ -342,11 +329,9 @@ class Page:
         return self.time_drawing(WHEEL, notches, right, down)
 
     def size(self) -> tuple[int, int]:
-        """Return the width and height of the diagram's canvas."""
         return self.get("diagram", "clientWidth"), self.get("diagram", "clientHeight")
 
     def scroll_to_diagram(self) -> None:
-        """Scroll to the diagram."""
         self.js("document.getElementById('diagram').scrollIntoView({ block: 'center' })")
 
     def go_to(self, step: str) -> None:
@@ -355,7 +340,6 @@ class Page:
         self.js("document.getElementById('tape-form').requestSubmit()")
 
     def colour(self, name: str) -> list[int]:
-        """Return a colour of the page's style."""
         script = "return getComputedStyle(document.documentElement).getPropertyValue(arguments[0])"
         text = self.js(script, name).strip()
         return [int(text[at : at + 2], 16) for at in (1, 3, 5)]

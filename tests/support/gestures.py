@@ -26,19 +26,16 @@ class Keys:
 
 
 def send_mouse(page: Page, kind: str, place: Point, **words: Any) -> None:
-    """Send a mouse event at a place of the window."""
     x, y = place
     page.command("Input.dispatchMouseEvent", type=kind, x=x, y=y, **words)
 
 
 def send_touch(page: Page, kind: str, places: Sequence[Point]) -> None:
-    """Send a touch event of fingers at places of the window."""
     points = [{"x": x, "y": y, "id": number} for number, (x, y) in enumerate(places)]
     page.command("Input.dispatchTouchEvent", type=kind, touchPoints=points)
 
 
 def press_key(page: Page, name: str, shift: bool = False) -> None:
-    """Press a key in the focused element."""
     words: dict[str, Any] = {"key": name, "code": name, "windowsVirtualKeyCode": KEY_NUMBERS[name]}
     words["modifiers"] = SHIFT if shift else 0
     if name == "Enter":
@@ -49,7 +46,6 @@ def press_key(page: Page, name: str, shift: bool = False) -> None:
 
 
 def type_text(page: Page, text: str) -> None:
-    """Type a text into the focused element."""
     page.command("Input.insertText", text=text)
 
 
@@ -77,7 +73,6 @@ def drag(page: Page, begin: Point, end: Point) -> None:
 
 
 def swipe(page: Page, begin: Point, end: Point) -> None:
-    """Move one finger."""
     send_touch(page, "touchStart", [begin])
     for place in points_between(begin, end):
         send_touch(page, "touchMove", [place])

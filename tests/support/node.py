@@ -64,7 +64,6 @@ class Engine:
         return CallResult(0 if answer["clean"] else 1, self.out.read_bytes(), answer)
 
     def end(self) -> None:
-        """End the process."""
         assert self.process.stdin
         self.process.stdin.close()
         self.process.wait()

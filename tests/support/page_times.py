@@ -31,7 +31,6 @@ def height(page: Page) -> float:
 
 
 def steps_seen(page: Page) -> float:
-    """Return the number of steps in view."""
     view = page.wait_until_drawn()
     return height(page) / float(view["high"]) * float(view["every"])
 

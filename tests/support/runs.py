@@ -58,7 +58,6 @@ def random_list(count: int, seed: int) -> bytes:
 
 
 def decide_lines(program: str, given: bytes, limits: Sequence[int]) -> list[bytes]:
-    """The program's verdict lines."""
     return run_command([program, "decide", *options(limits)], given).output.splitlines(keepends=True)
 
 
@@ -94,7 +93,6 @@ class Case:
             return subprocess.Popen(command, stdout=errors, stderr=errors, env=both, **how)
 
     def run(self, *more: str, **how: Any) -> int:
-        """The status of a whole run."""
         with self.start(*more, **how) as process:
             return process.wait()
 
@@ -112,7 +110,6 @@ class Case:
         return self.errors.read_text(errors="replace")
 
     def chunks(self) -> int:
-        """How many chunks stand."""
         lines = (line for path in self.out.glob("pass-*/journal") for line in path.read_bytes().split(b"\n"))
         return sum(line.startswith((b"decided", b"checked")) for line in lines)
 

@@ -26,7 +26,6 @@ ListMachines = Callable[..., list[str]]
 
 
 def decide(bb: str, limits: Sequence[int], machines: Sequence[str]) -> list[str]:
-    """Return the program's verdict lines."""
     return replies([bb, "decide", *options(limits)], machines)
 
 

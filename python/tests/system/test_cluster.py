@@ -102,7 +102,6 @@ def quick_list(bb: str, count: int, seed: int) -> bytes:
 
 
 def require_end(case: Case, status: int, right: bytes) -> None:
-    """A run came to its end, with the right bytes."""
     assert status == 1 and case.verdicts() == right, case.output()
 
 
@@ -174,7 +173,6 @@ def test_deadly_line(bb: str, tmp_path: pathlib.Path) -> None:
 
 @pytest.mark.slow
 def test_no_workers(many: Given, tmp_path: pathlib.Path) -> None:
-    """All workers go, and new ones come."""
     given, right = many
     with cluster(2, tmp_path) as found:
         case = case_of(found, "none", given)

@@ -54,7 +54,6 @@ def summary_in(out: pathlib.Path) -> dict[str, Any]:
 
 
 def passes(summary: dict[str, Any]) -> list[tuple[int, tuple[int, ...]]]:
-    """The lines of each pass, and the counts by kind."""
     return [(one["lines"], tuple(one["counts"][kind] for kind in KINDS)) for one in summary["passes"]]
 
 
@@ -117,7 +116,6 @@ def test_halts_behind_which_the_list_would_go_on() -> None:
 
 
 def chunks_in(out: pathlib.Path) -> int:
-    """How many chunks of the first pass stand."""
     path = out / "pass-1" / "journal"
     lines = path.read_bytes().split(b"\n") if path.exists() else []
     return sum(line.startswith(b"checked") for line in lines)

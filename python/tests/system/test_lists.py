@@ -32,7 +32,6 @@ AROUND += ["[%s](https://bbchallenge.org/%s)", "https://bbchallenge.org/%s"]
 
 
 def command(*asked: str, given: bytes = b"") -> CommandResult:
-    """How a command of the package ends."""
     return run_command([sys.executable, "-m", "budlarem", *asked], given)
 
 
@@ -133,7 +132,6 @@ def test_empty_lines(tmp_path: pathlib.Path) -> None:
 
 
 def in_some_form(source: random.Random, machine: str) -> str:
-    """A line that has the machine in some form."""
     text = source.choice(("_", "_", " ", "")).join(machine.split("_"))
     if source.random() < 0.2:
         text = text.replace("---", "...")
@@ -216,7 +214,6 @@ def require_counts(lines: list[str], answers: list[str], printed: str) -> None:
 
 
 def test_trace(bb: str) -> None:
-    """A trace is the program's, to its status."""
     for machine in (*mixed_machines(5, 1), "1rB", ""):
         for more in (["--upto", "50"], ["--upto", "2000", "--cells", "7"]):
             right = run_command([bb, "trace", *more, "--", machine])
@@ -331,7 +328,6 @@ def test_progress(tmp_path: pathlib.Path) -> None:
 
 
 def examples() -> Iterator[tuple[str, str]]:
-    """The commands of the document that are shown with what they write."""
     text = DOCUMENT.read_text(encoding="utf-8")
     for block in re.findall(r"(?:^    .*\n)+", text, re.MULTILINE):
         lines = [line[4:] for line in block.splitlines()]

@@ -29,7 +29,6 @@ print(resource.getrusage(resource.RUSAGE_SELF).ru_maxrss)
 
 
 def output_of(bb: str, asked: Sequence[str], given: bytes) -> bytes:
-    """What the program writes."""
     return run_command([bb, *asked], given).output
 
 

@@ -41,7 +41,6 @@ class Place:
         self.verdicts.write_bytes(run_command([bb, "decide", *options(FIRST)], as_lines(lines)).output)
 
     def words(self, *more: str, out: pathlib.Path | None = None) -> list[str]:
-        """A command that publishes."""
         return [sys.executable, "-m", "budlarem", "publish", str(out or self.out), *more]
 
     def given(self) -> list[str]:
@@ -55,12 +54,10 @@ class Place:
         return subprocess.run(command, capture_output=True, text=True, **how)
 
     def left(self) -> list[str]:
-        """What stands beside list and verdicts."""
         return sorted(set(os.listdir(self.top)) - {"list.txt", "verdicts.txt"})
 
 
 def unpack(path: pathlib.Path, into: pathlib.Path) -> pathlib.Path:
-    """The folder that an archive has, unpacked."""
     subprocess.run(["tar", "-x", "-f", str(path), "-C", str(into)], check=True)
     (made,) = into.iterdir()
     return made
@@ -148,7 +145,6 @@ def archive_of(bb: str, top: pathlib.Path) -> tuple[Place, Ways]:
 
 @pytest.mark.parametrize("count", [100, pytest.param(1_000, marks=pytest.mark.slow)])
 def test_archive(bb: str, tmp_path: pathlib.Path, rng: random.Random, count: int) -> None:
-    """What an archive has, and how it can be checked."""
     place, ways = archive_of(bb, tmp_path)
     made = ways.folder
     names = {"README.txt", "list.txt", "verdicts.txt", "about.json", "recheck.py", "SHA256SUMS"}
@@ -175,7 +171,6 @@ def test_archive_by_coq(bb: str, tmp_path: pathlib.Path, checker: str) -> None:
 
 
 def test_same(bb: str, tmp_path: pathlib.Path) -> None:
-    """The same contents are the same bytes."""
     place = Place(bb, tmp_path / "same", 500, 3)
     place.publish()
     first = place.out.read_bytes()
@@ -250,7 +245,6 @@ def require_names(place: Place) -> None:
 
 
 def test_run(bb: str, tmp_path: pathlib.Path) -> None:
-    """A run's folder says its limits."""
     place = Place(bb, tmp_path / "of_run", 400, 5)
     case = Case(tmp_path / "run", place.list.read_bytes())
     case.run()

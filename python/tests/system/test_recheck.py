@@ -48,7 +48,6 @@ def test_form() -> None:
 
 
 def test_words() -> None:
-    """Its words, bounds and statuses."""
     halt = b"1RB1LB_1LA1RZ halt 6 4\n"
     cases: list[tuple[list[str], bytes, int, bytes]] = [
         ([], halt, 0, b"true"),
@@ -91,7 +90,6 @@ def test_memory(tmp_path: pathlib.Path) -> None:
 
 @pytest.mark.parametrize("every", ["10", pytest.param("1", marks=pytest.mark.slow)])
 def test_verdicts_on_four_states(bb: str, list_machines: Callable[..., list[str]], every: str) -> None:
-    """Every verdict on the machines of four states is true."""
     machines = as_lines(list_machines(4, "--every", every))
     first = run_command([bb, "decide", *options(FIRST)], machines).output.splitlines(keepends=True)
     left = b"".join(line.split(b" ")[0] + b"\n" for line in first if b" undecided " in line)

@@ -273,7 +273,6 @@ def test_no_memory(tmp_path: pathlib.Path) -> None:
 
 @pytest.mark.slow
 def test_closed_files(tmp_path: pathlib.Path) -> None:
-    """Standard input, output and error are closed."""
     for closed in ((0,), (1,), (2,), (1, 2), (0, 1, 2)):
         case = Case(tmp_path / ("closed-%s" % "".join(map(str, closed))), b"1RB1LB_1LA1RZ\n1RA1RA\n")
         case.require_verdicts(DECIDED, status=0, words=[], preexec_fn=lambda: [*map(os.close, closed)])
