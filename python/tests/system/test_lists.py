@@ -46,11 +46,10 @@ def test_columns(bb: str) -> None:
 
 def test_lists(tmp_path: pathlib.Path) -> None:
     """The command finds the form of each list, and prints it; judges each list as it says."""
+    assert min(len(FORMS["lists"]), len(FORMS["judged"])) >= 15
     for entry in FORMS["lists"]:
-        error = command("read", given=as_lines(entry["lines"])).error.decode()
-        printed = re.search("form ([a-z]+)", error)
-        found = None if printed is None else printed.group(1)
-        assert found == entry["form"]
+        printed = re.search("form ([a-z]+)", command("read", given=as_lines(entry["lines"])).error.decode())
+        assert (None if printed is None else printed[1]) == entry["form"], entry["lines"]
     for entry in FORMS["judged"]:
         (tmp_path / "words.txt").write_text(entry.get("words", ""), encoding="utf-8")
         more = ["--form", entry["form"]] if "form" in entry else []
@@ -58,8 +57,9 @@ def test_lists(tmp_path: pathlib.Path) -> None:
             more += ["--steps-column" if role == "steps" else "--" + role, column]
         words = ["judge", "-", "--words", str(tmp_path / "words.txt"), *more]
         output = command(*words, given=as_lines(entry["lines"])).output.decode()
-        found = [line.partition("\t")[0] for line in output.splitlines()]
-        assert found == entry["judgements"], entry
+        rows = [line.split("\t") for line in output.splitlines()]
+        assert [row[0] for row in rows] == entry["judgements"], entry
+        assert {*entry.get("reasons", ())} <= {row[3] for row in rows}, entry
 
 
 def test_printed(tmp_path: pathlib.Path) -> None:

@@ -141,30 +141,6 @@ def test_made_meanwhile(tmp_path: pathlib.Path) -> None:
         assert process.returncode == (1 if name == "README.txt" else 3), case.output()
 
 
-def test_verdicts(bb: str, tmp_path: pathlib.Path) -> None:
-    """Verdicts share no bytes with what a later run writes; a run that is begun again reads its chunks
-    there."""
-    case = Case(tmp_path / "verdicts", random_list(3_000, 41), [QUICK_PASS])
-    right = expected_verdicts(bb, case.list.read_bytes(), [QUICK_PASS])
-    case.run()
-    verdicts, journal = case.out / "verdicts.txt", case.out / "pass-1" / "journal"
-    file, before = verdicts.stat(), journal.read_bytes()
-    assert file.st_nlink == 1 and not (case.out / "pass-1" / "pieces").exists()
-    case.require_verdicts(right)
-    assert "decided again" not in case.output(), case.output()
-    assert verdicts.stat().st_ino == file.st_ino and journal.read_bytes() == before
-    away = case.out.with_name("verdicts-of-mine.txt")
-    os.rename(verdicts, away)
-    for path in case.out.iterdir():
-        if path.is_file():
-            path.unlink()
-    limits = [QUICK_PASS[:3] + (11,)]
-    other = Case(tmp_path / "verdicts-other", random_list(3_000, 42), limits)
-    other.out = case.out
-    other.require_verdicts(expected_verdicts(bb, other.list.read_bytes(), limits))
-    assert away.read_bytes() == right, other.output()
-
-
 def test_added_pass(bb: str, tmp_path: pathlib.Path) -> None:
     """A pass is added to a run of one, killed meanwhile, and run again."""
     case = slow_case(tmp_path, "added", 43)
@@ -339,16 +315,6 @@ def test_mixed(tmp_path: pathlib.Path, passes: int) -> None:
     out.unlink()
     status, said = command("publish", str(out), "--verdicts", str(first))
     assert status == 0, said
-
-
-def test_other_counts(tmp_path: pathlib.Path) -> None:
-    """The summary of one run beside the verdicts of another, as two runs of one name left them."""
-    cases = [Case(tmp_path / ("counts-%d" % seed), random_list(500, seed), [QUICK_PASS]) for seed in (71, 72)]
-    for case in cases:
-        case.run()
-    shutil.copy(cases[1].out / "verdicts.txt", cases[0].out)
-    shutil.rmtree(cases[0].out / "pass-1")
-    require_refusal(tmp_path / "counts.tar", cases[0].out, "summary.json doesn't match verdicts.txt")
 
 
 def test_archive(tmp_path: pathlib.Path) -> None:

@@ -3,7 +3,6 @@
 from __future__ import annotations
 
 import io
-import json
 import pathlib
 import random
 from typing import Iterable
@@ -11,18 +10,16 @@ from unittest import mock
 
 import budlarem
 import pytest
-from budlarem import WORDS, Columns, Form, Halt, Judgement, Limits, Claim, Word
+from budlarem import WORDS, Columns, Halt, Judgement, Limits, Claim, Word
 from budlarem.claims import read_words, claim_in
 from budlarem.judging import rereadable
 from budlarem.normal_forms import canonical_form
 from budlarem.numbers import number_of, numbers_in
 from budlarem.reading.files import Source
-from support import TOP
 
 CHAMPION = "1RB1LB_1LA1RZ"
 CYCLER = "0RB---_0LA---"
 LEFT = "0RB1LD_0RC1RD_0RD---_1LA0RB"
-FORMS = TOP / "tests" / "support" / "forms.json"
 SMALL = Limits(1_000, 1_000, 30, 1_000)
 
 
@@ -86,19 +83,6 @@ def test_a_file_of_words(tmp_path: pathlib.Path) -> None:
         path.write_text(text, encoding="utf-8")
         with pytest.raises(ValueError, match=error):
             read_words(str(path))
-
-
-def test_each_list_is_judged(tmp_path: pathlib.Path) -> None:
-    entries = json.loads(FORMS.read_text(encoding="utf-8"))["judged"]
-    assert len(entries) >= 15
-    for entry in entries:
-        path = tmp_path / "words.txt"
-        path.write_text(entry.get("words", ""), encoding="utf-8")
-        form = Form(entry["form"]) if "form" in entry else None
-        columns, words = Columns(**entry.get("columns", {})), read_words(str(path))
-        found = list(budlarem.judge(entry["lines"], form=form, columns=columns, words=words))
-        assert [str(one.judgement) for one in found] == entry["judgements"]
-        assert {*entry.get("reasons", ())} <= {one.reason for one in found}
 
 
 # Lines of a text, and the words of a table with their machine, by their judgement.

@@ -65,13 +65,6 @@ def test_sentences() -> None:
     assert kinds | {"long", "row", "column"} == set(ADVICE)
 
 
-def test_each_list_has_its_form() -> None:
-    assert len(LISTED["lists"]) >= 15
-    for entry in LISTED["lists"]:
-        form = budlarem.read(entry["lines"]).form
-        assert (str(form.form) if form.is_found else None) == entry["form"], entry["lines"]
-
-
 def test_each_encoding_is_named() -> None:
     for entry in LISTED["encodings"]:
         content = bytes.fromhex(entry["bytes"])
@@ -79,13 +72,6 @@ def test_each_encoding_is_named() -> None:
         if entry["encoding"] is not None:
             with pytest.raises(EncodingError, match="^the file is " + entry["encoding"]):
                 list(budlarem.read(io.BytesIO(content * 3)))
-
-
-def test_a_refused_line_is_no_machine_of_the_library() -> None:
-    for form in LISTED["forms"]:
-        if "refusal" in form and not budlarem.is_machine(form["line"]):
-            reading = one(form["line"], Form(form.get("form", "text")))
-            assert isinstance(reading.column, int)
 
 
 def test_a_long_line() -> None:

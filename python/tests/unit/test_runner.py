@@ -220,9 +220,12 @@ def test_one_pass_is_written_once(case: RunCase) -> None:
     """The file of the chunks becomes the verdicts, and a later run reads the chunks there."""
     case.run_over(limits=[SMALL])
     chunks, verdicts = case.out / "pass-1" / "pieces", case.out / "verdicts.txt"
-    first = verdicts.stat()
+    first, journal = verdicts.stat(), (case.out / "pass-1" / "journal").read_bytes()
     assert (chunks.exists(), first.st_nlink) == (False, 1)
     assert case.open_last_pass([SMALL]).journal.rename_mark() == len(case.records([SMALL]))
+    case.run_over(limits=[SMALL])
+    assert (case.out / "pass-1" / "journal").read_bytes() == journal
+    assert "decided again" not in case.progress.kept.getvalue()
     executor = Answering()
     for _ in range(2):
         case.run_over(executor, limits=[SMALL], check=True)
@@ -249,6 +252,19 @@ def test_verdicts_share_no_bytes_with_a_later_run(case: RunCase) -> None:
         assert case.verdicts() == expected_verdicts(LIST, [SMALL])
         assert not kept_lines.samefile(case.out / "verdicts.txt")
         assert kept_lines.read_bytes() == expected_verdicts(LIST, [SMALL])
+
+
+def test_another_run_over_the_passes_of_one(case: RunCase) -> None:
+    """The verdicts were moved away, and all other files at the top removed."""
+    case.run_over(limits=[SMALL])
+    os.rename(case.out / "verdicts.txt", case.top / "kept")
+    for path in case.out.iterdir():
+        if path.is_file():
+            path.unlink()
+    case.list.write_bytes(KINDS * 20)
+    case.run_over(limits=[MIDDLE])
+    assert case.verdicts() == expected_verdicts(KINDS * 20, [MIDDLE])
+    assert (case.top / "kept").read_bytes() == expected_verdicts(LIST, [SMALL])
 
 
 def test_a_pass_is_added_to_verdicts_that_were_renamed(case: RunCase) -> None:
