@@ -160,7 +160,6 @@ class Batch:
 
 
 def _item_error(name: str, place: int, text: Any) -> Exception:
-    """The error for an invalid item."""
     if isinstance(text, str):
         return ValueError("%s[%d] has a newline in it: %.*r" % (name, place, LONGEST_VALUE, text))
     kind = type(text).__name__

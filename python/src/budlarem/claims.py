@@ -163,7 +163,6 @@ def _verdict_in(machine: str, text: str) -> Verdict:
 
 
 def _of_row(reading: Reading, layout: Layout, words: dict[str, Word]) -> Claim:
-    """The claim of a record of a table."""
     assert reading.machine is not None and reading.row is not None
     cells = {role: reading.row[place] for role, place in layout.columns.items()}
     cell = cells.get("verdict", "")

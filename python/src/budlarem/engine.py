@@ -59,10 +59,9 @@ def check_call(limits: Limits) -> Call:
 
 def _prepare(limits: Limits, plan: Plan, threads: int) -> int:
     """Raises an error for wrong arguments before anything is read; returns the number of threads."""
-    if not isinstance(limits, Limits):
-        raise TypeError("limits is of type %s, not Limits" % type(limits).__name__)
-    if not isinstance(plan, Plan):
-        raise TypeError("plan is of type %s, not Plan" % type(plan).__name__)
+    for name, given, kind in (("limits", limits, Limits), ("plan", plan, Plan)):
+        if not isinstance(given, kind):
+            raise TypeError(f"{name} is of type {type(given).__name__}, not {kind.__name__}")
     number = whole("threads", threads)
     if number < 1:
         raise ValueError("threads is %d, but must be 1 or more" % number)
@@ -82,11 +81,7 @@ def _reply_lines(
     batches: Iterator[Batch], call: Call, threads: int, pace: BatchPace
 ) -> Iterator[tuple[str, str]]:
     """Each text and the library's line for it."""
-
-    def work(buffer: ReplyBuffer, batch: Batch) -> None:
-        call(buffer, batch.lines)
-
-    for batch, reply in map_in_order(work, batches, threads, pace):
+    for batch, reply in map_in_order(lambda buffer, one: call(buffer, one.lines), batches, threads, pace):
         yield from zip(batch.texts, reply.text.decode().split("\n"))
 
 

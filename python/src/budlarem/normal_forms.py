@@ -89,9 +89,8 @@ def distinct(
             form = normal(machine, steps=steps, cells=cells)
         except MachineError as error:
             raise MachineError(machine, error.column, "machines[%d]" % place) from None
-        before = met.get(form.normal)
+        yield form, met.get(form.normal)
         met.setdefault(form.normal, machine)
-        yield form, before
 
 
 class CanonicalForm(NamedTuple):
@@ -201,15 +200,14 @@ class _Walk:
                     found.append(self._sides.get(entry[1], "-") + ",".join(names))
         return [name_of(one), *sorted(found)]
 
+    def _rename(self, entry: str) -> str:
+        if entry == "---":
+            return entry
+        return self._symbols[entry[0]] + self._sides[entry[1]] + self._states[entry[2]]
+
     def text(self) -> str:
         """The machine in new names."""
-
-        def rename(entry: str) -> str:
-            if entry == "---":
-                return entry
-            return self._symbols[entry[0]] + self._sides[entry[1]] + self._states[entry[2]]
-
         states = sorted((new, old) for old, new in self._states.items() if old != "Z")
         symbols = [old for old, _ in sorted(self._symbols.items(), key=lambda pair: pair[1])]
-        groups = ("".join(rename(self._entry(state, symbol)) for symbol in symbols) for _, state in states)
+        groups = ("".join(self._rename(self._entry(old, symbol)) for symbol in symbols) for _, old in states)
         return "_".join(groups)

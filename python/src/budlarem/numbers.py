@@ -39,12 +39,9 @@ def whole_number(text: str) -> int:
     sign = -1 if plain.startswith("-") else 1
     digits = re.sub("^[+-]", "", plain)
     power = _POWER.fullmatch(digits)
-    if power is not None:
-        whole, part, zeros = power[1] or "1", power[2] or "", int(power[3])
-        if zeros < len(part):
-            raise ValueError("%s is no whole number" % quote(text))
-        scaled: int = int(whole + part) * 10 ** (zeros - len(part))
-        return sign * scaled
+    if power is not None and int(power[3]) >= len(power[2] or ""):
+        whole, part = power[1] or "1", power[2] or ""
+        return sign * int(whole + part + "0" * (int(power[3]) - len(part)))
     if _DIGITS.fullmatch(digits) is None and _NUMBER.fullmatch(digits) is None:
         raise ValueError("%s is no whole number" % quote(text))
     return sign * int(re.sub("[^0-9]", "", digits))

@@ -157,7 +157,6 @@ def png(rows: Sequence[bytes], scale: int) -> bytes:
 
 
 def _refuse_large(rows: int, columns: int, scale: int) -> None:
-    """Raises PictureError for a picture that is too large."""
     pixels = rows * columns * scale**2
     if pixels > MOST_PIXELS:
         size = f"{rows:,} rows and {columns:,} columns at scale {scale:,} are {pixels:,} pixels"

@@ -130,7 +130,6 @@ class Contents:
         return (json.dumps(fields, indent=2) + "\n").encode()
 
     def _check_statement(self) -> str:
-        """A statement of what was checked."""
         total = sum(self.counts.kinds.values())
         first = "When this archive was made, Budlarem's checker confirmed each line that claims something"
         sentences = [f"{first}: {self.confirmed:,} of {total:,}."]

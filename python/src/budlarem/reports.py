@@ -200,7 +200,6 @@ def _longest(found: Statistics) -> Iterator[str]:
 
 
 def _card(one: MachineDiagram) -> str:
-    """A diagram with its caption."""
     machine, data = html.escape(one.machine), base64.b64encode(one.png).decode()
     image = f'<img loading="lazy" alt="Space-time diagram of {machine}" src="data:image/png;base64,{data}">'
     caption = f"<code>{machine}</code><br>{one.growth.visited[-1]:,} cells, last step {one.growth.steps:,}"

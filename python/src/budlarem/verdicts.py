@@ -126,11 +126,8 @@ class Refused:
 MachineVerdict = Union[Halt, Cycler, Translated, Backward, Undecided]
 Verdict = Union[MachineVerdict, Refused]
 VERDICTS = (Halt, Cycler, Translated, Backward, Undecided, Refused)
-_OF_TWO_NUMBERS: dict[str, Callable[[str, int, int], Verdict]] = {
-    "halt": Halt,
-    "cycler": Cycler,
-    "backward": Backward,
-}
+_OfTwoNumbers = Callable[[str, int, int], Verdict]
+_OF_TWO_NUMBERS: dict[str, _OfTwoNumbers] = {"halt": Halt, "cycler": Cycler, "backward": Backward}
 
 
 def require_field_types(name: str, verdict: Verdict | Extent) -> None:

@@ -13,7 +13,7 @@ from ..reading.forms import ListForm, form_of
 from ..reading.readings import Form
 from ..reading.tables import Columns
 
-# The characters of a list that are held. A longer regular file is read again; other sources are copied to disk.
+# The bytes of a list that are held. A regular file is read again; more of other sources is copied to the disk.
 _MOST_BUFFERED = 8_000_000
 
 
@@ -24,7 +24,6 @@ class RereadableList:
         self._source: Any = source
         self._lines = Lines(source)
         self._ahead: list[Numbered] = []
-        self._buffered: list[Numbered] | None = None
         self._copy: IO[bytes] | None = None
         self._is_started = False
         self.form: ListForm = form_of(self._lines, self._ahead, form, columns)
@@ -50,35 +49,17 @@ class RereadableList:
 
     def lines(self) -> Iterator[Numbered]:
         """The lines, from the first on. Raises OSError."""
-        if not self._is_started:
-            self._is_started = True
-            self._buffer()
-        if self._buffered is not None:
-            yield from self._buffered
-        elif self._copy is not None:
-            self._copy.seek(0)
-            for line in self._copy:
-                number, _, text = line[:-1].partition(b" ")
-                yield int(number), text.decode("utf-8", "surrogateescape")
-        else:
+        self._is_started = True
+        is_path = isinstance(self._source, (str, os.PathLike))
+        if is_path and stat.S_ISREG(os.stat(self._source).st_mode):
             self._lines = Lines(self._source)
             yield from self._lines
-
-    def _buffer(self) -> None:
-        """Reads the list for the first time: holds a short one, copies one that can't be read again."""
-        held: list[Numbered] = []
-        size = 0
-        lines = itertools.chain(self._ahead, self._lines)
-        for numbered in lines:
-            held.append(numbered)
-            size += len(numbered[1]) + 64
-            if size > _MOST_BUFFERED:
-                break
-        else:
-            self._buffered = held
             return
-        is_path = isinstance(self._source, (str, os.PathLike))
-        if not (is_path and stat.S_ISREG(os.stat(self._source).st_mode)):
-            self._copy = tempfile.TemporaryFile()
-            for number, line in itertools.chain(held, lines):
-                self._copy.write(b"%d %s\n" % (number, line.encode("utf-8", "surrogateescape")))
+        if self._copy is None:
+            self._copy = tempfile.SpooledTemporaryFile(_MOST_BUFFERED)
+            for number, line in itertools.chain(self._ahead, self._lines):
+                self._copy.write(b"%d %s\n" % (number, line.encode("utf-8", "surrogatepass")))
+        self._copy.seek(0)
+        for record in self._copy:
+            place, _, text = record[:-1].partition(b" ")
+            yield int(place), text.decode("utf-8", "surrogatepass")

@@ -104,7 +104,6 @@ def _entries_of(group: Word, before: int, place: int, is_followed: bool) -> Grou
 
 
 def _no_entry(text: str, number: int, place: int, is_followed: bool) -> Reason:
-    """Why a text of up to three characters is no entry."""
     whole = text + "_" if len(text) == 2 and is_followed else text
     if _LOST.fullmatch(whole):
         return Reason(
@@ -118,7 +117,6 @@ def _no_entry(text: str, number: int, place: int, is_followed: bool) -> Reason:
 
 
 def _letters(groups: Sequence[Word]) -> set[Rewriting]:
-    """The rewritings of the letters of these groups."""
     text = "".join(group.text for group in groups)
     found = {Rewriting.SMALL_LETTERS} if text != text.upper() else set()
     return found | {Rewriting.UNDEFINED_ENTRIES} if "..." in text else found
@@ -147,7 +145,6 @@ def _divide(entries: Group, rewritten: set[Rewriting]) -> Outcome:
 
 
 def _machine(groups: Sequence[Group], rewritten: set[Rewriting]) -> Outcome:
-    """The machine of these groups."""
     wrong = _wrong_size(groups)
     if wrong is not None:
         return wrong

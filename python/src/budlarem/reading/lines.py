@@ -65,7 +65,6 @@ def verdict_in(bare: str) -> Verdict | None:
 
 
 def _read_verdict(number: int, line: str, bare: str) -> Reading | None:
-    """The reading of a line in the form of verdicts."""
     verdict = verdict_in(bare)
     if verdict is None and skip_reason(bare) is not None:
         return None
@@ -86,7 +85,6 @@ def _require_alone(reading: Reading, bare: str) -> Reading:
 
 
 def _read_plain(number: int, line: str) -> Reading:
-    """The reading of a line that isn't skipped."""
     plain, places = _unescape(line)
     read = _read(plain, parts_of(plain))
     if isinstance(read, Reason):
@@ -150,7 +148,6 @@ def _state_line(line: str, text: Text) -> Reason | None:
 
 
 def _no_text(line: str, parts: Parts) -> Reason:
-    """Why a line without entries has no machine."""
     for row in parts.rows:
         if len(row.text) >= 6 or row.text == line.strip(SPACES):
             what = "dashes" if "-" in row.text else "dots"

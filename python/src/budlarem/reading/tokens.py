@@ -100,7 +100,6 @@ def parts_of(line: str) -> Parts:
 
 
 def _arrays_of(line: str) -> list[Text]:
-    """The arrays of entries in a line."""
     texts: list[Text] = []
     for match in _ARRAYS.finditer(line) if "[" in line else ():
         groups = tuple(
@@ -129,7 +128,6 @@ def _without_stop(word: Word) -> Word:
 
 
 def _texts_in_address(address: Word) -> Iterator[Text]:
-    """The candidates in an address."""
     last = address.text.rstrip("/").rfind("/") + 1
     for match in _PART.finditer(address.text):
         part = _without_stop(Word(address.begin + match.start(), match.group()))
@@ -231,7 +229,6 @@ def is_comment_of_machine(bare: str) -> bool:
 
 
 def _is_header(bare: str) -> bool:
-    """Whether a line has the names of a table's columns."""
     if bare.startswith("!"):
         return not parts_of(bare).texts
     cells = [cell.strip() for cell in _CELLS.split(bare)]

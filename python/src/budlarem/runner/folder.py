@@ -9,6 +9,7 @@ import errno
 import fcntl
 import json
 import os
+import pathlib
 import re
 import shlex
 import stat
@@ -27,7 +28,7 @@ from .journal import JOURNAL, KEPT, VERDICTS, Journal, PassFolder, has_records, 
 
 LOCK, RUN, README, SUMMARY = "lock", "run.json", "README.txt", "summary.json"
 FILES = (RUN, README, VERDICTS, SUMMARY)
-# How these files start in each version that writes this format.
+# How these files start in each version that writes this format, as folder.txt does.
 PAGE_BEGIN = "Verdicts on the machines of "
 _STARTS = {RUN: '{\n  "format": ', README: PAGE_BEGIN, SUMMARY: '{\n  "list": ', LOCK: ""}
 _PASS_PREFIX = "pass-"
@@ -115,7 +116,6 @@ def _foreign_error(directory: Directory, name: str) -> FolderError:
 
 
 def _foreign_names(top: Directory, names: Sequence[str], has_passes: bool) -> Iterator[str]:
-    """The names of foreign files here."""
     checked = (README, VERDICTS, SUMMARY, LOCK) if has_passes else (LOCK,)
     for name in names:
         is_own = name in checked and _has_start(top, name, name)
@@ -181,30 +181,7 @@ _SIZE = 8
 _SEALED = ',\n  "seal": "%s"\n}\n'
 # Errors of file systems that lock no directories: NFS wants a locked file to be open for writing.
 _NO_LOCKS = (errno.EBADF, errno.EINVAL, errno.EISDIR, errno.ENOLCK, errno.ENOSYS, errno.EOPNOTSUPP)
-_PAGE = string.Template(
-    PAGE_BEGIN
-    + """$list
-
-`budlarem run` made this folder (version $version, commit $commit).
-
-  verdicts.txt  $verdicts,
-                written at the end of the run
-  summary.json  counts, limits and times, written at the end too
-  run.json      the configuration of the run, with a seal over it
-  pass-1, ..    for each pass `pieces`, its verdict lines so far, and `journal`,
-                the index of the chunks in it. A run of one pass renames
-                `pieces` to verdicts.txt. Unless passes will be added, these
-                folders may be removed
-  README.txt    this page
-
-The same command resumes the run after any interruption, in the same directory$same.
-More passes may be added at its end; they decide the holdouts.
-
-    $resume
-
-$check
-"""
-)
+_PAGE = pathlib.Path(__file__).parents[1] / "folder.txt"
 
 
 def as_argument(path: str) -> str:
@@ -248,7 +225,7 @@ class RunConfig:
         if self.keep.only_holdouts:
             words += ["--keep", str(self.keep)]
             verdicts = "the verdicts that are kept (%s), in order" % self.keep
-        return _PAGE.substitute(
+        return string.Template(_PAGE.read_text(encoding="utf-8")).substitute(
             list=escape_controls(self.list_name),
             same=",\nwith the same list on standard input" if is_piped else "",
             verdicts=verdicts,

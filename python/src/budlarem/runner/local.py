@@ -3,6 +3,7 @@ runs in Python for a single line, and all calls release Python's lock."""
 
 from __future__ import annotations
 
+import contextlib
 import dataclasses
 import queue
 import threading
@@ -52,13 +53,11 @@ class LocalRun(PassRun):
             except RuntimeError as error:
                 raise RunError("%d threads can't be started: %s" % (self._threads, error)) from error
         while workers:
-            try:
+            with contextlib.suppress(queue.Empty):
                 failure = self._ended.get(timeout=0.1)
                 workers.pop()
                 if failure is not None:
                     raise failure
-            except queue.Empty:
-                pass
             self._sync_if_due()
             self._options.progress.tick()
 
@@ -66,6 +65,7 @@ class LocalRun(PassRun):
         self._is_stopped = True
 
     def _work(self, chunks: Iterator[Chunk]) -> None:
+        failure: BaseException | None = None
         try:
             buffers = ReplyBuffer(), ReplyBuffer()
             while not self._is_stopped:
@@ -75,9 +75,8 @@ class LocalRun(PassRun):
                     break
                 self._process(chunk, *buffers)
         except BaseException as error:
-            self._ended.put(error)
-        else:
-            self._ended.put(None)
+            failure = error
+        self._ended.put(failure)
 
     def _process(self, chunk: Chunk, buffer: ReplyBuffer, answers: ReplyBuffer) -> None:
         """Decides a chunk unless it is stored, checks it if asked, and stores it. Raises CheckError, OSError,
