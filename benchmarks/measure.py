@@ -165,9 +165,8 @@ class Bench:
     def costs(self, lines: str, commands: Sequence[Sequence[str]], is_same: bool) -> list[list[Cost]]:
         """Return what the runs of each command over a list cost; all may have to write the same."""
         self.list.write_text(lines, encoding="ascii")
-        outputs = {
-            str(at): self.list.with_name("out-%d" % (at * (not is_same))) for at in range(len(commands))
-        }
+        places = range(len(commands))
+        outputs = {str(at): self.list.with_name("out-%d" % (at * (not is_same))) for at in places}
         pairs = [(command, self.list, output) for command, output in zip(commands, outputs.values())]
         ways = {name: functools.partial(run, pair) for name, pair in zip(outputs, pairs)}
         return list(take_turns(self.table.runs, ways, outputs).values())
@@ -216,10 +215,8 @@ def measure(bench: Bench, seed: int) -> None:
         measure_search(bench, case)
     machines = halting_machines(random.Random(seed), CHECKED, 5)
     verdicts = as_lines(replies([program, "decide"], machines.splitlines())).decode()
-    (checking,), (deciding,) = (
-        bench.processors(lines, [[program, word]])
-        for word, lines in (("check", verdicts), ("decide", machines))
-    )
+    (checking,) = bench.processors(verdicts, [[program, "check"]])
+    (deciding,) = bench.processors(machines, [[program, "decide"]])
     what = "checking the lines of %d machines of five states, beside deciding them" % CHECKED
     table.ratio(what, min(checking), min(deciding))
 

@@ -80,10 +80,11 @@ def measure_node(bench: Bench) -> None:
     table.head("The module `bb.wasm`, in Node")
     table.row("bytes of the module", "{:,}".format(size), size, MODULE_BYTES)
     given = bench.four.read_bytes()
-    node, alone = table.least(
-        lambda: float(engine.call("decide", FOUR, given).answer["seconds"]),
-        lambda: run(bench.decide).processor,
-    )
+
+    def in_node() -> float:
+        return float(engine.call("decide", FOUR, given).answer["seconds"])
+
+    node, alone = table.least(in_node, lambda: run(bench.decide).processor)
     table.ratio(FOUR_STATES + ", beside the program; processor", node, alone, 2.5)
     engine.end()
     for name in ("decide", "check"):
@@ -129,10 +130,8 @@ def measure_look(bench: Bench) -> None:
     lowest = "--steps=0 --cells=1 --depth=0 --nodes=0".split()
     check = ([bench.program, "check", *lowest], bench.verdicts, NULL)
     count = validate_replies(lines, replies).lines
-    taken, alone = bench.table.least(
-        lambda: clock(lambda: validate_replies(lines, replies), time.process_time),
-        lambda: run(check).processor,
-    )
+    look = functools.partial(clock, lambda: validate_replies(lines, replies), time.process_time)
+    taken, alone = bench.table.least(look, lambda: run(check).processor)
     bench.table.head("`bb_look` over the replies to %s machines of four states" % "{:,}".format(count))
     each = taken / count * 1e9
     bench.table.row("`bb_look`, a line, in ns; processor", "%.0f" % each, each, 100)
@@ -290,10 +289,8 @@ def measure_python(bench: Bench) -> None:
         taken, alone = table.least(lambda: exhaust(call), lambda: run(command).clock)
         table.ratio("`%s` over 1,000,000 short lines, beside the program" % name, taken, alone, bar)
     limits, machines = budlarem.Limits(**FOUR), bench.four.read_bytes()
-    one, four = table.least(
-        lambda: exhaust(lambda: budlarem.decide_bytes(machines, limits, threads=1)),
-        lambda: exhaust(lambda: budlarem.decide_bytes(machines, limits, threads=4)),
-    )
+    decide = functools.partial(budlarem.decide_bytes, machines, limits)
+    one, four = table.least(lambda: exhaust(decide), lambda: exhaust(lambda: decide(threads=4)))
     table.ratio("`decide_bytes` of 858,909 machines by four threads, beside one", four, one)
     if has("a report", modules=("matplotlib",)):
         measure_report(bench)
@@ -313,16 +310,8 @@ def measure_report(bench: Bench) -> None:
     bench.table.row(what, figure, taken, 60)
 
 
-WORKS = (
-    measure_node,
-    measure_trace,
-    measure_look,
-    measure_calls,
-    measure_page,
-    measure_views,
-    measure_python,
-)
-PARTS = {work.__name__.partition("_")[2]: work for work in WORKS}
+WORKS = (measure_node, measure_trace, measure_look, measure_calls)
+PARTS = {work.__name__[8:]: work for work in (*WORKS, measure_page, measure_views, measure_python)}
 NEEDED = {"node": ["node"], "calls": ["cc"], "page": ["chromedriver"], "views": ["node", "chromedriver"]}
 
 

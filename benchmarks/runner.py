@@ -44,10 +44,10 @@ PARALLEL = ("GNU parallel, 100k", "GNU parallel, 1M", "GNU parallel, 10M")
 WAITING_PROCESSES, WAITING_THREADS = 4, 250
 # Seconds that each piece waits, lines of a piece, and how many pieces there are.
 WAITING = ((0.5, 100, 10_000), (0.5, 1_000, 4_000))
-REPLIES = "    return _replied(question(DECIDE"
+REPLIES = "    return _make_reply(describe_task(DECIDE"
 WAITS = """    time.sleep(%f)
     replies = lines.replace(b"\\n", b" undecided steps\\n")
-    return reply_of(question(DECIDE, limits), lines, replies, 1e-6)
+    return reply_of(describe_task(DECIDE, limits), lines, replies, 1e-6)
 """
 
 
@@ -130,9 +130,8 @@ def measure_bars(bench: Bench) -> None:
     table.head("%d workers, without the start of Python" % bench.threads)
     table.ratio("one worker, checked, beside the program; processor", work, alone, 1.3)
     table.ratio("several workers beside one, checked: at least three times as fast", several, one, 1 / 3)
-    table.ratio(
-        "several workers beside the program, checked", several, found["program"] + found["check"], 0.4
-    )
+    both = found["program"] + found["check"]
+    table.ratio("several workers beside the program, checked", several, both, 0.4)
     table.ratio("deciding beside as many processes", deciding, found["processes"], 1.7)
     table.ratio("deciding beside GNU parallel", deciding, found["GNU parallel"], 1.0)
 
