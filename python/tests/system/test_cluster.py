@@ -23,23 +23,6 @@ ENDLESS_PASS = (MAX_STEPS, MAX_CELLS, 3, 10)
 QUICK_PASS = (300, 64, 3, 10)
 # How a worker ends itself at LONG_MACHINE.
 DEADLY = "    if %r in lines: import os; os._exit(9)\n" % LONG_MACHINE
-# How a worker answers the same to all verdicts, and how it says of a wrong one that it is right.
-KEEPS_ANSWERS = """
-def _kept_answer(limits: Numbers) -> ChunkReply:
-    return _make_reply(describe_task(CHECK, limits), check_call(Limits(*limits)), b"1RZ--- halt 1 1\\n")
-
-
-"""
-LIE = """
-def _lie(asked: str, written: bytes) -> bytes:
-    if asked.startswith(CHECK):
-        return b"ok\\n" * written.count(b"\\n")
-    return written.replace(b" halt 1 1\\n", b" halt 1 0\\n")
-
-
-"""
-REPLY, TEXT, MAKE, CHECK = "return (written,", "buffer.reply().text", "def _make_reply(", "def check_chunk"
-LIES = [(TEXT, "_lie(task, %s)" % TEXT), (MAKE, LIE + MAKE)]
 # What makes a process collect garbage all the time.
 COLLECTS = """import gc, threading, time
 def collect():
@@ -53,22 +36,14 @@ WRONG_WORKERS = {
     "nothing": "No module named 'budlarem'",
     "another version": "it was decided by version 9.",
     "garbage": "came back for",
-    "a byte that changes on its way": "the reply was changed in transit",
-    "answers to other verdicts": "the reply answers other lines",
     "a reply that can't be read": "AttributeError: ",
 }
-ANSWER = "return _make_reply(describe_task(CHECK"
 CHANGES = {
     "another version": [('VERSION = "', 'VERSION = "9.')],
-    "garbage": [(TEXT, 'b"x\\n"')],
-    "a byte that changes on its way": [(REPLY, 'return (written[:-2] + b"7\\n",')],
-    "answers to other verdicts": [
-        (ANSWER, ANSWER.replace("return", "return _kept_answer(limits) or")),
-        (CHECK, KEEPS_ANSWERS + CHECK),
-    ],
+    "garbage": [("buffer.reply().text", 'b"x\\n"')],
     "a reply that can't be read": [
         ("_thread_state = ", "class Odd: pass\n_thread_state = "),
-        (REPLY, "return (Odd(),"),
+        ("return (written,", "return (Odd(),"),
     ],
 }
 # A list, and the verdicts of one process for each pass.
@@ -223,45 +198,11 @@ def test_wrong_worker(few: Given, tmp_path: pathlib.Path, what: str) -> None:
             wrong = changed_package(found.top, file, CHANGES[what])
         found.start_worker(wrong)
         case = case_of(found, "wrong", given)
-        more = ["--check"] if what == "answers to other verdicts" else []
-        variables = collect_garbage(found.top)
-        case.require_error(3, WRONG_WORKERS[what], str(case.list), *more, variables=variables)
+        case.require_error(3, WRONG_WORKERS[what], variables=collect_garbage(found.top))
         assert "resumes" in case.output() and "Traceback" not in case.output(), case.output()
         found.kill_workers()
         found.start_worker()
         case.require_verdicts(right)
-
-
-@pytest.mark.slow
-@pytest.mark.parametrize("seconds", ["1e9", "1e308"])
-def test_claimed_seconds(bb: str, tmp_path: pathlib.Path, seconds: str) -> None:
-    """Workers that give seconds that didn't pass: chunks don't become small by it, nor does the run fail."""
-    given = random_list(300, 1)
-    with cluster(0, tmp_path) as found:
-        change = ("return (written, seconds,", "return (written, %s," % seconds)
-        found.start_worker(changed_package(found.top, "runner/chunks.py", [change]))
-        case = case_of(found, "seconds", given, PASSES[:1])
-        case.require_verdicts(expected_verdicts(bb, given, PASSES[:1]))
-        assert case.chunks() < given.count(b"\n") // 10
-
-
-@pytest.mark.slow
-def test_lies(bb: str, tmp_path: pathlib.Path) -> None:
-    """A worker that gives a wrong verdict, and says that it is right: the checker of the runner's process
-    finds it, and names the line; those of the workers don't."""
-    given = b"1RZ---\n" + b"1RA1RA\n" * 50
-    with cluster(0, tmp_path) as found:
-        found.start_worker(changed_package(found.top, "runner/chunks.py", LIES))
-        case = case_of(found, "lies", given, (QUICK_PASS,))
-        assert case.run(str(case.list), "--check") == 0, case.output()
-        assert b" halt 1 0\n" in case.verdicts(), case.output()
-        case.clear()
-        text = "line 1: the checker answers bad: 1RZ--- halt 1 0"
-        case.require_error(1, text, str(case.list), "--check-here")
-        found.kill_workers()
-        found.start_worker()
-        right = expected_verdicts(bb, given, (QUICK_PASS,))
-        case.require_verdicts(right, str(case.list), "--check-here", status=0)
 
 
 @pytest.mark.slow

@@ -8,7 +8,7 @@ import pathlib
 import shutil
 import subprocess
 import sys
-from typing import Callable, Iterator
+from typing import Iterator
 
 import pytest
 from support.runs import PASSES, Case, Process, expected_verdicts, random_list, stop, wait_until, words_of
@@ -20,7 +20,6 @@ SLOWLY = ["--threads", "1", "--piece", "20"]
 LINES = 60_000
 MOVED = "isn't the folder that was opened any more"
 MACHINE = b"1RB1LB_1LA1RZ\n"
-Fault = Callable[[Case], None]
 
 
 def snapshot(tmp_path: pathlib.Path) -> dict[str, bytes]:
@@ -79,40 +78,6 @@ def test_moved(bb: str, tmp_path: pathlib.Path, passes: int) -> None:
     case.require_verdicts(expected_verdicts(bb, case.list.read_bytes(), limits))
 
 
-@pytest.mark.slow
-def test_replaced(tmp_path: pathlib.Path) -> None:
-    """The folder is removed; files of somebody else stand in a new one; a link is pointed elsewhere."""
-    mine = ("verdicts.txt", "summary.json", "README.txt", "run.json", "verdicts.txt.part", "pass-1", "pass-2")
-
-    def replace(case: Case) -> None:
-        os.rename(case.out, case.out.with_name("out.old"))
-        case.out.mkdir()
-        for name in mine:
-            (case.out / name).write_text("mine\n")
-
-    def point_elsewhere(case: Case) -> None:
-        elsewhere = case.out.with_name("elsewhere")
-        elsewhere.mkdir()
-        os.unlink(case.out)
-        case.out.symlink_to(elsewhere)
-
-    faults: dict[str, Fault] = {
-        "removed": lambda case: shutil.rmtree(case.out),
-        "replaced by own files": replace,
-        "a link pointed elsewhere": point_elsewhere,
-    }
-    for what, fault in faults.items():
-        for passes in (1, 2):
-            case = slow_case(tmp_path, "%s-%d" % (what.replace(" ", "-"), passes), 23, passes)
-            if "link" in what:
-                case.out.with_name("real").mkdir()
-                case.out.symlink_to(case.out.with_name("real"))
-            with stop_run(case) as process:
-                fault(case)
-                before = snapshot(case.out) if case.out.exists() else {}
-            require_moved_error(case, process.returncode, before)
-
-
 @pytest.mark.parametrize(
     "number", [0, *(pytest.param(number, marks=pytest.mark.slow) for number in range(1, 5))]
 )
@@ -127,18 +92,6 @@ def test_lock(bb: str, tmp_path: pathlib.Path, number: int) -> None:
         second.require_error(2, "another run works in")
         os.rename(case.out.with_name("away"), case.out / "run.json")
     assert case.verdicts() == expected_verdicts(bb, case.list.read_bytes(), [QUICK_PASS]), case.output()
-
-
-@pytest.mark.slow
-def test_made_meanwhile(tmp_path: pathlib.Path) -> None:
-    """Another makes a file of the run's name in its folder while it works: that file stays."""
-    for name in ("verdicts.txt", "summary.json", "README.txt"):
-        case = slow_case(tmp_path, "meanwhile-" + name, 31)
-        with stop_run(case) as process:
-            (case.out / name).unlink(missing_ok=True)
-            (case.out / name).write_text("mine\n")
-        assert (case.out / name).read_text() == "mine\n"
-        assert process.returncode == (1 if name == "README.txt" else 3), case.output()
 
 
 def test_added_pass(bb: str, tmp_path: pathlib.Path) -> None:

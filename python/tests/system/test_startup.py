@@ -101,7 +101,7 @@ def test_cut_library(library: pathlib.Path, tmp_path: pathlib.Path, step: int) -
     whole = library.read_bytes()
     decide, run = ["decide", str(listed)], ["run", str(listed), "--out", str(tmp_path / "cut")]
     commands = (decide, run, ["check", str(listed)], ["trace", "1RB1LB_1LA1RZ", "--upto", "6"])
-    lengths = [*range(64, len(whole), len(whole) // (4 * step)), len(whole) - 1]
+    lengths = [7, 20, *range(64, len(whole), len(whole) // (4 * step)), len(whole) - 1]
     for length, more in itertools.product(lengths, commands):
         cut.write_bytes(whole[:length])
         status, said = result_of(more, cut)

@@ -320,17 +320,6 @@ def test_all_names_are_there() -> None:
     assert not hasattr(budlarem, "nothing")
 
 
-def test_a_library_that_was_cut(tmp_path: pathlib.Path) -> None:
-    whole = pathlib.Path(_library.load_library()._name).read_bytes()
-    path = tmp_path / "libbb.so"
-    path.write_bytes(whole)
-    _library.require_whole(path)
-    for length in (len(whole) - 1, len(whole) // 2, 100, 20, 7):
-        path.write_bytes(whole[:length])
-        with pytest.raises(budlarem.LibraryError, match="was cut short"):
-            _library.require_whole(path)
-
-
 def test_a_library_of_another_length_than_the_wheel_says(tmp_path: pathlib.Path) -> None:
     path = tmp_path / "libbb.so"
     path.write_bytes(pathlib.Path(_library.load_library()._name).read_bytes())

@@ -23,7 +23,7 @@ from budlarem import Limits, _files, counts
 from budlarem.runner import chunks, folder, input, journal, passes
 from budlarem.runner.errors import CheckError, FolderError, MovedError, RunError, UsageError
 from support.runner import KINDS, LIST, MIDDLE, PASSES, SMALL, Answering, KeptProgress, Late, RunCase
-from support.runner import act, answer_with, counts_of, expected_verdicts, reseal
+from support.runner import PoolBackend, act, answer_with, counts_of, expected_verdicts, reseal
 
 
 def test_lists_and_passes(case: RunCase) -> None:
@@ -353,6 +353,32 @@ def test_a_file_that_another_makes_meanwhile(case: RunCase, name: str) -> None:
     require_resumed(case)
 
 
+def test_a_page_that_another_makes_meanwhile(case: RunCase) -> None:
+    page = case.out / "README.txt"
+
+    def replace() -> None:
+        page.unlink(missing_ok=True)
+        page.write_text("mine")
+
+    case.run_over(act(replace))
+    assert (page.read_text(), case.verdicts()) == ("mine", expected_verdicts(LIST))
+
+
+def test_a_link_to_the_folder_that_is_pointed_elsewhere(case: RunCase) -> None:
+    real, elsewhere = case.top / "real", case.top / "elsewhere"
+    real.mkdir()
+    elsewhere.mkdir()
+    case.out.symlink_to(real)
+
+    def point_elsewhere() -> None:
+        case.out.unlink()
+        case.out.symlink_to(elsewhere)
+
+    with pytest.raises(MovedError):
+        case.run_over(act(point_elsewhere, 5))
+    assert list(elsewhere.iterdir()) == []
+
+
 class WriterCase:
     """Chunks come in any order; none is lost, and the whole is in the list's order."""
 
@@ -596,6 +622,11 @@ def test_a_lying_worker_is_found_here(case: RunCase) -> None:
             case.run_over(Answering(lie), limits=[SMALL])
         with pytest.raises(CheckError, match="^line (5|15|25): the checker answers bad: "):
             case.run_over(Answering(lie), limits=[SMALL], check=True, here=True)
+    case.out = case.top / "command"
+    backend = PoolBackend(Answering(lie), 2)
+    with unittest.mock.patch("budlarem.commands.run._make_backend", return_value=backend):
+        status, said = case.call("--pass", "steps=30,cells=16,depth=3,nodes=5", "--check-here")
+    assert status == 1 and "budlarem: line 5: the checker answers bad: 1RB1LC_1RC1RB" in said
 
 
 def test_answers_to_other_verdicts(case: RunCase) -> None:
