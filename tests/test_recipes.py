@@ -238,8 +238,7 @@ def test_deciding_again_what_was_left(folder: Folder, content: bytes) -> None:
     assert len(once) == len(lines)
     for a, b in zip(once, lines):
         assert a == b or (b" backward " in b and a.split()[1] in (b"cycler", b"translated"))
-    parts = folder.read("decided.txt") + folder.read("second.txt")
-    assert sorted(parts.splitlines()) == sorted(lines)
+    assert sorted((folder.read("decided.txt") + folder.read("second.txt")).splitlines()) == sorted(lines)
 
 
 @each_list

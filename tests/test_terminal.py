@@ -83,8 +83,7 @@ def test_failed_reads_are_explained(bb: str, tmp_path: pathlib.Path, words: str,
     "word, cause", [("check", "standard output: No space left on device (os error 28)\n"), ("--help", "")]
 )
 def test_failed_writes_are_explained(bb: str, word: str, cause: str) -> None:
-    expected = (3, "bb: write failed\n" + cause)
-    assert last_shown([bb, word], b"1RA1RA halt 1 1\n", "/dev/full") == expected
+    assert last_shown([bb, word], b"1RA1RA halt 1 1\n", "/dev/full") == (3, "bb: write failed\n" + cause)
 
 
 def test_closed_pipe_leaves_the_fixed_line_alone(bb: str) -> None:

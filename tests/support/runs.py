@@ -98,13 +98,11 @@ class Case:
 
     def require_verdicts(self, right: bytes, *more: str, status: int = 1, **how: Any) -> None:
         """Run to the end, with this status and these verdicts."""
-        found = self.run(*more, **how)
-        assert found == status and self.verdicts() == right, self.output()
+        assert self.run(*more, **how) == status and self.verdicts() == right, self.output()
 
     def require_error(self, status: int, text: str, *more: str, **how: Any) -> None:
         """Run, and require an end with this status and a text on standard error."""
-        found = self.run(*more, **how)
-        assert found == status and text in self.output(), self.output()
+        assert self.run(*more, **how) == status and text in self.output(), self.output()
 
     def output(self) -> str:
         return self.errors.read_text(errors="replace")

@@ -138,8 +138,7 @@ def test_deadly_line(bb: str, tmp_path: pathlib.Path) -> None:
                 while len(found.workers) < 3:
                     found.start_worker(deadly)
                 time.sleep(0.02)
-        number = quick.count(b"\n") + 1
-        assert "line %d: every worker that decided it died" % number in case.output()
+        assert "line %d: every worker that decided it died" % (quick.count(b"\n") + 1) in case.output()
         assert "all but 1 chunks are stored" in case.output() and process.returncode == 3
         found.kill_workers()
         found.start_worker()

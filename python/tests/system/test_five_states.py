@@ -69,8 +69,7 @@ def test_sample(bb: str, tmp_path: pathlib.Path) -> None:
     assert decided == b"".join(machine + b" undecided steps\n" for machine in left.splitlines())
     for kind in KINDS:
         share, sampled = WRITTEN["counts"][kind] / MACHINES, found["counts"][kind] / PASSES[0][0]
-        allowed = 4 * math.sqrt(share * (1 - share) / PASSES[0][0])
-        assert abs(sampled - share) <= allowed, kind
+        assert abs(sampled - share) <= 4 * math.sqrt(share * (1 - share) / PASSES[0][0]), kind
 
 
 def figures_of(summary: dict[str, Any]) -> Iterator[str]:

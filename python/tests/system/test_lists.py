@@ -73,8 +73,7 @@ def test_printed(tmp_path: pathlib.Path) -> None:
     readers: dict[str, list[str]] = dict.fromkeys(("read", "decide", "normal", "judge", "check"), [])
     for name, more in {**readers, "compare": [str(given)], "report": ["--out", page]}.items():
         status, output, error = command(name, str(given), *more)
-        raw = re.search(b"[\x00-\x08\x0b-\x1f\x7f]|\xc2[\x80-\x9f]", output + error)
-        assert raw is None
+        assert re.search(b"[\x00-\x08\x0b-\x1f\x7f]|\xc2[\x80-\x9f]", output + error) is None
         if name == "check":
             continue
         assert b"form text" in error and b"3 lines skipped: empty lines 1, comments 1" in error, (name, error)
@@ -160,8 +159,7 @@ def test_random_forms(count: int) -> None:
         # The one form in which the program itself reads another machine.
         joined = machine.replace("_", "")
         is_other = line.strip().startswith(joined) and budlarem.is_machine(joined)
-        right = (joined if is_other else machine, None)
-        assert reading.machine in right, line
+        assert reading.machine in (joined if is_other else machine, None), line
         back += reading.machine == machine
     assert back > 0.6 * count
 
@@ -185,8 +183,7 @@ def test_read(bb: str, tmp_path: pathlib.Path) -> None:
         assert len(printed.splitlines()) > len(refused), name
     decided = run_command([bb, "decide", *options(LIMITS)], right)
     assert b"refused" not in decided.output
-    found = command("decide", *options(LIMITS), given=right)
-    assert found[:2] == (0, decided.output)
+    assert command("decide", *options(LIMITS), given=right)[:2] == (0, decided.output)
 
 
 def test_check(bb: str, rng: random.Random, tmp_path: pathlib.Path) -> None:
@@ -209,16 +206,14 @@ def require_counts(lines: list[str], answers: list[str], printed: str) -> None:
     words = ("ok", "bad", "over", "open", "unread")
     assert ", ".join("%s %d" % (word, answers.count(word)) for word in words) in printed
     place = next(place for place, answer in enumerate(answers) if answer not in ("ok", "open"))
-    named = ":%d: %s: %s" % (place + 1, answers[place], lines[place][:150])
-    assert named in printed
+    assert (":%d: %s: %s" % (place + 1, answers[place], lines[place][:150])) in printed
 
 
 def test_trace(bb: str) -> None:
     for machine in (*mixed_machines(5, 1), "1rB", ""):
         for more in (["--upto", "50"], ["--upto", "2000", "--cells", "7"]):
             right = run_command([bb, "trace", *more, "--", machine])
-            found = command("trace", *more, "--", machine)
-            assert found[:2] == right[:2]
+            assert command("trace", *more, "--", machine)[:2] == right[:2]
 
 
 def verdicts_of(count: int) -> Sequence[Verdict]:
@@ -323,8 +318,7 @@ def test_progress(tmp_path: pathlib.Path) -> None:
         texts, left = run_on_terminal(name, *words, str(given))
         assert any(word in text for text in texts) and max(map(len, texts)) < 80, (name, texts[:5])
         lines_left = left.count("\n") if name != "judge" else left.count("small letters read as capital ones")
-        right = {"judge": 100, "check": 1, "publish": 0}[name]
-        assert lines_left == right
+        assert lines_left == {"judge": 100, "check": 1, "publish": 0}[name]
 
 
 def examples() -> Iterator[tuple[str, str]]:
@@ -342,8 +336,7 @@ def test_examples() -> None:
     assert len(shown) >= 4
     script = 'budlarem() { "%s" -m budlarem "$@"; }\n' % sys.executable
     for asked, written in shown:
-        found = run_command(["sh", "-c", script + asked]).output.decode().rstrip("\n")
-        assert found == written
+        assert run_command(["sh", "-c", script + asked]).output.decode().rstrip("\n") == written
     for name in ("read", "check", "trace", "judge", "decide"):
         first, second = command("help", name), command(name, "--help")
         assert first[:2] == second[:2] and first.status == 0 and b"Column" in first.output, name

@@ -43,8 +43,7 @@ def require_deciding(bb: str, row: Row, switches: Sequence[str], lines: list[str
     """The package's verdicts, as objects and as bytes, are the program's; gives their lines."""
     expected = output_of(bb, ["decide", *options(row), *switches], as_lines(lines))
     limits, plan = Limits(*row), Plan(*(switch not in switches for switch in SIMULATION))
-    found = b"".join(budlarem.decide_bytes(as_lines(lines), limits, plan, threads=threads))
-    assert found == expected
+    assert b"".join(budlarem.decide_bytes(as_lines(lines), limits, plan, threads=threads)) == expected
     verdicts = list(budlarem.decide(lines, limits, plan, threads=threads))
     assert as_lines(map(str, verdicts)) == expected
     assert list(map(budlarem.parse, expected.decode().splitlines())) == verdicts

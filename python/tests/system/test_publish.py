@@ -248,8 +248,7 @@ def test_run(bb: str, tmp_path: pathlib.Path) -> None:
     place = Place(bb, tmp_path / "of_run", 400, 5)
     case = Case(tmp_path / "run", place.list.read_bytes())
     case.run()
-    done = place.publish("--verdicts", str(case.out), "--list", str(case.list))
-    assert done.returncode == 0
+    assert place.publish("--verdicts", str(case.out), "--list", str(case.list)).returncode == 0
     with tarfile.open(place.out) as archive:
         (name,) = [name for name in archive.getnames() if name.endswith("about.json")]
         file = archive.extractfile(name)
@@ -316,8 +315,7 @@ def test_signals(bb: str, tmp_path: pathlib.Path, rng: random.Random, tries: int
 
         status, error = interrupt_publish(place, (signal.SIGINT, signal.SIGTERM, signal.SIGHUP)[k % 3], ready)
         half += status != 0
-        is_whole = place.left() in ([], ["out.tar"])
-        assert is_whole, (status, place.left(), error)
+        assert place.left() in ([], ["out.tar"]), (status, place.left(), error)
         if place.out.exists():
             with tarfile.open(place.out) as archive:
                 assert len(archive.getnames()) == 6

@@ -43,8 +43,7 @@ def test_form() -> None:
     text = pathlib.Path(RECHECK).read_text(encoding="utf-8")
     assert text.count("\n") <= MOST
     nodes = [node for node in ast.walk(ast.parse(text)) if isinstance(node, (ast.Import, ast.ImportFrom))]
-    names = [ast.unparse(node) for node in nodes]
-    assert names == ["import sys"]
+    assert [ast.unparse(node) for node in nodes] == ["import sys"]
 
 
 def test_words() -> None:
@@ -134,6 +133,5 @@ def test_forged_lines(bb: str, count: int, rng: random.Random) -> None:
     assert len(lines) == len(printed) == len(answers)
     counts: Counter[bytes] = collections.Counter(printed)
     assert len(counts) == 5 and min(counts.values()) >= 20, counts
-    wrong = [row for row in zip(lines, printed, answers) if not is_right(*row)]
-    assert not wrong
+    assert not [row for row in zip(lines, printed, answers) if not is_right(*row)]
     print("%d lines compared" % len(lines))

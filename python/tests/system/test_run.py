@@ -187,8 +187,7 @@ def test_keep(bb: str, tmp_path: pathlib.Path, rng: random.Random) -> None:
     case.words += ["--keep", "left"]
     kill_often(case, 5, rng, "--threads", "2")
     case.require_verdicts(kept)
-    size = sum(path.stat().st_size for path in case.out.rglob("pieces"))
-    assert size < len(b"".join(right)) // 2
+    assert sum(path.stat().st_size for path in case.out.rglob("pieces")) < len(b"".join(right)) // 2
     summary = json.loads((case.out / "summary.json").read_text())
     assert summary["lines"] == len(right) and summary["kept"] == "left", summary
     before = {path: path.read_bytes() for path in case.out.rglob("*") if path.is_file()}
@@ -207,8 +206,7 @@ def test_order(bb: str, tmp_path: pathlib.Path) -> None:
         stood = wait_until(process, lambda: case.chunks() > 100)
         status = process.wait()
     assert stood and status == 0, case.output()
-    right = expected_verdicts(bb, given, passes)
-    assert case.verdicts() == right
+    assert case.verdicts() == expected_verdicts(bb, given, passes)
 
 
 @pytest.mark.slow

@@ -56,8 +56,7 @@ def require_moved_error(case: Case, status: int, before: dict[str, bytes]) -> No
     """The run ended with status 3 and a sentence, and what stands at its path is as it was."""
     said = case.output()
     assert status == 3 and MOVED in said, said
-    after = snapshot(case.out) if case.out.exists() else {}
-    assert after == before
+    assert (snapshot(case.out) if case.out.exists() else {}) == before
 
 
 @pytest.mark.parametrize("passes", [1, pytest.param(2, marks=pytest.mark.slow)])
@@ -217,8 +216,7 @@ def test_begun(bb: str, tmp_path: pathlib.Path) -> None:
     parts = {name: data for name, data in snapshot(case.out).items() if name.endswith(".part")}
     case.words += ["--pass", words_of((60, 64, 3, 10))]
     case.require_verdicts(expected_verdicts(bb, case.list.read_bytes(), TWO_PASSES))
-    after = {name: data for name, data in snapshot(case.out).items() if name.endswith(".part")}
-    assert after == parts
+    assert {name: data for name, data in snapshot(case.out).items() if name.endswith(".part")} == parts
     assert (case.out.parent / "precious").read_text() == "mine"
     (case.out / "pass-3").mkdir()
     (case.out / "pass-3" / "pieces").write_text("mine")

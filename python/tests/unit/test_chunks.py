@@ -235,5 +235,4 @@ def test_a_chunk_lasts_some_seconds() -> None:
             pace.update(pace.now, pace.now * cost, width)
         assert sizes[0] == 1
         assert all(after <= 8 * before for before, after in zip(sizes, sizes[1:]))
-        seconds = sizes[-1] * cost
-        assert sizes[-1] in (1, 20_000) or 0.7 <= seconds / lasting <= 1.3, sizes
+        assert sizes[-1] in (1, 20_000) or 0.7 <= sizes[-1] * cost / lasting <= 1.3, sizes

@@ -104,8 +104,7 @@ def test_machines_that_stay() -> None:
 
 def test_duplicates() -> None:
     machines = [CHAMPION, "1LB1RB_1RA1LZ", "1RA1RA", CHAMPION]
-    before = [first for _, first in budlarem.distinct(machines)]
-    assert before == [None, CHAMPION, None, CHAMPION]
+    assert [first for _, first in budlarem.distinct(machines)] == [None, CHAMPION, None, CHAMPION]
 
 
 def test_no_machine() -> None:

@@ -48,8 +48,7 @@ def test_limits_and_plans() -> None:
 def test_order_by_threads() -> None:
     machines = ["1RA1RA", CHAMPION] * 20_000
     for threads in (1, 4):
-        found = decide_lines(machines, Limits(steps=10), threads=threads)
-        assert found == [LINES[2], LINES[0]] * 20_000
+        assert decide_lines(machines, Limits(steps=10), threads=threads) == [LINES[2], LINES[0]] * 20_000
 
 
 def test_endless_lists() -> None:
@@ -115,8 +114,7 @@ def test_threads_end_with_the_list() -> None:
 
 def test_lines_and_verdicts() -> None:
     given: list[Any] = [LINES[0], budlarem.Halt(CHAMPION, 6, 5), "x", budlarem.Refused(3), LINES[2]]
-    answers = [Answer.OK, Answer.BAD, Answer.UNREAD, Answer.OPEN, Answer.OK]
-    assert list(budlarem.check(given)) == answers
+    assert list(budlarem.check(given)) == [Answer.OK, Answer.BAD, Answer.UNREAD, Answer.OPEN, Answer.OK]
     assert list(budlarem.check(LINES[:1], Limits(steps=5))) == [Answer.OVER]
     assert str(Answer.OVER) == "over"
 
@@ -197,8 +195,7 @@ def test_every_step_and_some() -> None:
     whole = [str(now) for now in budlarem.trace(CHAMPION, 100)]
     assert len(whole) == 7
     assert whole[6] == "6 Z 0 1111"
-    some = [str(now) for now in budlarem.trace(CHAMPION, 100, start=1, every=3)]
-    assert some == whole[1::3]
+    assert [str(now) for now in budlarem.trace(CHAMPION, 100, start=1, every=3)] == whole[1::3]
     assert list(budlarem.trace(CHAMPION, 100, start=7)) == []
 
 

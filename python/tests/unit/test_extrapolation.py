@@ -63,12 +63,9 @@ def test_without_an_extent() -> None:
 
 
 def test_steps_that_no_run_reaches() -> None:
-    right = parse("1RA1RA translated R 1 2 1 1")
-    assert str(at(right, 10**30)) == "%d A %d" % (10**30, 10**30)
-    left = parse("1LA1LA translated L 1 2 1 1")
-    assert at(left, 10**15) == Place(10**15, "A", -(10**15))
-    again = parse("0RB---_0LA--- cycler 2 4")
-    assert at(again, 10**15) == Place(10**15, "A", 0)
+    assert str(at(parse("1RA1RA translated R 1 2 1 1"), 10**30)) == "%d A %d" % (10**30, 10**30)
+    assert at(parse("1LA1LA translated L 1 2 1 1"), 10**15) == Place(10**15, "A", -(10**15))
+    assert at(parse("0RB---_0LA--- cycler 2 4"), 10**15) == Place(10**15, "A", 0)
 
 
 @pytest.mark.parametrize(

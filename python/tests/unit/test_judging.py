@@ -12,9 +12,9 @@ import budlarem
 import pytest
 from budlarem import WORDS, Columns, Halt, Judgement, Limits, Claim, Word
 from budlarem.claims import read_words, claim_in
-from budlarem.judging import rereadable
 from budlarem.normal_forms import canonical_form
 from budlarem.numbers import number_of, numbers_in
+from budlarem.reading import forms
 from budlarem.reading.files import Source
 
 CHAMPION = "1RB1LB_1LA1RZ"
@@ -138,8 +138,7 @@ def test_a_translation_is_counted() -> None:
     lines = ["machine,status", "1RA1RA,halt", "1RA1RA,Halt", "1RA1RA,loop", "x,halt", "1RA1RA,no"]
     translation = budlarem.judge(lines, limits=SMALL).theirs.translation
     assert translation is not None
-    right = ["halting: halt 1, Halt 1", "never halting: loop 1", "nothing: no 1"]
-    assert translation.lines == right
+    assert translation.lines == ["halting: halt 1, Halt 1", "never halting: loop 1", "nothing: no 1"]
 
 
 def test_two_columns_that_may_be_meant() -> None:
@@ -188,8 +187,7 @@ def test_steps_counted_for_undefined_entries() -> None:
     assert judgements(mixed, True) == ["confirmed"] * 3 + ["contradicted"]
     assert judgements(theirs, False)[1] == "contradicted"
     assert not budlarem.judge(map(str, verdicts)).undefined_steps
-    forged = theirs + ["1RB1LB_1LA--- halt 9 4"]
-    assert not budlarem.judge(forged).undefined_steps
+    assert not budlarem.judge((theirs + ["1RB1LB_1LA--- halt 9 4"])).undefined_steps
 
 
 def test_a_list() -> None:
@@ -219,11 +217,11 @@ def test_each_reading_has_the_same_lines(tmp_path: pathlib.Path) -> None:
     for kept in (10**6, 100, 0):
         given: tuple[Source, ...] = (path, io.BytesIO(content), iter(lines))
         for source in given:
-            with mock.patch.object(rereadable, "_MOST_BUFFERED", kept):
-                twice = rereadable.RereadableList(source)
+            with mock.patch.object(forms, "_MOST_BUFFERED", kept):
+                twice = forms.RereadableList(source)
                 assert [list(twice.lines()), list(twice.lines())] == [right, right]
                 assert (list(twice.once()), twice.empty) == (right, 80)
-    once = rereadable.RereadableList(path)
+    once = forms.RereadableList(path)
     assert (list(once.once()), once.empty) == (right, 80)
 
 

@@ -40,8 +40,7 @@ def test_every_option_of_every_command() -> None:
         for option in numbers_of(command):
             for text in MILLION:
                 asked = build_parser().parse_args([*given, option, text])
-                name = option[2:].replace("-", "_")
-                assert getattr(asked, name) == 1_000_000
+                assert getattr(asked, option[2:].replace("-", "_")) == 1_000_000
                 tried += 1
     assert tried > 100
 

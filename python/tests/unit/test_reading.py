@@ -59,8 +59,7 @@ def test_each_form() -> None:
 
 def test_sentences() -> None:
     assert LISTED["advice"] == ADVICE
-    sentences = {rewriting.value: rewriting.sentence for rewriting in Rewriting}
-    assert LISTED["rewritings"] == sentences
+    assert LISTED["rewritings"] == {rewriting.value: rewriting.sentence for rewriting in Rewriting}
     kinds = {form["refusal"] for form in LISTED["forms"] if "refusal" in form}
     assert kinds | {"long", "row", "column"} == set(ADVICE)
 

@@ -44,8 +44,7 @@ def test_they_are_given_again(case: RunCase) -> None:
         for data in (given, gzip.compress(given)):
             case.list.write_bytes(data)
             with contextlib.closing(input.ListFile(str(case.list))) as listed:
-                first = listed.first_lines(1_000)
-                assert first == [MACHINE[:-1]] * min(count, 1_000)
+                assert listed.first_lines(1_000) == [MACHINE[:-1]] * min(count, 1_000)
                 assert all_lines(listed) == given
 
 

@@ -19,7 +19,7 @@ from ..runner.progress import TerminalLine, short_count
 from ..verdicts import Answer
 from ..verification import CheckSummary, answer_blocks, explain
 from .shared import Subcommands, add_command, add_file, add_greatest_limits, add_number, add_passes
-from .shared import greatest_limits, source_of
+from .shared import counts_text, greatest_limits, source_of
 
 _CHECK = """Checks verdict lines of any origin, and writes an answer to each line, the bytes of bb check: ok,
 the claim holds; bad, it doesn't; over, it exceeds the limits, or its run needs more cells; open, it claims
@@ -30,12 +30,6 @@ The check of a claim takes as many steps as it names, whatever the limits, so th
 The tapes of each thread then take 134 MB. Pass --steps against claims of 10^12 steps, which take hours."""
 
 
-def counts_text(summary: CheckSummary) -> str:
-    """The count of each answer so far."""
-    counts = ((short_count(summary.counts[answer]), answer) for answer in Answer if summary.counts[answer])
-    return ", ".join("%s %s" % pair for pair in counts)
-
-
 def do_check(asked: argparse.Namespace) -> int:
     """Writes the checker's answers."""
     limits, progress = greatest_limits(asked), TerminalLine()
@@ -43,7 +37,7 @@ def do_check(asked: argparse.Namespace) -> int:
     summary = CheckSummary()
     with contextlib.closing(BytesFile(source_of(asked.file))) as file:
         for answers in answer_blocks(file, limits, asked.threads, summary):
-            progress.show(lambda: counts_text(summary))
+            progress.show(lambda: counts_text(summary.counts, Answer))
             sys.stdout.write(answers.decode())
     progress.clear()
     sys.stdout.flush()

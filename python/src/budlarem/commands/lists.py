@@ -12,15 +12,15 @@ from typing import BinaryIO, Counter, Iterator
 from ..claims import WORDS, Claims, read_words
 from ..comparison import Agreement, compare
 from ..judging import Judgement, judge, translation_in
-from ..judging.rereadable import RereadableList
 from ..limits import GREATEST, Limits
 from ..numbers import option_number
 from ..reading import Skipped
+from ..reading.forms import RereadableList
 from ..reports import report
 from ..runner.progress import TerminalLine, short_count
 from ..verdicts import Verdict
 from .shared import ListReader, Subcommands, add_claims_form, add_command, add_file, add_limits, add_number
-from .shared import columns_of, form_of, limits_of
+from .shared import columns_of, counts_text, form_of, limits_of
 
 _CLAIMS = """A list has one of the forms of `budlarem help read`: verdict lines; a table with a column of
 verdicts, or of words for halting beside columns of steps and scores, by a translation that is printed first; a
@@ -146,11 +146,6 @@ for a machine of LIST without a line; not-listed, for a machine of THEIRS that i
 same there up to the names of states and symbols, and left and right."""
 
 
-def counts_text(counts: Counter[Judgement]) -> str:
-    """The count of each judgement so far."""
-    return ", ".join("%s %s" % (short_count(counts[kind]), kind) for kind in Judgement if counts[kind])
-
-
 def do_judge(asked: argparse.Namespace) -> int:
     """Judges a list of claims."""
     if asked.theirs == "-" == asked.list:
@@ -180,7 +175,7 @@ def do_judge(asked: argparse.Namespace) -> int:
         counts[judged.judgement] += 1
         reader.print_rewritten(judged.claim.reading)
         sys.stdout.write("%s\n" % judged)
-        progress.show(lambda: counts_text(counts))
+        progress.show(lambda: counts_text(counts, Judgement))
     others = {"no-line": judging.missing(), "not-listed": judging.foreign()}
     progress.clear()
     if asked.list is not None:

@@ -6,19 +6,20 @@ import argparse
 import dataclasses
 import sys
 import textwrap
-from typing import TYPE_CHECKING, BinaryIO, Callable, Iterable, Iterator, Mapping
+from typing import TYPE_CHECKING, BinaryIO, Callable, Iterable, Iterator, Mapping, TypeVar
 
 from .._text import escape_controls, pluralize
 from ..claims import Translation
 from ..limits import GREATEST, Limits
 from ..numbers import option_number
 from ..reading import Columns, Form, ListForm, Reading, Readings, Skipped
-from ..runner.progress import TerminalLine
+from ..runner.progress import TerminalLine, short_count
 
 if TYPE_CHECKING:
     Subcommands = argparse._SubParsersAction[argparse.ArgumentParser]
 else:
     Subcommands = argparse._SubParsersAction
+Kind = TypeVar("Kind")
 # The width of a help page.
 WIDTH = 79
 # The forms of a list, for the help of the commands that read one.
@@ -37,6 +38,11 @@ _ROLES = {
     "steps": ("--steps-column", "the column of the steps of a halt"),
     "score": ("--score", "the column of the scores"),
 }
+
+
+def counts_text(counts: Mapping[Kind, int], kinds: Iterable[Kind]) -> str:
+    """The count of each kind so far, for a terminal."""
+    return ", ".join("%s %s" % (short_count(counts[kind]), kind) for kind in kinds if counts[kind])
 
 
 def source_of(path: str | None) -> str | BinaryIO:

@@ -7,7 +7,7 @@ import string
 from typing import Sequence
 
 from .._text import LONGEST_LINE, code_point, is_hidden, quote
-from ..verdicts import Refused, Verdict, is_machine, parse
+from ..verdicts import Verdict, is_machine, parse
 from .entries import Found, Outcome, Word, read_arrays, read_entries, read_words
 from .readings import Form, Reading, Reason, Rewriting
 from .tokens import SPACES, Parts, Text, is_comment_of_machine, parts_of, row_beside, skip_reason
