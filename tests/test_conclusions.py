@@ -13,16 +13,8 @@ import random
 from typing import Iterator, NamedTuple, Sequence
 
 import pytest
-from support.machines import (
-    LETTERS,
-    SWAPPED,
-    all_machines,
-    entries_of,
-    join_groups,
-    machine,
-    table_of,
-    text_of,
-)
+from support.machines import LETTERS, SWAPPED, all_machines, entries_of, join_groups, machine, table_of
+from support.machines import text_of
 from support.program import PLANS, options, replies, verdict_of
 from support.simulation import compare_lines, simulate
 

@@ -48,13 +48,8 @@ class Engine:
     def call(self, name: str, plan: dict[str, Any], given: bytes, **more: int) -> CallResult:
         """Make a call, with limits and switches by name."""
         self.given.write_bytes(given)
-        job: dict[str, Any] = {
-            "call": name,
-            "plan": plan,
-            "given": str(self.given),
-            "out": str(self.out),
-            **more,
-        }
+        files = {"given": str(self.given), "out": str(self.out)}
+        job: dict[str, Any] = {"call": name, "plan": plan, **files, **more}
         assert self.process.stdin
         self.process.stdin.write(json.dumps(job) + "\n")
         self.process.stdin.flush()

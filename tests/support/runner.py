@@ -58,8 +58,7 @@ def reseal(reply: chunks.ChunkReply, written: bytes) -> chunks.ChunkReply:
 
 
 class Answering(Executor):
-    """An executor whose answer to a task a function changes; it is given the reply and how many came
-    before."""
+    """An executor whose answers a function changes, given the reply and how many came before."""
 
     def __init__(self, change: Callable[[chunks.ChunkReply, int], Any] = lambda reply, before: reply) -> None:
         self.change, self.count = change, 0

@@ -203,8 +203,7 @@ def most_memory(case: Case, count: int, limits: Sequence[int]) -> int:
 
 
 def work_of(folder: str) -> float:
-    """The processor time of a process or thread, of this folder in /proc, in seconds; 0 where it has
-    ended."""
+    """The processor time of a process or thread, by its folder in /proc, in seconds; 0 once it has ended."""
     try:
         with open(folder + "/stat") as file:
             fields = file.read().rpartition(")")[2].split()

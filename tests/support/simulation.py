@@ -8,8 +8,7 @@ from .machines import LETTERS, table_of
 
 
 class Configuration(NamedTuple):
-    """A machine's state (None in Z), its head's position, the outermost positions so far outside Z, and its
-    tape."""
+    """A machine's state (None in Z), head, outermost positions so far outside Z, and tape."""
 
     state: int | None
     head: int

@@ -40,8 +40,7 @@ class BatchPace:
 
 
 class WorkerPool(Generic[Given]):
-    """Daemon threads that make calls. A call can't be stopped: after `close` its thread ends with the call, or
-    with the process."""
+    """Daemon threads that make calls. After `close` a thread ends with its call, or with the process."""
 
     def __init__(self, work: Callable[[ReplyBuffer, Given], None], threads: int, pace: BatchPace) -> None:
         self._work, self._most, self._pace = work, threads, pace
@@ -178,8 +177,7 @@ def _batch(name: str, before: int, texts: list[str]) -> Batch:
 
 
 def batch_texts(texts: Iterable[str], name: str, pace: BatchPace) -> Iterator[Batch]:
-    """The texts in batches. Raises TypeError or ValueError for an invalid item, after the batches before
-    it."""
+    """The texts in batches. Raises TypeError or ValueError for an invalid item, behind those before it."""
     before, size = 0, 0
     held: list[str] = []
     for text in texts:

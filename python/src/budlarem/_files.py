@@ -294,8 +294,7 @@ class FileTarget:
 
 
 def write_whole(path: str, blocks: Iterable[bytes]) -> None:
-    """Writes a file whole or not at all. Replaces a file that is there. Raises OSError; nothing is left
-    then."""
+    """Writes or replaces a file whole or not at all. Raises OSError; nothing is left then."""
     with contextlib.closing(FileTarget(path)) as target:
         target.write(lambda number: write_blocks(number, blocks))
 

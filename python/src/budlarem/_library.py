@@ -133,8 +133,7 @@ class Reply(NamedTuple):
 
 
 class ReplyBuffer:
-    """A buffer for the replies of successive calls. Untouched pages take no memory, so it may be much larger than
-    the replies."""
+    """A buffer for replies. Untouched pages take no memory, so it may be much larger than they are."""
 
     def __init__(self) -> None:
         self._make(mmap.PAGESIZE)

@@ -188,8 +188,7 @@ def _of_row(reading: Reading, layout: Layout, words: dict[str, Word]) -> Claim:
 
 
 def _of_halt(reading: Reading, halt: Halt | None, steps: int | None, score: int | None) -> Claim:
-    """The claim of a record with these numbers beside a word for halting, or beside a halt. Raises
-    ValueError."""
+    """The claim of a record with numbers beside a word for halting, or beside a halt. Raises ValueError."""
     assert reading.machine is not None
     if halt is None and steps is not None and score is not None:
         return Claim(reading, verdict_of(reading.machine, "halt %d %d" % (steps, score), whole_number))

@@ -131,8 +131,7 @@ def column_of(text: str) -> int | None:
 
 
 def _lines_of(items: Iterable[str | Verdict]) -> Iterator[str]:
-    """The lines of verdicts; other items stay as they are. Raises TypeError with its place for a verdict with
-    a field of another type."""
+    """The lines of verdicts; others stay. Raises TypeError, with its place, for a field of another type."""
     for place, item in enumerate(items):
         if isinstance(item, VERDICTS):
             require_field_types("lines[%d]" % place, item)

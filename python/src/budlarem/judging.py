@@ -164,8 +164,7 @@ def judge(
 def translation_in(
     source: RereadableList, words: dict[str, Word], progress: ProgressCallback
 ) -> Translation | None:
-    """The translation of a table's words, if there are any. Raises ValueError if two columns may have the
-    verdicts or their numbers."""
+    """The translation of a table's words, if any. Raises ValueError for two columns of one role."""
     layout = source.form.layout
     if layout is not None and layout.doubts:
         raise ValueError("%s: say which" % layout.doubts[0])

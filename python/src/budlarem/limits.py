@@ -97,8 +97,7 @@ def words_of(limits: Limits) -> str:
 
 
 def limits_of(words: str) -> Limits:
-    """The limits of words such as `steps=1000,cells=1024`; the others are the program's. Raises ValueError,
-    LimitsError."""
+    """The limits of words as `steps=1000,cells=1024`, else the program's. Raises ValueError, LimitsError."""
     found: dict[str, int] = {}
     # A comma may also separate groups of digits.
     for word in re.split(",(?![0-9]{3}(?:,|$))", words):

@@ -71,8 +71,7 @@ def _spacing(last: int, most: int) -> int:
 
 
 def sample_rows(machine: str, upto: int, cells: int, most: int) -> tuple[list[Configuration], int]:
-    """At most `most` steps of a run, evenly spaced, and their distance, a power of two. Only some steps are
-    traced for it."""
+    """At most `most` steps of a run, evenly spaced by a power of two, and that. Only some are traced."""
     every = _spacing(upto, most)
     chosen = list(trace(machine, upto, cells, every=every))
     closer = _spacing(min(upto, chosen[-1].step + every - 1), most)

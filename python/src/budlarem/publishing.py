@@ -65,8 +65,7 @@ class ArchivedFile:
         self.sha256, self.checksum = "", Checksum()
 
     def blocks(self) -> Iterator[bytes]:
-        """Its content in blocks. Raises RunError, OSError, and PublishError if it has changed since it was
-        first read."""
+        """Its content in blocks. Raises RunError, OSError, and PublishError if it changed meanwhile."""
         checksum, digest = Checksum(), hashlib.sha256()
         with contextlib.closing(ListFile(self.path)) as source:
             if not source.is_regular:

@@ -83,8 +83,7 @@ class Statistics(VerdictCounts):
 
 
 def bin_of(number: int) -> int:
-    """The bar of a distribution that has a number: one for each number up to 10, then ten for each power of
-    ten."""
+    """The bar that has a number: one for each number up to 10, then ten for each power of ten."""
     return number if number <= 10 else math.floor(10 * math.log10(number))
 
 
@@ -146,8 +145,7 @@ def _colour(axes: Any) -> None:
 
 
 def diagram(rows: Sequence[Configuration]) -> bytes:
-    """A space-time diagram of at most SIZE by SIZE pixels, as a PNG file. A wide one has the mean colours of
-    several positions."""
+    """A diagram of at most SIZE by SIZE pixels, a PNG file; a wide one has mean colours of positions."""
     low = min(row.low for row in rows)
     high = max(row.low + len(row.cells) for row in rows)
     across = -(-(high - low) // SIZE)

@@ -18,8 +18,7 @@ _FEW_CELLS = 65_536
 
 @dataclasses.dataclass
 class CheckSummary:
-    """The count of each answer so far, and number, text and answer of the first line that is neither `ok` nor
-    `open`."""
+    """The count of each answer so far, and number, text and answer of the first unconfirmed line."""
 
     counts: Counter[Answer] = dataclasses.field(default_factory=collections.Counter)
     first: tuple[int, str, Answer] | None = None

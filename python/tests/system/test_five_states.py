@@ -59,8 +59,7 @@ def passes(summary: dict[str, Any]) -> list[tuple[int, tuple[int, ...]]]:
 
 @pytest.mark.slow
 def test_sample(bb: str, tmp_path: pathlib.Path) -> None:
-    """Each thousandth machine: its counts, what is left of it, and the share of each kind, which is about
-    that in the whole list."""
+    """Each thousandth machine: its counts, what is left of it, and a share of each kind as in all."""
     require_end(start(tmp_path / "out", "--every", "1000", "--parts", "8"))
     found = summary_in(tmp_path / "out")
     assert passes(found) == PASSES

@@ -63,8 +63,7 @@ def test_lists(tmp_path: pathlib.Path) -> None:
 
 
 def test_printed(tmp_path: pathlib.Path) -> None:
-    """Each command that reads a list prints its form, what was passed over and the encoding, and no control
-    character of it."""
+    """Commands that read a list print its form, skipped lines and encoding, and no control character."""
     lines = ["", "# c", "#17 1RA1RA", "\x1b[31mx", "1RB\x1b1LB_1LA1RZ", "1RA1RA\x1b[0m\x07, \x1b]0;x\x9b",
              "| Machine | x |", "1RA1RA, \x1b[31mred\x9b", "1RB1LB_1LA1RZ, halt 6 4"]  # fmt: skip
     given, wide, page = tmp_path / "list.txt", tmp_path / "wide.txt", str(tmp_path / "page.html")
@@ -165,8 +164,7 @@ def test_random_forms(count: int) -> None:
 
 
 def test_read(bb: str, tmp_path: pathlib.Path) -> None:
-    """`budlarem read` writes what `read` reads, out of a file, a gzip and standard input, and tells the
-    rest."""
+    """`budlarem read` writes what `read` reads, out of a file, a gzip and standard input."""
     lines = [line for _, line in lines_in_some_form(2_000)]
     readings = list(budlarem.read(lines))
     right = as_lines([reading.machine for reading in readings if reading.machine is not None])
@@ -242,11 +240,8 @@ def test_forged_claims(bb: str, rng: random.Random, count: int) -> None:
 @pytest.mark.parametrize("line", ["17,%s,%s", "17;%s;%s", "17\t%s\t%s", "| 17 | %s | %s |"])
 def test_words(line: str, rng: random.Random) -> None:
     """True words of a table are confirmed, swapped ones contradicted, with each separator."""
-    words = ["nonhalt", "infinite", "cycler", "Translated Cyclers", "bouncers", "FAR"], [
-        "halt",
-        "halts",
-        "halting",
-    ]
+    never = ["nonhalt", "infinite", "cycler", "Translated Cyclers", "bouncers", "FAR"]
+    words = never, ["halt", "halts", "halting"]
     for is_swapped, right in ((False, Judgement.CONFIRMED), (True, Judgement.CONTRADICTED)):
         lines = [line % ("machine", "verdict")]
         for verdict in verdicts_of(1_000):
@@ -295,8 +290,7 @@ def test_forms_of_machines() -> None:
 
 
 def run_on_terminal(*asked: str) -> tuple[list[str], str]:
-    """The texts of progress that a command of the package showed on a terminal, and what stood there at the
-    end."""
+    """The texts of progress that a command showed on a terminal, and what was left there."""
     with open(os.devnull, "wb") as output:
         shown = on_terminal([sys.executable, "-m", "budlarem", *asked], b"", output)[1]
     rows = [row.split("\r") for row in shown.split("\n")]

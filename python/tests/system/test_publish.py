@@ -75,8 +75,7 @@ def commands_of(readme: str) -> list[list[str]]:
 
 
 class Ways:
-    """The commands of an archive's README, run in its folder. `bb` and `budlarem` stand in a folder of
-    programs."""
+    """The commands of an archive's README, run in its folder, with `bb` and `budlarem` in another."""
 
     def __init__(self, bb: str, folder: pathlib.Path, programs: pathlib.Path) -> None:
         self.folder = folder

@@ -35,8 +35,7 @@ DECIDED = b"1RB1LB_1LA1RZ halt 6 4\n1RA1RA translated R 1 2 1 1\n"
 
 @pytest.mark.parametrize("count, lines", [(1, 3_000), pytest.param(20, 20_000, marks=pytest.mark.slow)])
 def test_kills(bb: str, tmp_path: pathlib.Path, rng: random.Random, count: int, lines: int) -> None:
-    """The runner is killed at random moments, all of them before its end; what it is run again for is
-    checked."""
+    """The runner is killed at random moments before its end, and run again."""
     case = Case(tmp_path / "kills", random_list(lines, rng.randrange(10**9)))
     right = expected_verdicts(bb, case.list.read_bytes(), PASSES)
     assert kill_often(case, count, rng, "--threads", "2") == count
@@ -48,8 +47,7 @@ def test_kills(bb: str, tmp_path: pathlib.Path, rng: random.Random, count: int, 
 
 @pytest.mark.slow
 def test_interruption(tmp_path: pathlib.Path) -> None:
-    """SIGINT in the middle of 1,000,000,000,000 steps ends it within a second; a second run is refused
-    meanwhile."""
+    """SIGINT ends 1,000,000,000,000 steps within a second; a second run is refused meanwhile."""
     case = Case(tmp_path / "interruption", b"1RZ---\n" * 30 + LONG_MACHINE * 3)
     case.words = ["--pass", LONG_PASS, "--threads", "2"]
     with case.start() as process:
@@ -197,8 +195,7 @@ def test_keep(bb: str, tmp_path: pathlib.Path, rng: random.Random) -> None:
 
 @pytest.mark.slow
 def test_order(bb: str, tmp_path: pathlib.Path) -> None:
-    """A machine takes seconds, and those behind it don't: they stand meanwhile, and the verdicts are in the
-    list's order."""
+    """A machine takes seconds, and those behind it don't; verdicts are in the list's order."""
     passes = [(300_000_000, 200_000, 3, 10)]
     given = b"1RB1LB_1LA1RZ\n" * 300 + LONG_MACHINE + b"1RB1LB_1LA1RZ\n" * 20_000
     case = Case(tmp_path / "order", given, passes)

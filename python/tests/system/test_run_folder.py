@@ -23,8 +23,7 @@ MACHINE = b"1RB1LB_1LA1RZ\n"
 
 
 def snapshot(tmp_path: pathlib.Path) -> dict[str, bytes]:
-    """All that a folder has, by path: the bytes of files, where links lead, and the kind of what else is
-    there."""
+    """All that a folder has, by path: the bytes of files, where links lead, the kind of others."""
     found: dict[str, bytes] = {}
     for path in sorted(tmp_path.rglob("*")):
         name = str(path.relative_to(tmp_path))

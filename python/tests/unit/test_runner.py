@@ -236,8 +236,7 @@ def test_one_pass_is_written_once(case: RunCase) -> None:
 
 
 def test_verdicts_share_no_bytes_with_a_later_run(case: RunCase) -> None:
-    """A second name of the verdicts, and verdicts that were moved away, stay as they are, whatever the
-    next run decides."""
+    """A second name of the verdicts, and verdicts that were moved away, stay as they are."""
     for is_moved in (False, True):
         case.out = case.top / str(is_moved)
         kept_lines = case.top / ("kept-%s" % is_moved)

@@ -66,8 +66,7 @@ def add_command(commands: Subcommands) -> None:
 
 
 def install_signal_handlers(progress: Progress, folder: str) -> None:
-    """Has SIGINT, SIGTERM and SIGHUP end the process at once, with a message: finished chunks are on the
-    disk."""
+    """Has SIGINT, SIGTERM and SIGHUP end the process at once, with a message; its chunks are stored."""
 
     def end(number: int, frame: FrameType | None) -> None:
         what = "interrupted" if number == signal.SIGINT else "ended by " + signal.Signals(number).name

@@ -29,8 +29,7 @@ Read = tuple[Text, Outcome]
 
 
 def read_line(number: int, line: str, form: Form = Form.TEXT) -> Reading | None:
-    """The reading of a line without its newline, in a form other than that of a table; None for a skipped
-    line."""
+    """The reading of a line without its newline, in any form but a table's; None for a skipped line."""
 
     def is_rule(text: str) -> bool:
         """Whether a row of dashes is a rule in this form."""
@@ -222,8 +221,7 @@ def _single_machine(found: list[Read]) -> list[Read] | Reason:
 
 
 def _span(line: str, read: list[Read]) -> tuple[int, int]:
-    """The place of the machine in a line, with enclosing pairs of characters, and with the address of a link
-    whose text it is."""
+    """The machine's place in a line, with pairs of characters around it, and the address of its link."""
     start, end = read[0][0].begin, read[0][0].end
     while start > 0 and end < len(line) and line[start - 1] + line[end] in _PAIRS:
         start, end = start - 1, end + 1

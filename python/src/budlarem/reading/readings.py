@@ -95,8 +95,7 @@ ADVICE = {
 
 @dataclasses.dataclass(frozen=True)
 class Reason:
-    """Why a line has no machine: the kind as a word, a sentence, and the character of the line, from 1 on,
-    perhaps one past the end."""
+    """Why a line has no machine: the kind, a sentence, and the character, from 1 on, perhaps past the end."""
 
     kind: str
     text: str

@@ -150,8 +150,7 @@ def _has_entries(text: str) -> bool:
 
 
 def _join_words(line: str, words: list[Word], rows: list[Word]) -> list[Text]:
-    """The texts of these words: words with only spaces between them are one. Between lone entries `---` is an
-    entry."""
+    """The texts of these words: those with only spaces between them. Between lone entries `---` is one."""
     texts: list[Text] = []
     dashes = [row for row in rows if row.text == "---"]
     for run in _runs(line, sorted(words + dashes, key=lambda word: word.begin)):

@@ -68,8 +68,7 @@ def hash_of(data: bytes) -> str:
 
 
 def digest_of(data: bytes) -> str:
-    """The CRC-32 of bytes in transit, in 8 hexadecimal digits. It detects accidents, not attacks: use TLS
-    against those."""
+    """The CRC-32 of bytes in transit, in 8 hexadecimal digits, against accidents. Use TLS against attacks."""
     return "%08x" % zlib.crc32(data)
 
 
@@ -215,8 +214,7 @@ def parse_retention(words: Sequence[str] | None) -> Retention:
 
 @dataclasses.dataclass(eq=False)
 class Job:
-    """A submitted task. `first` lines of the whole task come before its lines; `turn` counts how often it was
-    submitted or lost."""
+    """A task. `first` lines of the whole come before its own; `turn` counts its submissions and losses."""
 
     task: Task
     lines: bytes

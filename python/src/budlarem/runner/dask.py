@@ -212,8 +212,7 @@ class DaskBackend(ExecutorBackend):
             self._report(text)
 
     def _requeue_stale(self) -> None:
-        """Requeues jobs of another connection: dask's executor never ends those whose replies were in transit
-        when it broke."""
+        """Requeues jobs of another connection: dask never ends those whose replies were in transit."""
         connection = self._connection()
         with self._lock:
             for job in [job for job, one in self._submissions.items() if one.connection is not connection]:

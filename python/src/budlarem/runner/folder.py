@@ -251,21 +251,13 @@ class RunConfig:
         if _is_truncated(text):
             return None
         fields: Any = None
-        try:
+        with contextlib.suppress(ValueError, TypeError, KeyError, AttributeError, RecursionError):
             fields = json.loads(text)
-            listed = fields["list"]
-            config = cls(
-                [limits_of(words) for words in fields["passes"]],
-                parse_retention([fields["keep"]]),
-                Identity.of_fields(fields),
-                str(listed["name"]),
-                listed["bytes"],
-                listed["lines"],
-            )
+            passes, keep = list(map(limits_of, fields["passes"])), parse_retention([fields["keep"]])
+            name, *numbers = (fields["list"][role] for role in ("name", "bytes", "lines"))
+            config = cls(passes, keep, Identity.of_fields(fields), str(name), *numbers)
             if config.text() == text:
                 return config
-        except (ValueError, TypeError, KeyError, AttributeError, RecursionError):
-            pass
         other = fields.get("format", FORMAT) if isinstance(fields, dict) else FORMAT
         if other != FORMAT:
             raise FolderError("it has format %.20s, which another version of this package writes" % other)
@@ -365,8 +357,7 @@ class Folder:
         self._write_file(name, lambda number: write_blocks(number, [data]))
 
     def _write_file(self, name: str, fill: Callable[[int], None]) -> None:
-        """Writes a file atomically. Raises RunError if a foreign file has the name by now, what `fill` does,
-        OSError."""
+        """Writes a file atomically. Raises RunError for a foreign file, what `fill` does, OSError."""
         with self._error_for_others(name):
             written = write_atomically(self._top, name, fill, self._pins.get(name))
         if name in self._pins:

@@ -77,8 +77,7 @@ class StreamLines:
 
 
 class FileLines:
-    """The lines of a file from `place` on, each chunk read when it is cut. `at_end` is called at the end.
-    Raises OSError."""
+    """The lines of a file from `place` on, read when cut. `at_end` is called at the end. Raises OSError."""
 
     def __init__(self, number: int, place: int, at_end: Callable[[], None]) -> None:
         self._number, self._place, self._at_end = number, place, at_end
@@ -280,8 +279,7 @@ SAMPLE_LINES = 1_000
 
 
 def require_form(source: ListFile) -> None:
-    """Raises FolderError if more than half of the first lines would be refused, RunError if the list can't be
-    read."""
+    """Raises FolderError if most of the first lines would be refused, RunError for an unreadable list."""
     lines = [line.decode("utf-8", "surrogateescape") for line in source.first_lines(SAMPLE_LINES)]
     refused = [(number, line) for number, line in enumerate(lines, 1) if not is_machine(line)]
     if 2 * len(refused) > len(lines):

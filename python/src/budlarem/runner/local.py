@@ -79,8 +79,7 @@ class LocalRun(PassRun):
         self._ended.put(failure)
 
     def _process(self, chunk: Chunk, buffer: ReplyBuffer, answers: ReplyBuffer) -> None:
-        """Decides a chunk unless it is stored, checks it if asked, and stores it. Raises CheckError, OSError,
-        MemoryError."""
+        """Decides, checks and stores a chunk, as far as needed. Raises CheckError, OSError, MemoryError."""
         if not self._is_stored(chunk):
             started = time.monotonic()
             self._decide_lines(buffer, chunk.given)

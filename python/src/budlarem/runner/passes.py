@@ -85,8 +85,7 @@ class Chunk:
 
 
 class Chunker:
-    """Cuts the lines of a pass: chunks of the journal as they are there, others by the pace. `known` is the
-    number of lines, if known."""
+    """Cuts the lines of a pass as its journal did, else by the pace. `known` is their number, if known."""
 
     def __init__(self, folder: PassFolder, list_name: str, most: ChunkSize, known: int | None) -> None:
         self._folder, self._list_name, self._known = folder, list_name, known
@@ -329,14 +328,10 @@ class PassRun:
 
     def run(self, lines: LineSource) -> PassResult:
         """Decides the lines of all chunks that aren't stored. Raises what `Backend.run_pass` does."""
-        try:
+        with contextlib.ExitStack() as stack:
+            for end in (self._sync, self._writer.close, self._stop):
+                stack.callback(end)
             self._decide(lines)
-        finally:
-            try:
-                self._stop()
-                self._writer.close()
-            finally:
-                self._sync()
         self._folder.chunks = self._result.chunks
         self._result.checksum = self._folder.checksum()
         return self._result
@@ -527,8 +522,7 @@ def _total_estimator(source: ListFile, lines: LineSource, known: int | None) -> 
 def start_or_resume(
     folder: Folder, source: ListFile, passes: Sequence[Limits], options: RunOptions
 ) -> RunConfig:
-    """The configuration of a folder, written or extended by new passes. Raises FolderError if the folder was
-    started with another one."""
+    """The configuration of a folder, maybe with more passes. Raises FolderError if it has another one."""
     size = None if source.is_compressed else source.size
     config = folder.read_config()
     if config is None:

@@ -139,8 +139,7 @@ class RemoteRun(PassRun):
         future.add_done_callback(self._done.put)
 
     def _validate(self, chunk: Chunk, reply: object) -> None:
-        """Validates a reply, and stores the chunk once no check is needed. Raises ReplyError, CheckError,
-        OSError."""
+        """Validates a reply; stores a chunk that needs no check. Raises ReplyError, CheckError, OSError."""
         limits, elapsed = self._limits.numbers(), time.monotonic() - chunk.submitted
         if chunk.written is None:
             task = describe_task(DECIDE, limits)
