@@ -209,9 +209,8 @@ def latest_halt(text: str, levels: int) -> int:
     """
     latest, most = -1, levels + BEYOND
     near = range(-levels, levels + 1)
-    starts = itertools.product(
-        (0, 1), range(len(table_of(text))), itertools.product((0, 1), repeat=len(near))
-    )
+    tapes = itertools.product((0, 1), repeat=len(near))
+    starts = itertools.product((0, 1), range(len(table_of(text))), tapes)
     for beyond, state, cells in starts:
         tape = {**dict.fromkeys(range(-most, most + 1), beyond), **dict(zip(near, cells))}
         steps = sum(1 for _ in simulate(text, most, state, tape)) - 1

@@ -71,9 +71,7 @@ def test_plain_program_writes_the_same_bytes(bb: str, peer: str, rng: random.Ran
     kinds: set[str] = set()
     for _ in range(count // BATCH):
         given, words = as_lines(draw_machine(rng) for _ in range(BATCH)), draw_options(rng)
-        ours, theirs = run_command([bb, "decide", *words], given), run_command(
-            [peer, "decide", *words], given
-        )
+        ours, theirs = (run_command([program, "decide", *words], given) for program in (bb, peer))
         in_one_run = run_command([peer, "decide", *words, "--one-run", "--weak-keys"], given)
         assert ours[:2] == theirs[:2] == in_one_run[:2], words
         lines = ours.output.decode().splitlines()

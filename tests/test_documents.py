@@ -102,9 +102,8 @@ def homes(paths: set[str]) -> set[str]:
 @functools.lru_cache(maxsize=None)
 def options(program: bool) -> set[str]:
     """Return the options of the program alone, or of all commands."""
-    named = re.findall(
-        r"(?:value|has_option)\(matches, \"([a-z-]+)\"\)", read("crates/bb_command/src/command.rt")
-    )
+    source = read("crates/bb_command/src/command.rt")
+    named = re.findall(r"(?:value|has_option)\(matches, \"([a-z-]+)\"\)", source)
     texts = [] if program else [text for path, text in sources().items() if not path.startswith("crates/")]
     others = [word for text in texts for word in re.findall(r"[\"'](--[a-z][a-z-]*)[\"' =]", text)]
     return {"--help", "--version", *("--" + name for name in named), *others, *ELSEWHERE}
@@ -170,9 +169,8 @@ class Line:
             return bool(homes(found) & homes(places().get(before[-1], set())))
         seen = set(before[-1:]) or self.about.union(*(crates()[crate] for crate in self.about))
         owners = homes(found) & set(crates())
-        return len(last) == 1 or bool(
-            owners & seen or found and not (owners and seen) or "elsewhere" in found
-        )
+        is_seen = bool(owners & seen) if owners and seen else bool(found)
+        return len(last) == 1 or is_seen or "elsewhere" in found
 
     def is_of(self, name: str, owner: str) -> bool:
         """Tell whether a crate or a function has a name, as far as the sources show."""
@@ -190,9 +188,8 @@ class Line:
         texts = (text for file, text in sources().items() if is_made and not file.startswith("crates/"))
         is_built = path.startswith(("/", "python/dist")) or "out" in path.split("/") or path in self.blocks
         beside = os.path.normpath(os.path.join(os.path.dirname(self.path), path))
-        return (
-            is_built or beside in sources() or any(name in text for text in texts) or bool(self.files(path))
-        )
+        is_there = is_built or beside in sources() or bool(self.files(path))
+        return is_there or any(name in text for text in texts)
 
     def files(self, path: str) -> list[str]:
         """List the files whose path ends so, maybe without a source's ending; those of the line's crates."""

@@ -52,9 +52,8 @@ def exchange(one: str, two: str) -> str:
     names = {one: two, two: one}
     before = "(?<=#define )" if one in KINDS else r"\b"
     pattern = r"%s(%s|%s)\b" % (before, one, two)
-    return (
-        HEADER[:begin] + re.sub(pattern, lambda found: names[str(found[1])], HEADER[begin:end]) + HEADER[end:]
-    )
+    inside = re.sub(pattern, lambda found: names[str(found[1])], HEADER[begin:end])
+    return HEADER[:begin] + inside + HEADER[end:]
 
 
 def run_with(header: str, library: pathlib.Path, folder: pathlib.Path) -> CommandResult:

@@ -87,6 +87,5 @@ def test_exceptions_are_pages() -> None:
 
 def test_help_reads_easily(bb: str, cover: str) -> None:
     commands = [[bb, *command.split(), "--help"] for command in COMMANDS] + [[cover, "--help"]]
-    require_easy(
-        "\n\n".join(re.sub(r"(?m)^ +", "", run_command(command).output.decode()) for command in commands)
-    )
+    pages = "\n\n".join(run_command(command).output.decode() for command in commands)
+    require_easy(re.sub(r"(?m)^ +", "", pages))

@@ -17,10 +17,7 @@ PATIENCE = 120
 
 def list_files(*words: str) -> list[str]:
     """List files that git knows, or would."""
-    command = ["git", "ls-files", *words]
-    names = subprocess.run(
-        command, cwd=TOP, stdout=subprocess.PIPE, text=True, check=True
-    ).stdout.splitlines()
+    names = subprocess.check_output(["git", "ls-files", *words], cwd=TOP, text=True).splitlines()
     return [name for name in names if (TOP / name.split("\t")[-1]).is_file()]
 
 

@@ -23,9 +23,8 @@ def output_of(*command: object) -> str:
     try:
         done = subprocess.run(words, cwd=TOP, stdout=subprocess.PIPE, stdin=subprocess.DEVNULL, text=True)
     except FileNotFoundError:
-        rows = [
-            line.split("#")[0].split() for line in (TOP / ".ci" / "packages.txt").read_text().splitlines()
-        ]
+        lines = (TOP / ".ci" / "packages.txt").read_text().splitlines()
+        rows = [line.split("#")[0].split() for line in lines]
         package = next(("Debian: " + row[0] for row in rows if words[0] in row[1:]), "no package of Debian's")
         sys.exit("%s: %s isn't installed (%s)" % (_NAME, words[0], package))
     if done.returncode != 0:

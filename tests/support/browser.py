@@ -254,16 +254,13 @@ class Page:
 
     def choose_example(self, name: str) -> None:
         """Choose an example by its name, and wait for its results."""
-        script = (
-            "return [...document.getElementById('examples').options].find((one) => one.text === arguments[0])"
-        )
-        self.await_answer(lambda: self.choose_option("examples", self.js(script + ".value", name)))
+        script = "return [...arguments[0]].find((one) => one.text === arguments[1]).value"
+        options = self.get("examples", "options")
+        self.await_answer(lambda: self.choose_option("examples", self.js(script, options, name)))
 
     def dispatch(self, name: str, event: str) -> None:
-        script = (
-            "document.getElementById(arguments[0]).dispatchEvent(new Event(arguments[1], { bubbles: true }))"
-        )
-        self.js(script, name, event)
+        element = self.driver.find_element("id", name)
+        self.js("arguments[0].dispatchEvent(new Event(arguments[1], { bubbles: true }))", element, event)
 
     def await_answer(self, act: Callable[[], object]) -> None:
         """Run an action that starts a list, and wait for its results."""

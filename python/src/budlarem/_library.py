@@ -169,9 +169,8 @@ class ReplyBuffer:
         count = _SIZE()
         status = call(*asked, given, len(given), self._address, room, ctypes.byref(count))
         if status == MEMORY:
-            raise MemoryError(
-                "the library had no memory for its tapes or its reply; lower the limit of cells"
-            )
+            why = "the library had no memory for its tapes or its reply"
+            raise MemoryError(why + "; lower the limit of cells")
         if status == LIMITS:
             raise AssertionError("%s refused the limits %r" % (name, asked))
         self._status, self._length = status, count.value

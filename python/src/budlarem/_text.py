@@ -73,9 +73,7 @@ def name_hidden(text: str) -> str:
     if text.isascii() and text.isprintable():
         return text
     pairs = ((one, escape_controls(one)) for one in text)
-    return "".join(
-        code_point(one) if escaped == one and is_hidden(one) else escaped for one, escaped in pairs
-    )
+    return "".join(code_point(one) if one == other and is_hidden(one) else other for one, other in pairs)
 
 
 def quote(text: str) -> str:

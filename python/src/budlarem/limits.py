@@ -107,10 +107,8 @@ def limits_of(words: str) -> Limits:
                 raise ValueError
             found[name] = whole_number(number)
         except ValueError:
-            raise ValueError(
-                "--pass %s: %r is no limit; a pass is as steps=1000,cells=1024,depth=40,nodes=10000,"
-                " each at most once" % (words, word)
-            ) from None
+            form = "steps=1000,cells=1024,depth=40,nodes=10000, each at most once"
+            raise ValueError(f"--pass {words}: {word!r} is no limit; a pass is as {form}") from None
     return Limits(**found)
 
 

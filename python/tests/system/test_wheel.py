@@ -45,9 +45,8 @@ RUN_PASSES = ((5, 16, 3, 10), (1_000, 1_024, 40, 1_000))
 RUN_LEFT = [4, 1]
 SITE = pathlib.Path(pytest.__file__).parents[1]
 # The modules that pytest and hypothesis are, for Pythons and environments that lack it.
-PYTEST = (
-    "pytest _pytest py pluggy iniconfig packaging attr exceptiongroup hypothesis sortedcontainers".split()
-)
+PYTEST = "pytest _pytest py pluggy iniconfig packaging attr exceptiongroup".split()
+PYTEST += ["hypothesis", "sortedcontainers"]
 
 
 def run(

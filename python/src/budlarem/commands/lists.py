@@ -64,9 +64,8 @@ class ClaimReader(ListReader):
             else:
                 why = claim.trouble or "no verdict of %s" % claim.reading.machine
                 self.refuse(claim.reading.number, "refused: %s" % why)
-        self.print_skipped(
-            claims.skipped + collections.Counter({Skipped.EMPTY: source.empty}), source.undecoded
-        )
+        skipped = claims.skipped + collections.Counter({Skipped.EMPTY: source.empty})
+        self.print_skipped(skipped, source.undecoded)
 
 
 def do_compare(asked: argparse.Namespace) -> int:

@@ -106,9 +106,8 @@ def _entries_of(group: Word, before: int, place: int, is_followed: bool) -> Grou
 def _no_entry(text: str, number: int, place: int, is_followed: bool) -> Reason:
     whole = text + "_" if len(text) == 2 and is_followed else text
     if _LOST.fullmatch(whole):
-        return Reason(
-            "lost", f"entry {number} is {whole}: the {whole[0]} that it writes would be lost", place
-        )
+        what = f"entry {number} is {whole}: the {whole[0]} that it writes would be lost"
+        return Reason("lost", what, place)
     hidden = first_hidden(text)
     if hidden is not None:
         code = code_point(text[hidden])

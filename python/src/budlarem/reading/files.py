@@ -44,10 +44,8 @@ class EndlessLineError(ValueError):
     """A line of a list has more than LONGEST_UNENDED bytes. `number` is its number, from 1 on."""
 
     def __init__(self, name: object, number: int) -> None:
-        super().__init__(
-            "%s: line %s has more than %s bytes and no newline; a list has a machine or a verdict a line"
-            % (name, "{:,}".format(number), "{:,}".format(LONGEST_UNENDED))
-        )
+        what = f"line {number:,} has more than {LONGEST_UNENDED:,} bytes and no newline"
+        super().__init__(f"{name}: {what}; a list has a machine or a verdict a line")
         self.number = number
 
 

@@ -11,9 +11,8 @@ from .entries import Word
 from .readings import Skipped
 
 # The spaces: those of JavaScript's \s.
-SPACES = "\t\n\v\f\r \u00a0\u1680\u2028\u2029\u202f\u205f\u3000\ufeff" + "".join(
-    map(chr, range(0x2000, 0x200B))
-)
+SPACES = "\t\n\v\f\r \u00a0\u1680\u2028\u2029\u202f\u205f\u3000\ufeff"
+SPACES += "".join(map(chr, range(0x2000, 0x200B)))
 _QUOTES = "`\"'\u2018\u2019\u201a\u201c\u201d\u201e\u00ab\u00bb"
 # The characters that end an address; and those that end a word, too.
 _ENDS = SPACES + ",;|()[]{}<>*" + _QUOTES

@@ -43,9 +43,8 @@ def import_distributed() -> Any:
     try:
         return importlib.import_module("distributed")
     except ImportError as error:
-        raise RunError(
-            "dask isn't installed (%s): pip install distributed, or Debian's python3-distributed" % error
-        ) from None
+        how = "pip install distributed, or Debian's python3-distributed"
+        raise RunError(f"dask isn't installed ({error}): {how}") from None
 
 
 @dataclasses.dataclass

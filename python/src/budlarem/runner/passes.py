@@ -129,10 +129,8 @@ class Chunker:
 
     def _raise_mismatch(self, first: int, count: int, found: int) -> NoReturn:
         if self._folder.number > 1:
-            text = (
-                "was decided from other lines than the holdouts of the pass before; remove it and run again"
-            )
-            raise FolderError(f"{self._folder.path} {text}")
+            text = "was decided from other lines than the holdouts of the pass before"
+            raise FolderError(f"{self._folder.path} {text}; remove it and run again")
         is_short = found < count
         lines = f"lines {first + 1} to {first + count} differ"
         self._raise_other_list(f"it ends after line {first + found}" if is_short else lines)
@@ -365,10 +363,8 @@ class PassRun:
         chunk.seconds = record.milliseconds / 1_000
         if self._needs_check(chunk):
             if self._options.keep.only_holdouts:
-                how = "resume without --check, or start again with it in another folder"
-                raise FolderError(
-                    f"{self._folder.path}: verdicts were dropped before they were checked; {how}"
-                )
+                text = "verdicts were dropped before they were checked; resume without --check"
+                raise FolderError(f"{self._folder.path}: {text}, or start again with it in another folder")
             chunk.written = kept
         return True
 
