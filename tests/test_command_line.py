@@ -13,9 +13,10 @@ BY_TREES = b"1RB1LB_1LA1RZ halt 6 4\n0RB---_0LA--- backward 2 4\n1RA1RA backward
 CLAIMS = VERDICTS + b"1RA1RA undecided cells\nrefused 14\n"
 ANSWERS = b"ok\nok\nok\nopen\nopen\n"
 UNREAD, DEPTH = b"bb: read failed\n", b"bb: depth does not fit in cells\n"
+Case = tuple[str, str, bytes, int, bytes, bytes]
 # Name, words, standard input, status, standard output, and a part of standard error. The words LISTED,
 # CLAIMED, MISSING and FOLDER stand for paths.
-CASES = [
+CASES: list[Case] = [
     ("a file is read", "decide LISTED", b"------\n", 0, VERDICTS, b""),
     ("standard input is read", "decide", MACHINES, 0, VERDICTS, b""),
     ("an empty input", "decide", b"", 0, b"", b""),
@@ -55,9 +56,7 @@ def paths(tmp_path: pathlib.Path) -> dict[str, str]:
 
 
 @pytest.mark.parametrize("case", CASES, ids=[case[0] for case in CASES])
-def test_command_line(
-    bb: str, paths: dict[str, str], case: tuple[str, str, bytes, int, bytes, bytes]
-) -> None:
+def test_command_line(bb: str, paths: dict[str, str], case: Case) -> None:
     _, words, given, status, output, error = case
     done = run_command([bb, *(paths.get(word, word) for word in words.split())], given)
     assert done[:2] == (status, output)

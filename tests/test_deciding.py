@@ -22,9 +22,7 @@ def is_kept(before: str, after: str) -> bool:
 
 
 @pytest.mark.parametrize("plan", PLANS, ids=" ".join)
-def test_checker_confirms_verdicts_and_larger_limits_keep_them(
-    bb: str, rng: random.Random, plan: list[str]
-) -> None:
+def test_verdicts_are_confirmed_and_larger_limits_keep(bb: str, rng: random.Random, plan: list[str]) -> None:
     machines = random_machines(10_000, rng)
     runs: list[list[str]] = []
     for limits in ROWS:

@@ -78,9 +78,7 @@ def right(bb: str) -> bytes:
 
 
 @pytest.mark.needs("gcc")
-def test_parameters_and_counts_stand_in_order(
-    library: pathlib.Path, right: bytes, tmp_path: pathlib.Path
-) -> None:
+def test_parameters_and_counts_in_order(library: pathlib.Path, right: bytes, tmp_path: pathlib.Path) -> None:
     names = parameters(HEADER)
     assert set(GIVEN) <= set(names) and len(names) == 9
     assert run_with(HEADER, library, tmp_path) == (0, right, b"")

@@ -75,9 +75,7 @@ def machines_by_definition(entries: list[str], symbols: int, steps: int) -> Iter
         pytest.param(4, 2, 200, marks=pytest.mark.slow),
     ],
 )
-def test_list_follows_from_its_definition(
-    list_machines: List_, states: int, symbols: int, steps: int
-) -> None:
+def test_list_follows_from_definition(list_machines: List_, states: int, symbols: int, steps: int) -> None:
     expected = list(machines_by_definition(["---"] * states * symbols, symbols, steps))
     assert list_machines(states, "--symbols", str(symbols), "--steps", str(steps)) == expected
     print("%d lines compared" % len(expected))

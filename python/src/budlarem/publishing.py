@@ -248,9 +248,7 @@ def _confirm_all(
     return confirmed, free
 
 
-def _raise_unconfirmed(
-    verdicts: ArchivedFile, before: int, answers: Sequence[str], limits: Limits
-) -> NoReturn:
+def _raise_unconfirmed(verdicts: ArchivedFile, before: int, answers: list[str], limits: Limits) -> NoReturn:
     """Raises the error for the first of these answers that confirms nothing."""
     place = next(place for place, answer in enumerate(answers) if answer not in ("ok", "open"))
     number, answer = before + place, Answer(answers[place])

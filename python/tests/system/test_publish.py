@@ -20,7 +20,7 @@ import pytest
 from support import restore_signals
 from support.machines import mixed_machines
 from support.program import as_lines, run_command, options
-from support.runs import Case, is_at_work, small_disk, wait_until
+from support.runs import Case, Process, is_at_work, small_disk, wait_until
 
 FIRST = (300, 64, 10, 100)
 PASS = "steps=300,cells=64,depth=10,nodes=100"
@@ -272,9 +272,7 @@ def test_full_disk(bb: str, tmp_path: pathlib.Path) -> None:
         assert "out.tar" in done.stderr and not os.listdir(disk), os.listdir(disk)
 
 
-def interrupt_publish(
-    place: Place, number: int, ready: Callable[["subprocess.Popen[bytes]"], object]
-) -> "tuple[int, str]":
+def interrupt_publish(place: Place, number: int, ready: Callable[[Process], object]) -> tuple[int, str]:
     """The status and standard error of a process that is sent a signal once it is ready."""
     how: dict[str, Any] = {"stdout": subprocess.DEVNULL, "stderr": subprocess.PIPE}
     with subprocess.Popen(place.words(*place.given()), preexec_fn=restore_signals, **how) as process:
@@ -308,7 +306,7 @@ def test_signals(bb: str, tmp_path: pathlib.Path, rng: random.Random, tries: int
     for k in range(tries):
         delay = rng.random() * 0.02
 
-        def ready(process: "subprocess.Popen[bytes]") -> None:
+        def ready(process: Process) -> None:
             wait_until(process, part.exists)
             time.sleep(delay)
 

@@ -213,9 +213,7 @@ AROUND = ("%s", "17. %s", "%s halt 6 4", "a,%s,b", "`%s`", "[%s](https://x.org/y
     changes=st.sets(st.sampled_from(("dots", "H", "small"))),
     around=st.sampled_from(AROUND),
 )
-def test_a_machine_comes_back_as_it_was(
-    entries: list[str], between: str, changes: set[str], around: str
-) -> None:
+def test_a_machine_comes_back(entries: list[str], between: str, changes: set[str], around: str) -> None:
     """Machines of up to seven states in any form are read as they were, or refused."""
     states = len(entries) // 2
     rows = [entry if entry[2] <= "ABCDEFG"[states - 1] else entry[:2] + "Z" for entry in entries]
