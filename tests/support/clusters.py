@@ -60,15 +60,12 @@ class Cluster:
             worker.wait()
         self.workers = []
 
-    def kill_scheduler(self) -> None:
+    def end(self) -> None:
+        self.kill_workers()
         if self.scheduler is not None:
             self.scheduler.kill()
             self.scheduler.wait()
             self.scheduler = None
-
-    def end(self) -> None:
-        self.kill_workers()
-        self.kill_scheduler()
 
 
 @contextlib.contextmanager

@@ -11,6 +11,7 @@ from typing import Iterator, Sequence
 import budlarem
 import pytest
 from budlarem import Limits, Plan
+from support.claims import forge
 from support.machines import mixed_machines
 from support.program import PLANS, ROWS, SIMULATION, as_lines, run_command, options
 from support.runs import WHERE, interrupt
@@ -62,20 +63,9 @@ def test_rows_of_limits(bb: str, row: Row) -> None:
         require_deciding(bb, row, off, list_of(300), 1)
 
 
-def forge(source: random.Random, line: str) -> str:
-    """A line in which a number, or another part, is another."""
-    fields = line.split(" ")
-    place = source.randrange(1, len(fields)) if len(fields) > 1 else 0
-    if fields[place].isdigit():
-        fields[place] = str(max(int(fields[place]) + source.choice((-1, 1, 2, 10**19)), 0))
-    else:
-        fields[place] = source.choice(("halt", "cycler", "translated", "L", "R", "cells", ""))
-    return " ".join(fields)
-
-
 def require_claims(bb: str, lines: list[str], row: Row, source: random.Random) -> None:
     """The answers to claims of which half are forged, and what `parse` takes of them."""
-    claims = [forge(source, line) if k % 2 else line for k, line in enumerate(lines)]
+    claims = [*lines[::2], *forge(source, lines, len(lines) // 2)]
     expected = output_of(bb, ["check", *options(row)], as_lines(claims))
     assert b"".join(budlarem.check_bytes(as_lines(claims), Limits(*row))) == expected
     answers = [str(answer) for answer in budlarem.check(claims, Limits(*row), threads=2)]

@@ -2,7 +2,6 @@
 
 from __future__ import annotations
 
-import argparse
 import io
 import types
 import unittest.mock
@@ -10,7 +9,7 @@ from concurrent.futures import CancelledError, Future
 from typing import Any
 
 import pytest
-from budlarem.commands import run as command
+from budlarem.commands import build_parser, run as command
 from budlarem.runner import chunks, dask, progress
 from budlarem.runner.errors import FatalLineError, RunError
 from support.runner import call_command
@@ -345,14 +344,9 @@ def test_an_error_of_a_half_is_that_of_the_whole() -> None:
         assert isinstance(job.future.exception(0), ValueError)
 
 
-def parse_words(*words: str) -> argparse.Namespace:
-    parser = argparse.ArgumentParser()
-    command.add_command(parser.add_subparsers())
-    return parser.parse_args(["run", "list", "--out", "folder", *words])
-
-
 def place(*words: str) -> Any:
-    return command._make_backend(parse_words(*words), progress.Progress(io.StringIO()))
+    asked = build_parser().parse_args(["run", "list", "--out", "folder", *words])
+    return command._make_backend(asked, progress.Progress(io.StringIO()))
 
 
 def test_words_that_do_not_go_together() -> None:
