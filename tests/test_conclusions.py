@@ -25,6 +25,7 @@ RANDOM_LIMITS = (options((50, 9, 5, 20)), LIMITS)
 BATCH = 250
 # How many steps of a run are simulated, and how many more than a tree has levels.
 FOLLOWED, BEYOND = 60, 20
+Words = Sequence[str]
 
 
 @pytest.fixture(scope="module", params=[7, pytest.param(1, marks=pytest.mark.slow)], ids="every {}".format)
@@ -33,17 +34,13 @@ def machines(request: pytest.FixtureRequest) -> list[str]:
     return list(all_machines(2, 2))[:: request.param]
 
 
-def decide(
-    bb: str, machines: Sequence[str], plan: Sequence[str] = (), limits: Sequence[str] = LIMITS
-) -> list[str]:
+def decide(bb: str, machines: Words, plan: Words = (), limits: Words = LIMITS) -> list[str]:
     verdicts = [verdict_of(line) for line in replies([bb, "decide", *limits, *plan], machines)]
     assert len(verdicts) == len(machines) > 0
     return verdicts
 
 
-def check(
-    bb: str, machines: Sequence[str], claims: Sequence[str], limits: Sequence[str] = LIMITS
-) -> list[str]:
+def check(bb: str, machines: Words, claims: Words, limits: Words = LIMITS) -> list[str]:
     """Return the checker's answers to claims about these machines."""
     return replies([bb, "check", *limits], ["%s %s" % pair for pair in zip(machines, claims)])
 
@@ -81,11 +78,7 @@ MIRROR = Change(True, (0, 1), (0, 1))
 
 
 def compare_changed(
-    bb: str,
-    machines: Sequence[str],
-    changes: Sequence[Change],
-    plan: Sequence[str] = (),
-    limits: Sequence[str] = LIMITS,
+    bb: str, machines: Words, changes: Sequence[Change], plan: Words = (), limits: Words = LIMITS
 ) -> None:
     """Compare verdicts of machines and changed ones, and the answers to their claims, true and false."""
     changed = [change.machine(text) for text, change in zip(machines, changes)]
@@ -105,7 +98,7 @@ def test_mirrored_machines_have_mirrored_verdicts(bb: str, machines: list[str]) 
 @pytest.mark.parametrize("plan", [[], TREES_ALONE], ids=["all deciders", "trees alone"])
 @pytest.mark.parametrize("mirrored", [False, True])
 def test_renamed_machines_have_the_same_verdicts(
-    bb: str, machines: list[str], mirrored: bool, plan: list[str]
+    bb: str, machines: Words, mirrored: bool, plan: Words
 ) -> None:
     padded = ["_".join(group + "---" for group in text.split("_")) + "_---------" for text in machines]
     compare_changed(bb, padded, [Change(mirrored, (0, 2, 1), (0, 2, 1))] * len(machines), plan)

@@ -23,6 +23,7 @@ LIMITS = options((STEPS, 512, 40, 1_000))
 BAR, FAR = 1.5, 3
 Decide = Callable[[int, int], list[str]]
 Changed = tuple[list[str], int]
+Change = Callable[[list[str], int, random.Random], Changed]
 
 
 @pytest.fixture(scope="module")
@@ -97,11 +98,7 @@ def renumber(lines: list[str], at: int, source: random.Random) -> Changed:
 @pytest.mark.parametrize("change", [leave_out, double, swap, renumber])
 @pytest.mark.parametrize("count", [25, pytest.param(250, marks=pytest.mark.slow)])
 def test_changed_lists_are_refused_at_their_line(
-    cover: str,
-    decide_all: Decide,
-    rng: random.Random,
-    count: int,
-    change: Callable[[list[str], int, random.Random], Changed],
+    cover: str, decide_all: Decide, rng: random.Random, count: int, change: Change
 ) -> None:
     lines = decide_all(3, 2)
     for _ in range(count):

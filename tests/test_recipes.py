@@ -70,13 +70,8 @@ ANYTHING = (
     b"undecided steps\nrefused 1\n1RA1RA undecided cells\n\xff\xfe\n------\n1RA1RA\n"
     b"1RB0LA_0RC---_1RD0LD_1LA1RB\n" + UNDECIDED + b"x" * 100_000 + b"\n1RA1RA"
 )
-LISTS = {
-    "empty": b"",
-    "no newline at its end": b"1RB1LB_1LA1RZ",
-    "decided": DECIDED,
-    "undecided": UNDECIDED * 3,
-    "anything": ANYTHING,
-}
+LISTS = {"empty": b"", "no newline at its end": b"1RB1LB_1LA1RZ"}
+LISTS.update({"decided": DECIDED, "undecided": UNDECIDED * 3, "anything": ANYTHING})
 each_list = pytest.mark.parametrize("content", LISTS.values(), ids=list(LISTS))
 # It halts after 41,709 steps.
 LONG_HALT = b"1RB0LB_1RC1LB_1LD0RE_1LD1LA_---0RD\n"

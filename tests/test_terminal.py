@@ -133,8 +133,11 @@ def progress_lines(shown: str, names: Sequence[str]) -> Iterator[tuple[int | Non
         yield (int(percent) if percent else None), list(counts.values())
 
 
+Progress = tuple[int, str, bytes, pathlib.Path]
+
+
 @pytest.fixture(scope="module")
-def progress(bb: str, tmp_path_factory: pytest.TempPathFactory) -> tuple[int, str, bytes, pathlib.Path]:
+def progress(bb: str, tmp_path_factory: pytest.TempPathFactory) -> Progress:
     """The status, what the terminal shows, and the output over a file, so long that it shows two lines."""
     listed = tmp_path_factory.mktemp("progress") / "list"
     times, shown = 1, ""
@@ -146,15 +149,13 @@ def progress(bb: str, tmp_path_factory: pytest.TempPathFactory) -> tuple[int, st
     return status, shown, listed.with_name("out").read_bytes(), listed
 
 
-def test_progress_changes_neither_output_nor_status(
-    bb: str, progress: tuple[int, str, bytes, pathlib.Path]
-) -> None:
+def test_progress_changes_neither_output_nor_status(bb: str, progress: Progress) -> None:
     status, _, output, listed = progress
     plain = subprocess.run([bb, "decide", *SLOW, str(listed)], capture_output=True)
     assert (plain.returncode, plain.stdout, plain.stderr) == (status, output, b"")
 
 
-def test_progress_over_a_file(progress: tuple[int, str, bytes, pathlib.Path]) -> None:
+def test_progress_over_a_file(progress: Progress) -> None:
     _, shown, output, listed = progress
     lines = list(progress_lines(shown, list(KINDS.values())))
     assert len(lines) >= 2

@@ -210,8 +210,8 @@ def _groups(machines: Sequence[MachineDiagram]) -> Iterator[str]:
         group = [one for one in machines if one.growth.growth is kind]
         group.sort(key=lambda one: (math.prod(size_of(one.machine)), one.growth.visited[-1], one.machine))
         if group:
-            cards = "".join(map(_card, group))
-            yield f'<h3>{_GROWTHS[kind]}: {len(group):,}</h3><div class="cards">{cards}</div>'
+            cards, title = "".join(map(_card, group)), _GROWTHS.get(kind, f"Cells grow as a {kind}")
+            yield f'<h3>{title}: {len(group):,}</h3><div class="cards">{cards}</div>'
 
 
 _DIAGRAMS = (
@@ -219,13 +219,7 @@ _DIAGRAMS = (
     " positions, a pixel has the mean colour of several, and the head isn't shown. The growth of the cells is"
     " estimated from three samples of the run."
 )
-_GROWTHS = {
-    Growth.STAYS: "Cells stay",
-    Growth.LOGARITHM: "Cells grow as a logarithm",
-    Growth.ROOT: "Cells grow as a root",
-    Growth.LINE: "Cells grow as a line",
-    Growth.HALTS: "The run ends",
-}
+_GROWTHS = {Growth.STAYS: "Cells stay", Growth.HALTS: "The run ends"}
 
 
 def _page(found: Statistics, machines: Sequence[MachineDiagram], title: str) -> str:
