@@ -59,7 +59,7 @@ INPUTS = {
 # What ends a program early, but for a read that failed.
 FAULTS = (b"out of memory", b"write failed")
 LIMITS = "--steps=1000 --cells=64 --depth=10 --nodes=100"
-# The words of commands, by the command, its standard input, and how many allocations the tapes and the path take.
+# The words of commands, by the command, its standard input, and the allocations of the tapes and the path.
 ENDS_EARLY = ["--cells=4", "--steps=x"]
 RUNS = {
     ("bb decide", "list", 4): ["", LIMITS, LIMITS + " list", "--no-cyclers --no-translated " + LIMITS],

@@ -43,7 +43,7 @@ def kind_of(status: os.stat_result) -> str:
 
 @contextlib.contextmanager
 def name_errors(path: str | os.PathLike[str], replaces: bool = False) -> Iterator[None]:
-    """Adds a path to errors without one, as that of a full disk; `replaces`: also in place of the last name."""
+    """Adds a path to errors without one, as of a full disk; `replaces`: also in place of the last name."""
     try:
         yield
     except OSError as error:

@@ -81,8 +81,8 @@ def require_whole(path: pathlib.Path) -> None:
 
 
 def _least_size(file: BinaryIO) -> int | None:
-    """The least size of a 64-bit ELF file by its headers, None if these are truncated; 0 for other files, which the
-    system refuses to load. Raises OSError."""
+    """The least size of a 64-bit ELF file by its headers, None if these are truncated; 0 for other files,
+    which the system refuses to load. Raises OSError."""
     head = file.read(_ELF.size)
     if not head.startswith(_ELF_BEGIN):
         return 0

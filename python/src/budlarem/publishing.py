@@ -1,5 +1,5 @@
-"""Publishes a decided list as one archive, which others can check in five ways. The same contents are the same
-bytes."""
+"""Publishes a decided list as one archive, which others can check in five ways. The same contents are the
+same bytes."""
 
 from __future__ import annotations
 

@@ -52,8 +52,8 @@ PYTEST += ["hypothesis", "sortedcontainers"]
 def run(
     command: list[str], path: str = "", cwd: pathlib.Path = PACKAGE, given: str | None = None
 ) -> tuple[int, str]:
-    """The status of a command and all that it writes, in an environment with this PYTHONPATH, in which nothing
-    else says where the package or the library is."""
+    """The status of a command and all that it writes, in an environment with this PYTHONPATH, in which
+    nothing else says where the package or the library is."""
     hidden = ("PYTHONPATH", "BB_LIBRARY", "PYTHONHOME", "VIRTUAL_ENV")
     variables = {name: value for name, value in os.environ.items() if name not in hidden}
     variables.update({"PYTHONPATH": path} if path else {})

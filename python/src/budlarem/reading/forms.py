@@ -149,7 +149,7 @@ def skip_kind(line: str) -> Skipped:
     return skip_reason(line.lstrip("\ufeff").strip(SPACES)) or Skipped.HEADER
 
 
-# The bytes of a list that are held. A regular file is read again; more of other sources is copied to the disk.
+# The bytes of a list that are held. A regular file is read again; more of another source goes to the disk.
 _MOST_BUFFERED = 8_000_000
 
 

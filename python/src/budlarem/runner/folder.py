@@ -412,7 +412,7 @@ class Folder:
 
 
 def _figures_of(fields: dict[str, Any]) -> tuple[int, Counts, Checksum | None]:
-    """Lines, counts and checksum of a summary or a pass in it; no checksum by an earlier version of this package."""
+    """Lines, counts and checksum of a summary or a pass in it; no checksum by an earlier version."""
     checksum = Checksum.of_fields(fields["verdicts"]) if "verdicts" in fields else None
     return int(fields["lines"]), {kind: int(fields["counts"][kind]) for kind in KINDS}, checksum
 
