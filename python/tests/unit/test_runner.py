@@ -566,12 +566,12 @@ def test_late_answers_in_another_order(case: RunCase) -> None:
 
 
 def test_one_answer_for_two_chunks(case: RunCase) -> None:
-    kept_lines: list[Future[Any]] = []
+    futures: list[Future[Any]] = []
 
     class Same(Answering):
-        def submit(case, function: Any, /, *given: Any, **named: Any) -> Any:
-            kept_lines.append(super().submit(function, *given, **named))
-            return kept_lines[0]
+        def submit(self, function: Any, /, *given: Any, **named: Any) -> Any:
+            futures.append(super().submit(function, *given, **named))
+            return futures[0]
 
     with pytest.raises(RunError, match="pass 1, lines? .* tried 3 times|one future"):
         case.run_over(Same(lambda reply, before: reply))
@@ -580,11 +580,11 @@ def test_one_answer_for_two_chunks(case: RunCase) -> None:
 
 def test_an_executor_that_takes_or_answers_nothing(case: RunCase) -> None:
     class Closed(Executor):
-        def submit(case, function: Any, /, *given: Any, **named: Any) -> Any:
+        def submit(self, function: Any, /, *given: Any, **named: Any) -> Any:
             raise RuntimeError("it was closed")
 
     class Cancelling(Executor):
-        def submit(case, function: Any, /, *given: Any, **named: Any) -> Any:
+        def submit(self, function: Any, /, *given: Any, **named: Any) -> Any:
             future: Future[Any] = Future()
             future.cancel()
             return future
@@ -629,12 +629,12 @@ def test_a_lying_worker_is_found_here(case: RunCase) -> None:
 
 
 def test_answers_to_other_verdicts(case: RunCase) -> None:
-    kept_lines: list[chunks.ChunkReply] = []
+    replies: list[chunks.ChunkReply] = []
 
     def swap(reply: chunks.ChunkReply, before: int) -> chunks.ChunkReply:
-        kept_lines.append(reply)
+        replies.append(reply)
         is_check = reply[6].startswith(chunks.CHECK)
-        return next(one for one in kept_lines if one[6] == reply[6]) if is_check else reply
+        return next(one for one in replies if one[6] == reply[6]) if is_check else reply
 
     with pytest.raises(RunError, match="answers other lines; tried 3 times"):
         case.run_over(Answering(swap), check=True)

@@ -6,7 +6,6 @@ skipped lines are counted. `tests/support/forms.json` of the repository has exam
 
 from __future__ import annotations
 
-
 from .files import EncodingError, EndlessLineError, Source
 from .forms import ListForm, Readings
 from .readings import Form, Reading, Reason, Rewriting, Skipped

@@ -2,7 +2,6 @@
 
 from __future__ import annotations
 
-
 from .._text import LONGEST_OF_ERROR
 
 
