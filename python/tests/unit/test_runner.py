@@ -625,7 +625,10 @@ def test_a_lying_worker_is_found_here(case: RunCase) -> None:
     backend = PoolBackend(Answering(lie), 2)
     with unittest.mock.patch("budlarem.commands.run._make_backend", return_value=backend):
         status, said = case.call("--pass", "steps=30,cells=16,depth=3,nodes=5", "--check-here")
-    assert status == 1 and "budlarem: line 5: the checker answers bad: 1RB1LC_1RC1RB" in said
+    assert status == 1
+    assert re.search("^budlarem: line (5|15|25): the checker answers bad: 1RB1LC_1RC1RB", said, re.M)
+    case.run_over(Answering(), limits=[SMALL], check=True, here=True)
+    assert case.verdicts() == expected_verdicts(LIST, [SMALL])
 
 
 def test_answers_to_other_verdicts(case: RunCase) -> None:
