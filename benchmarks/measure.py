@@ -17,7 +17,7 @@ import re
 import subprocess
 import sys
 import tempfile
-from typing import List, NamedTuple, Sequence, Tuple
+from typing import NamedTuple, Sequence
 
 sys.path.insert(0, str(pathlib.Path(__file__).resolve().parents[1]))
 
@@ -37,7 +37,7 @@ class Case(NamedTuple):
     """The name, the options and the list of a measurement, and the switch that turns its search off."""
 
     name: str
-    options: List[str]
+    options: list[str]
     lines: str
     switch: str = ""
 
@@ -54,7 +54,7 @@ def uniform_machines(source: random.Random, count: int) -> str:
 
 def refused_lines(source: random.Random) -> str:
     """Draw lines of 1 to 60 bytes that are no machines: of any letters, or machines cut short or spoilt."""
-    lines: List[str] = []
+    lines: list[str] = []
     size = 0
     while size < REFUSED_BYTES:
         line, kind = halting_once(source, 4), source.randrange(3)
@@ -71,7 +71,7 @@ def refused_lines(source: random.Random) -> str:
     return "\n".join(lines) + "\n"
 
 
-def cases_in_turn(seed: int) -> List[Case]:
+def cases_in_turn(seed: int) -> list[Case]:
     """Return what measures the simulation, reading, backward reasoning, and all deciders at once.
 
     Of backward reasoning no machine makes a step, so nearly all time goes into the walks.
@@ -94,7 +94,7 @@ def cases_in_turn(seed: int) -> List[Case]:
     ]
 
 
-def cases_in_one_run(program: str, source: random.Random) -> List[Case]:
+def cases_in_one_run(program: str, source: random.Random) -> list[Case]:
     """Return what measures deciding in one run."""
     four = list_machines(4).decode()
     limits = [*LIMITS, "--nodes", "2000"]
@@ -119,7 +119,7 @@ def undecided(program: str, options: Sequence[str], lines: str) -> str:
     return as_lines(line.split()[0] for line in found if kind_of(line) == "undecided").decode()
 
 
-def searches(program: str, source: random.Random) -> List[Case]:
+def searches(program: str, source: random.Random) -> list[Case]:
     """Return what measures a search. The champion doesn't halt within 40,000,000 steps, nor does a search end
     in them. Of all machines a search makes fewer steps than the simulation, since it ends at its pair."""
     long, cycles = ["--steps", "40000000"], ["--no-translated", "--no-backward"]
@@ -162,21 +162,20 @@ class Bench:
     def __init__(self, table: Table, program: str, peer: str, folder: pathlib.Path) -> None:
         self.table, self.program, self.peer, self.list = table, program, peer, folder / "list"
 
-    def costs(self, lines: str, commands: Sequence[Sequence[str]], is_same: bool) -> List[List[Cost]]:
+    def costs(self, lines: str, commands: Sequence[Sequence[str]], is_same: bool) -> list[list[Cost]]:
         """Return what the runs of each command over a list cost; all may have to write the same."""
         self.list.write_text(lines, encoding="ascii")
-        outputs = {
-            str(at): self.list.with_name("out-%d" % (at * (not is_same))) for at in range(len(commands))
-        }
+        places = range(len(commands))
+        outputs = {str(at): self.list.with_name("out-%d" % (at * (not is_same))) for at in places}
         pairs = [(command, self.list, output) for command, output in zip(commands, outputs.values())]
         ways = {name: functools.partial(run, pair) for name, pair in zip(outputs, pairs)}
         return list(take_turns(self.table.runs, ways, outputs).values())
 
-    def clocks(self, lines: str, commands: Sequence[Sequence[str]]) -> List[float]:
+    def clocks(self, lines: str, commands: Sequence[Sequence[str]]) -> list[float]:
         """Return the least times by the clock; all must write the same."""
         return [min(costs).clock for costs in self.costs(lines, commands, True)]
 
-    def processors(self, lines: str, commands: Sequence[Sequence[str]]) -> List[List[float]]:
+    def processors(self, lines: str, commands: Sequence[Sequence[str]]) -> list[list[float]]:
         """Return the processor time of each run; all must end with status 0."""
         costs = self.costs(lines, commands, False)
         assert all(cost.status == 0 for row in costs for cost in row), "a line is refused, or not confirmed"
@@ -216,10 +215,8 @@ def measure(bench: Bench, seed: int) -> None:
         measure_search(bench, case)
     machines = halting_machines(random.Random(seed), CHECKED, 5)
     verdicts = as_lines(replies([program, "decide"], machines.splitlines())).decode()
-    (checking,), (deciding,) = (
-        bench.processors(lines, [[program, word]])
-        for word, lines in (("check", verdicts), ("decide", machines))
-    )
+    (checking,) = bench.processors(verdicts, [[program, "check"]])
+    (deciding,) = bench.processors(machines, [[program, "decide"]])
     what = "checking the lines of %d machines of five states, beside deciding them" % CHECKED
     table.ratio(what, min(checking), min(deciding))
 

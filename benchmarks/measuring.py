@@ -6,7 +6,7 @@ import pathlib
 import subprocess
 import sys
 import time
-from typing import Callable, Dict, List, Mapping, NamedTuple, Optional, Sequence, Tuple
+from typing import Callable, Mapping, NamedTuple, Optional, Sequence
 
 TOP = pathlib.Path(__file__).resolve().parents[1]
 SOURCE = TOP / "python" / "src"
@@ -66,7 +66,7 @@ class Cost(NamedTuple):
 
 
 # A command, the file that it reads, and the one that it writes.
-Command = Tuple[Sequence[str], pathlib.Path, pathlib.Path]
+Command = tuple[Sequence[str], pathlib.Path, pathlib.Path]
 Ways = Mapping[str, Callable[[], Cost]]
 
 
@@ -84,11 +84,11 @@ def run(*commands: Command) -> Cost:
     return Cost(time.monotonic() - began, used, max(process.returncode for process in processes))
 
 
-def take_turns(runs: int, ways: Ways, outputs: Mapping[str, pathlib.Path]) -> Dict[str, List[Cost]]:
+def take_turns(runs: int, ways: Ways, outputs: Mapping[str, pathlib.Path]) -> dict[str, list[Cost]]:
     """Return what each run of each way cost; they take turns. Those that have one file as their output must
     write the same and end with the same status."""
-    costs: Dict[str, List[Cost]] = {name: [] for name in ways}
-    right: Dict[pathlib.Path, Tuple[int, bytes]] = {}
+    costs: dict[str, list[Cost]] = {name: [] for name in ways}
+    right: dict[pathlib.Path, tuple[int, bytes]] = {}
     for name, way in [pair for _ in range(runs) for pair in ways.items()]:
         costs[name].append(way())
         if name in outputs:
@@ -128,7 +128,7 @@ class Table:
     def milliseconds(self, what: str, seconds: float, bar: Optional[float] = None) -> None:
         self.row(what + ", in ms", "%d" % (1_000 * seconds), 1_000 * seconds, bar)
 
-    def least(self, *ways: Callable[[], float]) -> List[float]:
+    def least(self, *ways: Callable[[], float]) -> list[float]:
         """Return the least time of each way; they take turns."""
         rounds = [[way() for way in ways] for _ in range(self.runs)]
         return [min(column) for column in zip(*rounds)]

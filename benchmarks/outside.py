@@ -16,7 +16,7 @@ import subprocess
 import sys
 import tempfile
 import time
-from typing import Any, Callable, Dict, Iterator, List, Optional, Tuple
+from typing import Any, Callable, Iterator, Optional
 
 sys.path.insert(0, str(pathlib.Path(__file__).resolve().parents[1]))
 
@@ -80,10 +80,11 @@ def measure_node(bench: Bench) -> None:
     table.head("The module `bb.wasm`, in Node")
     table.row("bytes of the module", "{:,}".format(size), size, MODULE_BYTES)
     given = bench.four.read_bytes()
-    node, alone = table.least(
-        lambda: float(engine.call("decide", FOUR, given).answer["seconds"]),
-        lambda: run(bench.decide).processor,
-    )
+
+    def in_node() -> float:
+        return float(engine.call("decide", FOUR, given).answer["seconds"])
+
+    node, alone = table.least(in_node, lambda: run(bench.decide).processor)
     table.ratio(FOUR_STATES + ", beside the program; processor", node, alone, 2.5)
     engine.end()
     for name in ("decide", "check"):
@@ -94,7 +95,7 @@ def measure_node(bench: Bench) -> None:
     table.row("memory after one list, and after 1,000", "{:,} and {:,} bytes".format(one, many), many, one)
 
 
-def held_after(bench: Bench, name: str, plan: Dict[str, int], given: bytes, times: int) -> int:
+def held_after(bench: Bench, name: str, plan: dict[str, int], given: bytes, times: int) -> int:
     """Return the bytes that a fresh engine holds after so many calls."""
     engine = Engine(bench.folder)
     held = int(engine.call(name, plan, given, times=times).answer["held"])
@@ -106,7 +107,7 @@ def measure_trace(bench: Bench) -> None:
     """The champion's run in a thousand lines by `bb_trace`, beside deciding it."""
     room, machine, cells = ReplyBuffer(), CHAMPION.encode(), 65_536
     every = CHAMPION_STEPS // (TRACED_LINES - 1)
-    lines: List[int] = []
+    lines: list[int] = []
 
     def trace() -> None:
         room.call("bb_trace", (50_000_000, cells, 0, every), machine, 1 << 26)
@@ -129,10 +130,8 @@ def measure_look(bench: Bench) -> None:
     lowest = "--steps=0 --cells=1 --depth=0 --nodes=0".split()
     check = ([bench.program, "check", *lowest], bench.verdicts, NULL)
     count = validate_replies(lines, replies).lines
-    taken, alone = bench.table.least(
-        lambda: clock(lambda: validate_replies(lines, replies), time.process_time),
-        lambda: run(check).processor,
-    )
+    look = functools.partial(clock, lambda: validate_replies(lines, replies), time.process_time)
+    taken, alone = bench.table.least(look, lambda: run(check).processor)
     bench.table.head("`bb_look` over the replies to %s machines of four states" % "{:,}".format(count))
     each = taken / count * 1e9
     bench.table.row("`bb_look`, a line, in ns; processor", "%.0f" % each, each, 100)
@@ -162,7 +161,7 @@ def first_verdict(bench: Bench) -> float:
         return float(taken) / 1_000
 
 
-def list_in_page(bench: Bench, cores: int, longest: List[float]) -> float:
+def list_in_page(bench: Bench, cores: int, longest: list[float]) -> float:
     """Return the seconds that the page takes for the list of four states, by its own clock."""
     with open_page(bench, cores) as page:
         page.plan(FOUR, "decide")
@@ -180,7 +179,7 @@ def measure_page(bench: Bench) -> None:
     table.head("The page `bb.html`, in Chromium, opened from the disk")
     table.row("bytes of the page", "{:,}".format(size), size, PAGE_BYTES)
     table.milliseconds("first verdict after opening", table.least(lambda: first_verdict(bench))[0], 300)
-    longest: List[float] = []
+    longest: list[float] = []
     alone, checked, one, four = table.least(
         lambda: run(bench.decide).clock,
         lambda: run(bench.check).clock,
@@ -198,9 +197,9 @@ def measure_page(bench: Bench) -> None:
 def measure_views(bench: Bench) -> None:
     """Views of the five-state champion's run in the page, and what the module takes of them in Node."""
     table, longest = bench.table, []
-    each: List[List[float]] = []
+    each: list[list[float]] = []
 
-    def least_time(work: Callable[[Any], List[float]]) -> float:
+    def least_time(work: Callable[[Any], list[float]]) -> float:
         with open_page(bench) as page:
             each.append(work(page))
             longest.append(page.js("return window.longest") / 1_000)
@@ -280,7 +279,7 @@ def measure_python(bench: Bench) -> None:
     claims, texts = given.replace(b"\n", b" halt 6 4\n"), given.decode().splitlines()
     short.write_bytes(given)
     claimed.write_bytes(claims)
-    ways: List[Tuple[str, str, pathlib.Path, Optional[float], Callable[[], Iterator[object]]]] = [
+    ways: list[tuple[str, str, pathlib.Path, Optional[float], Callable[[], Iterator[object]]]] = [
         ("decide_bytes", "decide", short, 1.1, lambda: budlarem.decide_bytes(given)),
         ("decide", "decide", short, None, lambda: budlarem.decide(texts)),
         ("check_bytes", "check", claimed, 1.1, lambda: budlarem.check_bytes(claims)),
@@ -290,10 +289,8 @@ def measure_python(bench: Bench) -> None:
         taken, alone = table.least(lambda: exhaust(call), lambda: run(command).clock)
         table.ratio("`%s` over 1,000,000 short lines, beside the program" % name, taken, alone, bar)
     limits, machines = budlarem.Limits(**FOUR), bench.four.read_bytes()
-    one, four = table.least(
-        lambda: exhaust(lambda: budlarem.decide_bytes(machines, limits, threads=1)),
-        lambda: exhaust(lambda: budlarem.decide_bytes(machines, limits, threads=4)),
-    )
+    decide = functools.partial(budlarem.decide_bytes, machines, limits)
+    one, four = table.least(lambda: exhaust(decide), lambda: exhaust(lambda: decide(threads=4)))
     table.ratio("`decide_bytes` of 858,909 machines by four threads, beside one", four, one)
     if has("a report", modules=("matplotlib",)):
         measure_report(bench)
@@ -313,16 +310,8 @@ def measure_report(bench: Bench) -> None:
     bench.table.row(what, figure, taken, 60)
 
 
-WORKS = (
-    measure_node,
-    measure_trace,
-    measure_look,
-    measure_calls,
-    measure_page,
-    measure_views,
-    measure_python,
-)
-PARTS = {work.__name__.partition("_")[2]: work for work in WORKS}
+WORKS = (measure_node, measure_trace, measure_look, measure_calls)
+PARTS = {work.__name__[8:]: work for work in (*WORKS, measure_page, measure_views, measure_python)}
 NEEDED = {"node": ["node"], "calls": ["cc"], "page": ["chromedriver"], "views": ["node", "chromedriver"]}
 
 

@@ -22,7 +22,7 @@ import random
 import subprocess
 import sys
 import tempfile
-from typing import Any, Dict, List, Sequence
+from typing import Any, Sequence
 
 sys.path.insert(0, str(pathlib.Path(__file__).resolve().parents[1]))
 
@@ -44,10 +44,10 @@ PARALLEL = ("GNU parallel, 100k", "GNU parallel, 1M", "GNU parallel, 10M")
 WAITING_PROCESSES, WAITING_THREADS = 4, 250
 # Seconds that each piece waits, lines of a piece, and how many pieces there are.
 WAITING = ((0.5, 100, 10_000), (0.5, 1_000, 4_000))
-REPLIES = "    return _replied(question(DECIDE"
+REPLIES = "    return _make_reply(describe_task(DECIDE"
 WAITS = """    time.sleep(%f)
     replies = lines.replace(b"\\n", b" undecided steps\\n")
-    return reply_of(question(DECIDE, limits), lines, replies, 1e-6)
+    return reply_of(describe_task(DECIDE, limits), lines, replies, 1e-6)
 """
 
 
@@ -57,7 +57,7 @@ class Bench:
     def __init__(self, table: Table, program: str, threads: int, folder: pathlib.Path, given: bytes) -> None:
         self.table, self.program, self.threads = table, program, threads
         self.case, self.verdicts = Case(folder, given), folder / "verdicts"
-        self.summary: Dict[str, Any] = {}
+        self.summary: dict[str, Any] = {}
 
     def decide(self, limits: Sequence[int], *before: str) -> Cost:
         """Run the program over the list, called by the words before it."""
@@ -83,11 +83,11 @@ class Bench:
         words = ["parallel", "-j", str(self.threads), "--pipe", "-k", "--block"]
         return {name: functools.partial(self.decide, limits, *words, name[14:]) for name in PARALLEL}
 
-    def least(self, limits: Sequence[int], ways: Ways, others: Ways = {}) -> Dict[str, float]:
+    def least(self, limits: Sequence[int], ways: Ways, others: Ways = {}) -> dict[str, float]:
         """Print and return the least time of each way by the clock, and under names that end in `; processor`
         of processors; `others` don't write the verdicts."""
         written = dict.fromkeys(ways, self.verdicts)
-        found: Dict[str, float] = {}
+        found: dict[str, float] = {}
         self.table.head("%s over %s" % (words_of(limits), self.case.list.parent.name))
         for name, costs in take_turns(self.table.runs, {**ways, **others}, written).items():
             least = min(cost.clock for cost in costs), min(cost.processor for cost in costs)
@@ -97,7 +97,7 @@ class Bench:
         return found
 
 
-def split_list(given: pathlib.Path, parts: int) -> List[pathlib.Path]:
+def split_list(given: pathlib.Path, parts: int) -> list[pathlib.Path]:
     """Cut a list between lines into so many parts of about the same length."""
     subprocess.run(["split", "-n", "l/%d" % parts, given.name, "part-"], cwd=given.parent, check=True)
     return sorted(given.parent.glob("part-*"))
@@ -130,9 +130,8 @@ def measure_bars(bench: Bench) -> None:
     table.head("%d workers, without the start of Python" % bench.threads)
     table.ratio("one worker, checked, beside the program; processor", work, alone, 1.3)
     table.ratio("several workers beside one, checked: at least three times as fast", several, one, 1 / 3)
-    table.ratio(
-        "several workers beside the program, checked", several, found["program"] + found["check"], 0.4
-    )
+    both = found["program"] + found["check"]
+    table.ratio("several workers beside the program, checked", several, both, 0.4)
     table.ratio("deciding beside as many processes", deciding, found["processes"], 1.7)
     table.ratio("deciding beside GNU parallel", deciding, found["GNU parallel"], 1.0)
 

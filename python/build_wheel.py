@@ -15,7 +15,6 @@ import shutil
 import subprocess
 import sys
 import tempfile
-from typing import Tuple
 
 TOP = pathlib.Path(__file__).resolve().parent.parent
 sys.path.insert(0, str(TOP))
@@ -34,7 +33,7 @@ LIBRARY_BYTES = %d
 '''
 
 
-def version_of(library: pathlib.Path) -> Tuple[str, str]:
+def version_of(library: pathlib.Path) -> tuple[str, str]:
     """The version and the commit."""
     endings = (".py", ".md", ".html", ".txt", ".toml")
     sources = sorted(path for path in (TOP / "python").rglob("*") if path.suffix in endings)

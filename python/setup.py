@@ -1,6 +1,5 @@
 """The wheel has a library of one platform in it, and fits every Python 3: so it is tagged here."""
 
-from typing import Tuple
 
 from setuptools import Distribution, setup
 from wheel.bdist_wheel import bdist_wheel
@@ -18,7 +17,7 @@ class LibraryDistribution(Distribution):
 class LibraryWheel(bdist_wheel):  # type: ignore[misc]
     """A wheel for every Python 3 of the platform."""
 
-    def get_tag(self) -> Tuple[str, str, str]:
+    def get_tag(self) -> tuple[str, str, str]:
         return "py3", "none", PLATFORM
 
 

@@ -10,19 +10,11 @@ from __future__ import annotations
 
 import itertools
 import random
-from typing import Iterator, List, NamedTuple, Optional, Sequence, Tuple
+from typing import Iterator, NamedTuple, Sequence
 
 import pytest
-from support.machines import (
-    LETTERS,
-    SWAPPED,
-    all_machines,
-    entries_of,
-    join_groups,
-    machine,
-    table_of,
-    text_of,
-)
+from support.machines import LETTERS, SWAPPED, all_machines, entries_of, join_groups, machine, table_of
+from support.machines import text_of
 from support.program import PLANS, options, replies, verdict_of
 from support.simulation import compare_lines, simulate
 
@@ -33,26 +25,22 @@ RANDOM_LIMITS = (options((50, 9, 5, 20)), LIMITS)
 BATCH = 250
 # How many steps of a run are simulated, and how many more than a tree has levels.
 FOLLOWED, BEYOND = 60, 20
+Words = Sequence[str]
 
 
 @pytest.fixture(scope="module", params=[7, pytest.param(1, marks=pytest.mark.slow)], ids="every {}".format)
-def machines(request: pytest.FixtureRequest) -> List[str]:
+def machines(request: pytest.FixtureRequest) -> list[str]:
     """Every seventh machine of two states and two symbols, or all 28,561."""
     return list(all_machines(2, 2))[:: request.param]
 
 
-def decide(
-    bb: str, machines: Sequence[str], plan: Sequence[str] = (), limits: Sequence[str] = LIMITS
-) -> List[str]:
-    """Return the verdict on each machine, without its text."""
+def decide(bb: str, machines: Words, plan: Words = (), limits: Words = LIMITS) -> list[str]:
     verdicts = [verdict_of(line) for line in replies([bb, "decide", *limits, *plan], machines)]
     assert len(verdicts) == len(machines) > 0
     return verdicts
 
 
-def check(
-    bb: str, machines: Sequence[str], claims: Sequence[str], limits: Sequence[str] = LIMITS
-) -> List[str]:
+def check(bb: str, machines: Words, claims: Words, limits: Words = LIMITS) -> list[str]:
     """Return the checker's answers to claims about these machines."""
     return replies([bb, "check", *limits], ["%s %s" % pair for pair in zip(machines, claims)])
 
@@ -65,7 +53,6 @@ class Change(NamedTuple):
     symbols: Sequence[int]
 
     def entry(self, entry: str) -> str:
-        """Change one entry."""
         if entry == "---":
             return entry
         move = entry[1].translate(SWAPPED) if self.mirrored else entry[1]
@@ -91,11 +78,7 @@ MIRROR = Change(True, (0, 1), (0, 1))
 
 
 def compare_changed(
-    bb: str,
-    machines: Sequence[str],
-    changes: Sequence[Change],
-    plan: Sequence[str] = (),
-    limits: Sequence[str] = LIMITS,
+    bb: str, machines: Words, changes: Sequence[Change], plan: Words = (), limits: Words = LIMITS
 ) -> None:
     """Compare verdicts of machines and changed ones, and the answers to their claims, true and false."""
     changed = [change.machine(text) for text, change in zip(machines, changes)]
@@ -108,14 +91,14 @@ def compare_changed(
         compare_lines("answers", answers[1], answers[0], machines)
 
 
-def test_mirrored_machines_have_mirrored_verdicts(bb: str, machines: List[str]) -> None:
+def test_mirrored_machines_have_mirrored_verdicts(bb: str, machines: list[str]) -> None:
     compare_changed(bb, machines, [MIRROR] * len(machines))
 
 
 @pytest.mark.parametrize("plan", [[], TREES_ALONE], ids=["all deciders", "trees alone"])
 @pytest.mark.parametrize("mirrored", [False, True])
 def test_renamed_machines_have_the_same_verdicts(
-    bb: str, machines: List[str], mirrored: bool, plan: List[str]
+    bb: str, machines: Words, mirrored: bool, plan: Words
 ) -> None:
     padded = ["_".join(group + "---" for group in text.split("_")) + "_---------" for text in machines]
     compare_changed(bb, padded, [Change(mirrored, (0, 2, 1), (0, 2, 1))] * len(machines), plan)
@@ -132,11 +115,11 @@ def test_random_machines_changed_at_random(bb: str, rng: random.Random, count: i
 
 
 @pytest.mark.parametrize("change", [Change(False, (1, 0), (0, 1)), Change(False, (0, 1), (1, 0))])
-def test_renaming_a_or_0_changes_some_verdict(bb: str, machines: List[str], change: Change) -> None:
+def test_renaming_a_or_0_changes_some_verdict(bb: str, machines: list[str], change: Change) -> None:
     assert decide(bb, [change.machine(text) for text in machines]) != decide(bb, machines)
 
 
-def completions(text: str) -> Iterator[Tuple[str, Tuple[int, ...]]]:
+def completions(text: str) -> Iterator[tuple[str, tuple[int, ...]]]:
     """Yield the machines that a machine of two symbols becomes where some `---` are filled, and the entries
     that are: state and symbol in one number."""
     old = [entry for group in table_of(text) for entry in group]
@@ -147,7 +130,7 @@ def completions(text: str) -> Iterator[Tuple[str, Tuple[int, ...]]]:
             yield join_groups(new, 2), filled
 
 
-def undefined_met(text: str, verdict: str) -> Optional[int]:
+def undefined_met(text: str, verdict: str) -> int | None:
     """Return the `---` on which a machine halts, as state and symbol in one number; None where it doesn't."""
     if not verdict.startswith("halt "):
         return None
@@ -156,7 +139,7 @@ def undefined_met(text: str, verdict: str) -> Optional[int]:
 
 
 @pytest.mark.parametrize("fills_met", [False, True])
-def test_completions_keep_halts_and_pairs(bb: str, machines: List[str], fills_met: bool) -> None:
+def test_completions_keep_halts_and_pairs(bb: str, machines: list[str], fills_met: bool) -> None:
     """A filled `---` that the run doesn't meet keeps the verdict; the one that it halts on changes it."""
     cases = [
         (verdict, other)
@@ -174,7 +157,7 @@ def test_completions_keep_halts_and_pairs(bb: str, machines: List[str], fills_me
     compare_lines("answers", answers, ["bad" if fills_met else "ok"] * len(cases), others)
 
 
-def test_no_completion_halts_where_a_tree_ends(bb: str, machines: List[str]) -> None:
+def test_no_completion_halts_where_a_tree_ends(bb: str, machines: list[str]) -> None:
     cases = [
         (verdict, other)
         for text, verdict in zip(machines, decide(bb, machines, TREES_ALONE))
@@ -187,9 +170,7 @@ def test_no_completion_halts_where_a_tree_ends(bb: str, machines: List[str]) -> 
     print("%d completions by a tree" % len(cases))
 
 
-def predict(
-    verdict: str, first_places: Sequence[Tuple[Optional[int], int]]
-) -> List[Tuple[Optional[int], int]]:
+def predict(verdict: str, first_places: Sequence[tuple[int | None, int]]) -> list[tuple[int | None, int]]:
     """Predict the state and the head's position at each step from a pair, by those up to its second step."""
     kind, *rest = verdict.split(" ")
     moved = kind == "translated"
@@ -203,7 +184,7 @@ def predict(
     return places
 
 
-def test_pairs_predict_later_steps(bb: str, machines: List[str]) -> None:
+def test_pairs_predict_later_steps(bb: str, machines: list[str]) -> None:
     count = 0
     for text, verdict in zip(machines, decide(bb, machines)):
         if verdict.startswith(("cycler ", "translated ")):
@@ -221,9 +202,8 @@ def latest_halt(text: str, levels: int) -> int:
     """
     latest, most = -1, levels + BEYOND
     near = range(-levels, levels + 1)
-    starts = itertools.product(
-        (0, 1), range(len(table_of(text))), itertools.product((0, 1), repeat=len(near))
-    )
+    tapes = itertools.product((0, 1), repeat=len(near))
+    starts = itertools.product((0, 1), range(len(table_of(text))), tapes)
     for beyond, state, cells in starts:
         tape = {**dict.fromkeys(range(-most, most + 1), beyond), **dict(zip(near, cells))}
         steps = sum(1 for _ in simulate(text, most, state, tape)) - 1
@@ -231,7 +211,7 @@ def latest_halt(text: str, levels: int) -> int:
     return latest
 
 
-def test_no_start_halts_later_than_its_tree_has_levels(bb: str, machines: List[str]) -> None:
+def test_no_start_halts_later_than_its_tree_has_levels(bb: str, machines: list[str]) -> None:
     levels_and_halts = []
     for text, verdict in zip(machines, decide(bb, machines, TREES_ALONE)):
         if verdict.startswith("backward "):

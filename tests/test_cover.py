@@ -6,7 +6,7 @@ import pathlib
 import random
 import re
 import subprocess
-from typing import Callable, Dict, List, Optional, Sequence, Tuple
+from typing import Callable, Sequence
 
 import pytest
 from support import TOP
@@ -21,16 +21,17 @@ STEPS = 200
 LIMITS = options((STEPS, 512, 40, 1_000))
 # How many times as long as `bb check` `cover` may take on a quiet machine; how far above that is a failure.
 BAR, FAR = 1.5, 3
-Decide = Callable[[int, int], List[str]]
-Changed = Tuple[List[str], int]
+Decide = Callable[[int, int], list[str]]
+Changed = tuple[list[str], int]
+Change = Callable[[list[str], int, random.Random], Changed]
 
 
 @pytest.fixture(scope="module")
-def decide_all(bb: str, list_machines: Callable[..., List[str]]) -> Decide:
+def decide_all(bb: str, list_machines: Callable[..., list[str]]) -> Decide:
     """A function that returns the verdict lines of a whole list."""
-    lists: Dict[Tuple[int, int], List[str]] = {}
+    lists: dict[tuple[int, int], list[str]] = {}
 
-    def decide(states: int, symbols: int) -> List[str]:
+    def decide(states: int, symbols: int) -> list[str]:
         if (states, symbols) not in lists:
             machines = list_machines(states, "--symbols", str(symbols), "--steps", str(STEPS))
             output = run_command([bb, "decide", *LIMITS], as_lines(machines)).output
@@ -69,22 +70,22 @@ def test_list_of_one_line_covers_one_state(cover: str) -> None:
 # it isn't a walk any more.
 
 
-def leave_out(lines: List[str], at: int, _: random.Random) -> Changed:
+def leave_out(lines: list[str], at: int, _: random.Random) -> Changed:
     return lines[:at] + lines[at + 1 :], at + 1
 
 
-def double(lines: List[str], at: int, _: random.Random) -> Changed:
+def double(lines: list[str], at: int, _: random.Random) -> Changed:
     return lines[: at + 1] + lines[at:], at + 2
 
 
-def swap(lines: List[str], at: int, source: random.Random) -> Changed:
+def swap(lines: list[str], at: int, source: random.Random) -> Changed:
     other = source.choice([place for place in range(len(lines)) if place != at])
     changed = list(lines)
     changed[at], changed[other] = changed[other], changed[at]
     return changed, min(at, other) + 1
 
 
-def renumber(lines: List[str], at: int, source: random.Random) -> Changed:
+def renumber(lines: list[str], at: int, source: random.Random) -> Changed:
     """Add one to a number of the next line that has some: none of these claims holds then."""
     while not re.search(r" \d+$", lines[at]):
         at = (at + 1) % len(lines)
@@ -97,11 +98,7 @@ def renumber(lines: List[str], at: int, source: random.Random) -> Changed:
 @pytest.mark.parametrize("change", [leave_out, double, swap, renumber])
 @pytest.mark.parametrize("count", [25, pytest.param(250, marks=pytest.mark.slow)])
 def test_changed_lists_are_refused_at_their_line(
-    cover: str,
-    decide_all: Decide,
-    rng: random.Random,
-    count: int,
-    change: Callable[[List[str], int, random.Random], Changed],
+    cover: str, decide_all: Decide, rng: random.Random, count: int, change: Change
 ) -> None:
     lines = decide_all(3, 2)
     for _ in range(count):
@@ -113,7 +110,7 @@ def test_changed_lists_are_refused_at_their_line(
 def test_what_is_wrong_with_a_list_is_named(cover: str, decide_all: Decide) -> None:
     lines = decide_all(2, 2)
     root, first = lines[0].split(" ")[0], lines[1].split(" ")[0]
-    rows: List[Tuple[List[str], str]] = [
+    rows: list[tuple[list[str], str]] = [
         ([], "line 1: a machine with no entry expected, the list ends"),
         (lines[1:], "line 1: a machine with no entry expected, found %s" % first),
         ([lines[0], ""], "line 2: it is no verdict line"),
@@ -141,7 +138,7 @@ def test_what_is_wrong_with_a_list_is_named(cover: str, decide_all: Decide) -> N
         ("a b", 2, None),
     ],
 )
-def test_wrong_words(cover: str, words: str, status: int, error: Optional[bytes]) -> None:
+def test_wrong_words(cover: str, words: str, status: int, error: bytes | None) -> None:
     done = run_command([cover, *words.split()])
     assert (done.status, done.output) == (status, b"") and done.error
     assert error is None or done.error == error

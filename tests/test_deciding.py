@@ -2,10 +2,8 @@
 
 from __future__ import annotations
 
-import pathlib
 import random
 import subprocess
-from typing import List, Sequence, Set
 
 import pytest
 from support import TOP, require
@@ -24,11 +22,9 @@ def is_kept(before: str, after: str) -> bool:
 
 
 @pytest.mark.parametrize("plan", PLANS, ids=" ".join)
-def test_checker_confirms_verdicts_and_larger_limits_keep_them(
-    bb: str, rng: random.Random, plan: List[str]
-) -> None:
+def test_verdicts_are_confirmed_and_larger_limits_keep(bb: str, rng: random.Random, plan: list[str]) -> None:
     machines = random_machines(10_000, rng)
-    runs: List[List[str]] = []
+    runs: list[list[str]] = []
     for limits in ROWS:
         lines = replies([bb, "decide", *options(limits), *plan], machines)
         assert [line.split(" ")[0] for line in lines] == machines
@@ -58,7 +54,7 @@ def draw_machine(source: random.Random) -> str:
     return machine(source, states, 2 if source.random() < 0.5 else source.randint(2, 10))
 
 
-def draw_options(source: random.Random) -> List[str]:
+def draw_options(source: random.Random) -> list[str]:
     """Draw limits and a plan, as words; the depth is one that the cells allow."""
     steps = source.choice([0, 1, 2, source.randint(0, 100), source.randint(0, 3_000)])
     cells = source.choice([1, 2, 5, 20, 100, 599, 2_000])
@@ -70,12 +66,10 @@ def draw_options(source: random.Random) -> List[str]:
 @pytest.mark.parametrize("count", [2_000, pytest.param(100_000, marks=pytest.mark.slow)])
 def test_plain_program_writes_the_same_bytes(bb: str, peer: str, rng: random.Random, count: int) -> None:
     """Also where the plain program decides in one run, with keys that make fingerprints agree by chance."""
-    kinds: Set[str] = set()
+    kinds: set[str] = set()
     for _ in range(count // BATCH):
         given, words = as_lines(draw_machine(rng) for _ in range(BATCH)), draw_options(rng)
-        ours, theirs = run_command([bb, "decide", *words], given), run_command(
-            [peer, "decide", *words], given
-        )
+        ours, theirs = (run_command([program, "decide", *words], given) for program in (bb, peer))
         in_one_run = run_command([peer, "decide", *words, "--one-run", "--weak-keys"], given)
         assert ours[:2] == theirs[:2] == in_one_run[:2], words
         lines = ours.output.decode().splitlines()

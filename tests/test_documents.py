@@ -7,7 +7,7 @@ or a row of a table that begins with crates names what is in them and below.
 import functools
 import os
 import re
-from typing import Dict, Iterator, List, Set
+from typing import Iterator
 
 import pytest
 from support import TOP
@@ -59,12 +59,12 @@ def read(path: str) -> str:
     return (TOP / path).read_text(encoding="utf-8", errors="replace")
 
 
-def backquoted(text: str) -> List[str]:
+def backquoted(text: str) -> list[str]:
     return re.findall(r"`([^`\n]+)`", text)
 
 
 @functools.lru_cache(maxsize=None)
-def sources() -> Dict[str, str]:
+def sources() -> dict[str, str]:
     """Read all files and folders but what is built; of documents and tests beside crates only the names."""
     found = {}
     for folder, folders, names in os.walk(TOP):
@@ -75,9 +75,9 @@ def sources() -> Dict[str, str]:
 
 
 @functools.lru_cache(maxsize=None)
-def places() -> Dict[str, Set[str]]:
+def places() -> dict[str, set[str]]:
     """Index names by the files and folders that define them."""
-    found: Dict[str, Set[str]] = {name: {"elsewhere"} for name in [*ELSEWHERE, *written_words(), *crates()]}
+    found: dict[str, set[str]] = {name: {"elsewhere"} for name in [*ELSEWHERE, *written_words(), *crates()]}
     for path, text in sources().items():
         form = DEFINED.get(os.path.splitext(path)[1], r"([\w-]+)")
         code = re.sub(r"/\*.*?\*/|//[^\n]*", "", text, flags=re.S) if path.endswith((".mjs", ".h")) else text
@@ -87,30 +87,29 @@ def places() -> Dict[str, Set[str]]:
     return found
 
 
-def crates() -> Dict[str, Set[str]]:
+def crates() -> dict[str, set[str]]:
     """Read what each crate stands on, directly or through others."""
     rows = re.findall(r"^([a-z_]+)[^:]*:(.*)", read("crates.txt"), flags=re.M)
     given = {name: set(below.split()) for name, below in rows}
     return {name: below.union(*(given.get(crate, set()) for crate in below)) for name, below in given.items()}
 
 
-def homes(paths: Set[str]) -> Set[str]:
+def homes(paths: set[str]) -> set[str]:
     """Return the crates that files are in, and the files that are in none."""
     return {path.split("/")[1] if path.startswith("crates/") else path for path in paths}
 
 
 @functools.lru_cache(maxsize=None)
-def options(program: bool) -> Set[str]:
+def options(program: bool) -> set[str]:
     """Return the options of the program alone, or of all commands."""
-    named = re.findall(
-        r"(?:value|has_option)\(matches, \"([a-z-]+)\"\)", read("crates/bb_command/src/command.rt")
-    )
+    source = read("crates/bb_command/src/command.rt")
+    named = re.findall(r"(?:value|has_option)\(matches, \"([a-z-]+)\"\)", source)
     texts = [] if program else [text for path, text in sources().items() if not path.startswith("crates/")]
     others = [word for text in texts for word in re.findall(r"[\"'](--[a-z][a-z-]*)[\"' =]", text)]
     return {"--help", "--version", *("--" + name for name in named), *others, *ELSEWHERE}
 
 
-def written_words() -> Set[str]:
+def written_words() -> set[str]:
     """Return the words of the lines that the program writes: of verdicts, refusals and answers."""
     paths = ("bb_cert/src/verdict/line.rt", "bb_cert/src/checker/answer.rt", "bb_run/src/checking.rt")
     texts = re.findall(r"b\"([a-zLR ]+)\"", "".join(read("crates/" + path) for path in paths))
@@ -120,7 +119,7 @@ def written_words() -> Set[str]:
 class Line:
     """A line of a document, and what it names that doesn't exist."""
 
-    def __init__(self, path: str, text: str, blocks: Set[str]) -> None:
+    def __init__(self, path: str, text: str, blocks: set[str]) -> None:
         self.path, self.text, self.blocks = path, text, blocks
         begin = re.match(r"\| *(%s) *\|| *- (?:\*\*)?(%s)[:,.*]" % (LIST, LIST), text)
         self.about = set(backquoted(begin[0])) & set(crates()) if begin else set()
@@ -170,9 +169,8 @@ class Line:
             return bool(homes(found) & homes(places().get(before[-1], set())))
         seen = set(before[-1:]) or self.about.union(*(crates()[crate] for crate in self.about))
         owners = homes(found) & set(crates())
-        return len(last) == 1 or bool(
-            owners & seen or found and not (owners and seen) or "elsewhere" in found
-        )
+        is_seen = bool(owners & seen) if owners and seen else bool(found)
+        return len(last) == 1 or is_seen or "elsewhere" in found
 
     def is_of(self, name: str, owner: str) -> bool:
         """Tell whether a crate or a function has a name, as far as the sources show."""
@@ -190,11 +188,10 @@ class Line:
         texts = (text for file, text in sources().items() if is_made and not file.startswith("crates/"))
         is_built = path.startswith(("/", "python/dist")) or "out" in path.split("/") or path in self.blocks
         beside = os.path.normpath(os.path.join(os.path.dirname(self.path), path))
-        return (
-            is_built or beside in sources() or any(name in text for text in texts) or bool(self.files(path))
-        )
+        is_there = is_built or beside in sources() or bool(self.files(path))
+        return is_there or any(name in text for text in texts)
 
-    def files(self, path: str) -> List[str]:
+    def files(self, path: str) -> list[str]:
         """List the files whose path ends so, maybe without a source's ending; those of the line's crates."""
         ends = tuple("/" + path.strip("/") + ending for ending in ("", ".rt", ".antt"))
         found = [file for file in sources() if ("/" + file).endswith(ends)]

@@ -2,7 +2,6 @@
 
 import hashlib
 import subprocess
-from typing import List
 
 import pytest
 from support import TOP
@@ -24,7 +23,7 @@ def test_example_writes_its_expected_output(bb: str, example: Example) -> None:
 @pytest.mark.usefixtures("bb", "list_machines")
 @pytest.mark.parametrize("digest, commands", PIPELINES)
 def test_pipeline_writes_what_has_its_sha256(digest: str, commands: str) -> None:
-    words: List[str] = ["bash", "-o", "pipefail", "-c", commands]
+    words: list[str] = ["bash", "-o", "pipefail", "-c", commands]
     output = subprocess.run(words, cwd=TOP, stdout=subprocess.PIPE, check=True).stdout
     assert output.count(b"\n") == 5_417
     assert hashlib.sha256(output).hexdigest() == digest

@@ -7,7 +7,7 @@ none may be `undecided steps`.
 from __future__ import annotations
 
 import random
-from typing import List, Optional, Sequence, Tuple
+from typing import Sequence
 
 import pytest
 from support.machines import all_machines, seldom_halting
@@ -20,7 +20,7 @@ LATEST = "1LB1RB_1RA1LA"
 
 def derive_verdict(machine: str, steps: int, cells: int) -> str:
     """Derive the verdict of simulation and cyclers alone from the definitions."""
-    seen: List[Tuple[object, ...]] = []
+    seen: list[tuple[object, ...]] = []
     score = 0
     for step, now in enumerate(simulate(machine, steps + 1)):
         if step > steps:
@@ -35,8 +35,7 @@ def derive_verdict(machine: str, steps: int, cells: int) -> str:
     return "halt %d %d" % (len(seen) - 1, score)
 
 
-def decide(bb: str, options: Sequence[str], machines: Sequence[str]) -> List[str]:
-    """Return the program's verdict on each machine."""
+def decide(bb: str, options: Sequence[str], machines: Sequence[str]) -> list[str]:
     return [verdict_of(line) for line in replies([bb, "decide", *options], machines)]
 
 
@@ -47,11 +46,11 @@ def decide(bb: str, options: Sequence[str], machines: Sequence[str]) -> List[str
         (["--steps=9", "--cells=4", "--depth=2", "--no-backward"], "undecided steps"),
     ],
 )
-def test_latest_cycle_needs_its_steps(bb: str, options: List[str], verdict: str) -> None:
+def test_latest_cycle_needs_its_steps(bb: str, options: list[str], verdict: str) -> None:
     assert decide(bb, options, [LATEST]) == [verdict]
 
 
-def draw_machines(source: random.Random, states: int, symbols: int, count: Optional[int]) -> List[str]:
+def draw_machines(source: random.Random, states: int, symbols: int, count: int | None) -> list[str]:
     """Draw random machines, or list all where no count is given."""
     if count is None:
         return list(all_machines(states, symbols))
@@ -69,13 +68,7 @@ def draw_machines(source: random.Random, states: int, symbols: int, count: Optio
     ],
 )
 def test_verdicts_follow_from_definitions(
-    bb: str,
-    rng: random.Random,
-    states: int,
-    symbols: int,
-    cells: int,
-    steps: Optional[int],
-    count: Optional[int],
+    bb: str, rng: random.Random, states: int, symbols: int, cells: int, steps: int | None, count: int | None
 ) -> None:
     machines = draw_machines(rng, states, symbols, count)
     configurations = states * cells * symbols**cells

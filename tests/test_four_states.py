@@ -3,7 +3,7 @@
 from __future__ import annotations
 
 import collections
-from typing import List, Mapping, Sequence, Union
+from typing import Mapping, Sequence
 
 import pytest
 from support import TOP
@@ -24,7 +24,7 @@ def require_figure(figure: str) -> None:
     assert figure in DOCUMENT, figure
 
 
-def row(*cells: Union[int, str]) -> str:
+def row(*cells: int | str) -> str:
     """Format the beginning of a table's row, with numbers as the document writes them."""
     shown = ("{:,}".format(cell) if isinstance(cell, int) else cell for cell in cells)
     return "\n| %s |" % " | ".join(shown)
@@ -36,7 +36,7 @@ def kind(line: str) -> str:
     return " ".join(line.split(" ")[1:3]) if found == "undecided" else found
 
 
-def decide(bb: str, limits: Mapping[str, int], machines: Sequence[str]) -> List[str]:
+def decide(bb: str, limits: Mapping[str, int], machines: Sequence[str]) -> list[str]:
     """Return the verdict lines of these machines, which the checker must confirm."""
     lines = replies([bb, "decide", *words_of_plan(limits)], machines)
     assert [line.split(" ")[0] for line in lines] == list(machines)
@@ -45,25 +45,24 @@ def decide(bb: str, limits: Mapping[str, int], machines: Sequence[str]) -> List[
     return lines
 
 
-def undecided(lines: Sequence[str]) -> List[str]:
-    """Return the machines of undecided lines."""
+def undecided(lines: Sequence[str]) -> list[str]:
     return [line.split(" ")[0] for line in lines if kind_of(line) == "undecided"]
 
 
 @pytest.fixture(scope="module")
-def lines(bb: str, four_states: List[str]) -> List[str]:
+def lines(bb: str, four_states: list[str]) -> list[str]:
     """The verdict lines of the whole list at its first limits."""
     return decide(bb, FOUR, four_states)
 
 
-def test_kinds(lines: List[str]) -> None:
+def test_kinds(lines: list[str]) -> None:
     require_figure("lists {:,} machines".format(len(lines)))
     for name, count in sorted(collections.Counter(map(kind, lines)).items()):
         require_figure(row("`%s`" % name, count))
     require_figure(row("all", len(lines)))
 
 
-def test_greatest_numbers(lines: List[str]) -> None:
+def test_greatest_numbers(lines: list[str]) -> None:
     verdicts = collections.defaultdict(list)
     for line in lines:
         verdicts[kind_of(line)].append(line.split(" "))
@@ -89,7 +88,7 @@ def found_later(lines: Sequence[str]) -> str:
     return str(len(new))
 
 
-def test_larger_limits(bb: str, lines: List[str]) -> None:
+def test_larger_limits(bb: str, lines: list[str]) -> None:
     left = undecided(lines)
     for limits in LATER:
         later = decide(bb, limits, left)
@@ -98,7 +97,7 @@ def test_larger_limits(bb: str, lines: List[str]) -> None:
 
 
 @pytest.mark.parametrize("steps", [1_000, 10_000, pytest.param(100_000, marks=pytest.mark.slow)])
-def test_cells_that_undecided_machines_visit(bb: str, lines: List[str], steps: int) -> None:
+def test_cells_that_undecided_machines_visit(bb: str, lines: list[str], steps: int) -> None:
     left = undecided(decide(bb, LATER[0], undecided(lines)))
     counts = []
     for cells in (16, 32, 64, 128, 256, 512, 1_024):

@@ -11,7 +11,6 @@ import itertools
 import pathlib
 import re
 import subprocess
-from typing import Dict, List, Tuple
 
 import pytest
 from support import TOP
@@ -26,7 +25,7 @@ MACHINE = "1RA1RA"
 GIVEN = {"steps": 9, "cells": 7, "from": 2, "every": 3}
 # Each kind of reply: the header's name for its count, the line, and the reply; the first comes once, the
 # second twice, and so on.
-KINDS: Dict[str, Tuple[str, str]] = {
+KINDS: dict[str, tuple[str, str]] = {
     "BB_COUNT_HALT": ("1RZ---", "1RZ--- halt 1 1"),
     "BB_COUNT_CYCLER": ("1RZ---", "1RZ--- cycler 1 2"),
     "BB_COUNT_TRANSLATED": ("1RZ---", "1RZ--- translated R 1 2 1 1"),
@@ -38,7 +37,7 @@ KINDS: Dict[str, Tuple[str, str]] = {
 EXCHANGES = [*itertools.combinations(GIVEN, 2), *itertools.combinations(KINDS, 2)]
 
 
-def parameters(header: str) -> List[str]:
+def parameters(header: str) -> list[str]:
     """Return the names of `bb_trace`'s parameters, in the order of a header."""
     found = re.search(r"uint32_t bb_trace\(([^)]*)\)", header)
     return re.findall(r"(\w+)(?:,|$)", found[1]) if found else []
@@ -53,13 +52,11 @@ def exchange(one: str, two: str) -> str:
     names = {one: two, two: one}
     before = "(?<=#define )" if one in KINDS else r"\b"
     pattern = r"%s(%s|%s)\b" % (before, one, two)
-    return (
-        HEADER[:begin] + re.sub(pattern, lambda found: names[str(found[1])], HEADER[begin:end]) + HEADER[end:]
-    )
+    inside = re.sub(pattern, lambda found: names[str(found[1])], HEADER[begin:end])
+    return HEADER[:begin] + inside + HEADER[end:]
 
 
 def run_with(header: str, library: pathlib.Path, folder: pathlib.Path) -> CommandResult:
-    """Compile the program with a header, and run it."""
     (folder / "bb.h").write_text(header, encoding="utf-8")
     defined = "-DTRACE_PARAMETERS=%s" % ",".join("given_" + name for name in parameters(header))
     command = ["gcc", "-std=c99", *WARNINGS, "-O1", defined, "-I", str(folder), str(SOURCES / "order.c")]
@@ -81,9 +78,7 @@ def right(bb: str) -> bytes:
 
 
 @pytest.mark.needs("gcc")
-def test_parameters_and_counts_stand_in_order(
-    library: pathlib.Path, right: bytes, tmp_path: pathlib.Path
-) -> None:
+def test_parameters_and_counts_in_order(library: pathlib.Path, right: bytes, tmp_path: pathlib.Path) -> None:
     names = parameters(HEADER)
     assert set(GIVEN) <= set(names) and len(names) == 9
     assert run_with(HEADER, library, tmp_path) == (0, right, b"")
@@ -100,7 +95,7 @@ def test_exchange_shows(
 
 @pytest.mark.needs("gcc", "g++")
 @pytest.mark.parametrize("compiler", [["gcc", "-std=c99"], ["g++", "-x", "c++"]], ids=" ".join)
-def test_macros_give_enough_room(tmp_path: pathlib.Path, compiler: List[str]) -> None:
+def test_macros_give_enough_room(tmp_path: pathlib.Path, compiler: list[str]) -> None:
     """The compiler's checks for undefined behaviour are on."""
     checks = ["-fsanitize=undefined", "-fno-sanitize-recover=undefined", "-I", str(TOP / "include")]
     made = str(tmp_path / "room")

@@ -8,7 +8,6 @@ from __future__ import annotations
 import ast
 import re
 import subprocess
-from typing import Dict, List
 
 import pytest
 from support import TOP
@@ -21,17 +20,17 @@ CLAUSES = re.compile(r"\b(?:what|where|which|who|whoever|whose|that)\b", re.IGNO
 # Blocks of code, examples, tables, headings and links; then the marks of list items.
 APART = re.compile(r"```.*?```|^(?: {4}|\t|>? *\||#).*?$|<[^>\n]*>", re.DOTALL | re.MULTILINE)
 ITEM = re.compile(r"^\s*(?:[-*]|\d+\.) ", re.MULTILINE)
-EXCEPTED: Dict[str, str] = {}
+EXCEPTED: dict[str, str] = {}
 COMMANDS = ("", "decide", "check", "trace")
 
 
-def sentences(text: str) -> List[str]:
+def sentences(text: str) -> list[str]:
     text = ITEM.sub(" . ", re.sub(r"\n\s*\n", " . ", APART.sub(" . ", text)))
     text = re.sub(r"`[^`\n]*`", "x", text)
     return [one for one in re.split(r"(?<=[.!?:])\s+", text) if len(one.split()) > 2]
 
 
-def tracked_files(*patterns: str) -> List[str]:
+def tracked_files(*patterns: str) -> list[str]:
     command = ["git", "ls-files", *patterns]
     names = subprocess.run(command, cwd=TOP, stdout=subprocess.PIPE, text=True, check=True).stdout.split()
     return [name for name in names if (TOP / name).is_file()]
@@ -54,7 +53,7 @@ def doc_comments(name: str) -> str:
     return "\n\n".join(found)
 
 
-def read_pages() -> Dict[str, str]:
+def read_pages() -> dict[str, str]:
     """Return each document, and the doc comments of each crate and folder, by name."""
     found = {name: (TOP / name).read_text(encoding="utf-8") for name in tracked_files("*.md")}
     for name in tracked_files("crates/*/src/*.rt", "python/src/*.py", "web/*.mjs"):
@@ -88,6 +87,5 @@ def test_exceptions_are_pages() -> None:
 
 def test_help_reads_easily(bb: str, cover: str) -> None:
     commands = [[bb, *command.split(), "--help"] for command in COMMANDS] + [[cover, "--help"]]
-    require_easy(
-        "\n\n".join(re.sub(r"(?m)^ +", "", run_command(command).output.decode()) for command in commands)
-    )
+    pages = "\n\n".join(run_command(command).output.decode() for command in commands)
+    require_easy(re.sub(r"(?m)^ +", "", pages))

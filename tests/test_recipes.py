@@ -15,7 +15,7 @@ import signal
 import subprocess
 import sys
 import time
-from typing import Callable, Dict, List, Tuple, Union
+from typing import Callable
 
 import pytest
 from support import TOP, require, restore_signals
@@ -23,26 +23,17 @@ from support.machines import mixed_machines
 from support.program import GREATEST, CommandResult, as_lines, run_command, options, options_of_pass
 
 # How many blocks of commands stand under each heading.
-COUNTS = {
-    "Prepare a list": 3,
-    "Count undefined entries as a step": 1,
-    "Raise the limits for undecided machines": 2,
-    "Count verdicts": 1,
-    "Find wrong claims": 3,
-    "Judge published claims": 2,
-    "Publish a decided list": 2,
-    "Use several cores": 2,
-    "Check that no line is missing": 1,
-    "Decide a long list": 2,
-    "Use all cores without Python": 1,
-    "Draw a picture": 2,
-    "Copy the program": 1,
-    "Resume after an interruption": 1,
-    "Call the engine from a program": 1,
+BLOCKS = {
+    1: ["Count undefined entries as a step", "Count verdicts", "Check that no line is missing"]
+    + ["Use all cores without Python", "Copy the program", "Resume after an interruption"]
+    + ["Call the engine from a program"],
+    2: ["Raise the limits for undecided machines", "Judge published claims", "Publish a decided list"]
+    + ["Use several cores", "Decide a long list", "Draw a picture"],
+    3: ["Prepare a list", "Find wrong claims"],
 }
 # A line of a list, and the machine that is taken out of it, or why there is none; None for a line that is
 # passed over in silence.
-TAKEN: List[Tuple[bytes, Union[bytes, None, str]]] = [
+TAKEN: list[tuple[bytes, bytes | str | None]] = [
     (b"1RB1LB_1LA1RZ", b"1RB1LB_1LA1RZ"),
     (b"\t 1RB1LB_1LA1RZ  # a comment, with 1RA1RA", "two different machines"),
     (b"\t 1RB1LB_1LA1RZ  # a comment", b"1RB1LB_1LA1RZ"),
@@ -79,13 +70,8 @@ ANYTHING = (
     b"undecided steps\nrefused 1\n1RA1RA undecided cells\n\xff\xfe\n------\n1RA1RA\n"
     b"1RB0LA_0RC---_1RD0LD_1LA1RB\n" + UNDECIDED + b"x" * 100_000 + b"\n1RA1RA"
 )
-LISTS = {
-    "empty": b"",
-    "no newline at its end": b"1RB1LB_1LA1RZ",
-    "decided": DECIDED,
-    "undecided": UNDECIDED * 3,
-    "anything": ANYTHING,
-}
+LISTS = {"empty": b"", "no newline at its end": b"1RB1LB_1LA1RZ"}
+LISTS.update({"decided": DECIDED, "undecided": UNDECIDED * 3, "anything": ANYTHING})
 each_list = pytest.mark.parametrize("content", LISTS.values(), ids=list(LISTS))
 # It halts after 41,709 steps.
 LONG_HALT = b"1RB0LB_1RC1LB_1LD0RE_1LD1LA_---0RD\n"
@@ -115,9 +101,9 @@ if is_killed:
 """
 
 
-def read_recipes() -> Dict[str, List[str]]:
+def read_recipes() -> dict[str, list[str]]:
     """Read the blocks of commands of the document, by the heading above them."""
-    found: Dict[str, List[str]] = {}
+    found: dict[str, list[str]] = {}
     document = (TOP / "docs" / "recipes.md").read_text(encoding="utf-8")
     for section in re.split(r"^#+ ", document, flags=re.M)[1:]:
         heading, _, text = section.partition("\n")
@@ -157,7 +143,6 @@ class Folder:
         return (self.path / name).read_bytes()
 
     def run(self, commands: str) -> CommandResult:
-        """Run commands, and return their status and what they write."""
         environment = dict(os.environ, PATH="%s:%s" % (self.path, os.environ["PATH"]))
         return run_command(["sh", "-e", "-c", commands], cwd=str(self.path), env=environment)
 
@@ -180,7 +165,8 @@ def package(folder: Folder, library: pathlib.Path) -> None:
 
 
 def test_each_block_has_its_test() -> None:
-    assert {heading: len(blocks) for heading, blocks in RECIPES.items()} == COUNTS
+    counts = {heading: count for count, headings in BLOCKS.items() for heading in headings}
+    assert {heading: len(blocks) for heading, blocks in RECIPES.items()} == counts
 
 
 @each_list
@@ -191,7 +177,7 @@ def test_refused_lines_are_shown(folder: Folder, content: bytes) -> None:
     assert folder.run(RECIPES["Prepare a list"][2]) == (0, b"".join(shown), b"")
 
 
-def require_reasons(error: List[str]) -> None:
+def require_reasons(error: list[str]) -> None:
     """Require a sentence for each line that isn't taken, and for each that is rewritten."""
     for number, (line, found) in enumerate(TAKEN, 1):
         begin = "list.txt:%d: " % number
@@ -247,8 +233,7 @@ def test_deciding_again_what_was_left(folder: Folder, content: bytes) -> None:
     assert len(once) == len(lines)
     for a, b in zip(once, lines):
         assert a == b or (b" backward " in b and a.split()[1] in (b"cycler", b"translated"))
-    parts = folder.read("decided.txt") + folder.read("second.txt")
-    assert sorted(parts.splitlines()) == sorted(lines)
+    assert sorted((folder.read("decided.txt") + folder.read("second.txt")).splitlines()) == sorted(lines)
 
 
 @each_list
@@ -320,7 +305,7 @@ def test_publishing_what_was_decided(folder: Folder) -> None:
 
 
 @pytest.fixture(scope="module")
-def long_list(bb: str, list_machines: Callable[..., List[str]]) -> bytes:
+def long_list(bb: str, list_machines: Callable[..., list[str]]) -> bytes:
     """Some two megabytes of machines that halt, and a line that is refused."""
     verdicts = run_command([bb, "decide", "--steps=1000"], as_lines(list_machines(3))).output.splitlines()
     halts = [line.split()[0] for line in verdicts if line.split()[1] == b"halt"]
@@ -340,7 +325,7 @@ def test_whole_list_is_found_whole(folder: Folder, content: bytes) -> None:
 def test_list_that_is_not_whole_is_noticed(folder: Folder) -> None:
     folder.write("machines.txt", ANYTHING)
     lines = folder.decide(ANYTHING, "--steps=1000").splitlines(keepends=True)
-    broken: Dict[str, List[bytes]] = {
+    broken: dict[str, list[bytes]] = {
         "nothing": [],
         "a gap": lines[:4] + lines[8:],
         "a line left out": lines[:-1],
@@ -355,7 +340,7 @@ def test_list_that_is_not_whole_is_noticed(folder: Folder) -> None:
         assert status == 1 and output.count(b"\n") == 1, name
 
 
-def limits_of(commands: str) -> List[str]:
+def limits_of(commands: str) -> list[str]:
     """Return the words for limits in a recipe's commands."""
     return " ".join(re.findall(r"--(?:steps|cells|depth|nodes) \d+", commands)).split()
 

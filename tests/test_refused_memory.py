@@ -10,7 +10,6 @@ from __future__ import annotations
 import os
 import pathlib
 import subprocess
-from typing import Dict, List, Tuple
 
 import pytest
 from support import require
@@ -60,30 +59,19 @@ INPUTS = {
 # What ends a program early, but for a read that failed.
 FAULTS = (b"out of memory", b"write failed")
 LIMITS = "--steps=1000 --cells=64 --depth=10 --nodes=100"
-# The command, its standard input, and how many allocations the tapes and the path take.
-RUNS = [
-    ("bb decide", "list", 4),
-    ("bb decide " + LIMITS, "list", 4),
-    ("bb decide %s list" % LIMITS, "list", 4),
-    ("bb decide --no-cyclers --no-translated " + LIMITS, "list", 4),
-    ("bb decide --cells=4", "list", 0),
-    ("bb decide --steps=x", "list", 0),
-    ("bb check", "claims", 3),
-    ("bb check " + LIMITS, "claims", 3),
-    ("bb check %s claims" % LIMITS, "claims", 3),
-    ("bb check --cells=4", "claims", 0),
-    ("bb check --steps=x", "claims", 0),
-    ("bb trace --upto=10 1RB1LB_1LA1RZ", "list", 1),
-    ("bb trace --upto=10 --cells=2 1RA1RA", "list", 1),
-    ("bb trace --upto=10 1RB1LB_1LA1RC", "list", 1),
-    ("bb trace --upto=10", "list", 0),
-    ("bb --help", "list", 0),
-    ("cover " + LIMITS, "begun", 4),
-    ("cover %s begun" % LIMITS, "begun", 4),
-    ("cover --cells=4", "begun", 0),
-    ("cover --steps=x", "begun", 0),
-    ("cover --help", "begun", 0),
-]
+# The words of commands, by the command, its standard input, and the allocations of the tapes and the path.
+ENDS_EARLY = ["--cells=4", "--steps=x"]
+RUNS = {
+    ("bb decide", "list", 4): ["", LIMITS, LIMITS + " list", "--no-cyclers --no-translated " + LIMITS],
+    ("bb decide", "list", 0): ENDS_EARLY,
+    ("bb check", "claims", 3): ["", LIMITS, LIMITS + " claims"],
+    ("bb check", "claims", 0): ENDS_EARLY,
+    ("bb trace --upto=10", "list", 1): ["1RB1LB_1LA1RZ", "--cells=2 1RA1RA", "1RB1LB_1LA1RC"],
+    ("bb", "list", 0): ["trace --upto=10", "--help"],
+    ("cover", "begun", 4): [LIMITS, LIMITS + " begun"],
+    ("cover", "begun", 0): [*ENDS_EARLY, "--help"],
+}
+COMMANDS = [(" ".join([run[0], words]).strip(), *run[1:]) for run, more in RUNS.items() for words in more]
 
 
 @pytest.fixture(scope="module")
@@ -98,9 +86,9 @@ def folder(tmp_path_factory: pytest.TempPathFactory) -> pathlib.Path:
     return folder
 
 
-def refuse_in_turn(command: List[str], given: bytes, folder: pathlib.Path) -> List[CommandResult]:
+def refuse_in_turn(command: list[str], given: bytes, folder: pathlib.Path) -> list[CommandResult]:
     """Run a command with each of its allocations refused in turn, and return how it ends."""
-    ends: List[CommandResult] = []
+    ends: list[CommandResult] = []
     trace = folder / "trace"
     while True:
         refusal = {"LD_PRELOAD": str(folder / "refuser.so"), "REFUSE_TRACE": str(trace)}
@@ -112,9 +100,9 @@ def refuse_in_turn(command: List[str], given: bytes, folder: pathlib.Path) -> Li
         ends.append(end)
 
 
-@pytest.mark.parametrize("run", RUNS, ids=[run[0] for run in RUNS])
-def test_refused_allocation(bb: str, cover: str, folder: pathlib.Path, run: Tuple[str, str, int]) -> None:
-    programs: Dict[str, str] = {"bb": bb, "cover": cover}
+@pytest.mark.parametrize("run", COMMANDS, ids=[run[0] for run in COMMANDS])
+def test_refused_allocation(bb: str, cover: str, folder: pathlib.Path, run: tuple[str, str, int]) -> None:
+    programs: dict[str, str] = {"bb": bb, "cover": cover}
     name, *words = run[0].split()
     command, given = [programs[name], *words], INPUTS[run[1]]
     ends, whole = refuse_in_turn(command, given, folder), run_command(command, given, cwd=str(folder))

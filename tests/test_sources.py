@@ -3,7 +3,6 @@
 from __future__ import annotations
 
 import subprocess
-from typing import List
 
 import pytest
 from support import TOP
@@ -16,12 +15,9 @@ UNTYPED = "python/setup.py"
 PATIENCE = 120
 
 
-def list_files(*words: str) -> List[str]:
+def list_files(*words: str) -> list[str]:
     """List files that git knows, or would."""
-    command = ["git", "ls-files", *words]
-    names = subprocess.run(
-        command, cwd=TOP, stdout=subprocess.PIPE, text=True, check=True
-    ).stdout.splitlines()
+    names = subprocess.check_output(["git", "ls-files", *words], cwd=TOP, text=True).splitlines()
     return [name for name in names if (TOP / name.split("\t")[-1]).is_file()]
 
 
@@ -30,20 +26,19 @@ def first_line(path: str) -> bytes:
         return file.readline(100)
 
 
-def python_files() -> List[str]:
+def python_files() -> list[str]:
     """List all files in Python, with or without the ending."""
     names = list_files("--cached", "--others", "--exclude-standard")
     return [name for name in names if name.endswith(".py") or first_line(name).endswith(b"python3\n")]
 
 
-def executables() -> List[str]:
+def executables() -> list[str]:
     """List the executables that take words: those in Python, and the wrappers."""
     names = [row.split("\t")[1] for row in list_files("--stage") if row.startswith("100755")]
     return [name for name in names if name in WRAPPERS or first_line(name).endswith(b"python3\n")]
 
 
 def require_pass(*command: str) -> None:
-    """Require a command to end with status 0."""
     done = subprocess.run(command, cwd=TOP, stdout=subprocess.PIPE, stderr=subprocess.STDOUT, text=True)
     assert done.returncode == 0, done.stdout
 

@@ -11,7 +11,7 @@ import select
 import subprocess
 import threading
 import time
-from typing import Callable, Iterator, List, Optional, Sequence, Tuple
+from typing import Callable, Iterator, Sequence
 
 import pytest
 from support.program import kind_of
@@ -23,14 +23,8 @@ UNDECIDED = b"1RB0LA_0RC---_1RD0LD_1LA1RZ\n1RB1LC_1RC1RB_1RD0LE_1LA1LD_1RZ0LA\n"
 LONG = (LIST + UNDECIDED) * 200
 SLOW = ["--steps", "300000", "--cells", "4096"]
 # How the line of progress names the kinds of verdicts, and the answers of `check`.
-KINDS = {
-    "halt": "halt",
-    "cycler": "cycler",
-    "translated": "transl",
-    "backward": "back",
-    "undecided": "undec",
-    "refused": "ref",
-}
+KINDS = {"halt": "halt", "cycler": "cycler", "translated": "transl"}
+KINDS.update({"backward": "back", "undecided": "undec", "refused": "ref"})
 ANSWERS = ["ok", "bad", "over", "open", "unread"]
 # For so many seconds a list is fed until what is waited for shows; then it counts as lost.
 PATIENCE = 1_800
@@ -39,47 +33,35 @@ LONGER, LONGEST = 4, 4**6
 MOST = 10**12
 ABOVE = "%d is not within 0 to %d" % (MOST + 1, MOST)
 # Words, and the whole of standard error. FOLDER stands for a folder.
+DEEP = "--depth 300 needs --cells 599 or more; with --cells 256 a depth up to 128"
 REFUSED = [
     ("decide --steps %d" % (MOST + 1), "steps out of range", "--steps " + ABOVE),
     ("decide --cells 0", "cells out of range", "--cells 0 is not within 1 to 67108864"),
     ("decide --depth 10001", "depth out of range", "--depth 10001 is not within 0 to 10000"),
     ("decide --nodes %d" % (MOST + 1), "nodes out of range", "--nodes " + ABOVE),
-    (
-        "decide --cells 256",
-        "depth does not fit in cells",
-        "--depth 300 needs --cells 599 or more; with --cells 256 a depth up to 128",
-    ),
+    ("decide --cells 256", "depth does not fit in cells", DEEP),
     ("trace --upto %d 1RA1RA" % (MOST + 1), "steps out of range", "--upto " + ABOVE),
 ]
-UNREADABLE = [
-    ("check FOLDER/missing", "FOLDER/missing: No such file or directory (os error 2)"),
-    (
-        "decide -",
-        "-: No such file or directory (os error 2); - is no file name here, and without FILE standard input"
-        " is read",
-    ),
-    ("decide FOLDER", "FOLDER: Is a directory (os error 21)"),
-]
+MISSING = ": No such file or directory (os error 2)"
+UNREADABLE = {
+    "check FOLDER/missing": "FOLDER/missing" + MISSING,
+    "decide -": "-%s; - is no file name here, and without FILE standard input is read" % MISSING,
+    "decide FOLDER": "FOLDER: Is a directory (os error 21)",
+}
 MACHINE = b"1RB1LB_1LA1RZ"
-CARRIAGE_RETURN = "line 1 ends in a carriage return: remove them all first, by tr -d '\\r'\n"
-HINTS = [
-    (
-        "decide",
-        gzip.compress(MACHINE, mtime=0),
-        "the input is compressed by gzip: unpack it first, by gzip -dc\n",
-    ),
-    (
-        "decide",
-        MACHINE.decode().encode("utf-16"),
-        "the input is UTF-16: convert it first, by iconv -f UTF-16 -t UTF-8\n",
-    ),
-    ("decide", MACHINE + b"\r\n", CARRIAGE_RETURN),
-    ("check", MACHINE + b" halt 6 4\r\n", CARRIAGE_RETURN),
-    ("decide", MACHINE + b"\n1RA1RA\r\n", ""),
-]
+RETURN = "line 1 ends in a carriage return: remove them all first, by tr -d '\\r'\n"
+GZIP = "the input is compressed by gzip: unpack it first, by gzip -dc\n"
+UTF_16 = "the input is UTF-16: convert it first, by iconv -f UTF-16 -t UTF-8\n"
+HINTS = {
+    "gzip": ("decide", gzip.compress(MACHINE, mtime=0), GZIP),
+    "UTF-16": ("decide", MACHINE.decode().encode("utf-16"), UTF_16),
+    "machine, CR": ("decide", MACHINE + b"\r\n", RETURN),
+    "claim, CR": ("check", MACHINE + b" halt 6 4\r\n", RETURN),
+    "second line, CR": ("decide", MACHINE + b"\n1RA1RA\r\n", ""),
+}
 
 
-def last_shown(command: Sequence[str], given: bytes, output: str = os.devnull) -> Tuple[int, str]:
+def last_shown(command: Sequence[str], given: bytes, output: str = os.devnull) -> tuple[int, str]:
     """Return the status of a command, and what its terminal shows after the last line of progress."""
     with open(output, "wb") as file:
         status, shown = on_terminal(command, given, file)
@@ -91,19 +73,17 @@ def test_refused_limits_are_explained(bb: str, words: str, fault: str, advice: s
     assert last_shown([bb, *words.split()], b"") == (2, "bb: %s\n%s\n" % (fault, advice))
 
 
-@pytest.mark.parametrize("words, cause", UNREADABLE)
+@pytest.mark.parametrize("words, cause", UNREADABLE.items())
 def test_failed_reads_are_explained(bb: str, tmp_path: pathlib.Path, words: str, cause: str) -> None:
     named, expected = (text.replace("FOLDER", str(tmp_path)) for text in (words, cause))
     assert last_shown([bb, *named.split()], b"") == (3, "bb: read failed\n%s\n" % expected)
 
 
 @pytest.mark.parametrize(
-    "word, cause",
-    [("check", "standard output: No space left on device (os error 28)\n"), ("--help", "")],
+    "word, cause", [("check", "standard output: No space left on device (os error 28)\n"), ("--help", "")]
 )
 def test_failed_writes_are_explained(bb: str, word: str, cause: str) -> None:
-    expected = (3, "bb: write failed\n" + cause)
-    assert last_shown([bb, word], b"1RA1RA halt 1 1\n", "/dev/full") == expected
+    assert last_shown([bb, word], b"1RA1RA halt 1 1\n", "/dev/full") == (3, "bb: write failed\n" + cause)
 
 
 def test_closed_pipe_leaves_the_fixed_line_alone(bb: str) -> None:
@@ -114,9 +94,7 @@ def test_closed_pipe_leaves_the_fixed_line_alone(bb: str) -> None:
     assert status == 3 and shown.endswith("bb: write failed\n") and "standard output" not in shown
 
 
-@pytest.mark.parametrize(
-    "command, given, hint", HINTS, ids=["gzip", "UTF-16", "machine, CR", "claim, CR", "second line, CR"]
-)
+@pytest.mark.parametrize("command, given, hint", HINTS.values(), ids=HINTS)
 def test_first_bytes_of_an_input_give_a_hint(bb: str, command: str, given: bytes, hint: str) -> None:
     assert last_shown([bb, command], given) == (1, hint)
     plain = subprocess.run([bb, command], input=given, capture_output=True)
@@ -137,14 +115,14 @@ def test_other_words_give_no_hint(bb: str, word: str) -> None:
     assert status == 2 and "write the number" not in shown
 
 
-def parse(form: str, text: str) -> List[str]:
+def parse(form: str, text: str) -> list[str]:
     """Return the groups of a form that a whole text has, '' for those that it lacks."""
     found = re.fullmatch(form, text)
     assert found is not None, "%r isn't of the form %s" % (text, form)
     return list(found.groups(default=""))
 
 
-def progress_lines(shown: str, names: Sequence[str]) -> Iterator[Tuple[Optional[int], List[int]]]:
+def progress_lines(shown: str, names: Sequence[str]) -> Iterator[tuple[int | None, list[int]]]:
     """Yield the lines of progress that a terminal showed: the percent, if any, and each count."""
     for line in re.findall(r"\r([^\r\x1b]+)\x1b\[K", shown):
         percent, what = parse(r"(?:(\d+)% ?)?(.*)", line)
@@ -155,8 +133,11 @@ def progress_lines(shown: str, names: Sequence[str]) -> Iterator[Tuple[Optional[
         yield (int(percent) if percent else None), list(counts.values())
 
 
+Progress = tuple[int, str, bytes, pathlib.Path]
+
+
 @pytest.fixture(scope="module")
-def progress(bb: str, tmp_path_factory: pytest.TempPathFactory) -> Tuple[int, str, bytes, pathlib.Path]:
+def progress(bb: str, tmp_path_factory: pytest.TempPathFactory) -> Progress:
     """The status, what the terminal shows, and the output over a file, so long that it shows two lines."""
     listed = tmp_path_factory.mktemp("progress") / "list"
     times, shown = 1, ""
@@ -168,15 +149,13 @@ def progress(bb: str, tmp_path_factory: pytest.TempPathFactory) -> Tuple[int, st
     return status, shown, listed.with_name("out").read_bytes(), listed
 
 
-def test_progress_changes_neither_output_nor_status(
-    bb: str, progress: Tuple[int, str, bytes, pathlib.Path]
-) -> None:
+def test_progress_changes_neither_output_nor_status(bb: str, progress: Progress) -> None:
     status, _, output, listed = progress
     plain = subprocess.run([bb, "decide", *SLOW, str(listed)], capture_output=True)
     assert (plain.returncode, plain.stdout, plain.stderr) == (status, output, b"")
 
 
-def test_progress_over_a_file(progress: Tuple[int, str, bytes, pathlib.Path]) -> None:
+def test_progress_over_a_file(progress: Progress) -> None:
     _, shown, output, listed = progress
     lines = list(progress_lines(shown, list(KINDS.values())))
     assert len(lines) >= 2
@@ -191,7 +170,7 @@ def test_progress_over_a_file(progress: Tuple[int, str, bytes, pathlib.Path]) ->
     assert max(map(len, re.split(r"[\r\x1b]", shown))) <= 79
 
 
-def feed(command: Sequence[str], batch: bytes, is_enough: Callable[[bytes], object]) -> Tuple[bytes, int]:
+def feed(command: Sequence[str], batch: bytes, is_enough: Callable[[bytes], object]) -> tuple[bytes, int]:
     """Feed a command by a pipe, batch after batch, until what its terminal shows is enough.
 
     Returns what was shown, and how many batches there were. Standard output is the null device.

@@ -11,7 +11,7 @@ import os
 import pathlib
 import shutil
 import subprocess
-from typing import Callable, Dict, Iterator, List, Optional, Tuple
+from typing import Callable, Iterator
 
 import pytest
 from support import TOP, build, require
@@ -19,7 +19,7 @@ from support.machines import LETTERS, join_groups
 from support.program import run_command
 from support.simulation import simulate
 
-List_ = Callable[..., List[str]]
+List_ = Callable[..., list[str]]
 COUNTS = {1: 3, 2: 61, 3: 5_417, 4: 858_909}
 FIVE_STATES = 181_385_789
 LONGEST = {1: "------", 2: "1RB1LB_1LA---", 3: "1RB---_1LB0RC_1LC1LA", 4: "1RB1LB_1LA0LC_---1LD_1RD0RA"}
@@ -27,14 +27,11 @@ REFUSED = {
     "": "--states isn't given",
     "--states": "--states has no value",
     "--states 0": "--states is 0, but must be a whole number from 1 to 25",
-    "--states 26": "--states is 26, but must be",
-    "--states +4": "--states is +4, but must be",
+    **{"--states " + number: "--states is %s, but must be" % number for number in ("26", "+4")},
     "--states 4 --symbols 1": "--symbols is 1, but must be a whole number from 2 to 10",
     "--states 4 --steps many": "--steps is many, but must be",
     "--states 4 --every 0": "--every is 0, but must be",
-    "--states 4 --part 5/4": "--part is 5/4, but must be K/N",
-    "--states 4 --part 0/4": "--part is 0/4, but must be K/N",
-    "--states 4 --part 4": "--part is 4, but must be K/N",
+    **{"--states 4 --part " + part: "--part is %s, but must be K/N" % part for part in ("5/4", "0/4", "4")},
     "--states=4 --fast": "--fast is no option",
     "4": "4 is no option",
 }
@@ -47,7 +44,7 @@ def lister() -> str:
     return str(build("lister", "tools/out/tree_normal_form"))
 
 
-def undefined_met(entries: List[str], symbols: int, steps: int) -> Optional[int]:
+def undefined_met(entries: list[str], symbols: int, steps: int) -> int | None:
     """Return the place of the undefined entry that a machine meets within so many steps, if any."""
     for now in simulate(join_groups(entries, symbols), steps):
         place = (now.state or 0) * symbols + now.tape.get(now.head, 0)
@@ -56,7 +53,7 @@ def undefined_met(entries: List[str], symbols: int, steps: int) -> Optional[int]
     return None
 
 
-def machines_by_definition(entries: List[str], symbols: int, steps: int) -> Iterator[str]:
+def machines_by_definition(entries: list[str], symbols: int, steps: int) -> Iterator[str]:
     """Yield a machine and those that it leads to, by the rules alone: each is run from its first step on."""
     yield join_groups(entries, symbols)
     met = undefined_met(entries, symbols, steps)
@@ -78,9 +75,7 @@ def machines_by_definition(entries: List[str], symbols: int, steps: int) -> Iter
         pytest.param(4, 2, 200, marks=pytest.mark.slow),
     ],
 )
-def test_list_follows_from_its_definition(
-    list_machines: List_, states: int, symbols: int, steps: int
-) -> None:
+def test_list_follows_from_definition(list_machines: List_, states: int, symbols: int, steps: int) -> None:
     expected = list(machines_by_definition(["---"] * states * symbols, symbols, steps))
     assert list_machines(states, "--symbols", str(symbols), "--steps", str(steps)) == expected
     print("%d lines compared" % len(expected))
@@ -121,7 +116,7 @@ def test_parts_are_together_the_whole(list_machines: List_, states: int, parts: 
 
 @pytest.mark.parametrize("words", [[], ["--part", "2/3"]])
 @pytest.mark.parametrize("every", [1, 2, 7, 1_000, 100_000])
-def test_sample_is_each_so_many_th_line(list_machines: List_, every: int, words: List[str]) -> None:
+def test_sample_is_each_so_many_th_line(list_machines: List_, every: int, words: list[str]) -> None:
     assert list_machines(3, "--every", str(every), *words) == list_machines(3, *words)[every - 1 :: every]
 
 
@@ -148,7 +143,7 @@ def test_closed_pipe_and_full_disk(lister: str) -> None:
 
 
 @pytest.fixture
-def copy(tmp_path: pathlib.Path) -> Dict[str, pathlib.Path]:
+def copy(tmp_path: pathlib.Path) -> dict[str, pathlib.Path]:
     """A copy of the tool, which isn't compiled there: its script, its source and its program."""
     require("rustc")
     (tmp_path / "tools").mkdir()
@@ -159,7 +154,7 @@ def copy(tmp_path: pathlib.Path) -> Dict[str, pathlib.Path]:
     return {**paths, "program": tools / "out" / "tree_normal_form"}
 
 
-def test_compiled_at_its_first_use_and_after_a_change(copy: Dict[str, pathlib.Path]) -> None:
+def test_compiled_at_its_first_use_and_after_a_change(copy: dict[str, pathlib.Path]) -> None:
     script, program = str(copy["script"]), copy["program"]
     at_once = [subprocess.Popen([script, "--help"], stdout=subprocess.DEVNULL) for _ in range(3)]
     assert [process.wait() for process in at_once] == [0, 0, 0]
@@ -170,7 +165,7 @@ def test_compiled_at_its_first_use_and_after_a_change(copy: Dict[str, pathlib.Pa
     assert run_command([script, "--states", "1"]).status == 0 and program.stat().st_mtime_ns > before
 
 
-def test_missing_compiler_is_named(copy: Dict[str, pathlib.Path], tmp_path: pathlib.Path) -> None:
+def test_missing_compiler_is_named(copy: dict[str, pathlib.Path], tmp_path: pathlib.Path) -> None:
     found = tmp_path / "found"
     found.mkdir()
     for name in ("sh", "dirname", "find", "make", "sed", "mkdir"):

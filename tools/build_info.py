@@ -8,7 +8,7 @@ import pathlib
 import re
 import subprocess
 import sys
-from typing import Iterable, NamedTuple, Sequence, Tuple, Union
+from typing import Iterable, NamedTuple, Sequence
 
 TOP = pathlib.Path(__file__).resolve().parents[1]
 # The newest glibc that the wheel's tag allows.
@@ -23,9 +23,8 @@ def output_of(*command: object) -> str:
     try:
         done = subprocess.run(words, cwd=TOP, stdout=subprocess.PIPE, stdin=subprocess.DEVNULL, text=True)
     except FileNotFoundError:
-        rows = [
-            line.split("#")[0].split() for line in (TOP / ".ci" / "packages.txt").read_text().splitlines()
-        ]
+        lines = (TOP / ".ci" / "packages.txt").read_text().splitlines()
+        rows = [line.split("#")[0].split() for line in lines]
         package = next(("Debian: " + row[0] for row in rows if words[0] in row[1:]), "no package of Debian's")
         sys.exit("%s: %s isn't installed (%s)" % (_NAME, words[0], package))
     if done.returncode != 0:
@@ -60,7 +59,7 @@ def commit_version(paths: Sequence[str], files: Iterable[pathlib.Path]) -> Versi
     return Version(number, "%s.changed.%s" % (suffix, digest[:8]), commit + ", changed")
 
 
-def glibc_of(path: Union[str, pathlib.Path]) -> Tuple[int, ...]:
+def glibc_of(path: str | pathlib.Path) -> tuple[int, ...]:
     """Return the newest glibc whose symbols a program or library needs; (0,) where it needs none."""
     names = re.findall(r"GLIBC_([0-9.]+)", output_of("readelf", "--version-info", "--wide", path))
     return max((tuple(int(part) for part in name.split(".")) for name in names), default=(0,))

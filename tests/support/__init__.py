@@ -9,7 +9,7 @@ import pathlib
 import shutil
 import signal
 import subprocess
-from typing import List, Sequence
+from typing import Sequence
 
 import pytest
 
@@ -24,7 +24,7 @@ def debian_package(program: str) -> str:
     return next((row[0] for row in rows if program in row[1:]), "no package")
 
 
-def missing_requirements(programs: Sequence[str], modules: Sequence[str] = ()) -> List[str]:
+def missing_requirements(programs: Sequence[str], modules: Sequence[str] = ()) -> list[str]:
     """List the programs and Python modules that aren't installed, each with its Debian package."""
     missing = [
         "%s isn't installed (Debian: %s)" % (program, debian_package(program))

@@ -9,7 +9,7 @@ import pathlib
 import signal
 import threading
 import time
-from typing import Any, Callable, Dict, List, NamedTuple, Optional, Sequence, Tuple
+from typing import Any, Callable, NamedTuple, Sequence
 
 from .program import LIMITS, SWITCHES, run_command, words_of_plan
 
@@ -77,7 +77,7 @@ COMMAND, SCRIPT = 300, 290
 ENDING = 20
 # A machine that never halts, and limits at which it runs for hours.
 LONG = "0RB---_0LA---"
-ENDLESS: Dict[str, Any] = {"steps": 10**12, "cells": 64, "depth": 9, **{name: False for name in SWITCHES}}
+ENDLESS: dict[str, Any] = {"steps": 10**12, "cells": 64, "depth": 9, **{name: False for name in SWITCHES}}
 # The indexes of unvisited cells and of the head in the palette.
 UNVISITED, HEAD = 10, 11
 
@@ -98,7 +98,6 @@ class Row(NamedTuple):
 
     @property
     def state_words(self) -> str:
-        """The state in the page's words."""
         return "halted" if self.state == "Z" else "state " + self.state
 
     def place_words(self, position: int) -> str:
@@ -132,8 +131,7 @@ def contrast(one: Sequence[float], two: Sequence[float]) -> float:
     return (high + 0.05) / (low + 0.05)
 
 
-def trace(program: str, machine: str, steps: int, cells: int = 65_536) -> List[Row]:
-    """Return the program's trace, each row with its lowest position."""
+def trace(program: str, machine: str, steps: int, cells: int = 65_536) -> list[Row]:
     command = [program, "trace", "--upto", str(steps), "--cells", str(cells), "--", machine]
     rows, low = [], 0
     for line in run_command(command).output.decode().splitlines():
@@ -154,7 +152,6 @@ def soon(what: Callable[[], object], patience: float = 10.0) -> bool:
 
 
 def is_whole(path: str) -> bool:
-    """Return whether a download is complete; an empty file isn't."""
     return os.path.exists(path) and os.path.getsize(path) > 0 and not os.path.exists(path + ".crdownload")
 
 
@@ -169,7 +166,7 @@ class Page:
         width: int = 1280,
         height: int = 900,
         is_phone: bool = False,
-        cores: Optional[int] = None,
+        cores: int | None = None,
         program: str = "",
     ) -> None:
         # Imported late: without selenium the page's tests are skipped.
@@ -195,7 +192,6 @@ class Page:
         self.add_script(WATCH + (CORES % cores if cores else ""))
 
     def command(self, name: str, **words: Any) -> Any:
-        """Send a command of the DevTools protocol."""
         return self.driver.execute_cdp_cmd(name, words)
 
     def add_script(self, source: str) -> Any:
@@ -203,7 +199,6 @@ class Page:
         return self.command("Page.addScriptToEvaluateOnNewDocument", source=source)
 
     def remove_script(self, added: Any) -> None:
-        """Remove a script that was added."""
         self.command("Page.removeScriptToEvaluateOnNewDocument", **added)
 
     def open(self, link: str = "") -> None:
@@ -215,13 +210,12 @@ class Page:
         self.driver.get("file://" + self.path + link)
         self.wait_until_done()
 
-    def open_machine(self, machine: str, query: str = "") -> Dict[str, float]:
+    def open_machine(self, machine: str, query: str = "") -> dict[str, float]:
         """Open a machine by a link with more parameters, and wait until its diagram is drawn."""
         self.open("#machine=%s%s" % (machine, query))
         return self.wait_until_drawn()
 
     def reload(self) -> None:
-        """Reload the page, and wait for its list."""
         self.driver.refresh()
         self.wait_until_done()
 
@@ -238,19 +232,15 @@ class Page:
         return self.js("return document.getElementById(arguments[0])[arguments[1]]", name, field)
 
     def put(self, name: str, field: str, value: Any) -> None:
-        """Set a property of an element."""
         self.js("document.getElementById(arguments[0])[arguments[1]] = arguments[2]", name, field, value)
 
     def text(self, name: str) -> str:
-        """Return the text of an element."""
         return str(self.get(name, "textContent"))
 
     def focus(self) -> str:
-        """Return the id of the focused element."""
         return str(self.js("return document.activeElement.id"))
 
     def click(self, name: str) -> None:
-        """Click an element."""
         self.js("document.getElementById(arguments[0]).click()", name)
 
     def press(self, name: str, *keys: str) -> None:
@@ -272,14 +262,14 @@ class Page:
 
     def choose_example(self, name: str) -> None:
         """Choose an example by its name, and wait for its results."""
-        names = "return [...document.getElementById('examples').options].map((one) => one.text)"
-        value = str(self.js(names).index(name) - 1)
-        self.await_answer(lambda: self.choose_option("examples", value))
+        script = "return [...arguments[0]].find((one) => one.text === arguments[1]).value"
+        options = self.get("examples", "options")
+        self.await_answer(lambda: self.choose_option("examples", self.js(script, options, name)))
 
     def dispatch(self, name: str, event: str) -> None:
         """Dispatch an event to an element."""
-        script = "document.getElementById(arguments[0]).dispatchEvent(new Event(arguments[1], %s))"
-        self.js(script % "{ bubbles: true }", name, event)
+        element = self.driver.find_element("id", name)
+        self.js("arguments[0].dispatchEvent(new Event(arguments[1], { bubbles: true }))", element, event)
 
     def await_answer(self, act: Callable[[], object]) -> None:
         """Run an action that starts a list, and wait for its results."""
@@ -287,7 +277,7 @@ class Page:
         act()
         self.wait_until_done()
 
-    def open_list(self, *lines: str, plan: Optional[Dict[str, Any]] = None, mode: str = "auto") -> None:
+    def open_list(self, *lines: str, plan: dict[str, Any] | None = None, mode: str = "auto") -> None:
         """Type a list, removing a chosen file, and wait for its results. A plan sets the fields first."""
         if not self.get("file-shown", "hidden"):
             self.click("file-remove")
@@ -297,12 +287,10 @@ class Page:
         self.await_answer(self.run)
 
     def open_row(self, row: int) -> None:
-        """Click a visible row by its index."""
         self.js("document.querySelectorAll('#shown .row')[arguments[0]].click()", row)
 
-    def rows(self) -> List[List[str]]:
-        """Return the texts of the visible rows."""
-        found: List[List[str]] = self.js(ROWS)
+    def rows(self) -> list[list[str]]:
+        found: list[list[str]] = self.js(ROWS)
         return found
 
     def media(self, **features: str) -> None:
@@ -322,19 +310,19 @@ class Page:
         """Return whether the tape soon shows a step; `step` is the beginning of its text."""
         return soon(lambda: self.text("tape-text").startswith("Step %s" % step))
 
-    def state(self) -> Optional[str]:
+    def state(self) -> str | None:
         """Return the state of the run: requested, running, done, stopped or ended."""
-        state: Optional[str] = self.js("return document.getElementById('results').dataset.state")
+        state: str | None = self.js("return document.getElementById('results').dataset.state")
         return state
 
     def wait_until_done(self) -> None:
         """Wait until the run is over."""
         self.until(lambda: self.state() in ("done", "stopped", "ended"))
 
-    def wait_until_drawn(self) -> Dict[str, float]:
+    def wait_until_drawn(self) -> dict[str, float]:
         """Wait until the diagram is drawn, and return the numbers of its view."""
         script = "return {...document.getElementById('diagram').dataset}"
-        drawn: Dict[str, str] = self.until(
+        drawn: dict[str, str] = self.until(
             lambda: (found := self.js(script)).get("state") == "drawn" and found
         )
         return {name: float(value) for name, value in drawn.items() if name != "state"}
@@ -347,12 +335,10 @@ class Page:
         """Return the seconds from a turn of the wheel until the diagram is drawn again."""
         return self.time_drawing(WHEEL, notches, right, down)
 
-    def size(self) -> Tuple[int, int]:
-        """Return the width and height of the diagram's canvas."""
+    def size(self) -> tuple[int, int]:
         return self.get("diagram", "clientWidth"), self.get("diagram", "clientHeight")
 
     def scroll_to_diagram(self) -> None:
-        """Scroll to the diagram."""
         self.js("document.getElementById('diagram').scrollIntoView({ block: 'center' })")
 
     def go_to(self, step: str) -> None:
@@ -360,22 +346,21 @@ class Page:
         self.put("tape-step", "value", step)
         self.js("document.getElementById('tape-form').requestSubmit()")
 
-    def colour(self, name: str) -> List[int]:
-        """Return a colour of the page's style."""
+    def colour(self, name: str) -> list[int]:
         script = "return getComputedStyle(document.documentElement).getPropertyValue(arguments[0])"
         text = self.js(script, name).strip()
         return [int(text[at : at + 2], 16) for at in (1, 3, 5)]
 
-    def palette(self) -> List[List[int]]:
+    def palette(self) -> list[list[int]]:
         """Return the colours of the symbols, of unvisited cells and of the head."""
         return [self.colour(name) for name in [*map("--s{}".format, range(10)), "--unvisited", "--head"]]
 
-    def pixels(self, places: List[List[float]]) -> List[List[int]]:
+    def pixels(self, places: list[list[float]]) -> list[list[int]]:
         """Return the diagram's colours at places, in page pixels from the picture's corner."""
-        found: List[List[int]] = self.js(PIXELS, places)
+        found: list[list[int]] = self.js(PIXELS, places)
         return found
 
-    def plan(self, plan: Dict[str, Any], mode: str, clean: bool = False) -> None:
+    def plan(self, plan: dict[str, Any], mode: str, clean: bool = False) -> None:
         """Set the fields, missing ones to their defaults."""
         self.click("defaults")
         for name in LIMITS:
@@ -424,11 +409,11 @@ class Page:
         path.unlink()
         return given
 
-    def program_output(self, name: str, plan: Dict[str, Any], given: bytes) -> bytes:
+    def program_output(self, name: str, plan: dict[str, Any], given: bytes) -> bytes:
         """Return the program's output for a list."""
         return run_command([self.program, name, *words_of_plan(plan)], given).output
 
-    def require_same(self, name: str, plan: Dict[str, Any], given: bytes, drop: bool = False) -> bytes:
+    def require_same(self, name: str, plan: dict[str, Any], given: bytes, drop: bool = False) -> bytes:
         """Run a file, and require that the page saves the program's output."""
         self.plan(plan, name)
         self.answer_file(given, drop)
@@ -437,14 +422,14 @@ class Page:
         assert found == wanted, "%s %s differs at byte %s" % (name, plan, first)
         return found
 
-    def requests(self) -> List[str]:
+    def requests(self) -> list[str]:
         """Return the requested addresses, except the page's own."""
         messages = [json.loads(entry["message"])["message"] for entry in self.driver.get_log("performance")]
         sent = [one["params"] for one in messages if one["method"] == "Network.requestWillBeSent"]
         own = ("file://" + self.path, "blob:", "data:", "about:")
         return [one["request"]["url"] for one in sent if not one["request"]["url"].startswith(own)]
 
-    def errors(self) -> List[str]:
+    def errors(self) -> list[str]:
         """Return the errors in the console."""
         return [entry["message"] for entry in self.driver.get_log("browser") if entry["level"] == "SEVERE"]
 

@@ -3,25 +3,15 @@ verdicts become when something is changed, and claims of pairs and trees that ar
 
 import itertools
 import random
-from typing import Iterable, Iterator, List, Sequence, Tuple
+from typing import Iterable, Iterator, Sequence
 
 from .machines import SWAPPED, table_of
 from .simulation import simulate
 
 KINDS = ("halt", "cycler", "translated L", "translated R", "backward", "undecided", "refused")
-# Numbers that no verdict has, or that are none.
-ODD_NUMBERS = (
-    "00",
-    "01",
-    "+1",
-    "-1",
-    "",
-    " ",
-    "1e3",
-    "18446744073709551615",
-    "18446744073709551616",
-    "9" * 40,
-)
+# Numbers that no verdict has, or that are none, also digits of other alphabets.
+ODD_NUMBERS = ["00", "01", "+1", "-1", "", " ", "1e3", "1_0", "1.0", "9" * 40, "\xb2", "\xd9\xa1"]
+ODD_NUMBERS += [str(2**64 - 1), str(2**64)]
 # What a text may get in place of a character.
 CHARACTERS = "0123456789LRABCDEYZ-_ \r\t\0\x7f\x80\xff"
 # A text longer than any line, so many bytes and more.
@@ -51,7 +41,7 @@ def trees_of(text: str, levels: int, nodes: int) -> Iterator[str]:
             yield "%s backward %d %d" % (text, h, k)
 
 
-def with_number(source: random.Random, fields: List[str]) -> List[str]:
+def with_number(source: random.Random, fields: list[str]) -> list[str]:
     """A number one up or down."""
     places = [k for k, field in enumerate(fields) if k and field.isdecimal()]
     if places:
@@ -60,18 +50,18 @@ def with_number(source: random.Random, fields: List[str]) -> List[str]:
     return fields
 
 
-def with_odd_number(source: random.Random, fields: List[str]) -> List[str]:
+def with_odd_number(source: random.Random, fields: list[str]) -> list[str]:
     """A number that no verdict has, or what is none."""
     fields[-1] = source.choice(ODD_NUMBERS)
     return fields
 
 
-def with_side(_: random.Random, fields: List[str]) -> List[str]:
+def with_side(_: random.Random, fields: list[str]) -> list[str]:
     """The other side."""
     return [fields[0], *(field.translate(SWAPPED) for field in fields[1:])]
 
 
-def with_pair(source: random.Random, fields: List[str]) -> List[str]:
+def with_pair(source: random.Random, fields: list[str]) -> list[str]:
     """Another pair of the same machine: the next one, that of double the distance, one turned round, or one
     without its extent."""
     at = {"cycler": 2, "translated": 3}.get(fields[1], 0)
@@ -82,20 +72,20 @@ def with_pair(source: random.Random, fields: List[str]) -> List[str]:
     return [*fields[:at], *map(str, source.choice(pairs)), *fields[at + 2 :][: source.choice((0, 1, 2))]]
 
 
-def with_kind(source: random.Random, fields: List[str]) -> List[str]:
+def with_kind(source: random.Random, fields: list[str]) -> list[str]:
     """The same numbers as a claim of another kind."""
     numbers = [field for field in fields[1:] if field.isdecimal()]
     return [fields[0], *source.choice(KINDS).split(" "), *numbers[: source.choice((1, 2, 2, 2, 4))]]
 
 
-def with_text(source: random.Random, fields: List[str]) -> List[str]:
+def with_text(source: random.Random, fields: list[str]) -> list[str]:
     """A line of which a character is another, one more, or gone."""
     text = " ".join(fields)
     at = source.randrange(len(text))
     return [text[:at] + source.choice(("", source.choice(CHARACTERS))) + text[at + source.choice((0, 1)) :]]
 
 
-def with_machine(source: random.Random, fields: List[str]) -> List[str]:
+def with_machine(source: random.Random, fields: list[str]) -> list[str]:
     """A machine of which an entry is another one of it, or undefined."""
     groups = table_of(fields[0])
     entries = [entry for group in groups for entry in group]
@@ -104,23 +94,15 @@ def with_machine(source: random.Random, fields: List[str]) -> List[str]:
     return ["_".join("".join(group) for group in groups), *fields[1:]]
 
 
-def lengthen(source: random.Random, fields: List[str]) -> List[str]:
+def lengthen(source: random.Random, fields: list[str]) -> list[str]:
     """A line that is longer than any is, or just not."""
     text = " ".join(fields)
     return [text + source.choice(" 0") * (LONG - len(text) + source.choice((-1, 0, 1, 100)))]
 
 
 # The changes, and how often each is made beside the others.
-CHANGES = {
-    with_number: 6,
-    with_pair: 5,
-    with_side: 2,
-    with_kind: 2,
-    with_machine: 2,
-    with_text: 2,
-    with_odd_number: 1,
-    lengthen: 1,
-}
+CHANGES = {with_number: 6, with_pair: 5, with_side: 2, with_kind: 2, with_machine: 2, with_text: 2}
+CHANGES.update({with_odd_number: 1, lengthen: 1})
 
 
 def forge(source: random.Random, lines: Sequence[str], count: int) -> Iterator[str]:
@@ -153,7 +135,7 @@ def last_step(line: str) -> int:
     return int(fields[at]) if at else -1
 
 
-def tight_limits(line: str) -> Iterator[Tuple[Sequence[int], str]]:
+def tight_limits(line: str) -> Iterator[tuple[Sequence[int], str]]:
     """A line of a run, with limits that are just enough and just not: of steps, and of cells with and without
     one more, to which a step into Z may lead."""
     last = last_step(line)

@@ -34,9 +34,8 @@ class Cluster:
     def _start(self, what: str, asked: list[str], variables: dict[str, str]) -> Process:
         command = [sys.executable, "-m", "distributed.cli.dask_" + what, *asked, *self.more]
         with open(self.top / "dask.txt", "ab") as log:
-            return subprocess.Popen(
-                command, stdout=log, stderr=log, cwd=self.top, env={**os.environ, **variables}
-            )
+            environment = {**os.environ, **variables}
+            return subprocess.Popen(command, stdout=log, stderr=log, cwd=self.top, env=environment)
 
     def start_scheduler(self) -> None:
         """Starts a scheduler at the address, and waits until it listens."""
@@ -61,15 +60,12 @@ class Cluster:
             worker.wait()
         self.workers = []
 
-    def kill_scheduler(self) -> None:
+    def end(self) -> None:
+        self.kill_workers()
         if self.scheduler is not None:
             self.scheduler.kill()
             self.scheduler.wait()
             self.scheduler = None
-
-    def end(self) -> None:
-        self.kill_workers()
-        self.kill_scheduler()
 
 
 @contextlib.contextmanager

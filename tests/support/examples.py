@@ -8,7 +8,7 @@ from __future__ import annotations
 
 import dataclasses
 import pathlib
-from typing import Any, Dict, Iterator, List
+from typing import Any, Iterator
 
 from . import TOP
 from .program import plan_of
@@ -27,13 +27,13 @@ class Example:
     """A command with its input, and what it must write and end with."""
 
     name: str
-    words: List[str]
+    words: list[str]
     given: bytes
     expected: bytes
     status: int
 
     @property
-    def plan(self) -> Dict[str, Any]:
+    def plan(self) -> dict[str, Any]:
         """Limits and switches by name."""
         return plan_of([word for word in self.words[1:] if not word.startswith("examples/")])
 

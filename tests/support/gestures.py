@@ -1,11 +1,11 @@
 """Input events by mouse, fingers and keys."""
 
-from typing import Any, Dict, List, Sequence, Tuple
+from typing import Any, Sequence
 
 from .browser import Page
 
-Point = Tuple[float, float]
-View = Dict[str, float]
+Point = tuple[float, float]
+View = dict[str, float]
 # Key codes by name.
 KEY_NUMBERS = {"Tab": 9, "Enter": 13}
 SHIFT = 8
@@ -27,20 +27,17 @@ class Keys:
 
 
 def send_mouse(page: Page, kind: str, place: Point, **words: Any) -> None:
-    """Send a mouse event at a place of the window."""
     x, y = place
     page.command("Input.dispatchMouseEvent", type=kind, x=x, y=y, **words)
 
 
 def send_touch(page: Page, kind: str, places: Sequence[Point]) -> None:
-    """Send a touch event of fingers at places of the window."""
     points = [{"x": x, "y": y, "id": number} for number, (x, y) in enumerate(places)]
     page.command("Input.dispatchTouchEvent", type=kind, touchPoints=points)
 
 
 def press_key(page: Page, name: str, shift: bool = False) -> None:
-    """Press a key in the focused element."""
-    words: Dict[str, Any] = {"key": name, "code": name, "windowsVirtualKeyCode": KEY_NUMBERS[name]}
+    words: dict[str, Any] = {"key": name, "code": name, "windowsVirtualKeyCode": KEY_NUMBERS[name]}
     words["modifiers"] = SHIFT if shift else 0
     if name == "Enter":
         words["text"] = "\r"
@@ -50,18 +47,17 @@ def press_key(page: Page, name: str, shift: bool = False) -> None:
 
 
 def type_text(page: Page, text: str) -> None:
-    """Type a text into the focused element."""
     page.command("Input.insertText", text=text)
 
 
-def points_between(begin: Point, end: Point) -> List[Point]:
+def points_between(begin: Point, end: Point) -> list[Point]:
     """Return the places between two, with the last one."""
     (x, y), (to_x, to_y) = begin, end
     shares = [k / MOVES for k in range(1, MOVES + 1)]
     return [(x + share * (to_x - x), y + share * (to_y - y)) for share in shares]
 
 
-def cell_at(view: View, place: Point) -> Tuple[int, int]:
+def cell_at(view: View, place: Point) -> tuple[int, int]:
     """Return the step and the position at a place of the canvas."""
     right, down = place[0] - view["x"], place[1] - view["y"]
     step = view["top"] + down // view["high"] * view["every"]
@@ -82,7 +78,7 @@ def window_point(page: Page, right: float, down: float) -> Point:
 
 def drag(page: Page, begin: Point, end: Point) -> None:
     """Drag the mouse from one place of the window to another."""
-    button: Dict[str, Any] = {"button": "left", "buttons": 1, "clickCount": 1}
+    button: dict[str, Any] = {"button": "left", "buttons": 1, "clickCount": 1}
     send_mouse(page, "mouseMoved", begin)
     send_mouse(page, "mousePressed", begin, **button)
     for place in points_between(begin, end):
@@ -91,7 +87,6 @@ def drag(page: Page, begin: Point, end: Point) -> None:
 
 
 def swipe(page: Page, begin: Point, end: Point) -> None:
-    """Move one finger."""
     send_touch(page, "touchStart", [begin])
     for place in points_between(begin, end):
         send_touch(page, "touchMove", [place])
@@ -107,7 +102,7 @@ def pinch(page: Page, middle: Point, apart: float, then: float) -> None:
     """Move two fingers, one above the other, from one distance to another."""
     x, y = middle
 
-    def places(far: float) -> List[Point]:
+    def places(far: float) -> list[Point]:
         return [(x, y - far / 2), (x, y + far / 2)]
 
     send_touch(page, "touchStart", places(apart))

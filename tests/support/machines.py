@@ -2,7 +2,7 @@
 
 import itertools
 import random
-from typing import Iterable, Iterator, List, Sequence
+from typing import Iterable, Iterator, Sequence
 
 LETTERS = "ABCDEFGHIJKLMNOPQRSTUVWXY"
 DIGITS = "0123456789"
@@ -18,7 +18,7 @@ def text_of(table: Iterable[Sequence[str]]) -> str:
     return "_".join("".join(group) for group in table)
 
 
-def table_of(text: str) -> List[List[str]]:
+def table_of(text: str) -> list[list[str]]:
     """The entries of a machine, by state and symbol."""
     return [[group[k : k + 3] for k in range(0, len(group), 3)] for group in text.split("_")]
 
@@ -28,7 +28,7 @@ def join_groups(entries: Sequence[str], symbols: int) -> str:
     return text_of(entries[k : k + symbols] for k in range(0, len(entries), symbols))
 
 
-def entries_of(states: int, symbols: int) -> List[str]:
+def entries_of(states: int, symbols: int) -> list[str]:
     """All entries that a machine of so many states and symbols may have, the undefined one first."""
     return ["---", *map("".join, itertools.product(DIGITS[:symbols], "LR", LETTERS[:states] + "Z"))]
 
@@ -65,7 +65,7 @@ def mixed_machines(count: int, seed: int) -> Iterator[str]:
             yield machine(source, source.randint(1, 25), source.randint(2, 10))
 
 
-def random_machines(count: int, source: random.Random) -> List[str]:
+def random_machines(count: int, source: random.Random) -> list[str]:
     """So many of the same, from a source of chance."""
     return list(mixed_machines(count, source.randrange(2**32)))
 

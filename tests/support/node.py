@@ -4,7 +4,7 @@ import itertools
 import json
 import pathlib
 import subprocess
-from typing import Any, Dict, NamedTuple
+from typing import Any, NamedTuple
 
 from . import TOP
 
@@ -26,7 +26,7 @@ class CallResult(NamedTuple):
 
     status: int
     reply: bytes
-    answer: Dict[str, Any]
+    answer: dict[str, Any]
 
 
 class Engine:
@@ -39,22 +39,17 @@ class Engine:
         self.given, self.out = (pathlib.Path(str(folder)) / name for name in ("given", "out"))
         self.about = self.line()
 
-    def line(self) -> Dict[str, Any]:
+    def line(self) -> dict[str, Any]:
         """Return the process's next line; empty at its end."""
         assert self.process.stdout
-        answer: Dict[str, Any] = json.loads(self.process.stdout.readline() or "{}")
+        answer: dict[str, Any] = json.loads(self.process.stdout.readline() or "{}")
         return answer
 
-    def call(self, name: str, plan: Dict[str, Any], given: bytes, **more: int) -> CallResult:
+    def call(self, name: str, plan: dict[str, Any], given: bytes, **more: int) -> CallResult:
         """Make a call, with limits and switches by name."""
         self.given.write_bytes(given)
-        job: Dict[str, Any] = {
-            "call": name,
-            "plan": plan,
-            "given": str(self.given),
-            "out": str(self.out),
-            **more,
-        }
+        files = {"given": str(self.given), "out": str(self.out)}
+        job: dict[str, Any] = {"call": name, "plan": plan, **files, **more}
         assert self.process.stdin
         self.process.stdin.write(json.dumps(job) + "\n")
         self.process.stdin.flush()
@@ -64,7 +59,6 @@ class Engine:
         return CallResult(0 if answer["clean"] else 1, self.out.read_bytes(), answer)
 
     def end(self) -> None:
-        """End the process."""
         assert self.process.stdin
         self.process.stdin.close()
         self.process.wait()

@@ -1,7 +1,6 @@
 """Times of the page's views of the five-state champion's run, by its own clock."""
 
 import time
-from typing import List
 
 from .browser import Page
 from .machines import CHAMPION
@@ -32,7 +31,6 @@ def height(page: Page) -> float:
 
 
 def steps_seen(page: Page) -> float:
-    """Return the number of steps in view."""
     view = page.wait_until_drawn()
     return height(page) / float(view["high"]) * float(view["every"])
 
@@ -44,12 +42,16 @@ def zoom_late(page: Page, notches: float) -> float:
     return float(page.time_zoom(notches, RIGHT, min(max(down, 0), height(page) - LOWEST)))
 
 
-def views(page: Page, pause: float) -> List[float]:
-    """Zoom from all steps to a hundred late ones, and back; return the seconds of each view."""
-    page.open("#machine=%s&steps=%d" % (CHAMPION, STEPS))
+def open_champion(page: Page, steps: int) -> None:
+    page.open("#machine=%s&steps=%d" % (CHAMPION, steps))
     page.wait_until_drawn()
     time.sleep(1)
-    taken: List[float] = []
+
+
+def views(page: Page, pause: float) -> list[float]:
+    """Zoom from all steps to a hundred late ones, and back; return the seconds of each view."""
+    open_champion(page, STEPS)
+    taken: list[float] = []
     while steps_seen(page) > SEEN and len(taken) < MOST_GESTURES:
         time.sleep(pause)
         taken.append(zoom_late(page, NOTCHES))
@@ -59,12 +61,10 @@ def views(page: Page, pause: float) -> List[float]:
     return taken
 
 
-def traced_views(page: Page, pause: float) -> List[float]:
+def traced_views(page: Page, pause: float) -> list[float]:
     """Zoom at the late step by small turns; return the seconds of each view."""
-    page.open("#machine=%s&steps=%d" % (CHAMPION, STEPS))
-    page.wait_until_drawn()
-    time.sleep(1)
-    taken: List[float] = []
+    open_champion(page, STEPS)
+    taken: list[float] = []
     for _ in range(SMALL_TURNS):
         time.sleep(pause)
         taken.append(zoom_late(page, SMALL_TURN))
@@ -73,7 +73,5 @@ def traced_views(page: Page, pause: float) -> List[float]:
 
 def end(page: Page) -> float:
     """Go to a step near the halt, and return the seconds until tape and diagram show it."""
-    page.open("#machine=%s&steps=50000000" % CHAMPION)
-    page.wait_until_drawn()
-    time.sleep(1)
+    open_champion(page, 50_000_000)
     return float(page.time_drawing(GO, "{:,}".format(NEAR_END)))

@@ -2,7 +2,7 @@
 
 import itertools
 import random
-from typing import Any, Dict, Iterator
+from typing import Any, Iterator
 
 from .program import GREATEST, LIMITS, ROWS, SWITCHES
 
@@ -11,14 +11,14 @@ FOUR = {"steps": 200, "cells": 256, "depth": 20, "nodes": 1_000}
 MOST = dict(zip(LIMITS, GREATEST))
 
 
-def all_plans() -> Iterator[Dict[str, Any]]:
+def all_plans() -> Iterator[dict[str, Any]]:
     """Every plan at every row of limits."""
     for numbers, switches in itertools.product(ROWS, itertools.product([True, False], repeat=3)):
-        plan: Dict[str, Any] = dict(zip(LIMITS, numbers))
+        plan: dict[str, Any] = dict(zip(LIMITS, numbers))
         yield {**plan, **dict(zip(SWITCHES, switches))}
 
 
-def random_plan(source: random.Random) -> Dict[str, Any]:
+def random_plan(source: random.Random) -> dict[str, Any]:
     """Limits that are accepted, small ones more often, and switches."""
     cells = int(2 ** source.uniform(0, 13))
     return {

@@ -6,11 +6,12 @@ from __future__ import annotations
 import contextlib
 import io
 import pathlib
+import unittest.mock
 from concurrent.futures import Executor, Future
-from typing import Any, Callable, Optional, Sequence
+from typing import Any, Callable, Sequence
 
 import budlarem
-from budlarem import Limits
+from budlarem import Limits, commands
 from budlarem.counts import KINDS as KINDS_OF_VERDICTS, VerdictCounts
 from budlarem.runner import chunks, folder, input, journal, local, passes, progress, remote
 
@@ -22,8 +23,6 @@ KINDS = (
     b"1RB0LA_0RC---_1RD0LD_1LA1RB\n"
 )
 LIST = KINDS * 37
-
-
 SMALL, MIDDLE = Limits(30, 16, 3, 5), Limits(1_000, 128, 20, 100)
 PASSES = (SMALL, MIDDLE)
 
@@ -59,8 +58,7 @@ def reseal(reply: chunks.ChunkReply, written: bytes) -> chunks.ChunkReply:
 
 
 class Answering(Executor):
-    """An executor whose answer to a task a function changes; it is given the reply and how many came
-    before."""
+    """An executor whose answers a function changes, given the reply and how many came before."""
 
     def __init__(self, change: Callable[[chunks.ChunkReply, int], Any] = lambda reply, before: reply) -> None:
         self.change, self.count = change, 0
@@ -75,7 +73,7 @@ class Answering(Executor):
         return future
 
 
-def act(action: Callable[[], object], at: Optional[int] = None) -> Answering:
+def act(action: Callable[[], object], at: int | None = None) -> Answering:
     """An executor that acts before each reply, or before the reply with index `at`."""
 
     def change(reply: chunks.ChunkReply, before: int) -> chunks.ChunkReply:
@@ -141,19 +139,13 @@ class RunCase(contextlib.ExitStack):
             backend = PoolBackend(executor, 2)
         with contextlib.closing(input.ListFile(path or str(self.list))) as listed:
             with contextlib.closing(folder.Folder(str(self.out))) as opened:
-                options = passes.RunOptions(
-                    backend,
-                    chunks.identity(),
-                    self.progress,
-                    listed.name,
-                    most,
-                    check,
-                    here,
-                    keep,
-                    listed.require_unchanged,
-                    self.seen.append,
-                )
+                how = (most, check, here, keep, listed.require_unchanged, self.seen.append)
+                options = passes.RunOptions(backend, chunks.identity(), self.progress, listed.name, *how)
                 return passes.run(opened, listed, limits, options)
+
+    def call(self, *words: str) -> tuple[int, str]:
+        """A run by the command; its status, and what it writes to standard error."""
+        return call_command("run", str(self.list), "--out", str(self.out), *words)
 
     def verdicts(self) -> bytes:
         return (self.out / "verdicts.txt").read_bytes()
@@ -173,6 +165,14 @@ class RunCase(contextlib.ExitStack):
         found = self.open_last_pass(limits).journal
         records = map(found.read, range(found.length))
         return [record for record in records if record is not None]
+
+
+def call_command(*words: str) -> tuple[int, str]:
+    """The status of a command of the package in this process, and what it writes to standard error."""
+    printed = io.StringIO()
+    with contextlib.redirect_stderr(printed), contextlib.redirect_stdout(io.StringIO()):
+        with unittest.mock.patch("budlarem.commands.run.install_signal_handlers"):
+            return commands.main(list(words)), printed.getvalue()
 
 
 def counts_of(verdicts: bytes) -> dict[str, int]:

@@ -5,6 +5,7 @@ The package and its library are found by the environment, as python/tests/confte
 
 from __future__ import annotations
 
+import contextlib
 import os
 import pathlib
 import random
@@ -13,7 +14,9 @@ import signal
 import subprocess
 import sys
 import time
-from typing import Any, Callable, Sequence
+from typing import Any, Callable, Iterator, Sequence
+
+import pytest
 
 from . import restore_signals
 from .machines import CHAMPION, mixed_machines
@@ -36,11 +39,8 @@ elif sys.argv[1] == "machine":
     print(list(budlarem.decide([sys.argv[2]], budlarem.Limits(steps=%(steps)d, cells=%(cells)d))))
 else:
     list(budlarem.trace(sys.argv[2], %(steps)d, %(cells)d, start=%(steps)d))
-""" % {
-    "steps": MAX_STEPS,
-    "cells": MAX_CELLS,
-    "champion": CHAMPION,
-}
+"""
+WAITS %= {"steps": MAX_STEPS, "cells": MAX_CELLS, "champion": CHAMPION}
 # How long something may take that must come, in seconds, before it is called missing.
 PATIENCE = 600
 
@@ -58,7 +58,6 @@ def random_list(count: int, seed: int) -> bytes:
 
 
 def decide_lines(program: str, given: bytes, limits: Sequence[int]) -> list[bytes]:
-    """The program's verdict lines."""
     return run_command([program, "decide", *options(limits)], given).output.splitlines(keepends=True)
 
 
@@ -83,11 +82,7 @@ class Case:
         self.words: list[str] = [word for limits in passes for word in ("--pass", words_of(limits))]
 
     def start(
-        self,
-        *more: str,
-        words: list[str] | None = None,
-        variables: dict[str, str] | None = None,
-        **how: Any,
+        self, *more: str, words: list[str] | None = None, variables: dict[str, str] | None = None, **how: Any
     ) -> Process:
         """Starts a run, which heeds interruptions; standard error is a file."""
         how.setdefault("preexec_fn", restore_signals)
@@ -98,15 +93,21 @@ class Case:
             return subprocess.Popen(command, stdout=errors, stderr=errors, env=both, **how)
 
     def run(self, *more: str, **how: Any) -> int:
-        """The status of a whole run."""
         with self.start(*more, **how) as process:
             return process.wait()
+
+    def require_verdicts(self, right: bytes, *more: str, status: int = 1, **how: Any) -> None:
+        """Run to the end, with this status and these verdicts."""
+        assert self.run(*more, **how) == status and self.verdicts() == right, self.output()
+
+    def require_error(self, status: int, text: str, *more: str, **how: Any) -> None:
+        """Run, and require an end with this status and a text on standard error."""
+        assert self.run(*more, **how) == status and text in self.output(), self.output()
 
     def output(self) -> str:
         return self.errors.read_text(errors="replace")
 
     def chunks(self) -> int:
-        """How many chunks stand."""
         lines = (line for path in self.out.glob("pass-*/journal") for line in path.read_bytes().split(b"\n"))
         return sum(line.startswith((b"decided", b"checked")) for line in lines)
 
@@ -128,13 +129,35 @@ def wait_until(process: Process, what: Callable[[], bool]) -> bool:
     return False
 
 
+@contextlib.contextmanager
+def stop(case: Case, process: Process, chunks: int = 3) -> Iterator[None]:
+    """Stop a run once so many chunks are stored, so that it can't come to its end meanwhile."""
+    was_seen = wait_until(process, lambda: case.chunks() >= chunks)
+    process.send_signal(signal.SIGSTOP)
+    try:
+        assert was_seen and not case.verdicts(), case.output()
+        yield
+    finally:
+        process.send_signal(signal.SIGCONT)
+
+
+@contextlib.contextmanager
+def small_disk(folder: pathlib.Path, kilobytes: int) -> Iterator[None]:
+    """Mount a small file system; skip the running test where that isn't allowed."""
+    mount = ["mount", "-t", "tmpfs", "-o", "size=%dk" % kilobytes, "tmpfs", str(folder)]
+    if os.getuid() != 0 or subprocess.run(mount, stderr=subprocess.DEVNULL).returncode != 0:
+        pytest.skip("a full disk: a file system can't be mounted here (it takes root)")
+    try:
+        yield
+    finally:
+        subprocess.run(["umount", str(folder)], check=True)
+
+
 def kill_after(case: Case, more: int, *words: str) -> bool:
     """Runs until so many more chunks stand, and kills it; whether that was before its end."""
-    before = case.chunks()
+    config, before = case.out / "run.json", case.chunks()
     with case.start(str(case.list), *words) as process:
-        was_seen = wait_until(
-            process, lambda: (case.out / "run.json").exists() and case.chunks() >= before + more
-        )
+        was_seen = wait_until(process, lambda: config.exists() and case.chunks() >= before + more)
         process.kill()
         process.wait()
     return was_seen and process.returncode == -signal.SIGKILL and not (case.out / "verdicts.txt").exists()
@@ -180,8 +203,7 @@ def most_memory(case: Case, count: int, limits: Sequence[int]) -> int:
 
 
 def work_of(folder: str) -> float:
-    """The processor time of a process or thread, of this folder in /proc, in seconds; 0 where it has
-    ended."""
+    """The processor time of a process or thread, by its folder in /proc, in seconds; 0 once it has ended."""
     try:
         with open(folder + "/stat") as file:
             fields = file.read().rpartition(")")[2].split()

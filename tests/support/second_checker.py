@@ -4,7 +4,7 @@ from __future__ import annotations
 
 import random
 import re
-from typing import Callable, Dict, Iterable, Iterator, List, Sequence, Tuple
+from typing import Callable, Iterable, Iterator, Sequence
 
 from . import TOP
 from .claims import forge, pairs_of, refusals, tight_limits, trees_of
@@ -21,12 +21,11 @@ WHOLE = ((200, 256, 20, 1_000), LIMITS, LARGE)
 # Other lists: the states, and words for the program that lists machines.
 LISTS = (("5", "--steps", "1000", "--every", "900"), ("2", "--symbols", "3"), ("2", "--symbols", "4"))
 # Limits of steps, cells, levels and nodes, and lines.
-Claims = Tuple[Sequence[int], List[str]]
-ListMachines = Callable[..., List[str]]
+Claims = tuple[Sequence[int], list[str]]
+ListMachines = Callable[..., list[str]]
 
 
-def decide(bb: str, limits: Sequence[int], machines: Sequence[str]) -> List[str]:
-    """Return the program's verdict lines."""
+def decide(bb: str, limits: Sequence[int], machines: Sequence[str]) -> list[str]:
     return replies([bb, "decide", *options(limits)], machines)
 
 
@@ -47,20 +46,20 @@ def compare_answers(bb: str, checker: str, what: str, claims: Claims) -> None:
     print("%s: %d lines compared" % (what, len(claims[1])))
 
 
-def group_by_limits(claims: Iterable[Tuple[Sequence[int], str]]) -> List[Claims]:
+def group_by_limits(claims: Iterable[tuple[Sequence[int], str]]) -> list[Claims]:
     """Put lines of the same limits together."""
-    lines: Dict[Sequence[int], List[str]] = {}
+    lines: dict[Sequence[int], list[str]] = {}
     for limits, line in claims:
         lines.setdefault(limits, []).append(line)
     return list(lines.items())
 
 
-def worked_lines() -> List[str]:
+def worked_lines() -> list[str]:
     """Return the lines of `coq/Rows.v`."""
     return re.findall(r"\"([^\"]*)\"[;\]]", (COQ / "Rows.v").read_text(encoding="utf-8"))
 
 
-def halting_machines(bb: str, source: random.Random, count: int) -> List[str]:
+def halting_machines(bb: str, source: random.Random, count: int) -> list[str]:
     """Return machines of one state, and so many of two, that halt."""
     machines = [*all_machines(1, 2), *source.sample(list(all_machines(2, 2)), count)]
     return [line.split(" ")[0] for line in decide(bb, SMALL, machines) if " halt " in line]
@@ -79,7 +78,7 @@ def made_claims(bb: str, source: random.Random, verdicts: Sequence[str], count: 
     yield LIMITS, [line for text in outside for line in trees_of(text, 4, 7)]
 
 
-def tight_claims(source: random.Random, verdicts: Sequence[str], count: int) -> List[Claims]:
+def tight_claims(source: random.Random, verdicts: Sequence[str], count: int) -> list[Claims]:
     """Return claims of runs, and as many of halts, with limits that are just enough and just not."""
     short = [line for line in verdicts if len(line) < 80]
     halts = [line for line in short if " halt " in line]
@@ -87,7 +86,7 @@ def tight_claims(source: random.Random, verdicts: Sequence[str], count: int) -> 
     return group_by_limits(one for line in lines for one in tight_limits(line))
 
 
-def quick_claims(bb: str, list_machines: ListMachines, source: random.Random) -> Iterator[Tuple[str, Claims]]:
+def quick_claims(bb: str, list_machines: ListMachines, source: random.Random) -> Iterator[tuple[str, Claims]]:
     """Yield the lines that are always compared, each batch with its name."""
     yield "worked lines", (DEFAULT, worked_lines())
     verdicts = decide(bb, LIMITS, list_machines(4, "--every", "10"))
@@ -99,7 +98,7 @@ def quick_claims(bb: str, list_machines: ListMachines, source: random.Random) ->
     yield from (("tight limits", claims) for claims in tight_claims(source, sample, 300))
 
 
-def long_claims(bb: str, list_machines: ListMachines, source: random.Random) -> Iterator[Tuple[str, Claims]]:
+def long_claims(bb: str, list_machines: ListMachines, source: random.Random) -> Iterator[tuple[str, Claims]]:
     """Yield lines of whole lists and samples, and a million made ones."""
     machines = list_machines(4)
     for limits in WHOLE:

@@ -2,24 +2,23 @@
 
 from __future__ import annotations
 
-from typing import Dict, Iterator, NamedTuple, Optional, Sequence
+from typing import Iterator, NamedTuple, Sequence
 
 from .machines import LETTERS, table_of
 
 
 class Configuration(NamedTuple):
-    """A machine's state (None in Z), its head's position, the outermost positions so far outside Z, and its
-    tape."""
+    """A machine's state (None in Z), head, outermost positions so far outside Z, and tape."""
 
-    state: Optional[int]
+    state: int | None
     head: int
     low: int
     high: int
-    tape: Dict[int, int]
+    tape: dict[int, int]
 
 
 def simulate(
-    text: str, steps: int, state: Optional[int] = 0, tape: Optional[Dict[int, int]] = None
+    text: str, steps: int, state: int | None = 0, tape: dict[int, int] | None = None
 ) -> Iterator[Configuration]:
     """Yield a machine's configurations at step 0, 1, .., `steps`, or until it halts.
 

@@ -4,13 +4,13 @@ import os
 import pty
 import subprocess
 import threading
-from typing import IO, List, Sequence, Tuple, Union
+from typing import IO, Sequence, Union
 
 
-def on_terminal(command: Sequence[str], given: bytes, output: Union[int, IO[bytes]]) -> Tuple[int, str]:
+def on_terminal(command: Sequence[str], given: bytes, output: Union[int, IO[bytes]]) -> tuple[int, str]:
     """The status and what the terminal shows, with standard output in this file."""
     reader, terminal = pty.openpty()
-    shown: List[bytes] = []
+    shown: list[bytes] = []
 
     def collect() -> None:
         while True:

@@ -10,7 +10,7 @@ import sys
 TYPE_CHECKING = False
 if TYPE_CHECKING:
     from types import FrameType
-    from typing import Callable, NoReturn, Optional
+    from typing import Callable, NoReturn
 
 # The module behind `signal`, which Python has imported by now.
 _signal = sys.modules["_signal"]
@@ -22,10 +22,10 @@ _ENDS = {
 }
 
 
-def _handler_of(command: str) -> Callable[[int, Optional[FrameType]], NoReturn]:
+def _handler_of(command: str) -> Callable[[int, FrameType | None], NoReturn]:
     """A handler that ends the process, with the message of the command."""
 
-    def end(number: int, frame: Optional[FrameType]) -> NoReturn:
+    def end(number: int, frame: FrameType | None) -> NoReturn:
         name = _NAMES[number]
         if command == "run":
             name = "interrupted" if name == "SIGINT" else "ended by %s" % name

@@ -1,6 +1,5 @@
 """The calls and types of the package, imported at their first use."""
 
-from ._archive import PublishError
 from ._library import LibraryError
 from .claims import Claim, WORDS, Word
 from .engine import Configuration, MachineError, Trace, check, check_bytes, decide, decide_bytes, trace
@@ -11,7 +10,7 @@ from .comparison import Agreement, Comparison, compare
 from .decide_list import Carried, decide_carried
 from .normal_forms import Normal, distinct, normal
 from .pictures import Picture, PictureError, picture
-from .publishing import Published, UnconfirmedError, publish
+from .publishing import Published, PublishError, UnconfirmedError, publish
 from .reading import Columns, EncodingError, EndlessLineError, Form, Skipped, Reading, Readings, Reason
 from .reading import Rewriting, read
 from .reports import Report, ReportError, report

@@ -9,8 +9,8 @@ import queue
 import threading
 import time
 from concurrent.futures import Future
-from typing import Any, Callable, Deque, Generic, Iterable, Iterator, List, Optional, Protocol, Tuple, TypeVar
-from typing import Union, runtime_checkable
+from typing import Any, Callable, Deque, Generic, Iterable, Iterator, Protocol, TypeVar, Union
+from typing import runtime_checkable
 
 from ._fork import forbid_fork
 from ._library import Reply, ReplyBuffer
@@ -40,16 +40,15 @@ class BatchPace:
 
 
 class WorkerPool(Generic[Given]):
-    """Daemon threads that make calls. A call can't be stopped: after `close` its thread ends with the call, or
-    with the process."""
+    """Daemon threads that make calls. After `close` a thread ends with its call, or with the process."""
 
     def __init__(self, work: Callable[[ReplyBuffer, Given], None], threads: int, pace: BatchPace) -> None:
         self._work, self._most, self._pace = work, threads, pace
-        self._tasks: queue.SimpleQueue[Optional[Tuple[Given, Future[ReplyBuffer]]]] = queue.SimpleQueue()
-        self._threads: List[threading.Thread] = []
+        self._tasks: queue.SimpleQueue[tuple[Given, Future[ReplyBuffer]] | None] = queue.SimpleQueue()
+        self._threads: list[threading.Thread] = []
         self._is_closed = threading.Event()
         # Buffers whose replies were taken.
-        self._buffers: List[ReplyBuffer] = []
+        self._buffers: list[ReplyBuffer] = []
 
     def submit(self, given: Given) -> Future[ReplyBuffer]:
         """Submits a call; the future gets the buffer with its reply, or its error."""
@@ -102,7 +101,7 @@ class WorkerPool(Generic[Given]):
             del task, given, future
 
 
-def _catch_error(items: Iterable[Given], errors: List[Exception]) -> Iterator[Given]:
+def _catch_error(items: Iterable[Given], errors: list[Exception]) -> Iterator[Given]:
     """The items up to an error, which is added to `errors`."""
     try:
         yield from items
@@ -112,12 +111,12 @@ def _catch_error(items: Iterable[Given], errors: List[Exception]) -> Iterator[Gi
 
 def map_in_order(
     work: Callable[[ReplyBuffer, Given], None], batches: Iterable[Given], threads: int, pace: BatchPace
-) -> Iterator[Tuple[Given, Reply]]:
+) -> Iterator[tuple[Given, Reply]]:
     """Each batch and the reply to the call that `work` makes for it, in order. At most one more batch than
     threads is in flight. An error of the batches is raised after those before it."""
     pool = WorkerPool(work, threads, pace)
-    waiting: Deque[Tuple[Given, Future[ReplyBuffer]]] = collections.deque()
-    errors: List[Exception] = []
+    waiting: Deque[tuple[Given, Future[ReplyBuffer]]] = collections.deque()
+    errors: list[Exception] = []
     is_whole = False
     try:
         for batch in _catch_error(batches, errors):
@@ -155,12 +154,11 @@ Blocks = Union[bytes, bytearray, memoryview, BinaryReader, Iterable[bytes]]
 class Batch:
     """Some items of a list: their texts and the texts' lines."""
 
-    texts: List[str]
+    texts: list[str]
     lines: bytes
 
 
 def _item_error(name: str, place: int, text: Any) -> Exception:
-    """The error for an invalid item."""
     if isinstance(text, str):
         return ValueError("%s[%d] has a newline in it: %.*r" % (name, place, LONGEST_VALUE, text))
     kind = type(text).__name__
@@ -168,7 +166,7 @@ def _item_error(name: str, place: int, text: Any) -> Exception:
     return TypeError("%s[%d] is of type %s, not str%s" % (name, place, kind, more if kind == "bytes" else ""))
 
 
-def _batch(name: str, before: int, texts: List[str]) -> Batch:
+def _batch(name: str, before: int, texts: list[str]) -> Batch:
     """The batch of these texts, with `before` ones before them. Raises ValueError."""
     cut = [text if len(text) <= LONGEST_GIVEN else text[:LONGEST_GIVEN] for text in texts]
     lines = ("\n".join(cut) + "\n").encode("utf-8", "surrogatepass")
@@ -179,10 +177,9 @@ def _batch(name: str, before: int, texts: List[str]) -> Batch:
 
 
 def batch_texts(texts: Iterable[str], name: str, pace: BatchPace) -> Iterator[Batch]:
-    """The texts in batches. Raises TypeError or ValueError for an invalid item, after the batches before
-    it."""
+    """The texts in batches. Raises TypeError or ValueError for an invalid item, behind those before it."""
     before, size = 0, 0
-    held: List[str] = []
+    held: list[str] = []
     for text in texts:
         if not isinstance(text, str) or (len(text) > LONGEST_GIVEN and "\n" in text):
             if held:
@@ -197,7 +194,7 @@ def batch_texts(texts: Iterable[str], name: str, pace: BatchPace) -> Iterator[Ba
         yield _batch(name, before, held)
 
 
-def _slices(held: Union[bytes, bytearray, memoryview]) -> Iterator[bytes]:
+def _slices(held: bytes | bytearray | memoryview) -> Iterator[bytes]:
     """Bytes in memory, cut between lines where possible."""
     view = memoryview(held).cast("B")
     start = 0

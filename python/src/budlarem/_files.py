@@ -9,28 +9,18 @@ from __future__ import annotations
 import contextlib
 import dataclasses
 import errno
+import functools
 import os
 import stat
 import zlib
-from typing import Any, Callable, Dict, Iterable, Iterator, List, Mapping, Optional, Tuple, Union
+from typing import Any, Callable, Iterable, Iterator, Mapping
 
 from .runner.errors import MovedError
 
 
-@contextlib.contextmanager
-def name_errors(path: Union[str, "os.PathLike[str]"]) -> Iterator[None]:
-    """Adds a path to errors without one, as that of a full disk."""
-    try:
-        yield
-    except OSError as error:
-        if error.filename is not None or error.errno is None:
-            raise
-        raise OSError(error.errno, error.strerror, os.fspath(path)) from None
-
-
 PART = ".part"
 # The numbers of a file's device and inode.
-FileId = Tuple[int, int]
+FileId = tuple[int, int]
 _OPEN = os.O_NOFOLLOW | os.O_NONBLOCK | os.O_CLOEXEC
 _OPEN_DIRECTORY = os.O_RDONLY | os.O_DIRECTORY | os.O_CLOEXEC
 # Errors of file systems without hard links.
@@ -52,14 +42,18 @@ def kind_of(status: os.stat_result) -> str:
 
 
 @contextlib.contextmanager
-def _name_path(path: str) -> Iterator[None]:
-    """Gives errors the whole path in place of the last name."""
+def name_errors(path: str | os.PathLike[str], replaces: bool = False) -> Iterator[None]:
+    """Adds a path to errors without one, as of a full disk; `replaces`: also in place of the last name."""
     try:
         yield
     except OSError as error:
-        if error.errno is None or isinstance(error, KindError):
+        is_named = isinstance(error, KindError) or (error.filename is not None and not replaces)
+        if is_named or error.errno is None:
             raise
-        raise OSError(error.errno, error.strerror, path) from None
+        raise OSError(error.errno, error.strerror, os.fspath(path)) from None
+
+
+_name_path = functools.partial(name_errors, replaces=True)
 
 
 class Pin:
@@ -108,7 +102,7 @@ class Directory:
         """The path of a file in it, for messages."""
         return os.path.join(self.path, name)
 
-    def names(self) -> List[str]:
+    def names(self) -> list[str]:
         """The names in it, sorted."""
         with _name_path(self.path):
             return sorted(os.listdir(self.handle))
@@ -123,12 +117,11 @@ class Directory:
     def require_named(self) -> None:
         """Raises MovedError unless its path still leads to it."""
         if not self.is_named():
-            raise MovedError(
-                "%s isn't the folder that was opened any more: that one was moved, removed or replaced, and"
-                " nothing is written elsewhere; put it back and run the same command to resume" % self.path
-            )
+            why = "that one was moved, removed or replaced, and nothing is written elsewhere"
+            how = "put it back and run the same command to resume"
+            raise MovedError(f"{self.path} isn't the folder that was opened any more: {why}; {how}")
 
-    def status(self, name: str) -> Optional[os.stat_result]:
+    def status(self, name: str) -> os.stat_result | None:
         """The status of a name itself; None if it is missing."""
         with _name_path(self.at(name)):
             try:
@@ -136,12 +129,12 @@ class Directory:
             except FileNotFoundError:
                 return None
 
-    def id_at(self, name: str) -> Optional[FileId]:
+    def id_at(self, name: str) -> FileId | None:
         """The file with a name; None if it is missing."""
         status = self.status(name)
         return None if status is None else id_of(status)
 
-    def pin(self, name: str) -> Optional[Pin]:
+    def pin(self, name: str) -> Pin | None:
         """The file with a name; None if it is missing."""
         with _name_path(self.at(name)), contextlib.suppress(FileNotFoundError):
             return Pin(os.open(name, os.O_PATH | os.O_NOFOLLOW | os.O_CLOEXEC, dir_fd=self.handle))
@@ -162,7 +155,7 @@ class Directory:
             raise
         return number
 
-    def require_kind(self, status: Optional[os.stat_result], name: str, kind: int) -> None:
+    def require_kind(self, status: os.stat_result | None, name: str, kind: int) -> None:
         """Raises KindError for the status of another kind."""
         if status is not None and stat.S_IFMT(status.st_mode) != kind:
             wanted = "a folder" if kind == stat.S_IFDIR else "a file"
@@ -182,7 +175,7 @@ class Directory:
         except FileNotFoundError:
             return self.create_file(name)
 
-    def create_part(self, name: str) -> Tuple[int, str]:
+    def create_part(self, name: str) -> tuple[int, str]:
         """Creates a new file for the content of `name`: `name.part`, `name.2.part` and so on. Returns the open
         file and its name."""
         part, count = name + PART, 1
@@ -210,9 +203,7 @@ class Directory:
         with _name_path(self.at(name)), contextlib.suppress(FileNotFoundError):
             os.unlink(name, dir_fd=self.handle)
 
-    def install(
-        self, part: str, name: str, over: Optional[FileId], source: Optional[Directory] = None
-    ) -> None:
+    def install(self, part: str, name: str, over: FileId | None, source: Directory | None = None) -> None:
         """Gives the file `part`, of this directory or of `source`, the name `name` here, durably. Replaces only
         the file `over`. Raises FileExistsError."""
         of = self if source is None else source
@@ -248,9 +239,7 @@ class Directory:
             os.fsync(self.handle)
 
 
-def write_atomically(
-    directory: Directory, name: str, fill: Callable[[int], None], over: Optional[Pin]
-) -> Pin:
+def write_atomically(directory: Directory, name: str, fill: Callable[[int], None], over: Pin | None) -> Pin:
     """Writes a file whole or not at all: `fill` writes to the open file. Replaces only the file `over`. Returns
     the new file. Raises FileExistsError, what `fill` does, OSError; nothing is left then."""
     number, part = directory.create_part(name)
@@ -277,7 +266,7 @@ class FileTarget:
         folder, self._name = os.path.split(path)
         with _name_path(path):
             self._directory = Directory.open(folder or os.curdir)
-        self.over: Optional[Pin] = None
+        self.over: Pin | None = None
         try:
             self.over = self._directory.pin(self._name)
             self._directory.require_kind(self._directory.status(self._name), self._name, stat.S_IFREG)
@@ -298,15 +287,14 @@ class FileTarget:
         def fill_here(number: int) -> None:
             fill(number)
             if not self._directory.is_named():
-                why = "its folder was moved, removed or replaced meanwhile"
-                raise OSError(errno.ENOENT, why, self._path)
+                moved = "its folder was moved, removed or replaced meanwhile"
+                raise OSError(errno.ENOENT, moved, self._path)
 
         write_atomically(self._directory, self._name, fill_here, self.over).close()
 
 
 def write_whole(path: str, blocks: Iterable[bytes]) -> None:
-    """Writes a file whole or not at all. Replaces a file that is there. Raises OSError; nothing is left
-    then."""
+    """Writes or replaces a file whole or not at all. Raises OSError; nothing is left then."""
     with contextlib.closing(FileTarget(path)) as target:
         target.write(lambda number: write_blocks(number, blocks))
 
@@ -345,7 +333,7 @@ class Checksum:
         """The checksum of the fields of a summary. Raises KeyError, TypeError, ValueError."""
         return cls(int(fields["bytes"]), int(fields["crc32"], 16))
 
-    def fields(self) -> Dict[str, Any]:
+    def fields(self) -> dict[str, Any]:
         """The fields of a summary."""
         return {"bytes": self.size, "crc32": "%08x" % self.crc32}
 

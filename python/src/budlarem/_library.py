@@ -2,13 +2,14 @@
 
 from __future__ import annotations
 
+import contextlib
 import ctypes
 import functools
 import mmap
 import os
 import pathlib
 import struct
-from typing import Any, BinaryIO, Callable, List, NamedTuple, Sequence, Tuple
+from typing import Any, BinaryIO, Callable, NamedTuple, Sequence
 
 from ._version import LIBRARY_BYTES
 
@@ -37,16 +38,14 @@ class LibraryError(OSError):
     """The library `libbb.so` is missing, truncated, or can't be loaded. The text has the paths."""
 
 
-def candidate_paths() -> List[pathlib.Path]:
+def candidate_paths() -> list[pathlib.Path]:
     """The paths of the library: that of the variable BB_LIBRARY alone, if set; else beside this package, then the
     output of `make library` in the repository."""
     named = os.environ.get(VARIABLE)
     if named:
         return [pathlib.Path(named)]
-    found = [_HERE / "libbb.so"]
-    if len(_HERE.parents) > 2:
-        found.append(_HERE.parents[2] / "crates" / "bb_c" / "out" / "libbb.so")
-    return found
+    built = [top / "crates" / "bb_c" / "out" / "libbb.so" for top in list(_HERE.parents)[2:3]]
+    return [_HERE / "libbb.so", *built]
 
 
 @functools.lru_cache(maxsize=None)
@@ -55,10 +54,9 @@ def load_library() -> ctypes.CDLL:
     candidates = candidate_paths()
     path = next((place for place in candidates if place.is_file()), None)
     if path is None:
-        raise LibraryError(
-            "libbb.so isn't at %s; install the wheel, build it by `make library`, or set the variable %s to its"
-            " path" % (" nor at ".join(map(str, candidates)), VARIABLE)
-        )
+        places = " nor at ".join(map(str, candidates))
+        how = f"install the wheel, build it by `make library`, or set the variable {VARIABLE} to its path"
+        raise LibraryError(f"libbb.so isn't at {places}; {how}")
     require_whole(path)
     try:
         return ctypes.CDLL(str(path))
@@ -71,42 +69,31 @@ def require_whole(path: pathlib.Path) -> None:
     The size is that of the wheel, or that of the headers."""
     try:
         with open(path, "rb") as file:
-            size = os.fstat(file.fileno()).st_size
-            if path == _HERE / "libbb.so" and LIBRARY_BYTES is not None and size != LIBRARY_BYTES:
-                raise LibraryError(
-                    "%s has %d bytes, and that of this package has %d: it was cut or changed; install the"
-                    " package again" % (path, size, LIBRARY_BYTES)
-                )
-            least = _least_size(file)
-    except struct.error:
-        raise LibraryError(
-            "%s was cut short: it ends in its headers; build or install it again" % path
-        ) from None
-    except LibraryError:
-        raise
+            size, least = os.fstat(file.fileno()).st_size, _least_size(file)
     except OSError as error:
-        raise LibraryError("%s can't be loaded as libbb.so: %s" % (path, error)) from None
-    if size < least:
-        raise LibraryError(
-            "%s was cut short: it has %d bytes, and its headers name %d; build or install it again"
-            % (path, size, least)
-        )
+        raise LibraryError(f"{path} can't be loaded as libbb.so: {error}") from None
+    if path == _HERE / "libbb.so" and LIBRARY_BYTES not in (None, size):
+        why = f"has {size} bytes, and that of this package has {LIBRARY_BYTES}: it was cut or changed"
+        raise LibraryError(f"{path} {why}; install the package again")
+    if least is None or size < least:
+        why = "ends in its headers" if least is None else f"has {size} bytes, and its headers name {least}"
+        raise LibraryError(f"{path} was cut short: it {why}; build or install it again")
 
 
-def _least_size(file: BinaryIO) -> int:
-    """The least size of a 64-bit ELF file by its headers; 0 for other files, which the system refuses to load.
-    Raises struct.error for truncated headers, OSError."""
+def _least_size(file: BinaryIO) -> int | None:
+    """The least size of a 64-bit ELF file by its headers, None if these are truncated; 0 for other files,
+    which the system refuses to load. Raises OSError."""
     head = file.read(_ELF.size)
     if not head.startswith(_ELF_BEGIN):
         return 0
-    fields = _ELF.unpack(head)
-    programs, sections, program_size, programs_count, section_size, sections_count = fields[1:]
-    least: int = max(sections + section_size * sections_count, programs + program_size * programs_count)
-    for place in range(programs_count):
-        file.seek(programs + place * program_size)
-        offset, size = _ELF_PROGRAM.unpack(file.read(_ELF_PROGRAM.size))
-        least = max(least, offset + size)
-    return least
+    with contextlib.suppress(struct.error):
+        _, programs, sections, program_size, programs_count, section_size, count = _ELF.unpack(head)
+        least: int = max(sections + section_size * count, programs + program_size * programs_count)
+        for place in range(programs_count):
+            file.seek(programs + place * program_size)
+            least = max(least, sum(_ELF_PROGRAM.unpack(file.read(_ELF_PROGRAM.size))))
+        return least
+    return None
 
 
 @functools.lru_cache(maxsize=None)
@@ -126,7 +113,7 @@ class ReplyCheck(NamedTuple):
 
     fits: bool
     lines: int
-    counts: Tuple[int, ...]
+    counts: tuple[int, ...]
 
 
 def validate_replies(lines: bytes, replies: bytes) -> ReplyCheck:
@@ -146,8 +133,7 @@ class Reply(NamedTuple):
 
 
 class ReplyBuffer:
-    """A buffer for the replies of successive calls. Untouched pages take no memory, so it may be much larger than
-    the replies."""
+    """A buffer for replies. Untouched pages take no memory, so it may be much larger than they are."""
 
     def __init__(self) -> None:
         self._make(mmap.PAGESIZE)
@@ -183,9 +169,8 @@ class ReplyBuffer:
         count = _SIZE()
         status = call(*asked, given, len(given), self._address, room, ctypes.byref(count))
         if status == MEMORY:
-            raise MemoryError(
-                "the library had no memory for its tapes or its reply; lower the limit of cells"
-            )
+            why = "the library had no memory for its tapes or its reply"
+            raise MemoryError(why + "; lower the limit of cells")
         if status == LIMITS:
             raise AssertionError("%s refused the limits %r" % (name, asked))
         self._status, self._length = status, count.value

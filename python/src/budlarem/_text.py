@@ -4,7 +4,6 @@ from __future__ import annotations
 
 import enum
 import unicodedata
-from typing import Optional
 
 # The bytes of a line for the library: no machine or verdict line is longer, and each call gives the same answer
 # to the start of a longer line as to all of it.
@@ -59,7 +58,7 @@ def is_hidden(character: str) -> bool:
     return character in _BLANK or unicodedata.category(character) in _CATEGORIES
 
 
-def first_hidden(text: str) -> Optional[int]:
+def first_hidden(text: str) -> int | None:
     """The index of the first invisible character, if any."""
     return next((place for place, character in enumerate(text) if is_hidden(character)), None)
 
@@ -69,14 +68,12 @@ def code_point(character: str) -> str:
     return "U+%04X" % ord(character)
 
 
-def _name_hidden_character(character: str) -> str:
-    escaped = escape_controls(character)
-    return code_point(character) if escaped == character and is_hidden(character) else escaped
-
-
 def name_hidden(text: str) -> str:
     r"""The text with invisible characters by name: controls as `\x1b`, others as `U+200B`."""
-    return text if text.isascii() and text.isprintable() else "".join(map(_name_hidden_character, text))
+    if text.isascii() and text.isprintable():
+        return text
+    pairs = ((one, escape_controls(one)) for one in text)
+    return "".join(code_point(one) if one == other and is_hidden(one) else other for one, other in pairs)
 
 
 def quote(text: str) -> str:

@@ -4,9 +4,10 @@ table's words."""
 from __future__ import annotations
 
 import collections
+import contextlib
 import dataclasses
 import re
-from typing import Counter, Dict, Iterable, Iterator, List, Optional, Tuple
+from typing import Counter, Iterable, Iterator
 
 from ._text import Words, quote
 from .numbers import number_of, numbers_in
@@ -38,7 +39,7 @@ _NEVER_HALTS = """nonhalt nonhalts nonhalting neverhalts doesnothalt infinite
     cps ngramcps closedpositionset repwl repeatedwordlist ctl closedtapelanguage"""
 _UNDECIDED = "undecided unknown unsolved holdout holdouts"
 # The known words in small letters, without spaces, hyphens and low lines.
-WORDS: Dict[str, Word] = {
+WORDS: dict[str, Word] = {
     **dict.fromkeys(_HALTS.split(), Word.HALTS),
     **dict.fromkeys(_NEVER_HALTS.split(), Word.NEVER_HALTS),
     **dict.fromkeys(_UNDECIDED.split(), Word.UNDECIDED),
@@ -57,12 +58,12 @@ class Claim:
     the word. A refusal has its verdict, and no machine."""
 
     reading: Reading
-    verdict: Optional[Verdict] = None
-    word: Optional[Word] = None
-    trouble: Optional[str] = None
-    steps: Optional[int] = None
-    score: Optional[int] = None
-    unjudged: Tuple[str, ...] = ()
+    verdict: Verdict | None = None
+    word: Word | None = None
+    trouble: str | None = None
+    steps: int | None = None
+    score: int | None = None
+    unjudged: tuple[str, ...] = ()
 
 
 class Claims(Iterator[Claim]):
@@ -70,7 +71,7 @@ class Claims(Iterator[Claim]):
     words of a table."""
 
     def __init__(
-        self, lines: Iterator[Numbered], form: ListForm, words: Optional[Dict[str, Word]] = None
+        self, lines: Iterator[Numbered], form: ListForm, words: dict[str, Word] | None = None
     ) -> None:
         self.skipped: Counter[Skipped] = collections.Counter()
         self._words = WORDS if words is None else words
@@ -91,12 +92,12 @@ class Claims(Iterator[Claim]):
                 self.skipped[skip_kind(line)] += 1
 
 
-def claim_in(number: int, line: str) -> Optional[Claim]:
+def claim_in(number: int, line: str) -> Claim | None:
     """The claim of a line of a text; None for a skipped line."""
     return _claim_of(number, line, ListForm(Form.TEXT), WORDS)
 
 
-def _claim_of(number: int, line: str, form: ListForm, words: Dict[str, Word]) -> Optional[Claim]:
+def _claim_of(number: int, line: str, form: ListForm, words: dict[str, Word]) -> Claim | None:
     """The claim of a line; None for a skipped line."""
     if form.form in (Form.VERDICTS, Form.TEXT):
         claim = _of_verdict_line(number, line)
@@ -113,7 +114,7 @@ def _claim_of(number: int, line: str, form: ListForm, words: Dict[str, Word]) ->
     return _of_text(reading)
 
 
-def _of_verdict_line(number: int, line: str) -> Optional[Claim]:
+def _of_verdict_line(number: int, line: str) -> Claim | None:
     """The claim of a verdict line, which may have fields behind a tab; None for another line."""
     bare, _, fields = line.rstrip("\r").partition("\t")
     try:
@@ -139,17 +140,13 @@ def _two_statements(first: str, second: str) -> str:
 def _of_text(reading: Reading) -> Claim:
     """The claim of a line of a text: the rest of the line, if that is one verdict."""
     assert reading.machine is not None
-    parts = [part.strip(_MARKS) for part in (reading.before, reading.behind)]
-    rest = [part for part in parts if part]
+    rest = list(filter(None, (part.strip(_MARKS) for part in (reading.before, reading.behind))))
     if not rest:
         return Claim(reading, trouble="nothing is said of the machine")
-    text = " ".join(rest)
-    try:
+    with contextlib.suppress(ValueError):
         if len(rest) == 1:
-            return Claim(reading, _verdict_in(reading.machine, text))
-    except ValueError:
-        pass
-    return Claim(reading, trouble="the rest of the line is no verdict of ours: %s" % quote(text))
+            return Claim(reading, _verdict_in(reading.machine, rest[0]))
+    return Claim(reading, trouble="the rest of the line is no verdict of ours: %s" % quote(" ".join(rest)))
 
 
 def _verdict_in(machine: str, text: str) -> Verdict:
@@ -165,27 +162,24 @@ def _verdict_in(machine: str, text: str) -> Verdict:
     return verdict_of(machine, " ".join([kind, *side, *numbers]), whole_number)
 
 
-def _of_row(reading: Reading, layout: Layout, words: Dict[str, Word]) -> Claim:
-    """The claim of a record of a table."""
+def _of_row(reading: Reading, layout: Layout, words: dict[str, Word]) -> Claim:
     assert reading.machine is not None and reading.row is not None
     cells = {role: reading.row[place] for role, place in layout.columns.items()}
     cell = cells.get("verdict", "")
     if not cell:
         return Claim(reading, trouble="no word says whether it halts")
-    word = words.get(plain_word(cell))
-    try:
-        verdict = None if word is not None else _verdict_in(reading.machine, cell)
-    except ValueError:
-        verdict = None
+    word, verdict = words.get(plain_word(cell)), None
+    if word is None:
+        with contextlib.suppress(ValueError):
+            verdict = _verdict_in(reading.machine, cell)
     if verdict is not None and not isinstance(verdict, Halt):
         return Claim(reading, verdict)
     numbers = tuple(cells[role] for role in ("steps", "score") if cells.get(role))
     if word is Word.NEVER_HALTS:
         return Claim(reading, word=word, unjudged=numbers)
     if verdict is None and word is not Word.HALTS:
-        return Claim(
-            reading, word=word, trouble=None if word is not None else "%s says neither" % quote(cell)
-        )
+        trouble = None if word is not None else "%s says neither" % quote(cell)
+        return Claim(reading, word=word, trouble=trouble)
     try:
         steps, score = (number_of(cells[role]) if cells.get(role) else None for role in ("steps", "score"))
         return _of_halt(reading, verdict, steps, score)
@@ -193,9 +187,8 @@ def _of_row(reading: Reading, layout: Layout, words: Dict[str, Word]) -> Claim:
         return Claim(reading, trouble=str(error))
 
 
-def _of_halt(reading: Reading, halt: Optional[Halt], steps: Optional[int], score: Optional[int]) -> Claim:
-    """The claim of a record with these numbers beside a word for halting, or beside a halt. Raises
-    ValueError."""
+def _of_halt(reading: Reading, halt: Halt | None, steps: int | None, score: int | None) -> Claim:
+    """The claim of a record with numbers beside a word for halting, or beside a halt. Raises ValueError."""
     assert reading.machine is not None
     if halt is None and steps is not None and score is not None:
         return Claim(reading, verdict_of(reading.machine, "halt %d %d" % (steps, score), whole_number))
@@ -213,20 +206,16 @@ def plain_word(text: str) -> str:
 
 
 # The names of the meanings in a file of words.
-MEANINGS: Dict[str, Word] = {
-    "halting": Word.HALTS,
-    "never halting": Word.NEVER_HALTS,
-    "nothing": Word.UNDECIDED,
-}
+MEANINGS = {"halting": Word.HALTS, "never halting": Word.NEVER_HALTS, "nothing": Word.UNDECIDED}
 # The most words printed of a meaning, and the most different words counted.
 _MOST_PRINTED, _MOST_COUNTED = 20, 100_000
 
 
-def read_words(path: str) -> Dict[str, Word]:
+def read_words(path: str) -> dict[str, Word]:
     """The known words, with those of a file in place of the package's. Each line of the file is `halting`,
     `never halting` or `nothing`, a colon, and words with commas between them. Raises OSError, ValueError."""
     words = dict(WORDS)
-    given: Dict[str, str] = {}
+    given: dict[str, str] = {}
     with open(path, encoding="utf-8") as file:
         for number, line in enumerate(file, 1):
             if not line.strip() or line.startswith("#"):
@@ -249,28 +238,27 @@ def read_words(path: str) -> Dict[str, Word]:
 class Translation:
     """The count of each word of a column, by its meaning."""
 
-    counts: Dict[str, Counter[str]]
+    counts: dict[str, Counter[str]]
 
     def __str__(self) -> str:
         return "\n".join(self.lines)
 
     @property
-    def lines(self) -> List[str]:
+    def lines(self) -> list[str]:
         """A line for each meaning, the most frequent words first."""
         lines = []
-        for name in MEANINGS:
-            counts = self.counts[name]
+        for name, counts in self.counts.items():
             parts = ["%s %d" % (quote(word), count) for word, count in counts.most_common(_MOST_PRINTED)]
-            more = len(counts) - len(parts)
-            text = ", ".join(parts) + (", and %d more words" % more if more > 0 else "")
-            lines.append("%s: %s" % (name, text or "no word"))
+            if len(counts) > len(parts):
+                parts.append("and %d more words" % (len(counts) - len(parts)))
+            lines.append("%s: %s" % (name, ", ".join(parts) or "no word"))
         return lines
 
 
-def translation_of(claims: Iterable[Claim], layout: Layout, words: Dict[str, Word]) -> Translation:
+def translation_of(claims: Iterable[Claim], layout: Layout, words: dict[str, Word]) -> Translation:
     """The translation of the words in a table's column of verdicts. Whole verdicts in it are no words."""
     column = layout.columns["verdict"]
-    counts: Dict[str, Counter[str]] = {name: collections.Counter() for name in MEANINGS}
+    counts: dict[str, Counter[str]] = {name: collections.Counter() for name in MEANINGS}
     for claim in claims:
         row = claim.reading.row
         if row is None or claim.reading.machine is None or not row[column]:

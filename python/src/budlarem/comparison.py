@@ -4,7 +4,7 @@ from __future__ import annotations
 
 import collections
 import dataclasses
-from typing import Dict, Iterable, Iterator, List, Optional, Tuple, Union
+from typing import Iterable, Iterator
 
 from ._text import Words
 from .normal_forms import canonical_form, mirror_verdict
@@ -29,8 +29,8 @@ class Comparison:
 
     agreement: Agreement
     machine: str
-    first: Optional[Verdict]
-    second: Optional[Verdict]
+    first: Verdict | None
+    second: Verdict | None
 
     def __str__(self) -> str:
         verdicts = ("-" if verdict is None else str(verdict) for verdict in (self.first, self.second))
@@ -53,10 +53,10 @@ def agreement(first: Verdict, second: Verdict, undefined_steps: bool = False) ->
     Verdicts that can't both be right contradict each other: halting and never halting, two different halts, a
     cycler and a translated cycler, translated cyclers to both sides, two different trees.
     """
-    if isinstance(first, Undecided) or isinstance(second, Undecided):
-        if isinstance(first, Undecided) and isinstance(second, Undecided):
-            return Agreement.AGREE
+    if isinstance(first, Undecided) != isinstance(second, Undecided):
         return Agreement.SECOND_DECIDES if isinstance(first, Undecided) else Agreement.FIRST_DECIDES
+    if isinstance(first, Undecided):
+        return Agreement.AGREE
     if isinstance(first, Halt) and isinstance(second, Halt):
         agree = _halts_agree(first, second, undefined_steps)
     elif isinstance(first, Translated) and isinstance(second, Translated):
@@ -72,11 +72,11 @@ def agreement(first: Verdict, second: Verdict, undefined_steps: bool = False) ->
 class _Side:
     """A list of verdicts without its refusals, and its verdicts for which the other list has none yet."""
 
-    def __init__(self, items: Iterable[Union[str, Verdict]], name: str) -> None:
+    def __init__(self, items: Iterable[str | Verdict], name: str) -> None:
         self.items = (one for one in verdicts_of(items, name) if not isinstance(one, Refused))
-        self.waiting: Dict[str, List[MachineVerdict]] = {}
+        self.waiting: dict[str, list[MachineVerdict]] = {}
 
-    def take(self, machine: str) -> Optional[MachineVerdict]:
+    def take(self, machine: str) -> MachineVerdict | None:
         """Removes and returns the first waiting verdict on a machine."""
         found = self.waiting.get(machine)
         if found is None:
@@ -86,16 +86,13 @@ class _Side:
             del self.waiting[machine]
         return verdict
 
-    def remaining(self) -> List[MachineVerdict]:
+    def remaining(self) -> list[MachineVerdict]:
         """The waiting verdicts."""
         return [verdict for verdicts in self.waiting.values() for verdict in verdicts]
 
 
 def compare(
-    first: Iterable[Union[str, Verdict]],
-    second: Iterable[Union[str, Verdict]],
-    *,
-    undefined_steps: bool = False,
+    first: Iterable[str | Verdict], second: Iterable[str | Verdict], *, undefined_steps: bool = False
 ) -> Iterator[Comparison]:
     """Compares two lists of verdicts, or verdict lines, by machine, in any order.
 
@@ -129,10 +126,10 @@ def compare(
 
 
 def _compare_by_form(
-    first: List[MachineVerdict], second: List[MachineVerdict], undefined_steps: bool
+    first: list[MachineVerdict], second: list[MachineVerdict], undefined_steps: bool
 ) -> Iterator[Comparison]:
     """Compares verdicts on machines that the other list has in another form or not at all."""
-    waiting: Dict[str, List[Tuple[MachineVerdict, bool]]] = collections.defaultdict(list)
+    waiting: dict[str, list[tuple[MachineVerdict, bool]]] = collections.defaultdict(list)
     for other in second if first else []:
         form = canonical_form(other.machine)
         waiting[form.text].append((other, form.mirrored))

@@ -4,7 +4,7 @@ from __future__ import annotations
 
 import collections
 import re
-from typing import Any, Counter, Dict, List, Sequence, Set, Tuple
+from typing import Any, Counter, Sequence
 
 KINDS = ("halt", "cycler", "translated", "backward", "undecided steps", "undecided cells", "refused")
 UNDECIDED = ("undecided steps", "undecided cells")
@@ -21,7 +21,7 @@ _GREATEST = {**_NUMBERS, "cycler": ("second", "apart"), "translated": ("second",
 _VERDICT = re.compile(rb" [^\n]+")
 
 
-def numbers_of(kind: str, words: Sequence[str]) -> Dict[str, int]:
+def numbers_of(kind: str, words: Sequence[str]) -> dict[str, int]:
     """The numbers of a verdict by name; `words` follow its kind."""
     numbers = dict(zip(_NUMBERS.get(kind, ()), map(int, words[1:] if kind == "translated" else words)))
     if "second" in numbers:
@@ -36,20 +36,20 @@ class VerdictCounts:
 
     def __init__(self, is_distinct: bool = False) -> None:
         self.kinds: Counter[str] = collections.Counter()
-        self.greatest: Dict[str, Tuple[int, str]] = {}
-        self.longest: Dict[str, List[Tuple[int, str]]] = {}
+        self.greatest: dict[str, tuple[int, str]] = {}
+        self.longest: dict[str, list[tuple[int, str]]] = {}
         self._is_distinct = is_distinct
-        self._known: Set[bytes] = set()
+        self._known: set[bytes] = set()
 
     @classmethod
-    def of_fields(cls, fields: Dict[str, Any]) -> VerdictCounts:
+    def of_fields(cls, fields: dict[str, Any]) -> VerdictCounts:
         """The counts with these `fields`, also from JSON."""
         counts = cls(is_distinct=True)
         counts.greatest = {name: (int(most), str(line)) for name, (most, line) in fields["greatest"].items()}
         counts.longest = {"halt": [(int(steps), str(line)) for steps, line in fields["longest"]]}
         return counts
 
-    def fields(self) -> Dict[str, Any]:
+    def fields(self) -> dict[str, Any]:
         """The greatest numbers, and the longest halts."""
         return {"greatest": self.greatest, "longest": self.longest.get("halt", [])}
 
@@ -82,7 +82,7 @@ class VerdictCounts:
         """The number of undecided lines."""
         return sum(self.kinds[kind] for kind in UNDECIDED)
 
-    def _add_numbers(self, kind: str, numbers: Dict[str, int], line: str) -> None:
+    def _add_numbers(self, kind: str, numbers: dict[str, int], line: str) -> None:
         for name in _GREATEST.get(kind, ()):
             key = "%s %s" % (kind, name)
             if numbers.get(name, -1) > self.greatest.get(key, (-1, ""))[0]:

@@ -4,7 +4,7 @@ from __future__ import annotations
 
 import collections
 import dataclasses
-from typing import Deque, Iterable, Iterator, Optional
+from typing import Deque, Iterable, Iterator
 
 from ._text import escape_controls
 from .engine import decide
@@ -38,7 +38,7 @@ def decide_carried(
     plan: Plan = Plan(),
     *,
     threads: int = 1,
-    form: Optional[Form] = None,
+    form: Form | None = None,
     columns: Columns = Columns(),
 ) -> Iterator[Carried]:
     """Decides the machine of each line, as `read` finds it, and keeps the other fields. A line without a machine

@@ -3,7 +3,7 @@
 from __future__ import annotations
 
 import dataclasses
-from typing import Callable, Iterable, Iterator, List, Optional, Sequence, Tuple, Union
+from typing import Callable, Iterable, Iterator, Sequence
 
 from ._calls import MOST_BYTES, MOST_LINES, Batch, BatchPace, BinaryReader, Blocks, batch_bytes, batch_texts
 from ._calls import map_in_order
@@ -59,10 +59,9 @@ def check_call(limits: Limits) -> Call:
 
 def _prepare(limits: Limits, plan: Plan, threads: int) -> int:
     """Raises an error for wrong arguments before anything is read; returns the number of threads."""
-    if not isinstance(limits, Limits):
-        raise TypeError("limits is of type %s, not Limits" % type(limits).__name__)
-    if not isinstance(plan, Plan):
-        raise TypeError("plan is of type %s, not Plan" % type(plan).__name__)
+    for name, given, kind in (("limits", limits, Limits), ("plan", plan, Plan)):
+        if not isinstance(given, kind):
+            raise TypeError(f"{name} is of type {type(given).__name__}, not {kind.__name__}")
     number = whole("threads", threads)
     if number < 1:
         raise ValueError("threads is %d, but must be 1 or more" % number)
@@ -80,13 +79,9 @@ def _require_list(name: str, texts: Iterable[object]) -> None:
 
 def _reply_lines(
     batches: Iterator[Batch], call: Call, threads: int, pace: BatchPace
-) -> Iterator[Tuple[str, str]]:
+) -> Iterator[tuple[str, str]]:
     """Each text and the library's line for it."""
-
-    def work(buffer: ReplyBuffer, batch: Batch) -> None:
-        call(buffer, batch.lines)
-
-    for batch, reply in map_in_order(work, batches, threads, pace):
+    for batch, reply in map_in_order(lambda buffer, one: call(buffer, one.lines), batches, threads, pace):
         yield from zip(batch.texts, reply.text.decode().split("\n"))
 
 
@@ -124,7 +119,7 @@ def decide(
     return (verdict(machine, line) for machine, line in pairs)
 
 
-def column_of(text: str) -> Optional[int]:
+def column_of(text: str) -> int | None:
     """The column at which the library refuses a text; None for a machine. Nothing is run. Raises LibraryError,
     RuntimeError, MemoryError."""
     forbid_fork()
@@ -135,9 +130,8 @@ def column_of(text: str) -> Optional[int]:
     return int(reply.split()[1]) if reply.startswith(b"refused ") else None
 
 
-def _lines_of(items: Iterable[Union[str, Verdict]]) -> Iterator[str]:
-    """The lines of verdicts; other items stay as they are. Raises TypeError with its place for a verdict with
-    a field of another type."""
+def _lines_of(items: Iterable[str | Verdict]) -> Iterator[str]:
+    """The lines of verdicts; others stay. Raises TypeError, with its place, for a field of another type."""
     for place, item in enumerate(items):
         if isinstance(item, VERDICTS):
             require_field_types("lines[%d]" % place, item)
@@ -146,9 +140,7 @@ def _lines_of(items: Iterable[Union[str, Verdict]]) -> Iterator[str]:
             yield item
 
 
-def check(
-    lines: Iterable[Union[str, Verdict]], limits: Limits = Limits(), *, threads: int = 1
-) -> Iterator[Answer]:
+def check(lines: Iterable[str | Verdict], limits: Limits = Limits(), *, threads: int = 1) -> Iterator[Answer]:
     """The checker's answer to each verdict, in order. `lines` has verdicts, verdict lines, or both.
 
     Reads and raises as `decide` does.
@@ -197,7 +189,7 @@ def check_bytes(blocks: Blocks, limits: Limits = Limits(), *, threads: int = 1) 
     return _replies(blocks, check_call(limits), threads, _check_pace(MOST_BYTES, limits))
 
 
-def check_file(file: BinaryReader, limits: Limits, *, threads: int = 1) -> Iterator[Tuple[bytes, bytes]]:
+def check_file(file: BinaryReader, limits: Limits, *, threads: int = 1) -> Iterator[tuple[bytes, bytes]]:
     """Lines of a file, and the bytes that `bb check` writes for them, in large blocks, since large tapes cost
     more than the lines. A line of more than LONGEST_GIVEN bytes is cut. Raises what `decide` does."""
     threads = _prepare(limits, Plan(), threads)
@@ -229,7 +221,7 @@ class Trace(Iterator[Configuration]):
     whether the limit of cells ended the run before `upto`."""
 
     def __init__(self, machine: str, upto: int, cells: int, start: int, every: int) -> None:
-        self.cut: Optional[bool] = None
+        self.cut: bool | None = None
         self._machine, self._upto, self._cells = machine, upto, cells
         self._next, self._every = start, every
         # The most cells visited at the last line so far.
@@ -254,7 +246,7 @@ class Trace(Iterator[Configuration]):
         visited = min(self._cells, self._visited + self._every * count, self._upto + 1)
         return len("%d Z -%d -%d \n" % (self._upto, self._cells, self._cells)) + visited
 
-    def _lines(self) -> List[bytes]:
+    def _lines(self) -> list[bytes]:
         """The next lines, as many as fit into the bytes that are asked for at once. Each call runs the machine
         from its start. Raises MachineError."""
         rest = (self._upto - self._next) // self._every + 1 if self._next <= self._upto else 0

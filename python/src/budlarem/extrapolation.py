@@ -3,7 +3,6 @@
 from __future__ import annotations
 
 import dataclasses
-from typing import Union
 
 from .engine import Configuration, check, trace
 from .limits import Limits, in_range, whole
@@ -22,7 +21,7 @@ class Place:
         return "%d %s %d" % (self.step, self.state, self.position)
 
 
-def _confirm(verdict: Union[Halt, Cycler, Translated], cells: int) -> None:
+def _confirm(verdict: Halt | Cycler | Translated, cells: int) -> None:
     """Raises ValueError if the checker doesn't confirm a verdict, LimitsError if it names too many steps."""
     last = verdict.steps if isinstance(verdict, Halt) else max(verdict.first, verdict.second)
     (answer,) = check([verdict], Limits(steps=last, cells=cells, depth=0, nodes=0))
@@ -71,9 +70,8 @@ def at(verdict: Verdict, step: int, cells: int = 65_536) -> Place:
     if step < 0:
         raise ValueError("step is %d, but must be 0 or more" % step)
     if not isinstance(verdict, (Halt, Cycler, Translated)):
-        raise ValueError(
-            "%s doesn't say where its machine is after %d steps; trace() runs a machine" % (verdict, step)
-        )
+        why = f"doesn't say where its machine is after {step} steps; trace() runs a machine"
+        raise ValueError(f"{verdict} {why}")
     if isinstance(verdict, Halt) and step > verdict.steps:
         raise ValueError("the machine halts after %d steps, so it makes no %d" % (verdict.steps, step))
     _confirm(verdict, cells)

@@ -4,7 +4,6 @@ from __future__ import annotations
 
 import dataclasses
 import math
-from typing import List, Optional, Tuple
 
 from ._text import Words
 from .engine import trace
@@ -30,11 +29,11 @@ class GrowthSamples:
     are fewer than asked for if the cells ended the run, or the machine halted."""
 
     steps: int
-    visited: Tuple[int, int, int]
+    visited: tuple[int, int, int]
     growth: Growth
 
 
-def classify_growth(visited: Tuple[int, int, int]) -> Growth:
+def classify_growth(visited: tuple[int, int, int]) -> Growth:
     """The growth of these counts, each at ten times the steps of the one before."""
     first, second, third = visited
     if second == third:
@@ -45,7 +44,7 @@ def classify_growth(visited: Tuple[int, int, int]) -> Growth:
     return Growth.ROOT if power < _ROOT[1] else Growth.LINE
 
 
-def _visited_by_hundredths(machine: str, steps: int, cells: int) -> Tuple[Optional[bool], List[int]]:
+def _visited_by_hundredths(machine: str, steps: int, cells: int) -> tuple[bool | None, list[int]]:
     """The cells visited after each hundredth of the steps; and whether the cells ended the run before all, None
     if it made all steps and went on."""
     apart = max(steps // 100, 1)

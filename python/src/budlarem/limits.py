@@ -5,7 +5,7 @@ from __future__ import annotations
 import dataclasses
 import operator
 import re
-from typing import Any, ClassVar, Dict, Tuple
+from typing import Any, ClassVar
 
 from ._text import LONGEST_VALUE
 from .numbers import whole_number
@@ -23,13 +23,8 @@ class LimitsError(ValueError):
         self.limit, self.lowest, self.highest, self.given = limit, lowest, highest, given
 
     def __str__(self) -> str:
-        text = "%s is %s, but may be %s to %s" % (
-            self.limit,
-            "{:,}".format(self.given),
-            "{:,}".format(self.lowest),
-            "{:,}".format(self.highest),
-        )
-        if self.limit == "depth" and self.given <= 10_000 and self.given >= 0:
+        text = f"{self.limit} is {self.given:,}, but may be {self.lowest:,} to {self.highest:,}"
+        if self.limit == "depth" and 0 <= self.given <= 10_000:
             text += " with so few cells: 2 * depth - 1 may be at most the cells"
         return text
 
@@ -75,7 +70,7 @@ class Limits:
     depth: int = 300
     nodes: int = 1_000_000
 
-    RANGES: ClassVar[Dict[str, Tuple[int, int]]] = {
+    RANGES: ClassVar[dict[str, tuple[int, int]]] = {
         "steps": (0, 1_000_000_000_000),
         "cells": (1, 67_108_864),
         "depth": (0, 10_000),
@@ -88,7 +83,7 @@ class Limits:
         if 2 * self.depth - 1 > self.cells:
             raise LimitsError("depth", 0, (self.cells + 1) // 2, self.depth)
 
-    def numbers(self) -> Tuple[int, int, int, int]:
+    def numbers(self) -> tuple[int, int, int, int]:
         return self.steps, self.cells, self.depth, self.nodes
 
 
@@ -102,9 +97,8 @@ def words_of(limits: Limits) -> str:
 
 
 def limits_of(words: str) -> Limits:
-    """The limits of words such as `steps=1000,cells=1024`; the others are the program's. Raises ValueError,
-    LimitsError."""
-    found: Dict[str, int] = {}
+    """The limits of words as `steps=1000,cells=1024`, else the program's. Raises ValueError, LimitsError."""
+    found: dict[str, int] = {}
     # A comma may also separate groups of digits.
     for word in re.split(",(?![0-9]{3}(?:,|$))", words):
         name, _, number = word.partition("=")
@@ -113,10 +107,8 @@ def limits_of(words: str) -> Limits:
                 raise ValueError
             found[name] = whole_number(number)
         except ValueError:
-            raise ValueError(
-                "--pass %s: %r is no limit; a pass is as steps=1000,cells=1024,depth=40,nodes=10000,"
-                " each at most once" % (words, word)
-            ) from None
+            form = "steps=1000,cells=1024,depth=40,nodes=10000, each at most once"
+            raise ValueError(f"--pass {words}: {word!r} is no limit; a pass is as {form}") from None
     return Limits(**found)
 
 
@@ -135,5 +127,5 @@ class Plan:
                 parts = (field.name, LONGEST_VALUE, given, type(given).__name__)
                 raise TypeError("%s is %.*r of type %s, but must be True or False" % parts)
 
-    def switches(self) -> Tuple[bool, bool, bool]:
+    def switches(self) -> tuple[bool, bool, bool]:
         return self.cyclers, self.translated, self.backward

@@ -12,7 +12,7 @@ and `judge` identify them.
 from __future__ import annotations
 
 import dataclasses
-from typing import Dict, Iterable, Iterator, List, NamedTuple, Optional, Tuple
+from typing import Iterable, Iterator, NamedTuple
 
 from .engine import MachineError, trace
 from .verdicts import STATES, Translated, Verdict, is_machine
@@ -74,14 +74,14 @@ def normal(machine: str, *, steps: int = 10_000, cells: int = 65_536) -> Normal:
 
 def distinct(
     machines: Iterable[str], *, steps: int = 10_000, cells: int = 65_536
-) -> Iterator[Tuple[Normal, Optional[str]]]:
+) -> Iterator[tuple[Normal, str | None]]:
     """The normal form of each machine, and the first machine before it with the same one, or None. The normal
     forms so far are held. Raises what `trace` does, with the place of the item.
 
     >>> [(form.machine, before) for form, before in distinct(["1RA---", "1LA---"])]
     [('1RA---', None), ('1LA---', '1RA---')]
     """
-    met: Dict[str, str] = {}
+    met: dict[str, str] = {}
     for place, machine in enumerate(machines):
         if not isinstance(machine, str):
             raise TypeError("machines[%d] is of type %s, not str" % (place, type(machine).__name__))
@@ -89,9 +89,8 @@ def distinct(
             form = normal(machine, steps=steps, cells=cells)
         except MachineError as error:
             raise MachineError(machine, error.column, "machines[%d]" % place) from None
-        before = met.get(form.normal)
+        yield form, met.get(form.normal)
         met.setdefault(form.normal, machine)
-        yield form, before
 
 
 class CanonicalForm(NamedTuple):
@@ -123,11 +122,11 @@ def mirror_verdict(verdict: Verdict, is_mirrored: bool) -> Verdict:
 class _Walk:
     """New names for the states and symbols of a machine, A and 0 first."""
 
-    def __init__(self, groups: List[str], mirrored: bool) -> None:
+    def __init__(self, groups: list[str], mirrored: bool) -> None:
         self._rows = dict(zip(STATES, groups))
         self._sides = _OTHER_SIDE if mirrored else _SAME_SIDE
-        self._states: Dict[str, str] = {"A": "A", "Z": "Z"}
-        self._symbols: Dict[str, str] = {"0": "0"}
+        self._states: dict[str, str] = {"A": "A", "Z": "Z"}
+        self._symbols: dict[str, str] = {"0": "0"}
         self._count = len(groups[0]) // 3
         self._go([("A", "0")])
         if len(self._states) <= len(self._rows) or len(self._symbols) < self._count:
@@ -137,7 +136,7 @@ class _Walk:
         start = 3 * int(symbol)
         return self._rows[state][start : start + 3]
 
-    def _go(self, ahead: List[Tuple[str, str]]) -> None:
+    def _go(self, ahead: list[tuple[str, str]]) -> None:
         """Names everything met in these entries, and from there on."""
         for state, symbol in ahead:
             entry = self._entry(state, symbol)
@@ -149,12 +148,12 @@ class _Walk:
             if after not in self._states:
                 ahead += self._name_state(after)
 
-    def _name_symbol(self, symbol: str) -> List[Tuple[str, str]]:
+    def _name_symbol(self, symbol: str) -> list[tuple[str, str]]:
         """Gives a symbol the next name; returns the entries met with it."""
         self._symbols[symbol] = str(len(self._symbols))
         return [(state, symbol) for state in self._states if state != "Z"]
 
-    def _name_state(self, state: str) -> List[Tuple[str, str]]:
+    def _name_state(self, state: str) -> list[tuple[str, str]]:
         """Gives a state the next name; returns the entries met with it."""
         self._states[state] = STATES[len(self._states) - 1]
         return [(state, symbol) for symbol in self._symbols]
@@ -172,7 +171,7 @@ class _Walk:
             least = min(others, key=colours.__getitem__)
             self._go(self._name_state(least) if states else self._name_symbol(least))
 
-    def _colours(self, states: List[str], symbols: List[str]) -> Dict[str, int]:
+    def _colours(self, states: list[str], symbols: list[str]) -> dict[str, int]:
         """A colour for each of these, equal for indistinguishable ones and independent of old names. Colours are
         refined by those of the entries as long as that distinguishes more."""
         colours = dict.fromkeys(states + symbols, 0)
@@ -185,7 +184,7 @@ class _Walk:
                 return colours
             count = len(set(colours.values()))
 
-    def _signature(self, one: str, colours: Dict[str, int]) -> List[str]:
+    def _signature(self, one: str, colours: dict[str, int]) -> list[str]:
         """The entries with a state or symbol, with the colours of unnamed ones."""
 
         def name_of(one: str) -> str:
@@ -201,15 +200,14 @@ class _Walk:
                     found.append(self._sides.get(entry[1], "-") + ",".join(names))
         return [name_of(one), *sorted(found)]
 
+    def _rename(self, entry: str) -> str:
+        if entry == "---":
+            return entry
+        return self._symbols[entry[0]] + self._sides[entry[1]] + self._states[entry[2]]
+
     def text(self) -> str:
         """The machine in new names."""
-
-        def rename(entry: str) -> str:
-            if entry == "---":
-                return entry
-            return self._symbols[entry[0]] + self._sides[entry[1]] + self._states[entry[2]]
-
         states = sorted((new, old) for old, new in self._states.items() if old != "Z")
         symbols = [old for old, _ in sorted(self._symbols.items(), key=lambda pair: pair[1])]
-        groups = ("".join(rename(self._entry(state, symbol)) for symbol in symbols) for _, state in states)
+        groups = ("".join(self._rename(self._entry(old, symbol)) for symbol in symbols) for _, old in states)
         return "_".join(groups)

@@ -3,7 +3,7 @@
 from __future__ import annotations
 
 import re
-from typing import Iterator, List, Sequence
+from typing import Iterator, Sequence
 
 from ._text import quote
 
@@ -39,12 +39,9 @@ def whole_number(text: str) -> int:
     sign = -1 if plain.startswith("-") else 1
     digits = re.sub("^[+-]", "", plain)
     power = _POWER.fullmatch(digits)
-    if power is not None:
-        whole, part, zeros = power[1] or "1", power[2] or "", int(power[3])
-        if zeros < len(part):
-            raise ValueError("%s is no whole number" % quote(text))
-        scaled: int = int(whole + part) * 10 ** (zeros - len(part))
-        return sign * scaled
+    if power is not None and int(power[3]) >= len(power[2] or ""):
+        whole, part = power[1] or "1", power[2] or ""
+        return sign * int(whole + part + "0" * (int(power[3]) - len(part)))
     if _DIGITS.fullmatch(digits) is None and _NUMBER.fullmatch(digits) is None:
         raise ValueError("%s is no whole number" % quote(text))
     return sign * int(re.sub("[^0-9]", "", digits))
@@ -61,7 +58,7 @@ def option_number(text: str) -> int:
         raise ArgumentTypeError("%s; 1000000, 1,000,000, 1_000_000 and 1e6 are" % error) from None
 
 
-def numbers_in(words: Sequence[str], counts: Sequence[int]) -> List[int]:
+def numbers_in(words: Sequence[str], counts: Sequence[int]) -> list[int]:
     """The numbers of these words, each of one word or of several groups. Raises ValueError unless there is one
     way to read them as one of these counts of numbers."""
     ways = [way for way in _ways(list(words), max(counts)) if len(way) in counts]
@@ -71,7 +68,7 @@ def numbers_in(words: Sequence[str], counts: Sequence[int]) -> List[int]:
     return [number_of(text) for text in ways[0]]
 
 
-def _ways(words: List[str], most: int) -> Iterator[List[str]]:
+def _ways(words: list[str], most: int) -> Iterator[list[str]]:
     """The ways to join words to at most so many numbers."""
     if not words:
         yield []

@@ -9,7 +9,7 @@ import math
 import os
 import struct
 import zlib
-from typing import Iterable, List, Optional, Sequence, Tuple, Union
+from typing import Iterable, Sequence
 
 from ._files import name_errors
 from .engine import Configuration, trace
@@ -49,12 +49,12 @@ class Picture:
     is_part: bool
     across: int = 1
 
-    def save(self, path: Union[str, "os.PathLike[str]"]) -> None:
+    def save(self, path: str | os.PathLike[str]) -> None:
         """Writes the PNG file. Raises PictureError for the name of another kind of file, OSError."""
-        ending = os.path.splitext(os.fspath(path))[1]
+        name = os.fspath(path)
+        ending = os.path.splitext(name)[1]
         if ending.lower() not in ("", ".png"):
-            text = "%s: a picture is a PNG file, so not a name that ends in %s"
-            raise PictureError(text % (os.fspath(path), ending))
+            raise PictureError(f"{name}: a picture is a PNG file, so not a name that ends in {ending}")
         with name_errors(path), open(path, "wb") as file:
             file.write(self.png)
 
@@ -70,9 +70,8 @@ def _spacing(last: int, most: int) -> int:
     return every
 
 
-def sample_rows(machine: str, upto: int, cells: int, most: int) -> Tuple[List[Configuration], int]:
-    """At most `most` steps of a run, evenly spaced, and their distance, a power of two. Only some steps are
-    traced for it."""
+def sample_rows(machine: str, upto: int, cells: int, most: int) -> tuple[list[Configuration], int]:
+    """At most `most` steps of a run, evenly spaced by a power of two, and that. Only some are traced."""
     every = _spacing(upto, most)
     chosen = list(trace(machine, upto, cells, every=every))
     closer = _spacing(min(upto, chosen[-1].step + every - 1), most)
@@ -87,8 +86,8 @@ def sample_rows(machine: str, upto: int, cells: int, most: int) -> Tuple[List[Co
 
 
 def visible_range(
-    chosen: Sequence[Configuration], columns: Optional[int], first: Optional[int], last: Optional[int]
-) -> Tuple[int, int, bool]:
+    chosen: Sequence[Configuration], columns: int | None, first: int | None, last: int | None
+) -> tuple[int, int, bool]:
     """The first and last position shown, and whether these aren't the visited ones: the given ones, else all,
     cut to `columns` about the middle."""
     low = min(row.low for row in chosen)
@@ -157,26 +156,17 @@ def png(rows: Sequence[bytes], scale: int) -> bytes:
 
 
 def _refuse_large(rows: int, columns: int, scale: int) -> None:
-    """Raises PictureError for a picture that is too large."""
     pixels = rows * columns * scale**2
-    if pixels <= MOST_PIXELS:
-        return
-    size = "{:,} rows and {:,} columns at scale {:,} are {:,} pixels, more than {:,}".format(
-        rows, columns, scale, pixels, MOST_PIXELS
-    )
-    largest = math.isqrt(MOST_PIXELS // (rows * columns))
-    if largest:
-        raise PictureError("%s; lower scale to %d or less, or rows or columns" % (size, largest))
-    raise PictureError("%s; lower rows or columns" % size)
+    if pixels > MOST_PIXELS:
+        size = f"{rows:,} rows and {columns:,} columns at scale {scale:,} are {pixels:,} pixels"
+        largest = math.isqrt(MOST_PIXELS // (rows * columns))
+        advice = f"lower scale to {largest} or less, or rows or columns"
+        advice = advice if largest else "lower rows or columns"
+        raise PictureError(f"{size}, more than {MOST_PIXELS:,}; {advice}")
 
 
 def _draw(
-    chosen: Sequence[Configuration],
-    every: int,
-    is_cut: bool,
-    scale: int,
-    columns: Optional[int],
-    *sides: Optional[int],
+    chosen: list[Configuration], every: int, is_cut: bool, scale: int, columns: int | None, *sides: int | None
 ) -> Picture:
     """The picture of these rows between these sides. Raises PictureError."""
     if not chosen:
@@ -203,11 +193,11 @@ def picture(
     upto: int,
     *,
     cells: int = 65_536,
-    every: Optional[int] = None,
+    every: int | None = None,
     rows: int = 2_000,
-    columns: Optional[int] = None,
-    left: Optional[int] = None,
-    right: Optional[int] = None,
+    columns: int | None = None,
+    left: int | None = None,
+    right: int | None = None,
     scale: int = 1,
 ) -> Picture:
     """The space-time picture of a run of `upto` steps, or as many as there are or the cells allow.
@@ -228,11 +218,7 @@ def picture(
             in_range(name, asked, 1, 2**64 - 1)
     sides = [side if side is None else whole(name, side) for name, side in (("left", left), ("right", right))]
     if every is None:
-        chosen, apart = sample_rows(machine, upto, cells, rows)
-        is_cut = False
-    else:
-        apart = in_range("every", every, 1, 2**64 - 1)
-        chosen = list(itertools.islice(trace(machine, upto, cells, every=apart), rows + 1))
-        is_cut = len(chosen) > rows
-        del chosen[rows:]
-    return _draw(chosen, apart, is_cut, scale, columns, *sides)
+        return _draw(*sample_rows(machine, upto, cells, rows), False, scale, columns, *sides)
+    apart = in_range("every", every, 1, 2**64 - 1)
+    chosen = list(itertools.islice(trace(machine, upto, cells, every=apart), rows + 1))
+    return _draw(chosen[:rows], apart, len(chosen) > rows, scale, columns, *sides)

@@ -15,7 +15,7 @@ import os
 import pathlib
 import re
 import string
-from typing import Any, Counter, Dict, Iterable, Iterator, List, Optional, Sequence, Tuple, Union
+from typing import Any, Counter, Iterable, Iterator, Sequence
 
 from ._files import FileTarget, write_blocks
 from .counts import KINDS, VerdictCounts
@@ -53,25 +53,24 @@ class Report:
 
     def _repr_html_(self) -> str:
         # A frame keeps the styles of the page and the notebook apart.
-        return (
-            '<iframe title="%s" srcdoc="%s" style="width:100%%;height:40rem;border:1px solid #8886"></iframe>'
-            % (html.escape(self.title), html.escape(self.html))
-        )
+        title, page = html.escape(self.title), html.escape(self.html)
+        style = "width:100%;height:40rem;border:1px solid #8886"
+        return f'<iframe title="{title}" srcdoc="{page}" style="{style}"></iframe>'
 
 
 class Statistics(VerdictCounts):
     """The counts of a list, the distributions of its numbers, and the `most` smallest undecided machines. Raises
     ValueError with its place for a text that is no verdict line."""
 
-    def __init__(self, verdicts: Iterable[Union[str, Verdict]], most: int) -> None:
+    def __init__(self, verdicts: Iterable[str | Verdict], most: int) -> None:
         super().__init__()
-        self.bins: Dict[str, Counter[int]] = collections.defaultdict(collections.Counter)
-        self.smallest: List[Tuple[int, str]] = []
+        self.bins: dict[str, Counter[int]] = collections.defaultdict(collections.Counter)
+        self.smallest: list[tuple[int, str]] = []
         self._most = most
         for verdict in verdicts_of(verdicts, "verdicts"):
             self.add(str(verdict))
 
-    def _add_numbers(self, kind: str, numbers: Dict[str, int], line: str) -> None:
+    def _add_numbers(self, kind: str, numbers: dict[str, int], line: str) -> None:
         super()._add_numbers(kind, numbers, line)
         for name, number in numbers.items():
             plot = _PLOTTED.get("%s %s" % (kind, name))
@@ -84,8 +83,7 @@ class Statistics(VerdictCounts):
 
 
 def bin_of(number: int) -> int:
-    """The bar of a distribution that has a number: one for each number up to 10, then ten for each power of
-    ten."""
+    """The bar that has a number: one for each number up to 10, then ten for each power of ten."""
     return number if number <= 10 else math.floor(10 * math.log10(number))
 
 
@@ -94,17 +92,15 @@ def start_of(place: int) -> float:
     return place - 0.5 if place <= 10 else 10 ** (place / 10)
 
 
-def _import_matplotlib() -> Tuple[Any, Any, Any]:
+def _import_matplotlib() -> tuple[Any, Any, Any]:
     """The parts of matplotlib that a report uses. Raises ReportError."""
     try:
         from matplotlib import rc_context
         from matplotlib.figure import Figure
         from matplotlib.ticker import MaxNLocator
     except ImportError as error:
-        raise ReportError(
-            "a report needs matplotlib (%s): pip install matplotlib, or on Debian apt install"
-            " python3-matplotlib" % error
-        ) from None
+        how = "pip install matplotlib, or on Debian apt install python3-matplotlib"
+        raise ReportError(f"a report needs matplotlib ({error}): {how}") from None
     return rc_context, Figure, MaxNLocator
 
 
@@ -114,9 +110,9 @@ def plot(counts: Counter[int], name: str) -> str:
     with rc_context({"svg.hashsalt": name, "svg.fonttype": "none", "font.size": 9, "text.color": _INK}):
         figure = figure_of(figsize=(4.6, 2.4), layout="constrained")
         axes = figure.subplots()
-        starts = [start_of(place) for place in sorted(counts)]
-        ends = [start_of(place + 1) for place in sorted(counts)]
-        heights = [counts[place] for place in sorted(counts)]
+        places = sorted(counts)
+        starts, ends = list(map(start_of, places)), [start_of(place + 1) for place in places]
+        heights = [counts[place] for place in places]
         widths = [0.9 * (end - start) for start, end in zip(starts, ends)]
         lefts = [start + width / 18 for start, width in zip(starts, widths)]
         axes.bar(lefts, heights, widths, align="edge", color=_BAR)
@@ -149,8 +145,7 @@ def _colour(axes: Any) -> None:
 
 
 def diagram(rows: Sequence[Configuration]) -> bytes:
-    """A space-time diagram of at most SIZE by SIZE pixels, as a PNG file. A wide one has the mean colours of
-    several positions."""
+    """A diagram of at most SIZE by SIZE pixels, a PNG file; a wide one has mean colours of positions."""
     low = min(row.low for row in rows)
     high = max(row.low + len(row.cells) for row in rows)
     across = -(-(high - low) // SIZE)
@@ -170,7 +165,7 @@ class MachineDiagram:
     png: bytes
 
 
-def trace_all(machines: Sequence[str], steps: int, cells: int, threads: int) -> List[MachineDiagram]:
+def trace_all(machines: Sequence[str], steps: int, cells: int, threads: int) -> list[MachineDiagram]:
     """Traces machines for the report, on so many threads, in order."""
 
     def trace_machine(machine: str) -> MachineDiagram:
@@ -184,21 +179,14 @@ def trace_all(machines: Sequence[str], steps: int, cells: int, threads: int) -> 
         pool.shutdown(wait=False, cancel_futures=True)
 
 
-def _number(number: float) -> str:
-    return "{:,}".format(number)
-
-
 def _counts(found: Statistics) -> Iterator[str]:
     total = sum(found.kinds.values())
     for name in KINDS:
         count = found.kinds[name]
         share = 100 * count / total if total else 0
-        yield (
-            '<tr><th scope="row">%s</th><td>%s</td><td>%.2f %%</td>'
-            '<td class="share"><span style="width:%.2f%%"></span></td></tr>'
-            % (name, _number(count), share, share)
-        )
-    yield '<tr class="all"><th scope="row">all</th><td>%s</td><td></td><td></td></tr>' % _number(total)
+        bar = f'<td class="share"><span style="width:{share:.2f}%"></span></td>'
+        yield f'<tr><th scope="row">{name}</th><td>{count:,}</td><td>{share:.2f} %</td>{bar}</tr>'
+    yield f'<tr class="all"><th scope="row">all</th><td>{total:,}</td><td></td><td></td></tr>'
 
 
 def _longest(found: Statistics) -> Iterator[str]:
@@ -210,15 +198,10 @@ def _longest(found: Statistics) -> Iterator[str]:
 
 
 def _card(one: MachineDiagram) -> str:
-    """A diagram with its caption."""
-    image = base64.b64encode(one.png).decode()
-    caption = "%s cells, last step %s" % (_number(one.growth.visited[-1]), _number(one.growth.steps))
-    machine = html.escape(one.machine)
-    return (
-        '<figure class="card"><img loading="lazy" alt="Space-time diagram of %s" '
-        'src="data:image/png;base64,%s">'
-        "<figcaption><code>%s</code><br>%s</figcaption></figure>" % (machine, image, machine, caption)
-    )
+    machine, data = html.escape(one.machine), base64.b64encode(one.png).decode()
+    image = f'<img loading="lazy" alt="Space-time diagram of {machine}" src="data:image/png;base64,{data}">'
+    caption = f"<code>{machine}</code><br>{one.growth.visited[-1]:,} cells, last step {one.growth.steps:,}"
+    return f'<figure class="card">{image}<figcaption>{caption}</figcaption></figure>'
 
 
 def _groups(machines: Sequence[MachineDiagram]) -> Iterator[str]:
@@ -227,8 +210,8 @@ def _groups(machines: Sequence[MachineDiagram]) -> Iterator[str]:
         group = [one for one in machines if one.growth.growth is kind]
         group.sort(key=lambda one: (math.prod(size_of(one.machine)), one.growth.visited[-1], one.machine))
         if group:
-            cards = "".join(map(_card, group))
-            yield '<h3>%s: %s</h3><div class="cards">%s</div>' % (_GROWTHS[kind], _number(len(group)), cards)
+            cards, title = "".join(map(_card, group)), _GROWTHS.get(kind, f"Cells grow as a {kind}")
+            yield f'<h3>{title}: {len(group):,}</h3><div class="cards">{cards}</div>'
 
 
 _DIAGRAMS = (
@@ -236,20 +219,14 @@ _DIAGRAMS = (
     " positions, a pixel has the mean colour of several, and the head isn't shown. The growth of the cells is"
     " estimated from three samples of the run."
 )
-_GROWTHS = {
-    Growth.STAYS: "Cells stay",
-    Growth.LOGARITHM: "Cells grow as a logarithm",
-    Growth.ROOT: "Cells grow as a root",
-    Growth.LINE: "Cells grow as a line",
-    Growth.HALTS: "The run ends",
-}
+_GROWTHS = {Growth.STAYS: "Cells stay", Growth.HALTS: "The run ends"}
 
 
 def _page(found: Statistics, machines: Sequence[MachineDiagram], title: str) -> str:
     undecided = "No machine is left undecided."
     if found.undecided():
-        pair = _number(len(machines)), _number(found.undecided())
-        undecided = "%s of %s undecided machines are shown." % pair + (" " + _DIAGRAMS if machines else "")
+        undecided = f"{len(machines):,} of {found.undecided():,} undecided machines are shown."
+        undecided += " " + _DIAGRAMS if machines else ""
     plots = ("<figure>%s</figure>" % plot(found.bins[name], name) for name in _PLOTS if found.bins[name])
     return string.Template(_PAGE.read_text(encoding="utf-8")).substitute(
         title=html.escape(title),
@@ -262,13 +239,13 @@ def _page(found: Statistics, machines: Sequence[MachineDiagram], title: str) -> 
 
 
 def report(
-    verdicts: Iterable[Union[str, Verdict]],
-    path: Union[str, "os.PathLike[str]"],
+    verdicts: Iterable[str | Verdict],
+    path: str | os.PathLike[str],
     *,
     diagrams: int = 100,
     steps: int = 1_000_000,
     cells: int = 65_536,
-    threads: Optional[int] = None,
+    threads: int | None = None,
     title: str = "Verdicts",
 ) -> Report:
     """Writes one HTML file on a list of verdicts or verdict lines: counts, distributions, the longest runs, and

@@ -5,7 +5,7 @@ from __future__ import annotations
 import dataclasses
 import functools
 import re
-from typing import Callable, ClassVar, Dict, Iterable, Iterator, Optional, Pattern, Tuple, Union
+from typing import Callable, ClassVar, Iterable, Iterator, Pattern, Union
 
 from ._text import LONGEST_SHOWN, LONGEST_VALUE, Words
 from .limits import whole
@@ -75,7 +75,7 @@ class Translated:
     side: str
     first: int
     second: int
-    extent: Optional[Extent] = None
+    extent: Extent | None = None
     kind: ClassVar[str] = "translated"
 
     def __str__(self) -> str:
@@ -115,7 +115,7 @@ class Refused:
     machine. `machine` is the input of `decide`, and None after `parse`; it isn't compared."""
 
     column: int
-    machine: Optional[str] = dataclasses.field(default=None, compare=False)
+    machine: str | None = dataclasses.field(default=None, compare=False)
     kind: ClassVar[str] = "refused"
 
     def __str__(self) -> str:
@@ -126,14 +126,11 @@ class Refused:
 MachineVerdict = Union[Halt, Cycler, Translated, Backward, Undecided]
 Verdict = Union[MachineVerdict, Refused]
 VERDICTS = (Halt, Cycler, Translated, Backward, Undecided, Refused)
-_OF_TWO_NUMBERS: Dict[str, Callable[[str, int, int], Verdict]] = {
-    "halt": Halt,
-    "cycler": Cycler,
-    "backward": Backward,
-}
+_OfTwoNumbers = Callable[[str, int, int], Verdict]
+_OF_TWO_NUMBERS: dict[str, _OfTwoNumbers] = {"halt": Halt, "cycler": Cycler, "backward": Backward}
 
 
-def require_field_types(name: str, verdict: Union[Verdict, Extent]) -> None:
+def require_field_types(name: str, verdict: Verdict | Extent) -> None:
     """Raises TypeError if a field of the verdict `name` has the wrong type: its line would be another one."""
     for field in dataclasses.fields(verdict):
         given, kind = getattr(verdict, field.name), str(field.type)
@@ -156,7 +153,7 @@ def _shape(states: int, symbols: int) -> Pattern[str]:
     return re.compile("%s(?:_%s){%d}" % (group, group, states - 1))
 
 
-def size_of(machine: str) -> Tuple[int, int]:
+def size_of(machine: str) -> tuple[int, int]:
     """The states and symbols of a machine; any numbers for another text."""
     states = machine.count("_") + 1
     return states, ((len(machine) + 1) // states - 1) // 3
@@ -232,7 +229,7 @@ def parse(line: str) -> Verdict:
         raise ValueError("no verdict line: %.*r" % (LONGEST_SHOWN, line)) from None
 
 
-def verdicts_of(items: Iterable[Union[str, Verdict]], name: str) -> Iterator[Verdict]:
+def verdicts_of(items: Iterable[str | Verdict], name: str) -> Iterator[Verdict]:
     """The verdicts of verdicts and lines, which may have fields behind a tab. Raises ValueError, TypeError, with
     the place in the list `name`."""
     for place, item in enumerate(items):

@@ -5,7 +5,7 @@ from __future__ import annotations
 import collections
 import dataclasses
 import io
-from typing import Counter, Iterator, List, Optional, Sequence, Tuple
+from typing import Counter, Iterator, Sequence
 
 from ._calls import BinaryReader
 from .engine import check_file, decide
@@ -18,11 +18,10 @@ _FEW_CELLS = 65_536
 
 @dataclasses.dataclass
 class CheckSummary:
-    """The count of each answer so far, and number, text and answer of the first line that is neither `ok` nor
-    `open`."""
+    """The count of each answer so far, and number, text and answer of the first unconfirmed line."""
 
     counts: Counter[Answer] = dataclasses.field(default_factory=collections.Counter)
-    first: Optional[Tuple[int, str, Answer]] = None
+    first: tuple[int, str, Answer] | None = None
 
 
 def answer_blocks(file: BinaryReader, limits: Limits, threads: int, summary: CheckSummary) -> Iterator[bytes]:
@@ -36,7 +35,7 @@ def answer_blocks(file: BinaryReader, limits: Limits, threads: int, summary: Che
         yield answers
 
 
-def _first_unconfirmed(lines: bytes, answers: bytes, before: int) -> Optional[Tuple[int, str, Answer]]:
+def _first_unconfirmed(lines: bytes, answers: bytes, before: int) -> tuple[int, str, Answer] | None:
     """The first line that is neither `ok` nor `open`, with `before` lines before these."""
     words = answers.split(b"\n")[:-1]
     if words.count(b"ok") + words.count(b"open") == len(words):
@@ -58,7 +57,7 @@ def explain(line: str, answer: Answer, limits: Limits) -> str:
 
 
 def _exceeded_limit(verdict: Verdict, limits: Limits) -> str:
-    named: List[Tuple[str, str, int]] = []
+    named: list[tuple[str, str, int]] = []
     if isinstance(verdict, Halt):
         named = [("steps", "steps", verdict.steps)]
     elif isinstance(verdict, (Cycler, Translated)):
@@ -89,7 +88,7 @@ def _wrong_part(verdict: Verdict, limits: Limits) -> str:
     return "the tree doesn't end in so many levels and nodes, or the start fits one of them"
 
 
-def answers_of(claims: Sequence[Verdict], limits: Limits, threads: int) -> List[Answer]:
+def answers_of(claims: Sequence[Verdict], limits: Limits, threads: int) -> list[Answer]:
     """The checker's answer to each claim. Claims that need more than a few cells are checked twice."""
     depth = min(limits.depth, _FEW_CELLS // 2)
     few = Limits(limits.steps, min(limits.cells, _FEW_CELLS), depth, limits.nodes)

@@ -2,32 +2,18 @@
 
 from __future__ import annotations
 
-import contextlib
 import os
 import pathlib
 import random
-import signal
 import subprocess
 import time
-from typing import Iterator, Tuple
 
 import pytest
 from support.clusters import Cluster, changed_package, cluster
 from support.machines import CHAMPION
 from support.program import MAX_CELLS, MAX_STEPS, as_lines
-from support.runs import (
-    LONG_MACHINE,
-    PASSES,
-    Case,
-    Process,
-    decide_lines,
-    expected_verdicts,
-    is_at_work,
-    kill_often,
-    random_list,
-    require_interrupted,
-    wait_until,
-)
+from support.runs import LONG_MACHINE, PASSES, Case, Process, decide_lines, expected_verdicts, is_at_work
+from support.runs import kill_often, random_list, require_interrupted, stop, wait_until
 
 pytestmark = pytest.mark.needs(modules=("distributed",))
 # A run of LONG_MACHINE at these limits takes seconds.
@@ -37,26 +23,6 @@ ENDLESS_PASS = (MAX_STEPS, MAX_CELLS, 3, 10)
 QUICK_PASS = (300, 64, 3, 10)
 # How a worker ends itself at LONG_MACHINE.
 DEADLY = "    if %r in lines: import os; os._exit(9)\n" % LONG_MACHINE
-# How a worker answers the same to all verdicts, and how it says of a wrong one that it is right.
-KEEPS_ANSWERS = """
-def _kept_answer(limits: Numbers) -> ChunkReply:
-    return _make_reply(describe_task(CHECK, limits), check_call(Limits(*limits)), b"1RZ--- halt 1 1\\n")
-
-
-"""
-LIES = [
-    ("buffer.reply().text", "_lie(task, buffer.reply().text)"),
-    (
-        "def _make_reply(",
-        """def _lie(asked: str, written: bytes) -> bytes:
-    if asked.startswith(CHECK):
-        return b"ok\\n" * written.count(b"\\n")
-    return written.replace(b" halt 1 1\\n", b" halt 1 0\\n")
-
-
-def _make_reply(""",
-    ),
-]
 # What makes a process collect garbage all the time.
 COLLECTS = """import gc, threading, time
 def collect():
@@ -65,36 +31,23 @@ def collect():
         gc.collect()
 threading.Thread(target=collect, daemon=True).start()
 """
-# What is changed in the package of workers that can't decide anything rightly, and what the run says of them.
-WRONG_WORKERS: dict[str, tuple[str, list[tuple[str, str]], str]] = {
-    "another version": ("_version.py", [('VERSION = "', 'VERSION = "9.')], "it was decided by version 9."),
-    "garbage": ("runner/chunks.py", [("buffer.reply().text", 'b"x\\n"')], "came back for"),
-    "a byte that changes on its way": (
-        "runner/chunks.py",
-        [("return (written,", 'return (written[:-2] + b"7\\n",')],
-        "the reply was changed in transit",
-    ),
-    "answers to other verdicts": (
-        "runner/chunks.py",
-        [
-            (
-                "    return _make_reply(describe_task(CHECK",
-                "    return _kept_answer(limits) or _make_reply(describe_task(CHECK",
-            ),
-            ("def check_chunk", KEEPS_ANSWERS + "def check_chunk"),
-        ],
-        "the reply answers other lines",
-    ),
-    "a reply that can't be read": (
-        "runner/chunks.py",
-        [("_thread_state = ", "class Odd: pass\n_thread_state = "), ("return (written,", "return (Odd(),")],
-        "AttributeError: ",
-    ),
+# Workers that can't decide anything rightly: what the run says of them, and what is changed in their package.
+WRONG_WORKERS = {
+    "nothing": "No module named 'budlarem'",
+    "another version": "it was decided by version 9.",
+    "garbage": "came back for",
+    "a reply that can't be read": "AttributeError: ",
 }
-
-
+CHANGES = {
+    "another version": [('VERSION = "', 'VERSION = "9.')],
+    "garbage": [("buffer.reply().text", 'b"x\\n"')],
+    "a reply that can't be read": [
+        ("_thread_state = ", "class Odd: pass\n_thread_state = "),
+        ("return (written,", "return (Odd(),"),
+    ],
+}
 # A list, and the verdicts of one process for each pass.
-Given = Tuple[bytes, bytes]
+Given = tuple[bytes, bytes]
 
 
 @pytest.fixture(scope="module")
@@ -124,26 +77,12 @@ def quick_list(bb: str, count: int, seed: int) -> bytes:
 
 
 def require_end(case: Case, status: int, right: bytes) -> None:
-    """A run came to its end, with the right bytes."""
-    assert status == 1, case.output()
-    assert case.verdicts() == right
+    assert status == 1 and case.verdicts() == right, case.output()
 
 
 def require_sentence(case: Case, process: Process, text: str) -> None:
     """Waits until the run prints something."""
     assert wait_until(process, lambda: text in case.output()), case.output()
-
-
-@contextlib.contextmanager
-def stop(case: Case, process: Process) -> Iterator[None]:
-    """Waits until some chunks stand, and stops the run meanwhile, so that it can't come to its end."""
-    was_seen = wait_until(process, lambda: case.chunks() >= 3)
-    process.send_signal(signal.SIGSTOP)
-    assert was_seen and not case.verdicts(), case.output()
-    try:
-        yield
-    finally:
-        process.send_signal(signal.SIGCONT)
 
 
 @pytest.mark.parametrize("lines", [1_000, pytest.param(10_000, marks=pytest.mark.slow)])
@@ -177,8 +116,7 @@ def test_five_kills(bb: str, tmp_path: pathlib.Path) -> None:
         with case.start() as process:
             for count in range(5):
                 worker = found.start_worker()
-                at_work = wait_until(process, lambda: is_at_work(worker.pid))
-                assert at_work, case.output()
+                assert wait_until(process, lambda: is_at_work(worker.pid)), case.output()
                 found.kill_workers()
             found.start_worker()
             status = process.wait()
@@ -191,16 +129,8 @@ def test_deadly_line(bb: str, tmp_path: pathlib.Path) -> None:
     """A line ends each worker that decides it: it is named, and all other chunks stand."""
     quick = quick_list(bb, 60, 4)
     with cluster(0, tmp_path) as found:
-        deadly = changed_package(
-            found.top,
-            "runner/chunks.py",
-            [
-                (
-                    "    return _make_reply(describe_task(DECIDE",
-                    DEADLY + "    return _make_reply(describe_task(DECIDE",
-                )
-            ],
-        )
+        call = "    return _make_reply(describe_task(DECIDE"
+        deadly = changed_package(found.top, "runner/chunks.py", [(call, DEADLY + call)])
         case = case_of(found, "deadly", quick + LONG_MACHINE + quick, (QUICK_PASS,))
         with case.start(str(case.list), "--piece", "8") as process:
             while process.poll() is None:
@@ -208,19 +138,15 @@ def test_deadly_line(bb: str, tmp_path: pathlib.Path) -> None:
                 while len(found.workers) < 3:
                     found.start_worker(deadly)
                 time.sleep(0.02)
-        number = quick.count(b"\n") + 1
-        named = "line %d: every worker that decided it died" % number in case.output()
-        is_one = "all but 1 chunks are stored" in case.output() and process.returncode == 3
-        assert named and is_one, case.output()
+        assert "line %d: every worker that decided it died" % (quick.count(b"\n") + 1) in case.output()
+        assert "all but 1 chunks are stored" in case.output() and process.returncode == 3
         found.kill_workers()
         found.start_worker()
-        right = expected_verdicts(bb, case.list.read_bytes(), [QUICK_PASS])
-        require_end(case, case.run(), right)
+        case.require_verdicts(expected_verdicts(bb, case.list.read_bytes(), [QUICK_PASS]))
 
 
 @pytest.mark.slow
 def test_no_workers(many: Given, tmp_path: pathlib.Path) -> None:
-    """All workers go, and new ones come."""
     given, right = many
     with cluster(2, tmp_path) as found:
         case = case_of(found, "none", given)
@@ -260,62 +186,22 @@ def collect_garbage(tmp_path: pathlib.Path) -> dict[str, str]:
 
 
 @pytest.mark.slow
-@pytest.mark.parametrize("what", ["nothing", *WRONG_WORKERS])
+@pytest.mark.parametrize("what", WRONG_WORKERS)
 def test_wrong_worker(few: Given, tmp_path: pathlib.Path, what: str) -> None:
     """A worker that can't decide anything rightly ends the run; by a right one it goes on."""
     given, right = few
     with cluster(0, tmp_path) as found:
-        if what in WRONG_WORKERS:
-            file, changes, said = WRONG_WORKERS[what]
-            wrong = changed_package(found.top, file, changes)
-        else:
-            wrong, said = {"PYTHONPATH": str(found.top)}, "No module named 'budlarem'"
+        wrong = {"PYTHONPATH": str(found.top)}
+        if what in CHANGES:
+            file = "_version.py" if what == "another version" else "runner/chunks.py"
+            wrong = changed_package(found.top, file, CHANGES[what])
         found.start_worker(wrong)
         case = case_of(found, "wrong", given)
-        more = ["--check"] if what == "answers to other verdicts" else []
-        status = case.run(str(case.list), *more, variables=collect_garbage(found.top))
-        held = status == 3 and said in case.output() and "resumes" in case.output()
-        assert held, case.output()
-        assert "Traceback" not in case.output(), case.output()
+        case.require_error(3, WRONG_WORKERS[what], variables=collect_garbage(found.top))
+        assert "resumes" in case.output() and "Traceback" not in case.output(), case.output()
         found.kill_workers()
         found.start_worker()
-        require_end(case, case.run(), right)
-
-
-@pytest.mark.slow
-@pytest.mark.parametrize("seconds", ["1e9", "1e308"])
-def test_claimed_seconds(bb: str, tmp_path: pathlib.Path, seconds: str) -> None:
-    """Workers that give seconds that didn't pass: chunks don't become small by it, nor does the run fail."""
-    given = random_list(300, 1)
-    with cluster(0, tmp_path) as found:
-        change = ("return (written, seconds,", "return (written, %s," % seconds)
-        found.start_worker(changed_package(found.top, "runner/chunks.py", [change]))
-        case = case_of(found, "seconds", given, PASSES[:1])
-        require_end(case, case.run(), expected_verdicts(bb, given, PASSES[:1]))
-        assert case.chunks() < given.count(b"\n") // 10
-
-
-@pytest.mark.slow
-def test_lies(bb: str, tmp_path: pathlib.Path) -> None:
-    """A worker that gives a wrong verdict, and says that it is right: the checker of the runner's process
-    finds it, and names the line; those of the workers don't."""
-    given = b"1RZ---\n" + b"1RA1RA\n" * 50
-    with cluster(0, tmp_path) as found:
-        found.start_worker(changed_package(found.top, "runner/chunks.py", LIES))
-        case = case_of(found, "lies", given, (QUICK_PASS,))
-        status = case.run(str(case.list), "--check")
-        is_taken = b" halt 1 0\n" in case.verdicts()
-        assert status == 0 and is_taken, case.output()
-        case.clear()
-        status = case.run(str(case.list), "--check-here")
-        is_named = "line 1: the checker answers bad: 1RZ--- halt 1 0" in case.output()
-        assert status == 1 and is_named, case.output()
-        found.kill_workers()
-        found.start_worker()
-        status = case.run(str(case.list), "--check-here")
-        assert status == 0, case.output()
-        right = expected_verdicts(bb, given, (QUICK_PASS,))
-        assert case.verdicts() == right
+        case.require_verdicts(right)
 
 
 @pytest.mark.slow
@@ -324,9 +210,8 @@ def test_runner(bb: str, tmp_path: pathlib.Path, rng: random.Random) -> None:
     with cluster(2, tmp_path) as found:
         case = case_of(found, "runner", random_list(20_000, 1))
         right = expected_verdicts(bb, case.list.read_bytes(), PASSES)
-        kills = kill_often(case, 10, rng)
-        assert kills == 10
-        require_end(case, case.run(), right)
+        assert kill_often(case, 10, rng) == 10
+        case.require_verdicts(right)
         case = case_of(found, "interruption", LONG_MACHINE, (ENDLESS_PASS,))
         with case.start() as process:
             at_work = wait_until(process, lambda: any(is_at_work(worker.pid) for worker in found.workers))
@@ -345,12 +230,10 @@ def test_encryption(few: Given, tmp_path: pathlib.Path) -> None:
     files = ("--tls-ca-file", certificate, "--tls-cert", certificate, "--tls-key", key)
     with cluster(1, tmp_path, files) as found:
         case = case_of(found, "encrypted", given)
-        require_end(case, case.run(str(case.list), *files), right)
+        case.require_verdicts(right, str(case.list), *files)
         case.clear()
         quickly = {"DASK_DISTRIBUTED__COMM__TIMEOUTS__CONNECT": "5s"}
-        status = case.run(variables=quickly)
-        refused = status == 3 and "no scheduler answers" in case.output()
-        assert refused, case.output()
+        case.require_error(3, "no scheduler answers", variables=quickly)
 
 
 @pytest.mark.slow
@@ -359,7 +242,6 @@ def test_large_chunks(bb: str, tmp_path: pathlib.Path) -> None:
     given = as_lines([CHAMPION]) * 100_000
     with cluster(2, tmp_path) as found:
         case = case_of(found, "large", given, (QUICK_PASS,))
-        status = case.run(str(case.list), "--piece", "20000", "--check")
-        said = case.output()
-        assert status == 0 and "arning" not in said, said
-        assert case.verdicts() == expected_verdicts(bb, given, (QUICK_PASS,))
+        right = expected_verdicts(bb, given, (QUICK_PASS,))
+        case.require_verdicts(right, str(case.list), "--piece", "20000", "--check", status=0)
+        assert "arning" not in case.output(), case.output()

@@ -37,13 +37,11 @@ complete_here "$@"
 
 
 def help_of(command: Sequence[str]) -> str:
-    """The help of a program or a command."""
     variables = {**os.environ, "COLUMNS": "200"}
     return subprocess.run([*command, "--help"], stdout=subprocess.PIPE, text=True, env=variables).stdout
 
 
 def commands_of(program: str, command: Sequence[str]) -> set[str]:
-    """The commands that a program's help names."""
     page = help_of(command).partition("Commands:" if program == "bb" else "COMMAND\n")[2].partition("\n\n")[0]
     return {*re.findall(r"^ {2,4}([a-z]+) ", page, re.MULTILINE), "help"}
 
@@ -60,7 +58,6 @@ class Shell:
         self.name, self.files, self.cwd = name, files, cwd
 
     def at(self, *line: str) -> list[str]:
-        """What may stand there."""
         file = str(self.files / ("%s.%s" % (line[0], self.name)))
         if self.name == "fish":
             asked = " ".join(line).replace("'", "\\'")

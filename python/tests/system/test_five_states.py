@@ -37,15 +37,15 @@ def lister(list_machines: Callable[..., list[str]]) -> None:
 def start(out: pathlib.Path, *asked: str) -> Process:
     """Starts the script, in a group of processes of its own."""
     command = [SCRIPT, "--library", os.environ["BB_LIBRARY"], "--out", str(out), *asked]
-    return subprocess.Popen(
-        command, stderr=subprocess.PIPE, start_new_session=True, preexec_fn=restore_signals
-    )
+    how: dict[str, Any] = {"stderr": subprocess.PIPE, "start_new_session": True}
+    return subprocess.Popen(command, preexec_fn=restore_signals, **how)
 
 
-def wait_for(process: Process) -> tuple[int, str]:
-    """The status of a process, and what it printed."""
+def require_end(process: Process, status: int = 0, sentence: str = "") -> str:
+    """Requires a process to end with this status and a sentence; what it printed."""
     output = process.communicate(timeout=600)[1].decode()
-    return process.returncode, output
+    assert process.returncode == status and sentence in output, output
+    return output
 
 
 def summary_in(out: pathlib.Path) -> dict[str, Any]:
@@ -54,16 +54,13 @@ def summary_in(out: pathlib.Path) -> dict[str, Any]:
 
 
 def passes(summary: dict[str, Any]) -> list[tuple[int, tuple[int, ...]]]:
-    """The lines of each pass, and the counts by kind."""
     return [(one["lines"], tuple(one["counts"][kind] for kind in KINDS)) for one in summary["passes"]]
 
 
 @pytest.mark.slow
 def test_sample(bb: str, tmp_path: pathlib.Path) -> None:
-    """Each thousandth machine: its counts, what is left of it, and the share of each kind, which is about
-    that in the whole list."""
-    status, printed = wait_for(start(tmp_path / "out", "--every", "1000", "--parts", "8"))
-    assert status == 0, printed
+    """Each thousandth machine: its counts, what is left of it, and a share of each kind as in all."""
+    require_end(start(tmp_path / "out", "--every", "1000", "--parts", "8"))
     found = summary_in(tmp_path / "out")
     assert passes(found) == PASSES
     left = (tmp_path / "out" / "left.txt").read_bytes()
@@ -71,8 +68,7 @@ def test_sample(bb: str, tmp_path: pathlib.Path) -> None:
     assert decided == b"".join(machine + b" undecided steps\n" for machine in left.splitlines())
     for kind in KINDS:
         share, sampled = WRITTEN["counts"][kind] / MACHINES, found["counts"][kind] / PASSES[0][0]
-        allowed = 4 * math.sqrt(share * (1 - share) / PASSES[0][0])
-        assert abs(sampled - share) <= allowed, kind
+        assert abs(sampled - share) <= 4 * math.sqrt(share * (1 - share) / PASSES[0][0]), kind
 
 
 def figures_of(summary: dict[str, Any]) -> Iterator[str]:
@@ -112,17 +108,12 @@ def test_document() -> None:
 def test_halts_behind_which_the_list_would_go_on() -> None:
     """A later pass answers what the first left, but a halt on one of several `---`."""
     settle_line = runpy.run_path(SCRIPT)["settle_line"]
-    for line, right in (
-        (b"1RB---_1LA1RA halt 5000 3\n", b"1RB---_1LA1RA halt 5000 3\n"),
-        (b"1RB---_------ halt 1001 1\n", b"1RB---_------ undecided steps\n"),
-        (b"1RB---_------ halt 1000 1\n", b"1RB---_------ halt 1000 1\n"),
-        (b"1RB1LA_1LA1RA cycler 1 2\n", b"1RB1LA_1LA1RA cycler 1 2\n"),
-    ):
-        assert settle_line(line) == right
+    assert settle_line(b"1RB---_------ halt 1001 1\n") == b"1RB---_------ undecided steps\n"
+    for words in (b"1RB---_1LA1RA halt 5000 3", b"1RB---_------ halt 1000 1", b"1RB1LA_1LA1RA cycler 1 2"):
+        assert settle_line(words + b"\n") == words + b"\n"
 
 
 def chunks_in(out: pathlib.Path) -> int:
-    """How many chunks of the first pass stand."""
     path = out / "pass-1" / "journal"
     lines = path.read_bytes().split(b"\n") if path.exists() else []
     return sum(line.startswith(b"checked") for line in lines)
@@ -150,16 +141,12 @@ def test_interruptions(tmp_path: pathlib.Path) -> None:
         process = start(out, *asked)
         while chunks_in(out) == wait_until and time.monotonic() < until:
             time.sleep(0.02)
-        second, output = wait_for(start(out, *asked))
-        assert second == 2 and "another run works in" in output
+        require_end(start(out, *asked), 2, "another run works in")
         (os.killpg if number == signal.SIGKILL else os.kill)(process.pid, number)
-        found, output = wait_for(process)
-        assert found == status, output
-        is_announced = "interrupted; the same command resumes" in output
+        is_announced = "interrupted; the same command resumes" in require_end(process, status)
         assert is_announced == (number == signal.SIGINT)
         assert number == signal.SIGKILL or not is_left(process.pid), "something that it ran is left"
-    status, output = wait_for(start(out, *asked))
-    assert status == 0, output
+    require_end(start(out, *asked))
     summary = summary_in(out)
     assert passes(summary)[0] == FOUR_STATES
     greatest = {name: summary["greatest"][name][0] for name in FOUR_STATES_GREATEST}
@@ -172,8 +159,7 @@ def test_interruptions(tmp_path: pathlib.Path) -> None:
 def test_refusals(tmp_path: pathlib.Path) -> None:
     """Commands and folders that are refused, by a sentence; nothing is changed."""
     small = ("--states", "2", "--parts", "2")
-    status, output = wait_for(start(tmp_path / "small", *small))
-    assert status == 0, output
+    require_end(start(tmp_path / "small", *small))
     (tmp_path / "foreign").mkdir()
     (tmp_path / "foreign" / "letter.txt").write_text("Dear reader\n")
     for name, asked, sentence in (
@@ -183,8 +169,7 @@ def test_refusals(tmp_path: pathlib.Path) -> None:
         ("none", ("--states", "6"), "--states is 6, but must be from 1 to 5"),
     ):
         before = sorted(tmp_path.rglob("*"))
-        status, output = wait_for(start(tmp_path / name, *asked))
-        assert status == 2 and sentence in output
+        require_end(start(tmp_path / name, *asked), 2, sentence)
         assert sorted(tmp_path.rglob("*")) == before
 
 
@@ -193,23 +178,13 @@ def test_stream(bb: str, cover: str, tmp_path: pathlib.Path) -> None:
     small = ("--states", "3", "--parts", "5")
 
     def stream(name: str, *more: str) -> tuple[int, bytes, bytes]:
-        command = [
-            SCRIPT,
-            "--library",
-            os.environ["BB_LIBRARY"],
-            "--out",
-            str(tmp_path / name),
-            *small,
-            *more,
-        ]
-        return run_command([*command, "--stream"])
+        command = [SCRIPT, "--library", os.environ["BB_LIBRARY"], "--out", str(tmp_path / name)]
+        return run_command([*command, *small, *more, "--stream"])
 
-    status, printed = wait_for(start(tmp_path / "three", *small))
-    assert status == 0, printed
+    require_end(start(tmp_path / "three", *small))
     status, _, error = stream("three")
     assert status == 2 and b"aren't kept" in error
-    status, printed = wait_for(start(tmp_path / "kept", *small, "--keep"))
-    assert status == 0, printed
+    require_end(start(tmp_path / "kept", *small, "--keep"))
     status, verdicts, error = stream("kept")
     assert status == 0, error
     assert run_command([cover], verdicts).output.startswith(b"covers 3 states 2 symbols: 5417 lines,")

@@ -18,7 +18,7 @@ from budlarem import Form, Halt, Judgement, Limits, Undecided, Verdict
 from budlarem.normal_forms import canonical_form
 from support import TOP
 from support.claims import with_other_number
-from support.machines import mixed_machines, uniform
+from support.machines import CHAMPION, mixed_machines, uniform
 from support.program import CommandResult, as_lines, run_command, options
 from support.terminals import on_terminal
 
@@ -27,48 +27,29 @@ DOCUMENT = TOP / "docs" / "budlarem.md"
 LIMITS = (2_000, 512, 30, 1_000)
 GREATEST = [highest for _, highest in Limits.RANGES.values()]
 # How a machine may stand on a line.
-AROUND = (
-    "%s",
-    "17. %s",
-    "%s halt 6 4",
-    "a,%s,b",
-    "`%s`",
-    "  %s\r",
-    "[%s](https://bbchallenge.org/%s)",
-    "https://bbchallenge.org/%s",
-    "x;%s;nonhalt",
-    "| %s | %s |",
-)
+AROUND = ["%s", "17. %s", "%s halt 6 4", "a,%s,b", "`%s`", "  %s\r", "x;%s;nonhalt", "| %s | %s |"]
+AROUND += ["[%s](https://bbchallenge.org/%s)", "https://bbchallenge.org/%s"]
 
 
 def command(*asked: str, given: bytes = b"") -> CommandResult:
-    """How a command of the package ends."""
     return run_command([sys.executable, "-m", "budlarem", *asked], given)
 
 
 def test_columns(bb: str) -> None:
     """What is read of each form is a machine of the program, what is refused is none."""
-    for form in FORMS["forms"]:
-        for reading in budlarem.read([form["line"]], Form(form.get("form", "text"))):
-            require_column(bb, reading)
-
-
-def require_column(bb: str, reading: budlarem.Reading) -> None:
-    """The program takes the machine, or refuses the line with its column, unless that is a machine in a form
-    that has none there."""
-    given = reading.line if reading.machine is None else reading.machine
-    reply = run_command([bb, "decide", "--steps=0"], given.encode("utf-8", "surrogateescape") + b"\n").output
-    right = None if reply.startswith(b"refused") is False else int(reply.split()[1])
-    assert reading.column == right
+    forms = ((form["line"], Form(form.get("form", "text"))) for form in FORMS["forms"])
+    for reading in (reading for line, form in forms for reading in budlarem.read([line], form)):
+        given = (reading.line if reading.machine is None else reading.machine) + "\n"
+        reply = run_command([bb, "decide", "--steps=0"], given.encode("utf-8", "surrogateescape")).output
+        assert reading.column == (int(reply.split()[1]) if reply.startswith(b"refused") else None)
 
 
 def test_lists(tmp_path: pathlib.Path) -> None:
     """The command finds the form of each list, and prints it; judges each list as it says."""
+    assert min(len(FORMS["lists"]), len(FORMS["judged"])) >= 15
     for entry in FORMS["lists"]:
-        error = command("read", given=as_lines(entry["lines"])).error.decode()
-        printed = re.search("form ([a-z]+)", error)
-        found = None if printed is None else printed.group(1)
-        assert found == entry["form"]
+        printed = re.search("form ([a-z]+)", command("read", given=as_lines(entry["lines"])).error.decode())
+        assert (None if printed is None else printed[1]) == entry["form"], entry["lines"]
     for entry in FORMS["judged"]:
         (tmp_path / "words.txt").write_text(entry.get("words", ""), encoding="utf-8")
         more = ["--form", entry["form"]] if "form" in entry else []
@@ -76,13 +57,13 @@ def test_lists(tmp_path: pathlib.Path) -> None:
             more += ["--steps-column" if role == "steps" else "--" + role, column]
         words = ["judge", "-", "--words", str(tmp_path / "words.txt"), *more]
         output = command(*words, given=as_lines(entry["lines"])).output.decode()
-        found = [line.partition("\t")[0] for line in output.splitlines()]
-        assert found == entry["judgements"], entry
+        rows = [line.split("\t") for line in output.splitlines()]
+        assert [row[0] for row in rows] == entry["judgements"], entry
+        assert {*entry.get("reasons", ())} <= {row[3] for row in rows}, entry
 
 
 def test_printed(tmp_path: pathlib.Path) -> None:
-    """Each command that reads a list prints its form, what was passed over and the encoding, and no control
-    character of it."""
+    """Commands that read a list print its form, skipped lines and encoding, and no control character."""
     lines = ["", "# c", "#17 1RA1RA", "\x1b[31mx", "1RB\x1b1LB_1LA1RZ", "1RA1RA\x1b[0m\x07, \x1b]0;x\x9b",
              "| Machine | x |", "1RA1RA, \x1b[31mred\x9b", "1RB1LB_1LA1RZ, halt 6 4"]  # fmt: skip
     given, wide, page = tmp_path / "list.txt", tmp_path / "wide.txt", str(tmp_path / "page.html")
@@ -91,61 +72,44 @@ def test_printed(tmp_path: pathlib.Path) -> None:
     readers: dict[str, list[str]] = dict.fromkeys(("read", "decide", "normal", "judge", "check"), [])
     for name, more in {**readers, "compare": [str(given)], "report": ["--out", page]}.items():
         status, output, error = command(name, str(given), *more)
-        raw = re.search(b"[\x00-\x08\x0b-\x1f\x7f]|\xc2[\x80-\x9f]", output + error)
-        assert raw is None
+        assert re.search(b"[\x00-\x08\x0b-\x1f\x7f]|\xc2[\x80-\x9f]", output + error) is None
         if name == "check":
             continue
-        printed = error.decode()
-        says = "form text" in printed and "3 lines skipped: empty lines 1, comments 1" in printed
-        assert says and status != 3, (name, printed)
+        assert b"form text" in error and b"3 lines skipped: empty lines 1, comments 1" in error, (name, error)
+        assert status != 3
         status, _, error = command(name, str(wide), *(more if name != "compare" else [str(wide)]))
-        once = error.count(b"UTF-16") == 2 and error.count(b"\n") == 1
-        assert once and status == 2, (name, error[:300])
+        assert (status, error.count(b"UTF-16"), error.count(b"\n")) == (2, 2, 1), (name, error[:300])
     latin = "1RA1RA \u00e9\n1RA1RA \u00fc\n1RA1RA x\n".encode("latin-1")
     for name in ("read", "judge"):
         error = command(name, "-", given=latin).error
-        once = error.count(b"UTF-8") == 1 and b"2 lines with bytes that are no UTF-8" in error
-        assert once, (name, error)
-    printed = command("judge", "-", "--list", str(given), given=b"1RA1RA\n").error.decode()
-    says = "list.txt: 3 lines skipped" in printed and "list.txt:3: refused: a machine in" in printed
-    assert says
+        assert error.count(b"UTF-8") == 1 and b"2 lines with bytes that are no UTF-8" in error, (name, error)
+    error = command("judge", "-", "--list", str(given), given=b"1RA1RA\n").error
+    assert b"list.txt: 3 lines skipped" in error and b"list.txt:3: refused: a machine in" in error
 
 
 def test_translation(tmp_path: pathlib.Path) -> None:
     """The translation of a table's words comes first, with counts, and a file changes it; numbers with groups
     are one number to all three commands that read claims."""
-    champion = "1RB1LC_1RC1RB_1RD0LE_1LA1LD_1RZ0LA"
-    table = [
-        "machine,halts,steps,score",
-        '%s,Yes,"47,176,870","4,098"' % champion,
-        "1RA1RA,no,,",
-        "1RA1RA,?,,",
-    ]
+    table = ["machine,halts,steps,score", '%s,Yes,"47,176,870","4,098"' % CHAMPION]
+    table += ["1RA1RA,no,,", "1RA1RA,?,,"]
     path, plain, word_file = tmp_path / "table.csv", tmp_path / "plain.txt", tmp_path / "words.txt"
     path.write_bytes(as_lines(table))
-    plain.write_bytes(as_lines([champion + " halt 47'176'870 4098"]))
+    plain.write_bytes(as_lines([CHAMPION + " halt 47'176'870 4098"]))
     word_file.write_text("halting: yes\nnever halting: no\n", encoding="utf-8")
     given = ["--words", str(word_file)]
-    others: dict[str, list[str]] = {
-        "judge": [],
-        "compare": [str(plain)],
-        "report": ["--out", str(tmp_path / "page.html")],
-    }
+    page = str(tmp_path / "page.html")
+    others: dict[str, list[str]] = {"judge": [], "compare": [str(plain)], "report": ["--out", page]}
     for name, more in others.items():
         lines = command(name, str(path), *more, *given).error.decode().splitlines()
         shown = [line.partition(": ")[2] for line in lines if line.startswith(str(path) + ": ")]
-        right = ["halting: Yes 1", "never halting: no 1", "nothing: ? 1"]
-        assert shown[1:4] == right
+        assert shown[1:4] == ["halting: Yes 1", "never halting: no 1", "nothing: ? 1"]
     for name, more in {**others, "compare": [str(path)]}.items():
-        error = command(name, str(plain), *more, *given).error.decode()
-        assert "plain.txt: --words is for" in error
-    output = command("judge", str(path), *given).output.decode()
-    kinds = [line.partition("\t")[0] for line in output.splitlines()]
-    assert kinds == ["confirmed", "confirmed", "not-judged"]
-    error = command("compare", str(path), str(plain), *given).error.decode()
-    assert "agree 1\n" in error and "contradict 0\n" in error
-    kinds = [line.partition("\t")[0] for line in command("judge", str(path)).output.decode().splitlines()]
-    assert kinds == ["not-judged"] * 3
+        assert b"plain.txt: --words is for" in command(name, str(plain), *more, *given).error
+    error = command("compare", str(path), str(plain), *given).error
+    assert b"agree 1\n" in error and b"contradict 0\n" in error
+    for file, right in ((given, b"confirmed confirmed not-judged"), ((), b"not-judged " * 3)):
+        rows = command("judge", str(path), *file).output.splitlines()
+        assert [row.partition(b"\t")[0] for row in rows] == right.split()
 
 
 @pytest.mark.timing
@@ -157,18 +121,15 @@ def test_empty_lines(tmp_path: pathlib.Path) -> None:
     spent: dict[str, float] = {}
     commands: dict[str, list[str]] = {"read": [], "judge": [], "compare": [str(single)]}
     for name, others in commands.items():
-        begun = os.times()
-        status = command(name, str(path), *others).status
-        ended_at = os.times()
-        spent[name] = ended_at.children_user - begun.children_user
-        assert status in (0, 1)
+        before = os.times().children_user
+        assert command(name, str(path), *others).status in (0, 1)
+        spent[name] = os.times().children_user - before
     print("5,000,000 empty lines: %s" % {name: round(took, 2) for name, took in spent.items()})
     assert max(spent.values()) <= spent["read"] + 0.3
     assert spent["read"] < 30 * 1.5
 
 
 def in_some_form(source: random.Random, machine: str) -> str:
-    """A line that has the machine in some form."""
     text = source.choice(("_", "_", " ", "")).join(machine.split("_"))
     if source.random() < 0.2:
         text = text.replace("---", "...")
@@ -197,15 +158,13 @@ def test_random_forms(count: int) -> None:
         # The one form in which the program itself reads another machine.
         joined = machine.replace("_", "")
         is_other = line.strip().startswith(joined) and budlarem.is_machine(joined)
-        right = (joined if is_other else machine, None)
-        assert reading.machine in right, line
+        assert reading.machine in (joined if is_other else machine, None), line
         back += reading.machine == machine
     assert back > 0.6 * count
 
 
 def test_read(bb: str, tmp_path: pathlib.Path) -> None:
-    """`budlarem read` writes what `read` reads, out of a file, a gzip and standard input, and tells the
-    rest."""
+    """`budlarem read` writes what `read` reads, out of a file, a gzip and standard input."""
     lines = [line for _, line in lines_in_some_form(2_000)]
     readings = list(budlarem.read(lines))
     right = as_lines([reading.machine for reading in readings if reading.machine is not None])
@@ -216,27 +175,19 @@ def test_read(bb: str, tmp_path: pathlib.Path) -> None:
     for name, given in ((str(plain), b""), (str(packed), b""), ("-", as_lines(lines))):
         status, output, error = command("read", name, given=given)
         assert (status, output) == (1, right)
-        shown = "standard input" if name == "-" else name
-        printed = error.decode("utf-8", "surrogateescape").splitlines()
-        whole = all(
-            "%s:%d: refused: %s" % (shown, one.number, one.reason) in error.decode() for one in refused[:50]
-        )
-        assert whole and len(printed) > len(refused), name
+        shown, printed = "standard input" if name == "-" else name, error.decode("utf-8", "surrogateescape")
+        for one in refused[:50]:
+            assert "%s:%d: refused: %s" % (shown, one.number, one.reason) in printed
+        assert len(printed.splitlines()) > len(refused), name
     decided = run_command([bb, "decide", *options(LIMITS)], right)
     assert b"refused" not in decided.output
-    found = command("decide", *options(LIMITS), given=right)
-    assert found[:2] == (0, decided.output)
+    assert command("decide", *options(LIMITS), given=right)[:2] == (0, decided.output)
 
 
 def test_check(bb: str, rng: random.Random, tmp_path: pathlib.Path) -> None:
     """The answers are the program's, at small limits and at the greatest; counts and status tell of them."""
-    verdicts = verdicts_of(1_000)
-    lines = [
-        *(with_other_number(str(verdict), rng) for verdict in verdicts),
-        *map(str, verdicts),
-        "x",
-        "refused 3",
-    ]
+    verdicts = list(map(str, verdicts_of(1_000)))
+    lines = [*(with_other_number(verdict, rng) for verdict in verdicts), *verdicts, "x", "refused 3"]
     given = as_lines(lines)
     for row in (LIMITS, GREATEST):
         right = run_command([bb, "check", *options(row)], given)
@@ -250,22 +201,17 @@ def test_check(bb: str, rng: random.Random, tmp_path: pathlib.Path) -> None:
 
 def require_counts(lines: list[str], answers: list[str], printed: str) -> None:
     """Standard error has the counts and the first line that isn't confirmed."""
-    counts = ", ".join(
-        "%s %d" % (word, answers.count(word)) for word in ("ok", "bad", "over", "open", "unread")
-    )
-    assert counts in printed
+    words = ("ok", "bad", "over", "open", "unread")
+    assert ", ".join("%s %d" % (word, answers.count(word)) for word in words) in printed
     place = next(place for place, answer in enumerate(answers) if answer not in ("ok", "open"))
-    named = ":%d: %s: %s" % (place + 1, answers[place], lines[place][:150])
-    assert named in printed
+    assert (":%d: %s: %s" % (place + 1, answers[place], lines[place][:150])) in printed
 
 
 def test_trace(bb: str) -> None:
-    """A trace is the program's, to its status."""
     for machine in (*mixed_machines(5, 1), "1rB", ""):
         for more in (["--upto", "50"], ["--upto", "2000", "--cells", "7"]):
             right = run_command([bb, "trace", *more, "--", machine])
-            found = command("trace", *more, "--", machine)
-            assert found[:2] == right[:2]
+            assert command("trace", *more, "--", machine)[:2] == right[:2]
 
 
 def verdicts_of(count: int) -> Sequence[Verdict]:
@@ -279,37 +225,28 @@ def verdicts_of(count: int) -> Sequence[Verdict]:
 def test_forged_claims(bb: str, rng: random.Random, count: int) -> None:
     """True claims are confirmed, and none is called contradicted; each forged one that the program refutes is
     named, and none is confirmed that it doesn't confirm."""
-    source, verdicts = rng, verdicts_of(count)
-    limits = Limits(*LIMITS)
-    judged = budlarem.judge(map(str, verdicts), limits=limits, threads=2)
+    claims, limits = list(map(str, verdicts_of(count))), Limits(*LIMITS)
+    judged = budlarem.judge(claims, limits=limits, threads=2)
     assert {one.judgement for one in judged} == {Judgement.CONFIRMED}
-    claims = list(map(str, verdicts))
-    places = source.sample(range(len(claims)), len(claims))
-    lines = [with_other_number(claims[place], source) for place in places] + claims
+    lines = [with_other_number(claim, rng) for claim in rng.sample(claims, len(claims))] + claims
     answers = run_command([bb, "check", *options(GREATEST)], as_lines(lines)).output.decode().splitlines()
-    wrong: dict[str, str] = {"bad": "contradicted", "ok": "confirmed"}
     judging = budlarem.judge(lines, limits=limits, undefined_steps=False, threads=2)
-    missed = [
-        (line, answer, str(one))
-        for line, answer, one in zip(lines, answers, judging)
-        if str(one.judgement) != wrong.get(answer, "contradicted")
-    ]
-    assert not missed, (len(lines) - len(claims), missed[:3])
-    named = sum(answer == "bad" for answer in answers[: len(places)])
-    assert named > 0.8 * len(places)
+    right = ["confirmed" if answer == "ok" else "contradicted" for answer in answers]
+    missed = [row for row in zip(lines, right, judging) if str(row[2].judgement) != row[1]]
+    assert not missed, missed[:3]
+    assert answers[: len(claims)].count("bad") > 0.8 * len(claims)
 
 
 @pytest.mark.parametrize("line", ["17,%s,%s", "17;%s;%s", "17\t%s\t%s", "| 17 | %s | %s |"])
 def test_words(line: str, rng: random.Random) -> None:
     """True words of a table are confirmed, swapped ones contradicted, with each separator."""
-    halting = ("halt", "halts", "halting")
-    never = ("nonhalt", "infinite", "cycler", "Translated Cyclers", "bouncers", "FAR")
-    true, swapped = [line % ("machine", "verdict")], [line % ("machine", "verdict")]
-    for verdict in verdicts_of(1_000):
-        ends = (halting, never) if isinstance(verdict, Halt) else (never, halting)
-        true.append(line % (verdict.machine, rng.choice(ends[0])))
-        swapped.append(line % (verdict.machine, rng.choice(ends[1])))
-    for lines, right in ((true, Judgement.CONFIRMED), (swapped, Judgement.CONTRADICTED)):
+    never = ["nonhalt", "infinite", "cycler", "Translated Cyclers", "bouncers", "FAR"]
+    words = never, ["halt", "halts", "halting"]
+    for is_swapped, right in ((False, Judgement.CONFIRMED), (True, Judgement.CONTRADICTED)):
+        lines = [line % ("machine", "verdict")]
+        for verdict in verdicts_of(1_000):
+            ends = words[isinstance(verdict, Halt) != is_swapped]
+            lines.append(line % (verdict.machine, rng.choice(ends)))
         judging = budlarem.judge(lines, limits=Limits(*LIMITS))
         missed = [str(one) for one in judging if one.judgement is not right]
         assert not missed and len(lines) == 1_001, missed[:3]
@@ -333,23 +270,17 @@ def test_undefined_steps(bb: str) -> None:
     changed = sum(line != str(verdict) for line, verdict in zip(lines, verdicts))
     status, output, error = command("judge", "-", given=as_lines(lines))
     kinds = {line.split(b"\t")[0] for line in output.splitlines()}
-    held = (status, kinds) == (0, {b"confirmed"}) and b"a step is counted for each ---" in error
-    assert held and changed > 9, (changed, len(lines), kinds)
+    assert (status, kinds) == (0, {b"confirmed"}) and b"a step is counted for each ---" in error
+    assert changed > 9
     mixed_lines = [*lines, next(str(v) for line, v in zip(lines, verdicts) if line != str(v))]
-    status, output, error = command("judge", "-", given=as_lines(mixed_lines))
-    found = output.count(b"contradicted\t")
-    assert (status, found) == (1, changed)
-    status, output, _ = command("judge", "--undefined-steps", "-", given=as_lines(mixed_lines))
-    assert (status, output.count(b"contradicted\t")) == (1, 1)
-
-
-def machines_of_four_states(count: int) -> list[str]:
-    return [uniform(random.Random(k), 4) for k in range(count)]
+    for asked, count in ((["-"], changed), (["--undefined-steps", "-"], 1)):
+        status, output, _ = command("judge", *asked, given=as_lines(mixed_lines))
+        assert (status, output.count(b"contradicted\t")) == (1, count)
 
 
 def test_forms_of_machines() -> None:
     """What has another form takes no longer than is asked."""
-    machines = machines_of_four_states(5_000)
+    machines = [uniform(random.Random(k), 4) for k in range(5_000)]
     began = time.process_time()
     forms = {canonical_form(machine).text for machine in machines}
     each = (time.process_time() - began) / len(machines)
@@ -359,8 +290,7 @@ def test_forms_of_machines() -> None:
 
 
 def run_on_terminal(*asked: str) -> tuple[list[str], str]:
-    """The texts of progress that a command of the package showed on a terminal, and what stood there at the
-    end."""
+    """The texts of progress that a command showed on a terminal, and what was left there."""
     with open(os.devnull, "wb") as output:
         shown = on_terminal([sys.executable, "-m", "budlarem", *asked], b"", output)[1]
     rows = [row.split("\r") for row in shown.split("\n")]
@@ -369,7 +299,7 @@ def run_on_terminal(*asked: str) -> tuple[list[str], str]:
 
 def test_progress(tmp_path: pathlib.Path) -> None:
     """On a terminal the commands that take long tell how far they are, and leave nothing of it there."""
-    lines = ["1RB1LC_1RC1RB_1RD0LE_1LA1LD_1RZ0LA halt 47176870 4098", "`1ra1ra` halts"]
+    lines = [CHAMPION + " halt 47176870 4098", "`1ra1ra` halts"]
     cases: dict[str, tuple[list[str], str]] = {
         "judge": (["--check-steps=1000"], " not-judged"),
         "check": ([], " ok"),
@@ -380,15 +310,12 @@ def test_progress(tmp_path: pathlib.Path) -> None:
         given.write_bytes(as_lines(lines) * 100 if name == "judge" else as_lines(lines[:1]) * 10)
         words = [word.replace("out.tar", str(tmp_path / "out.tar")) for word in more]
         texts, left = run_on_terminal(name, *words, str(given))
-        held = any(word in text for text in texts) and all(len(text) < 80 for text in texts)
-        assert held, (name, texts[:5])
+        assert any(word in text for text in texts) and max(map(len, texts)) < 80, (name, texts[:5])
         lines_left = left.count("\n") if name != "judge" else left.count("small letters read as capital ones")
-        right = {"judge": 100, "check": 1, "publish": 0}[name]
-        assert lines_left == right
+        assert lines_left == {"judge": 100, "check": 1, "publish": 0}[name]
 
 
 def examples() -> Iterator[tuple[str, str]]:
-    """The commands of the document that are shown with what they write."""
     text = DOCUMENT.read_text(encoding="utf-8")
     for block in re.findall(r"(?:^    .*\n)+", text, re.MULTILINE):
         lines = [line[4:] for line in block.splitlines()]
@@ -403,10 +330,9 @@ def test_examples() -> None:
     assert len(shown) >= 4
     script = 'budlarem() { "%s" -m budlarem "$@"; }\n' % sys.executable
     for asked, written in shown:
-        found = run_command(["sh", "-c", script + asked]).output.decode().rstrip("\n")
-        assert found == written
+        assert run_command(["sh", "-c", script + asked]).output.decode().rstrip("\n") == written
     for name in ("read", "check", "trace", "judge", "decide"):
         first, second = command("help", name), command(name, "--help")
-        held = first[:2] == second[:2] and first.status == 0 and b"Column" in first.output
-        assert held and all(len(line) < 80 for line in first.output.splitlines()), name
+        assert first[:2] == second[:2] and first.status == 0 and b"Column" in first.output, name
+        assert all(len(line) < 80 for line in first.output.splitlines()), name
     assert command("help")[:2] == command("--help")[:2]

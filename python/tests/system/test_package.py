@@ -6,16 +6,17 @@ import itertools
 import random
 import signal
 import sys
-from typing import Iterator, Sequence, Tuple
+from typing import Iterator, Sequence
 
 import budlarem
 import pytest
 from budlarem import Limits, Plan
+from support.claims import forge
 from support.machines import mixed_machines
 from support.program import PLANS, ROWS, SIMULATION, as_lines, run_command, options
 from support.runs import WHERE, interrupt
 
-Row = Tuple[int, int, int, int]
+Row = tuple[int, int, int, int]
 MEMORY = """
 import itertools, resource, sys, budlarem
 count = int(sys.argv[1])
@@ -29,12 +30,7 @@ print(resource.getrusage(resource.RUSAGE_SELF).ru_maxrss)
 
 
 def output_of(bb: str, asked: Sequence[str], given: bytes) -> bytes:
-    """What the program writes."""
     return run_command([bb, *asked], given).output
-
-
-def plan_of(switches: Sequence[str]) -> Plan:
-    return Plan(*(switch not in switches for switch in SIMULATION))
 
 
 def random_row(source: random.Random) -> Row:
@@ -47,13 +43,11 @@ def random_row(source: random.Random) -> Row:
 def require_deciding(bb: str, row: Row, switches: Sequence[str], lines: list[str], threads: int) -> list[str]:
     """The package's verdicts, as objects and as bytes, are the program's; gives their lines."""
     expected = output_of(bb, ["decide", *options(row), *switches], as_lines(lines))
-    limits, plan = Limits(*row), plan_of(switches)
-    found = b"".join(budlarem.decide_bytes(as_lines(lines), limits, plan, threads=threads))
-    assert found == expected
+    limits, plan = Limits(*row), Plan(*(switch not in switches for switch in SIMULATION))
+    assert b"".join(budlarem.decide_bytes(as_lines(lines), limits, plan, threads=threads)) == expected
     verdicts = list(budlarem.decide(lines, limits, plan, threads=threads))
-    assert as_lines([str(verdict) for verdict in verdicts]) == expected
-    read = [budlarem.parse(line) for line in expected.decode().splitlines()]
-    assert read == verdicts
+    assert as_lines(map(str, verdicts)) == expected
+    assert list(map(budlarem.parse, expected.decode().splitlines())) == verdicts
     return expected.decode().splitlines()
 
 
@@ -69,37 +63,21 @@ def test_rows_of_limits(bb: str, row: Row) -> None:
         require_deciding(bb, row, off, list_of(300), 1)
 
 
-def forge(source: random.Random, line: str) -> str:
-    """A line in which a number, or another part, is another."""
-    fields = line.split(" ")
-    place = source.randrange(1, len(fields)) if len(fields) > 1 else 0
-    if fields[place].isdigit():
-        fields[place] = str(max(int(fields[place]) + source.choice((-1, 1, 2, 10**19)), 0))
-    else:
-        fields[place] = source.choice(("halt", "cycler", "translated", "L", "R", "cells", ""))
-    return " ".join(fields)
-
-
 def require_claims(bb: str, lines: list[str], row: Row, source: random.Random) -> None:
     """The answers to claims of which half are forged, and what `parse` takes of them."""
-    claims = [forge(source, line) if k % 2 else line for k, line in enumerate(lines)]
+    claims = [*lines[::2], *forge(source, lines, len(lines) // 2)]
     expected = output_of(bb, ["check", *options(row)], as_lines(claims))
-    answers = expected.decode().splitlines()
-    found = b"".join(budlarem.check_bytes(as_lines(claims), Limits(*row)))
-    assert found == expected
-    as_objects = [str(answer) for answer in budlarem.check(claims, Limits(*row), threads=2)]
-    assert as_objects == answers
+    assert b"".join(budlarem.check_bytes(as_lines(claims), Limits(*row))) == expected
+    answers = [str(answer) for answer in budlarem.check(claims, Limits(*row), threads=2)]
+    assert answers == expected.decode().splitlines()
     require_parse(claims, answers)
 
 
 def require_parse(lines: Sequence[str], answers: Sequence[str]) -> None:
     """`parse` refuses just what the checker calls unread, and `str` gives back what it takes."""
-    wrong = [
-        line for line, answer in zip(lines, answers) if (parse_line(line) is None) != (answer == "unread")
-    ]
+    right = [None if answer == "unread" else line for line, answer in zip(lines, answers)]
+    wrong = [line for line, other in zip(lines, right) if parse_line(line) != other]
     assert not wrong and len(lines) == len(answers), wrong[:3]
-    changed = [line for line in lines if parse_line(line) not in (None, line)]
-    assert not changed, changed[:3]
 
 
 def parse_line(line: str) -> object:
@@ -170,23 +148,18 @@ def test_comparisons_and_normal_forms(rng: random.Random) -> None:
     """Verdicts at two limits, in two orders, don't contradict each other; normal forms have the same fate."""
     lists = list(dict.fromkeys(list_of(1_000)))
     small, large = ([*budlarem.decide(lists, Limits(*row))] for row in ((20, 9, 5, 10), (1_000, 64, 20, 100)))
-    shuffled = rng.sample(large, len(large))
-    found = list(budlarem.compare(small, shuffled))
-    words = {str(one.agreement) for one in found}
-    assert words == {"agree", "second-decides"}
+    found = list(budlarem.compare(small, rng.sample(large, len(large))))
+    assert {str(one.agreement) for one in found} == {"agree", "second-decides"}
     assert sorted(one.machine for one in found) == sorted(lists)
     simulation = Plan(cyclers=False, translated=False, backward=False)
     forms = [budlarem.normal(machine, steps=1_000) for machine in lists]
-    before = budlarem.decide(lists, Limits(steps=1_000), simulation)
-    after = budlarem.decide([form.normal for form in forms], Limits(steps=1_000), simulation)
-    fates = (str(verdict).partition(" ")[2] for verdict in before), (
-        str(one).partition(" ")[2] for one in after
-    )
-    assert list(fates[0]) == list(fates[1])
-    again = [budlarem.normal(form.normal, steps=1_000).normal == form.normal for form in forms]
-    assert all(again)
-    right = [form.normal.startswith("---") or form.normal[1] == "R" for form in forms]
-    assert all(right)
+    fates = []
+    for machines in (lists, [form.normal for form in forms]):
+        verdicts = budlarem.decide(machines, Limits(steps=1_000), simulation)
+        fates.append([str(verdict).partition(" ")[2] for verdict in verdicts])
+    assert fates[0] == fates[1]
+    assert all(budlarem.normal(form.normal, steps=1_000).normal == form.normal for form in forms)
+    assert all(form.normal.startswith("---") or form.normal[1] == "R" for form in forms)
 
 
 @pytest.mark.parametrize("count", [500_000, pytest.param(10_000_000, marks=pytest.mark.slow)])

@@ -20,7 +20,7 @@ import pytest
 from support import restore_signals
 from support.machines import mixed_machines
 from support.program import as_lines, run_command, options
-from support.runs import Case, is_at_work, wait_until
+from support.runs import Case, Process, is_at_work, small_disk, wait_until
 
 FIRST = (300, 64, 10, 100)
 PASS = "steps=300,cells=64,depth=10,nodes=100"
@@ -41,25 +41,23 @@ class Place:
         self.verdicts.write_bytes(run_command([bb, "decide", *options(FIRST)], as_lines(lines)).output)
 
     def words(self, *more: str, out: pathlib.Path | None = None) -> list[str]:
-        """A command that publishes."""
         return [sys.executable, "-m", "budlarem", "publish", str(out or self.out), *more]
 
     def given(self) -> list[str]:
         return ["--verdicts", str(self.verdicts), "--list", str(self.list)]
 
-    def publish(self, *more: str, **how: Any) -> "subprocess.CompletedProcess[str]":
+    def publish(
+        self, *more: str, out: pathlib.Path | None = None, **how: Any
+    ) -> subprocess.CompletedProcess[str]:
         """Publishes list and verdicts, or what these words say."""
-        out = how.pop("out", None)
         command = self.words(*(more or self.given()), out=out)
         return subprocess.run(command, capture_output=True, text=True, **how)
 
     def left(self) -> list[str]:
-        """What stands beside list and verdicts."""
         return sorted(set(os.listdir(self.top)) - {"list.txt", "verdicts.txt"})
 
 
 def unpack(path: pathlib.Path, into: pathlib.Path) -> pathlib.Path:
-    """The folder that an archive has, unpacked."""
     subprocess.run(["tar", "-x", "-f", str(path), "-C", str(into)], check=True)
     (made,) = into.iterdir()
     return made
@@ -77,8 +75,7 @@ def commands_of(readme: str) -> list[list[str]]:
 
 
 class Ways:
-    """The commands of an archive's README, run in its folder. `bb` and `budlarem` stand in a folder of
-    programs."""
+    """The commands of an archive's README, run in its folder, with `bb` and `budlarem` in another."""
 
     def __init__(self, bb: str, folder: pathlib.Path, programs: pathlib.Path) -> None:
         self.folder = folder
@@ -147,7 +144,6 @@ def archive_of(bb: str, top: pathlib.Path) -> tuple[Place, Ways]:
 
 @pytest.mark.parametrize("count", [100, pytest.param(1_000, marks=pytest.mark.slow)])
 def test_archive(bb: str, tmp_path: pathlib.Path, rng: random.Random, count: int) -> None:
-    """What an archive has, and how it can be checked."""
     place, ways = archive_of(bb, tmp_path)
     made = ways.folder
     names = {"README.txt", "list.txt", "verdicts.txt", "about.json", "recheck.py", "SHA256SUMS"}
@@ -174,7 +170,6 @@ def test_archive_by_coq(bb: str, tmp_path: pathlib.Path, checker: str) -> None:
 
 
 def test_same(bb: str, tmp_path: pathlib.Path) -> None:
-    """The same contents are the same bytes."""
     place = Place(bb, tmp_path / "same", 500, 3)
     place.publish()
     first = place.out.read_bytes()
@@ -183,14 +178,8 @@ def test_same(bb: str, tmp_path: pathlib.Path) -> None:
     for path in (place.list, place.verdicts):
         (other / (path.name + ".gz")).write_bytes(gzip.compress(path.read_bytes()))
     time.sleep(1.1)
-    named = [
-        "--verdicts",
-        str(other / "verdicts.txt.gz"),
-        "--list",
-        str(other / "list.txt.gz"),
-        "--threads=1",
-    ]
-    done = place.publish(*named, out=other / "again.tar")
+    named = ["--verdicts", str(other / "verdicts.txt.gz"), "--list", str(other / "list.txt.gz")]
+    done = place.publish(*named, "--threads=1", out=other / "again.tar")
     assert done.returncode == 0
     assert (other / "again.tar").read_bytes() == first
     done = place.publish("--verdicts", str(place.verdicts), out=other / "bare.tar")
@@ -208,13 +197,12 @@ def test_refused(bb: str, tmp_path: pathlib.Path) -> None:
     lines, listed = verdicts.split(b"\n"), machines.split(b"\n")
     halting = next(k for k, line in enumerate(lines) if b" halt " in line)
     cycling = next(k for k, line in enumerate(lines) if b" cycler " in line)
-    wrong, unread = lines.copy(), lines.copy()
-    wrong[halting] += b"7"
-    unread[halting] += b"\tthe champion"
-    refused = lines.copy()
-    refused[cycling] = b"refused 3"
-    other = listed.copy()
-    other[halting] = b"1RA1RA"
+
+    def put(rows: list[bytes], place: int, line: bytes) -> list[bytes]:
+        return [*rows[:place], line, *rows[place + 1 :]]
+
+    wrong, unread = (put(lines, halting, lines[halting] + more) for more in (b"7", b"\tthe champion"))
+    refused, other = put(lines, cycling, b"refused 3"), put(listed, halting, b"1RA1RA")
     cases = [
         (wrong, listed, 1, "%s:%d: bad: " % (place.verdicts, halting + 1)),
         (unread, listed, 1, "%s:%d: unread: " % (place.verdicts, halting + 1)),
@@ -250,19 +238,16 @@ def require_names(place: Place) -> None:
     ]
     for more, out, status, sentence in cases:
         done = place.publish(*more, out=out)
-        assert (
-            done.returncode == status and sentence in done.stderr and done.stderr.count("\n") == 1
-        ), done.stderr
+        assert done.returncode == status and sentence in done.stderr, done.stderr
+        assert done.stderr.count("\n") == 1
     assert place.out.read_bytes() == b"mine" and place.left() == ["out.tar"]
 
 
 def test_run(bb: str, tmp_path: pathlib.Path) -> None:
-    """A run's folder says its limits."""
     place = Place(bb, tmp_path / "of_run", 400, 5)
     case = Case(tmp_path / "run", place.list.read_bytes())
     case.run()
-    done = place.publish("--verdicts", str(case.out), "--list", str(case.list))
-    assert done.returncode == 0
+    assert place.publish("--verdicts", str(case.out), "--list", str(case.list)).returncode == 0
     with tarfile.open(place.out) as archive:
         (name,) = [name for name in archive.getnames() if name.endswith("about.json")]
         file = archive.extractfile(name)
@@ -277,28 +262,17 @@ def test_full_disk(bb: str, tmp_path: pathlib.Path) -> None:
     place = Place(bb, tmp_path / "full", 2_000, 6)
     for size in (1_000, place.list.stat().st_size + 5_000):
         done = place.publish(preexec_fn=lambda: resource.setrlimit(resource.RLIMIT_FSIZE, (size, size)))
-        assert (
-            done.returncode == 3 and "File too large" in done.stderr and str(place.out) in done.stderr
-        ), done.stderr
-        assert not place.left(), (size, place.left())
+        assert done.returncode == 3 and "File too large" in done.stderr, done.stderr
+        assert str(place.out) in done.stderr and not place.left(), (size, place.left())
     disk = tmp_path / "disk"
     disk.mkdir()
-    mount = ["mount", "-t", "tmpfs", "-o", "size=64k", "tmpfs", str(disk)]
-    if os.getuid() != 0 or subprocess.run(mount, stderr=subprocess.DEVNULL).returncode != 0:
-        pytest.skip("a full disk: a file system can't be mounted here (it takes root)")
-    try:
+    with small_disk(disk, 64):
         done = place.publish(out=disk / "out.tar")
-        assert (
-            done.returncode == 3 and "No space left" in done.stderr and "out.tar" in done.stderr
-        ), done.stderr
-        assert not os.listdir(disk), os.listdir(disk)
-    finally:
-        subprocess.run(["umount", str(disk)], check=True)
+        assert done.returncode == 3 and "No space left" in done.stderr, done.stderr
+        assert "out.tar" in done.stderr and not os.listdir(disk), os.listdir(disk)
 
 
-def interrupt_publish(
-    place: Place, number: int, ready: Callable[["subprocess.Popen[bytes]"], object]
-) -> "tuple[int, str]":
+def interrupt_publish(place: Place, number: int, ready: Callable[[Process], object]) -> tuple[int, str]:
     """The status and standard error of a process that is sent a signal once it is ready."""
     how: dict[str, Any] = {"stdout": subprocess.DEVNULL, "stderr": subprocess.PIPE}
     with subprocess.Popen(place.words(*place.given()), preexec_fn=restore_signals, **how) as process:
@@ -332,14 +306,13 @@ def test_signals(bb: str, tmp_path: pathlib.Path, rng: random.Random, tries: int
     for k in range(tries):
         delay = rng.random() * 0.02
 
-        def ready(process: "subprocess.Popen[bytes]") -> None:
+        def ready(process: Process) -> None:
             wait_until(process, part.exists)
             time.sleep(delay)
 
         status, error = interrupt_publish(place, (signal.SIGINT, signal.SIGTERM, signal.SIGHUP)[k % 3], ready)
         half += status != 0
-        is_whole = place.left() in ([], ["out.tar"])
-        assert is_whole, (status, place.left(), error)
+        assert place.left() in ([], ["out.tar"]), (status, place.left(), error)
         if place.out.exists():
             with tarfile.open(place.out) as archive:
                 assert len(archive.getnames()) == 6

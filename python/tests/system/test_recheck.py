@@ -4,15 +4,18 @@ from __future__ import annotations
 
 import ast
 import collections
+import itertools
 import os
 import pathlib
 import random
+import re
 import subprocess
 import sys
-from typing import Callable, Counter, Iterator, List, Tuple
+from typing import Callable, Counter, Iterator
 
 import pytest
 from support import TOP
+from support.claims import forge
 from support.machines import mixed_machines, seldom_halting
 from support.program import as_lines, run_command, options
 
@@ -24,10 +27,12 @@ FIRST, LATER = (200, 256, 20, 1_000), (100_000, 4_096, 100, 10_000)
 # Within these no claim of so many steps, or of a tree of so many nodes, needs more cells or levels.
 STEPS, NODES = 2_000, 1_000
 LIMITS = (STEPS, 2 * STEPS, NODES, NODES)
+# Numbers about these limits and far beyond.
+FAR = [" %d" % number for number in (STEPS, STEPS + 1, NODES, NODES + 1, 2**64 - 1, 2**64, 10**30)]
 WORDS = {"ok": "true", "bad": "false", "open": "no claim", "over": "too long", "unread": "not a verdict line"}
 
 
-def run_recheck(*more: str, given: bytes = b"") -> Tuple[int, List[bytes], bytes]:
+def run_recheck(*more: str, given: bytes = b"") -> tuple[int, list[bytes], bytes]:
     """The status of recheck.py over these lines, its answers, and what it says on standard error."""
     done = run_command([sys.executable, "-I", "-S", RECHECK, *more], given)
     return done.status, done.output.split(b"\n")[:-1], done.error
@@ -38,14 +43,12 @@ def test_form() -> None:
     text = pathlib.Path(RECHECK).read_text(encoding="utf-8")
     assert text.count("\n") <= MOST
     nodes = [node for node in ast.walk(ast.parse(text)) if isinstance(node, (ast.Import, ast.ImportFrom))]
-    names = [ast.unparse(node) for node in nodes]
-    assert names == ["import sys"]
+    assert [ast.unparse(node) for node in nodes] == ["import sys"]
 
 
 def test_words() -> None:
-    """Its words, bounds and statuses."""
     halt = b"1RB1LB_1LA1RZ halt 6 4\n"
-    cases: List[Tuple[List[str], bytes, int, bytes]] = [
+    cases: list[tuple[list[str], bytes, int, bytes]] = [
         ([], halt, 0, b"true"),
         (["--steps", "6"], halt, 0, b"true"),
         (["--steps", "5"], halt, 1, b"too long"),
@@ -56,8 +59,7 @@ def test_words() -> None:
     ]
     for more, given, status, answer in cases:
         found = run_recheck(*more, given=given)
-        assert found[:2] == (status, [answer])
-        assert b"1 " + answer in found[2]
+        assert found[:2] == (status, [answer]) and b"1 " + answer in found[2]
     for more in (["--steps"], ["--steps", "x"], ["--help"], ["one", "two"]):
         status, _, error = run_recheck(*more)
         assert status == 2 and b"--steps N" in error, (more, status, error)
@@ -66,8 +68,7 @@ def test_words() -> None:
     with open("/dev/full", "wb") as full:
         command = [sys.executable, RECHECK]
         done = subprocess.run(command, input=halt, stdout=full, stderr=subprocess.PIPE)
-    right = done.returncode == 3 and b"No space left" in done.stderr
-    assert right, (done.returncode, done.stderr.decode())
+    assert done.returncode == 3 and b"No space left" in done.stderr, done.stderr
 
 
 def memory_for(steps: int, path: pathlib.Path) -> int:
@@ -87,8 +88,7 @@ def test_memory(tmp_path: pathlib.Path) -> None:
 
 
 @pytest.mark.parametrize("every", ["10", pytest.param("1", marks=pytest.mark.slow)])
-def test_verdicts_on_four_states(bb: str, list_machines: Callable[..., List[str]], every: str) -> None:
-    """Every verdict on the machines of four states is true."""
+def test_verdicts_on_four_states(bb: str, list_machines: Callable[..., list[str]], every: str) -> None:
     machines = as_lines(list_machines(4, "--every", every))
     first = run_command([bb, "decide", *options(FIRST)], machines).output.splitlines(keepends=True)
     left = b"".join(line.split(b" ")[0] + b"\n" for line in first if b" undecided " in line)
@@ -109,46 +109,6 @@ def machines_of(count: int, source: random.Random) -> Iterator[str]:
         yield seldom_halting(source, source.randint(1, 4), source.randint(2, 4))
 
 
-def change_number(source: random.Random, word: bytes) -> bytes:
-    """A number that is near another, of another form, or far."""
-    if not word.isdigit():
-        return word
-    number = int(word)
-    near = [number + 1, max(number - 1, 0), 2 * number, number // 2, 0, source.randrange(STEPS + 2)]
-    far = [STEPS, STEPS + 1, NODES + 1, 2**64 - 1, 2**64, 10**30]
-    forms = [b"0" + word, b"+" + word, word + b" ", b"", b"-1", b"\xb2", word + b".0", b"1_0", b"\xd9\xa1"]
-    drawn = source.random()
-    if drawn < 0.6:
-        return b"%d" % source.choice(near)
-    return b"%d" % source.choice(far) if drawn < 0.8 else source.choice(forms)
-
-
-def forge(source: random.Random, line: bytes) -> bytes:
-    """A line with something in it changed."""
-    fields = line.split(b" ")
-    drawn = source.random()
-    if drawn < 0.5:
-        place = source.randrange(len(fields))
-        fields[place] = change_number(source, fields[place])
-    elif drawn < 0.6:
-        fields[-2:] = reversed(fields[-2:])
-    elif drawn < 0.7:
-        numbers = [b"%d" % source.randrange(60) for _ in range(source.choice([1, 2, 2, 2, 3, 4, 4]))]
-        word = source.choice([b"halt", b"cycler", b"translated L", b"translated R", b"backward"])
-        fields[1:] = [word, *numbers]
-    elif drawn < 0.75:
-        fields[1:] = [b"undecided", source.choice([b"steps", b"cells", b"nodes"])]
-    elif drawn < 0.8 and len(fields) > 4:
-        del fields[source.randrange(len(fields))]
-    else:
-        place = source.randrange(len(line) + 1)
-        byte = source.choice(
-            [b"", b" ", b"\r", b"\t", b"0", b"1", b"9", b"A", b"Z", b"L", b"_", b"-", b"\xff"]
-        )
-        return line[:place] + byte + line[place + source.randint(0, 1) :]
-    return b" ".join(fields)
-
-
 def is_right(line: bytes, printed: bytes, answer: bytes) -> bool:
     """Whether recheck.py answers a line as the program does. It has no bound on levels: a tree never has more
     of them than nodes."""
@@ -160,17 +120,18 @@ def is_right(line: bytes, printed: bytes, answer: bytes) -> bool:
 @pytest.mark.parametrize("count", [4_000, pytest.param(40_000, marks=pytest.mark.slow)])
 def test_forged_lines(bb: str, count: int, rng: random.Random) -> None:
     """Verdicts on random machines, and what is forged of them, are answered as by the program."""
-    source = rng
-    machines = as_lines(machines_of(count, source))
-    verdicts = run_command([bb, "decide", *options(LIMITS)], machines).output.split(b"\n")[:-1]
-    lines = [*verdicts, *(forge(source, line) for line in verdicts), b"refused 775", b"refused 776", b""]
-    given = b"".join(line + b"\n" for line in lines) + b"1RA1RA undecided steps"
-    lines.append(b"1RA1RA undecided steps")
+    machines = as_lines(machines_of(count, rng))
+    verdicts = run_command([bb, "decide", *options(LIMITS)], machines).output.decode().splitlines()
+    texts = [*verdicts, *forge(rng, verdicts, count), "refused 775", "refused 776", ""]
+    texts += (re.sub(r" \d+", lambda found: rng.choice([found[0], *FAR]), line) for line in verdicts)
+    for line, word in itertools.product(verdicts[::20], ("steps", "cells", "nodes")):
+        texts.append("%s undecided %s" % (line.split(" ")[0], word))
+    lines = [text.encode("latin-1") for text in (*texts, "1RA1RA undecided steps")]
+    given = b"\n".join(lines)
     printed = run_command([bb, "check", *options(LIMITS)], given).output.split(b"\n")[:-1]
     _, answers, _ = run_recheck("--steps", str(STEPS), "--nodes", str(NODES), given=given)
     assert len(lines) == len(printed) == len(answers)
     counts: Counter[bytes] = collections.Counter(printed)
     assert len(counts) == 5 and min(counts.values()) >= 20, counts
-    wrong = [row for row in zip(lines, printed, answers) if not is_right(*row)]
-    assert not wrong
+    assert not [row for row in zip(lines, printed, answers) if not is_right(*row)]
     print("%d lines compared" % len(lines))

@@ -16,19 +16,8 @@ from typing import Callable
 
 import pytest
 from support.program import MAX_CELLS, MAX_STEPS
-from support.runs import (
-    LONG_MACHINE,
-    PASSES,
-    Case,
-    expected_verdicts,
-    is_at_work,
-    kill_often,
-    kill_after,
-    most_memory,
-    random_list,
-    require_interrupted,
-    wait_until,
-)
+from support.runs import LONG_MACHINE, PASSES, Case, expected_verdicts, is_at_work, kill_often, most_memory
+from support.runs import random_list, require_interrupted, small_disk, stop, wait_until
 
 # Limits at which a line costs nothing to speak of.
 QUICK_PASS = (50, 64, 3, 10)
@@ -40,19 +29,17 @@ hours = iter(range(2_000_000_000, 0, -3_600))
 time.time = lambda: float(next(hours))
 """
 LONG_PASS = "steps=%d,cells=%d" % (MAX_STEPS, MAX_CELLS)
+# The verdicts on a list without refusals.
+DECIDED = b"1RB1LB_1LA1RZ halt 6 4\n1RA1RA translated R 1 2 1 1\n"
 
 
 @pytest.mark.parametrize("count, lines", [(1, 3_000), pytest.param(20, 20_000, marks=pytest.mark.slow)])
 def test_kills(bb: str, tmp_path: pathlib.Path, rng: random.Random, count: int, lines: int) -> None:
-    """The runner is killed at random moments, all of them before its end; what it is run again for is
-    checked."""
+    """The runner is killed at random moments before its end, and run again."""
     case = Case(tmp_path / "kills", random_list(lines, rng.randrange(10**9)))
     right = expected_verdicts(bb, case.list.read_bytes(), PASSES)
-    kills = kill_often(case, count, rng, "--threads", "2")
-    assert kills == count
-    status = case.run(str(case.list), "--check")
-    assert status == 1, case.output()
-    assert case.verdicts() == right
+    assert kill_often(case, count, rng, "--threads", "2") == count
+    case.require_verdicts(right, str(case.list), "--check")
     summary = json.loads((case.out / "summary.json").read_text())
     assert all(one["checked"] for one in summary["passes"]), summary
     assert summary["lines"] == lines
@@ -60,20 +47,16 @@ def test_kills(bb: str, tmp_path: pathlib.Path, rng: random.Random, count: int, 
 
 @pytest.mark.slow
 def test_interruption(tmp_path: pathlib.Path) -> None:
-    """SIGINT in the middle of 1,000,000,000,000 steps ends it within a second; a second run is refused
-    meanwhile."""
+    """SIGINT ends 1,000,000,000,000 steps within a second; a second run is refused meanwhile."""
     case = Case(tmp_path / "interruption", b"1RZ---\n" * 30 + LONG_MACHINE * 3)
     case.words = ["--pass", LONG_PASS, "--threads", "2"]
     with case.start() as process:
         for _ in range(30):
             wait_until(process, lambda: case.chunks() > 0)
-        at_work = wait_until(process, lambda: is_at_work(process.pid))
+        assert wait_until(process, lambda: is_at_work(process.pid)), case.output()
         second = Case(tmp_path / "second", b"")
         second.list, second.out, second.words = case.list, case.out, case.words
-        status = second.run()
-        refused = status == 2 and "another run works in" in second.output()
-        assert refused, second.output()
-        assert at_work, case.output()
+        second.require_error(2, "another run works in")
         require_interrupted(case, process)
 
 
@@ -82,9 +65,7 @@ def require_after_fault(case: Case, status: int, sentence: str, right: bytes) ->
     said = case.output()
     assert status == 3 and sentence in said, said
     assert not case.verdicts()
-    again = case.run()
-    assert again == 1, case.output()
-    assert case.verdicts() == right
+    case.require_verdicts(right)
 
 
 @pytest.mark.slow
@@ -95,22 +76,15 @@ def test_full_disk(bb: str, tmp_path: pathlib.Path) -> None:
     case = Case(tmp_path / "sizes", given)
     for size in (10_000, len(right) - 1):
         case.clear()
-        limit_resources = case.run(preexec_fn=lambda: resource.setrlimit(resource.RLIMIT_FSIZE, (size, size)))
-        require_after_fault(case, limit_resources, "File too large", right)
+        status = case.run(preexec_fn=lambda: resource.setrlimit(resource.RLIMIT_FSIZE, (size, size)))
+        require_after_fault(case, status, "File too large", right)
     case = Case(tmp_path / "disk", given)
     case.out.mkdir()
-    mount = ["mount", "-t", "tmpfs", "-o", "size=%dk" % (len(right) // 2_048), "tmpfs", str(case.out)]
-    if os.getuid() != 0 or subprocess.run(mount, stderr=subprocess.DEVNULL).returncode != 0:
-        pytest.skip("a full disk: a file system can't be mounted here (it takes root)")
-    try:
-        status = case.run()
-        said, stood = case.output(), case.chunks()
+    with small_disk(case.out, len(right) // 2_048):
+        status, chunks = case.run(), case.chunks()
         subprocess.run(["mount", "-o", "remount,size=64m", str(case.out)], check=True)
-        case.errors.write_text(said)
         require_after_fault(case, status, "No space left on device", right)
-        assert stood > 0
-    finally:
-        subprocess.run(["umount", str(case.out)], check=True)
+        assert chunks > 0
 
 
 @pytest.mark.slow
@@ -124,20 +98,14 @@ def test_list_that_changes(bb: str, tmp_path: pathlib.Path, grows: bool) -> None
     case.words += SLOWLY
     half = given.index(b"\n", len(given) // 2) + 1
     with case.start() as process:
-        was_seen = wait_until(process, lambda: case.chunks() > 0)
-        process.send_signal(signal.SIGSTOP)
-        is_within = was_seen and not (case.out / "verdicts.txt").exists()
-        with open(case.list, "r+b") as file:
+        with stop(case, process, 1), open(case.list, "r+b") as file:
             file.seek(0 if grows else half, os.SEEK_END if grows else os.SEEK_SET)
             file.write(b"1RZ---\n" if grows else (b"1RZ---\n" * len(given))[: len(given) - half - 1] + b"\n")
-        process.send_signal(signal.SIGCONT)
         status = process.wait()
-    assert is_within
     case.list.write_bytes(given)
     require_after_fault(case, status, "changed while it was read", right)
-    with open(case.list, "ab") as file:
-        file.write(b"1RZ---\n")
-    assert case.run() == 2 and "bytes" in case.output()
+    case.list.write_bytes(given + b"1RZ---\n")
+    case.require_error(2, "bytes")
 
 
 @pytest.mark.slow
@@ -150,25 +118,21 @@ def test_lists(bb: str, tmp_path: pathlib.Path) -> None:
     packed.write_bytes(gzip.compress(given))
     for path in (case.list, packed):
         case.clear()
-        status = case.run(str(path))
-        assert status == 1 and case.verdicts() == right, case.output()
+        case.require_verdicts(right, str(path))
     case.clear()
     with case.start("-", stdin=subprocess.PIPE) as process:
         process.communicate(given)
     assert process.returncode == 1 and case.verdicts() == right, case.output()
     with open(case.list, "rb") as file:
-        status = case.run("-", stdin=file)
-    assert status == 1 and case.verdicts() == right, case.output()
+        case.require_verdicts(right, "-", stdin=file)
     clean = Case(tmp_path / "clean", b"1RB1LB_1LA1RZ\n1RA1RA")
-    status = clean.run(words=[])
-    lines = b"1RB1LB_1LA1RZ halt 6 4\n1RA1RA translated R 1 2 1 1\n"
-    assert status == 0 and clean.verdicts() == lines, clean.output()
+    clean.require_verdicts(DECIDED, status=0, words=[])
 
 
 def test_folder_that_is_a_file(tmp_path: pathlib.Path) -> None:
     case = Case(tmp_path / "words", b"1RB1LB_1LA1RZ\n")
     case.out.write_bytes(b"mine")
-    assert case.run() == 2 and "is a file; give a folder" in case.output()
+    case.require_error(2, "is a file; give a folder")
 
 
 @pytest.mark.parametrize("number", [signal.SIGTERM, signal.SIGHUP])
@@ -220,22 +184,18 @@ def test_keep(bb: str, tmp_path: pathlib.Path, rng: random.Random) -> None:
     kept = b"".join(line for line in right if b" undecided " in line or line.startswith(b"refused "))
     case.words += ["--keep", "left"]
     kill_often(case, 5, rng, "--threads", "2")
-    status = case.run()
-    assert status == 1, case.output()
-    assert case.verdicts() == kept
-    size = sum(path.stat().st_size for path in case.out.rglob("pieces"))
-    assert size < len(b"".join(right)) // 2
+    case.require_verdicts(kept)
+    assert sum(path.stat().st_size for path in case.out.rglob("pieces")) < len(b"".join(right)) // 2
     summary = json.loads((case.out / "summary.json").read_text())
     assert summary["lines"] == len(right) and summary["kept"] == "left", summary
     before = {path: path.read_bytes() for path in case.out.rglob("*") if path.is_file()}
-    assert case.run("--check", str(case.list)) == 2 and "before they were checked" in case.output()
+    case.require_error(2, "before they were checked", "--check", str(case.list))
     assert {path: path.read_bytes() for path in case.out.rglob("*") if path.is_file()} == before
 
 
 @pytest.mark.slow
 def test_order(bb: str, tmp_path: pathlib.Path) -> None:
-    """A machine takes seconds, and those behind it don't: they stand meanwhile, and the verdicts are in the
-    list's order."""
+    """A machine takes seconds, and those behind it don't; verdicts are in the list's order."""
     passes = [(300_000_000, 200_000, 3, 10)]
     given = b"1RB1LB_1LA1RZ\n" * 300 + LONG_MACHINE + b"1RB1LB_1LA1RZ\n" * 20_000
     case = Case(tmp_path / "order", given, passes)
@@ -243,8 +203,7 @@ def test_order(bb: str, tmp_path: pathlib.Path) -> None:
         stood = wait_until(process, lambda: case.chunks() > 100)
         status = process.wait()
     assert stood and status == 0, case.output()
-    right = expected_verdicts(bb, given, passes)
-    assert case.verdicts() == right
+    assert case.verdicts() == expected_verdicts(bb, given, passes)
 
 
 @pytest.mark.slow
@@ -263,9 +222,7 @@ def test_slow_kill(bb: str, tmp_path: pathlib.Path) -> None:
     os.close(writing)
     assert case.chunks() == 39
     with open(case.list, "rb") as file:
-        status = case.run("-", stdin=file)
-    right = expected_verdicts(bb, given, PASSES[:1])
-    assert status == 0 and case.verdicts() == right, status
+        case.require_verdicts(expected_verdicts(bb, given, PASSES[:1]), "-", status=0, stdin=file)
 
 
 def limit_resources(*limits: tuple[int, int]) -> Callable[[], None]:
@@ -311,20 +268,11 @@ def test_no_memory(tmp_path: pathlib.Path) -> None:
 
 @pytest.mark.slow
 def test_closed_files(tmp_path: pathlib.Path) -> None:
-    """Standard input, output and error are closed."""
-    lines = b"1RB1LB_1LA1RZ halt 6 4\n1RA1RA translated R 1 2 1 1\n"
     for closed in ((0,), (1,), (2,), (1, 2), (0, 1, 2)):
         case = Case(tmp_path / ("closed-%s" % "".join(map(str, closed))), b"1RB1LB_1LA1RZ\n1RA1RA\n")
-
-        def close(numbers: tuple[int, ...] = closed) -> None:
-            for number in numbers:
-                os.close(number)
-
-        status = case.run(words=[], preexec_fn=close)
-        assert status == 0 and case.verdicts() == lines, case.output()
+        case.require_verdicts(DECIDED, status=0, words=[], preexec_fn=lambda: [*map(os.close, closed)])
     case = Case(tmp_path / "closed-list", b"")
-    status = case.run("-", preexec_fn=lambda: os.close(0))
-    assert status == 3 and "standard input is closed" in case.output(), case.output()
+    case.require_error(3, "standard input is closed", "-", preexec_fn=lambda: os.close(0))
 
 
 @pytest.mark.slow
@@ -333,10 +281,9 @@ def test_clock(tmp_path: pathlib.Path) -> None:
     case = Case(tmp_path / "clock", b"1RZ---\n" * 5_000)
     (tmp_path / "clock" / "sitecustomize.py").write_text(SET_BACK, encoding="utf-8")
     places = os.pathsep.join([str(tmp_path / "clock"), os.environ["PYTHONPATH"]])
-    status = case.run(variables={"PYTHONPATH": places})
-    summary = json.loads((case.out / "summary.json").read_text()) if status == 0 else {}
-    assert status == 0, case.output()
-    seconds = [summary.get("seconds", -1), *(one["work_seconds"] for one in summary.get("passes", []))]
+    assert case.run(variables={"PYTHONPATH": places}) == 0, case.output()
+    summary = json.loads((case.out / "summary.json").read_text())
+    seconds = [summary["seconds"], *(one["work_seconds"] for one in summary["passes"])]
     assert min(seconds) >= 0 and summary["began"] <= summary["ended"], summary
 
 

@@ -6,26 +6,24 @@ import contextlib
 import os
 import pathlib
 import shutil
-import signal
 import subprocess
 import sys
-from typing import Callable, Iterator
+from typing import Iterator
 
 import pytest
-from support.runs import PASSES, Case, expected_verdicts, random_list, wait_until, words_of
+from support.runs import PASSES, Case, Process, expected_verdicts, random_list, stop, wait_until, words_of
 
 # Limits at which a line costs nothing to speak of, and words by which a list takes a second or more.
 QUICK_PASS = (50, 64, 3, 10)
+TWO_PASSES = [QUICK_PASS, (60, 64, 3, 10)]
 SLOWLY = ["--threads", "1", "--piece", "20"]
 LINES = 60_000
 MOVED = "isn't the folder that was opened any more"
 MACHINE = b"1RB1LB_1LA1RZ\n"
-Fault = Callable[[Case], None]
 
 
 def snapshot(tmp_path: pathlib.Path) -> dict[str, bytes]:
-    """All that a folder has, by path: the bytes of files, where links lead, and the kind of what else is
-    there."""
+    """All that a folder has, by path: the bytes of files, where links lead, the kind of others."""
     found: dict[str, bytes] = {}
     for path in sorted(tmp_path.rglob("*")):
         name = str(path.relative_to(tmp_path))
@@ -39,22 +37,16 @@ def snapshot(tmp_path: pathlib.Path) -> dict[str, bytes]:
 
 
 @contextlib.contextmanager
-def stop_run(case: Case) -> Iterator[tuple["subprocess.Popen[bytes]", bool]]:
-    """A run that is stopped in the middle, and whether it was at work by then. It goes on afterwards, to its
-    end."""
+def stop_run(case: Case) -> Iterator[Process]:
+    """A run that is stopped in the middle, and goes on afterwards, to its end."""
     with case.start() as process:
-        was_seen = wait_until(process, lambda: case.chunks() > 3)
-        process.send_signal(signal.SIGSTOP)
-        try:
-            yield process, was_seen and not (case.out / "verdicts.txt").exists()
-        finally:
-            process.send_signal(signal.SIGCONT)
-            process.wait()
+        with stop(case, process, 4):
+            yield process
 
 
 def slow_case(tmp_path: pathlib.Path, name: str, seed: int, passes: int = 1) -> Case:
     """A case whose run takes a second or more."""
-    case = Case(tmp_path / name, random_list(LINES, seed), [QUICK_PASS, (60, 64, 3, 10)][:passes])
+    case = Case(tmp_path / name, random_list(LINES, seed), TWO_PASSES[:passes])
     case.words += SLOWLY
     return case
 
@@ -63,69 +55,25 @@ def require_moved_error(case: Case, status: int, before: dict[str, bytes]) -> No
     """The run ended with status 3 and a sentence, and what stands at its path is as it was."""
     said = case.output()
     assert status == 3 and MOVED in said, said
-    after = snapshot(case.out) if case.out.exists() else {}
-    assert after == before
+    assert (snapshot(case.out) if case.out.exists() else {}) == before
 
 
 @pytest.mark.parametrize("passes", [1, pytest.param(2, marks=pytest.mark.slow)])
 def test_moved(bb: str, tmp_path: pathlib.Path, passes: int) -> None:
     """The folder is moved and another run begins in a new one; the first goes on in its folder later."""
-    case = slow_case(tmp_path, "moved-%d" % passes, 21, passes)
-    limits = [QUICK_PASS, (60, 64, 3, 10)][:passes]
+    case, limits = slow_case(tmp_path, "moved-%d" % passes, 21, passes), TWO_PASSES[:passes]
     moved = case.out.with_name("out.old")
     second = Case(tmp_path / ("second-%d" % passes), random_list(2_000, 22), limits)
     second.out = case.out
-    with stop_run(case) as (process, at_work):
+    with stop_run(case) as process:
         os.rename(case.out, moved)
-        status = second.run()
+        second.require_verdicts(expected_verdicts(bb, second.list.read_bytes(), limits))
         before = snapshot(case.out)
-    assert at_work, case.output()
-    assert status == 1 and second.verdicts() == expected_verdicts(
-        bb, second.list.read_bytes(), limits
-    ), second.output()
     require_moved_error(case, process.returncode, before)
     assert not (moved / "verdicts.txt").exists()
     shutil.rmtree(case.out)
     os.rename(moved, case.out)
-    status = case.run()
-    assert status == 1 and case.verdicts() == expected_verdicts(
-        bb, case.list.read_bytes(), limits
-    ), case.output()
-
-
-@pytest.mark.slow
-def test_replaced(tmp_path: pathlib.Path) -> None:
-    """The folder is removed; files of somebody else stand in a new one; a link is pointed elsewhere."""
-    mine = ("verdicts.txt", "summary.json", "README.txt", "run.json", "verdicts.txt.part", "pass-1", "pass-2")
-
-    def replace(case: Case) -> None:
-        os.rename(case.out, case.out.with_name("out.old"))
-        case.out.mkdir()
-        for name in mine:
-            (case.out / name).write_text("mine\n")
-
-    def point_elsewhere(case: Case) -> None:
-        elsewhere = case.out.with_name("elsewhere")
-        elsewhere.mkdir()
-        os.unlink(case.out)
-        case.out.symlink_to(elsewhere)
-
-    faults: dict[str, Fault] = {
-        "removed": lambda case: shutil.rmtree(case.out),
-        "replaced by own files": replace,
-        "a link pointed elsewhere": point_elsewhere,
-    }
-    for what, fault in faults.items():
-        for passes in (1, 2):
-            case = slow_case(tmp_path, "%s-%d" % (what.replace(" ", "-"), passes), 23, passes)
-            if "link" in what:
-                case.out.with_name("real").mkdir()
-                case.out.symlink_to(case.out.with_name("real"))
-            with stop_run(case) as (process, at_work):
-                fault(case)
-                before = snapshot(case.out) if case.out.exists() else {}
-            assert at_work, case.output()
-            require_moved_error(case, process.returncode, before)
+    case.require_verdicts(expected_verdicts(bb, case.list.read_bytes(), limits))
 
 
 @pytest.mark.parametrize(
@@ -134,56 +82,14 @@ def test_replaced(tmp_path: pathlib.Path) -> None:
 def test_lock(bb: str, tmp_path: pathlib.Path, number: int) -> None:
     """All files at the top of a folder are removed while a run works in it: a second one is refused."""
     case = slow_case(tmp_path, "lock", 24 + number)
-    with stop_run(case) as (process, at_work):
+    with stop_run(case):
         second = Case(tmp_path / "lock-second", random_list(300, 3), [QUICK_PASS])
         second.out = case.out
         (case.out / "lock").unlink(missing_ok=True)
         os.rename(case.out / "run.json", case.out.with_name("away"))
-        status, said = second.run(), second.output()
+        second.require_error(2, "another run works in")
         os.rename(case.out.with_name("away"), case.out / "run.json")
-    assert at_work
-    assert status == 2 and "another run works in" in said
     assert case.verdicts() == expected_verdicts(bb, case.list.read_bytes(), [QUICK_PASS]), case.output()
-
-
-@pytest.mark.slow
-def test_made_meanwhile(tmp_path: pathlib.Path) -> None:
-    """Another makes a file of the run's name in its folder while it works: that file stays."""
-    for name in ("verdicts.txt", "summary.json", "README.txt"):
-        case = slow_case(tmp_path, "meanwhile-" + name, 31)
-        with stop_run(case) as (process, at_work):
-            (case.out / name).unlink(missing_ok=True)
-            (case.out / name).write_text("mine\n")
-        assert at_work, name
-        assert (case.out / name).read_text() == "mine\n"
-        assert process.returncode == (1 if name == "README.txt" else 3), case.output()
-
-
-def test_verdicts(bb: str, tmp_path: pathlib.Path) -> None:
-    """Verdicts share no bytes with what a later run writes; a run that is begun again reads its chunks
-    there."""
-    case = Case(tmp_path / "verdicts", random_list(3_000, 41), [QUICK_PASS])
-    right = expected_verdicts(bb, case.list.read_bytes(), [QUICK_PASS])
-    case.run()
-    verdicts, file = case.out / "verdicts.txt", (case.out / "verdicts.txt").stat()
-    assert file.st_nlink == 1 and not (case.out / "pass-1" / "pieces").exists()
-    journal = (case.out / "pass-1" / "journal").read_bytes()
-    status = case.run()
-    assert "decided again" not in case.output(), case.output()
-    same = verdicts.stat().st_ino == file.st_ino and (case.out / "pass-1" / "journal").read_bytes() == journal
-    assert same and case.verdicts() == right
-    away = case.out.with_name("verdicts-of-mine.txt")
-    os.rename(verdicts, away)
-    for path in case.out.iterdir():
-        if path.is_file():
-            path.unlink()
-    other = Case(tmp_path / "verdicts-other", random_list(3_000, 42), [QUICK_PASS[:3] + (11,)])
-    other.out = case.out
-    status = other.run()
-    assert away.read_bytes() == right, other.output()
-    assert status == 1 and other.verdicts() == expected_verdicts(
-        bb, other.list.read_bytes(), [QUICK_PASS[:3] + (11,)]
-    ), other.output()
 
 
 def test_added_pass(bb: str, tmp_path: pathlib.Path) -> None:
@@ -191,15 +97,14 @@ def test_added_pass(bb: str, tmp_path: pathlib.Path) -> None:
     case = slow_case(tmp_path, "added", 43)
     case.run()
     first = case.verdicts()
-    case.words = [word for limits in (QUICK_PASS, (60, 64, 3, 10)) for word in ("--pass", words_of(limits))]
+    case.words = [word for limits in TWO_PASSES for word in ("--pass", words_of(limits))]
     case.words += ["--threads", "1", "--piece", "1"]
     with case.start() as process:
         was_seen = wait_until(process, lambda: (case.out / "pass-2" / "journal").exists())
         process.kill()
     assert was_seen and case.verdicts() == first
-    status = case.run("--piece", "200", str(case.list))
-    right = expected_verdicts(bb, case.list.read_bytes(), [QUICK_PASS, (60, 64, 3, 10)])
-    assert status == 1 and case.verdicts() == right, case.output()
+    right = expected_verdicts(bb, case.list.read_bytes(), TWO_PASSES)
+    case.require_verdicts(right, "--piece", "200", str(case.list))
     assert "decided again" not in case.output()
 
 
@@ -217,6 +122,10 @@ def require_unchanged(case: Case, top: pathlib.Path) -> None:
 
 # What somebody else has in a folder that no run began: paths, and what is there.
 MINE: dict[str, dict[str, str]] = {
+    "a letter": {"letter.txt": "mine"},
+    "a page": {"README.txt": "mine"},
+    "a summary": {"summary.json": "mine"},
+    "verdicts": {"verdicts.txt": "mine"},
     "a pass": {"pass-1/diary.txt": "mine"},
     "pieces": {"pass-1/pieces": "mine"},
     "a journal": {"pass-1/journal": "mine"},
@@ -245,6 +154,7 @@ def test_files_of_somebody_else(tmp_path: pathlib.Path, files: dict[str, str]) -
         if not name.endswith("/"):
             path.write_text(text)
     require_unchanged(case, case.out)
+    assert os.path.basename(next(iter(files))) in case.output(), "the file is named"
 
 
 @pytest.mark.parametrize("name", LINKED)
@@ -304,11 +214,8 @@ def test_begun(bb: str, tmp_path: pathlib.Path) -> None:
         (case.out / name.replace(".part", ".2.part")).write_text("mine, too\n")
     parts = {name: data for name, data in snapshot(case.out).items() if name.endswith(".part")}
     case.words += ["--pass", words_of((60, 64, 3, 10))]
-    status = case.run()
-    right = expected_verdicts(bb, case.list.read_bytes(), [QUICK_PASS, (60, 64, 3, 10)])
-    assert status == 1 and case.verdicts() == right, case.output()
-    after = {name: data for name, data in snapshot(case.out).items() if name.endswith(".part")}
-    assert after == parts
+    case.require_verdicts(expected_verdicts(bb, case.list.read_bytes(), TWO_PASSES))
+    assert {name: data for name, data in snapshot(case.out).items() if name.endswith(".part")} == parts
     assert (case.out.parent / "precious").read_text() == "mine"
     (case.out / "pass-3").mkdir()
     (case.out / "pass-3" / "pieces").write_text("mine")
@@ -319,13 +226,15 @@ def test_begun(bb: str, tmp_path: pathlib.Path) -> None:
 def command(*more: str, given: pathlib.Path | None = None) -> tuple[int, str]:
     """The status of a command of the package, whose standard input is a file, and what it says."""
     with open(given or os.devnull, "rb") as file:
-        done = subprocess.run(
-            [sys.executable, "-m", "budlarem", *more],
-            stdin=file,
-            stdout=subprocess.PIPE,
-            stderr=subprocess.STDOUT,
-        )
+        words, errors = [sys.executable, "-m", "budlarem", *more], subprocess.STDOUT
+        done = subprocess.run(words, stdin=file, stdout=subprocess.PIPE, stderr=errors)
     return done.returncode, done.stdout.decode("utf-8", "replace")
+
+
+def require_refusal(archive: pathlib.Path, folder: pathlib.Path, text: str) -> None:
+    """A folder isn't published, with a sentence."""
+    status, said = command("publish", str(archive), "--verdicts", str(folder))
+    assert status == 2 and text in said and not archive.exists(), said
 
 
 @pytest.mark.parametrize("passes", [1, pytest.param(2, marks=pytest.mark.slow)])
@@ -347,9 +256,7 @@ def test_mixed(tmp_path: pathlib.Path, passes: int) -> None:
             shutil.copytree(second / name, mixed / name)
         else:
             shutil.copyfile(second / name, mixed / name)
-        out = tmp_path / ("mixed-%d-%s.tar" % (passes, name))
-        status, said = command("publish", str(out), "--verdicts", str(mixed))
-        assert status == 2 and "doesn't match" in said and not out.exists()
+        require_refusal(tmp_path / ("mixed-%d-%s.tar" % (passes, name)), mixed, "doesn't match")
     out = tmp_path / ("whole-%d.tar" % passes)
     status, said = command("publish", str(out), "--verdicts", str(first), "--list", str(cases[0].list))
     assert status == 0, said
@@ -358,19 +265,6 @@ def test_mixed(tmp_path: pathlib.Path, passes: int) -> None:
     out.unlink()
     status, said = command("publish", str(out), "--verdicts", str(first))
     assert status == 0, said
-
-
-def test_other_counts(tmp_path: pathlib.Path) -> None:
-    """The summary of one run beside the verdicts of another, as two runs of one name left them."""
-    cases = [Case(tmp_path / ("counts-%d" % seed), random_list(500, seed), [QUICK_PASS]) for seed in (71, 72)]
-    for case in cases:
-        case.run()
-    for path in cases[1].out.glob("verdicts.txt"):
-        shutil.copyfile(path, cases[0].out / path.name)
-    shutil.rmtree(cases[0].out / "pass-1")
-    out = tmp_path / "counts.tar"
-    status, said = command("publish", str(out), "--verdicts", str(cases[0].out))
-    assert status == 2 and "summary.json doesn't match verdicts.txt" in said and not out.exists(), said
 
 
 def test_archive(tmp_path: pathlib.Path) -> None:

@@ -25,11 +25,8 @@ _MODULE = re.compile(r"budlarem\.[a-z]")
 QUIET, PATIENCE = 0.3, 60.0
 _STATUSES = {signal.SIGINT: 130, signal.SIGTERM: 143, signal.SIGHUP: 129}
 # What the command says that a signal ended, and whether SIGTERM and SIGHUP end it as other programs.
-_SENTENCES = {
-    "run": r"budlarem: (interrupted|ended by SIG\w+); the same command resumes the run.*\n",
-    "publish": r"budlarem: SIG\w+: no archive is written\n",
-    "check": r"",
-}
+_RESUME = r"budlarem: (interrupted|ended by SIG\w+); the same command resumes the run.*\n"
+_SENTENCES = {"run": _RESUME, "publish": r"budlarem: SIG\w+: no archive is written\n", "check": ""}
 
 
 def commands(tmp_path: pathlib.Path) -> dict[str, list[str]]:
@@ -57,9 +54,9 @@ def result_after_signal(
     """The status of a command that is sent a signal after so many imports, from the first one of the package
     on, or after the last one, and then so many seconds; and what it says."""
     command = [sys.executable, "-X", "importtime", "-m", "budlarem", *more]
-    with open(log, "wb") as file, subprocess.Popen(
-        command, stdout=file, stderr=file, preexec_fn=restore_signals
-    ) as process:
+    with open(log, "wb") as file:
+        process = subprocess.Popen(command, stdout=file, stderr=file, preexec_fn=restore_signals)
+    with process:
         before, since = 0, time.monotonic()
         while before < imports and time.monotonic() - since < (QUIET if before else PATIENCE):
             found = imports_in(log.read_text(errors="replace"))
@@ -102,48 +99,37 @@ def test_cut_library(library: pathlib.Path, tmp_path: pathlib.Path, step: int) -
     cut, listed = tmp_path / "libbb.so", tmp_path / "machines.txt"
     listed.write_bytes(b"1RB1LB_1LA1RZ\n")
     whole = library.read_bytes()
-    asked = {
-        "decide": ["decide", str(listed)],
-        "check": ["check", str(listed)],
-        "run": ["run", str(listed), "--out", str(tmp_path / "cut")],
-        "trace": ["trace", "1RB1LB_1LA1RZ", "--upto", "6"],
-    }
-    lengths = [*range(64, len(whole), len(whole) // (4 * step)), len(whole) - 1]
-    for length, (name, more) in [(length, one) for length in lengths for one in asked.items()]:
+    decide, run = ["decide", str(listed)], ["run", str(listed), "--out", str(tmp_path / "cut")]
+    commands = (decide, run, ["check", str(listed)], ["trace", "1RB1LB_1LA1RZ", "--upto", "6"])
+    lengths = [7, 20, *range(64, len(whole), len(whole) // (4 * step)), len(whole) - 1]
+    for length, more in itertools.product(lengths, commands):
         cut.write_bytes(whole[:length])
         status, said = result_of(more, cut)
-        assert status == 3 and b"was cut short" in said and said.count(b"\n") == 1, (name, length)
+        assert status == 3 and b"was cut short" in said and said.count(b"\n") == 1, (more, length)
     cut.write_bytes(whole)
-    status, said = result_of(asked["decide"], cut)
+    status, said = result_of(decide, cut)
     assert status == 0 and b"1RB1LB_1LA1RZ halt 6 4" in said.splitlines()
 
 
 def test_controls(tmp_path: pathlib.Path) -> None:
     """Lines with control characters, in lists and in the names of files."""
     odd = b"\x1b[31mred\x07\x9b1m\xc2\x9b2m\x7f\x00\r"
-    listed, verdicts, named = (
-        tmp_path / "odd.txt",
-        tmp_path / "odd-verdicts.txt",
-        tmp_path / "na\x1b[31mme.txt",
-    )
-    (tmp_path / "list.txt").write_bytes(LONG_MACHINE)
-    listed.write_bytes((odd + b"\n") * 3)
-    verdicts.write_bytes(b"1RB1LB_1LA1RZ halt 6 4 " + odd + b"\n")
-    named.write_bytes(b"1RB1LB_1LA1RZ halt 6 4\n1RB1LB_1LA1RZ halt 7 4\n")
-    asked = {
-        "run": ["run", str(listed), "--out", str(tmp_path / "odd")],
-        "run of an odd name": ["run", str(named), "--out", str(tmp_path / "odd")],
-        "run in an odd name": ["run", str(tmp_path / "list.txt"), "--out", str(named)],
-        "check": ["check", str(verdicts)],
-        "check of an odd name": ["check", str(named)],
-        "publish": ["publish", str(tmp_path / "odd.tar"), "--verdicts", str(verdicts)],
-        "publish of an odd name": ["publish", str(tmp_path / "odd.tar"), "--verdicts", str(named)],
-        "publish into an odd name": ["publish", str(named), "--verdicts", str(verdicts)],
-        "trace": ["trace", "1RB1LB\x1b[31m", "--upto", "3"],
-        "report": ["report", str(verdicts), "--out", str(tmp_path / "no" / "na\x1b[31mme.html")],
+    files = {
+        "list.txt": LONG_MACHINE,
+        "odd.txt": (odd + b"\n") * 3,
+        "odd-verdicts.txt": b"1RB1LB_1LA1RZ halt 6 4 " + odd + b"\n",
+        "na\x1b[31mme.txt": b"1RB1LB_1LA1RZ halt 6 4\n1RB1LB_1LA1RZ halt 7 4\n",
     }
-    for name, more in asked.items():
+    for name, data in files.items():
+        (tmp_path / name).write_bytes(data)
+    machines, listed, verdicts, named = (str(tmp_path / name) for name in files)
+    out, archive = str(tmp_path / "odd"), str(tmp_path / "odd.tar")
+    runs = [["run", listed, "--out", out], ["run", named, "--out", out], ["run", machines, "--out", named]]
+    others = [["publish", archive, "--verdicts", name] for name in (verdicts, named)]
+    others += [["publish", named, "--verdicts", verdicts], ["trace", "1RB1LB\x1b[31m", "--upto", "3"]]
+    others += [["report", verdicts, "--out", str(tmp_path / "no" / "na\x1b[31mme.html")]]
+    for more in (*runs, ["check", verdicts], ["check", named], *others):
         status, said = result_of(more)
         raw = [byte for byte in said if byte < 32 and byte != 10 or byte == 127]
         raw += [ord(sign) for sign in said.decode("utf-8", "replace") if "\x80" <= sign <= "\x9f"]
-        assert status in (1, 2, 3) and not raw and (b"\\x1b" in said or name == "trace"), said
+        assert status in (1, 2, 3) and not raw and (b"\\x1b" in said or more[0] == "trace"), said

@@ -10,8 +10,7 @@ import pathlib
 import re
 import shutil
 import subprocess
-import sys
-from typing import Mapping
+from typing import Any
 
 import pytest
 from support import TOP
@@ -46,32 +45,20 @@ RUN_PASSES = ((5, 16, 3, 10), (1_000, 1_024, 40, 1_000))
 RUN_LEFT = [4, 1]
 SITE = pathlib.Path(pytest.__file__).parents[1]
 # The modules that pytest and hypothesis are, for Pythons and environments that lack it.
-PYTEST = ("pytest", "_pytest", "py", "pluggy", "iniconfig", "packaging", "attr", "exceptiongroup") + (
-    "hypothesis",
-    "sortedcontainers",
-)
+PYTEST = "pytest _pytest py pluggy iniconfig packaging attr exceptiongroup".split()
+PYTEST += ["hypothesis", "sortedcontainers"]
 
 
 def run(
-    command: list[str],
-    variables: Mapping[str, str] | None = None,
-    cwd: pathlib.Path = PACKAGE,
-    given: str | None = None,
+    command: list[str], path: str = "", cwd: pathlib.Path = PACKAGE, given: str | None = None
 ) -> tuple[int, str]:
-    """The status of a command and all that it writes, in an environment with these variables, in which
+    """The status of a command and all that it writes, in an environment with this PYTHONPATH, in which
     nothing else says where the package or the library is."""
     hidden = ("PYTHONPATH", "BB_LIBRARY", "PYTHONHOME", "VIRTUAL_ENV")
-    bare = {name: value for name, value in os.environ.items() if name not in hidden}
-    written, both = subprocess.PIPE, subprocess.STDOUT
-    done = subprocess.run(
-        command,
-        cwd=cwd,
-        env={**bare, **(variables or {})},
-        input=given,
-        stdout=written,
-        stderr=both,
-        text=True,
-    )
+    variables = {name: value for name, value in os.environ.items() if name not in hidden}
+    variables.update({"PYTHONPATH": path} if path else {})
+    how: dict[str, Any] = {"stdout": subprocess.PIPE, "stderr": subprocess.STDOUT, "text": True}
+    done = subprocess.run(command, cwd=cwd, env=variables, input=given, **how)
     return done.returncode, done.stdout
 
 
@@ -96,7 +83,7 @@ def run_unit_tests(python: str, top: pathlib.Path, *more: str) -> None:
             (top / name).symlink_to(SITE / name)
     (top / "tomli.py").write_text("from pip._vendor.tomli import *\n")
     words = ["-q", "-p", "no:cacheprovider", *more, "python/tests/unit"]
-    status, output = run([python, "-m", "pytest", *words], {"PYTHONPATH": str(top)}, TOP)
+    status, output = run([python, "-m", "pytest", *words], str(top), TOP)
     counts = re.search(r"(\d+) passed", output)
     assert status == 0 and counts and int(counts.group(1)) > 200, output
 
@@ -107,20 +94,11 @@ def test_unit_tests_by_each_python(tmp_path: pathlib.Path) -> None:
         run_unit_tests(python, tmp_path / str(place))
 
 
-@pytest.mark.needs("mypy", "black")
-def test_types_and_layout() -> None:
-    status, output = run(["/usr/bin/python3", "-m", "mypy", "python/src", "python/tests"], cwd=TOP)
-    assert status == 0, output
-    status, output = run(["black", "--check", "--quiet", "--config", "pyproject.toml", "python"], cwd=TOP)
-    assert status == 0, output
-
-
 def test_examples_of_docstrings() -> None:
     names = sorted((PACKAGE / "src" / "budlarem").rglob("[a-z]*.py"))
     modules = [".".join(path.relative_to(PACKAGE / "src").with_suffix("").parts) for path in names]
-    found = [
-        doctest.testmod(importlib.import_module(name)) for name in modules if not name.endswith("recheck")
-    ]
+    modules.remove("budlarem.recheck")
+    found = [doctest.testmod(importlib.import_module(name)) for name in modules]
     assert sum(one.failed for one in found) == 0
     assert sum(one.attempted for one in found) > 15
 

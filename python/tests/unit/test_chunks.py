@@ -7,7 +7,6 @@ import dataclasses
 import gzip
 import itertools
 import os
-import pathlib
 import unittest.mock
 from typing import Any, Iterator
 
@@ -87,23 +86,23 @@ def test_a_list_that_changes(case: RunCase) -> None:
 
 class JournalCase:
     def __init__(self, case: RunCase) -> None:
-        self.top, self.callback = case.top, case.callback
-        self.path = str(self.top / "journal")
-        self.folder = _files.Directory.open(str(self.top))
+        self.path, self.callback = case.top / "journal", case.callback
+        self.folder = _files.Directory.open(str(case.top))
         self.callback(self.folder.close)
         self.counts = counts_of(expected_verdicts(KINDS))
-        self.journal = journal.Journal(self.folder, "key")
-        self.callback(self.journal.close)
-        self.known = [
-            dataclasses.replace(
-                journal.Record.of(10 * place, 10, KINDS, b"x" * place, place / 3, self.counts),
-                is_checked=place % 2 == 1,
-                place=1_000 * place,
-            )
-            for place in range(6)
-        ]
+        self.journal = self.open_journal("key")
+        self.known = list(map(self.record, range(6)))
         for place in (0, 1, 4, 5):
             self.journal.write(place, self.known[place])
+
+    def open_journal(self, key: str) -> journal.Journal:
+        opened = journal.Journal(self.folder, key)
+        self.callback(opened.close)
+        return opened
+
+    def record(self, place: int) -> journal.Record:
+        record = journal.Record.of(10 * place, 10, KINDS, b"x" * place, place / 3, self.counts)
+        return dataclasses.replace(record, is_checked=place % 2 == 1, place=1_000 * place)
 
 
 @pytest.fixture
@@ -129,33 +128,30 @@ def test_a_gap(journals: JournalCase) -> None:
 
 def test_gaps_of_a_foreign_journal(journals: JournalCase) -> None:
     """Each line is read once, however often is asked what comes."""
-    foreign = journal.Journal(journals.folder, "other")
-    journals.callback(foreign.close)
+    foreign = journals.open_journal("other")
     with unittest.mock.patch.object(foreign, "read", wraps=foreign.read) as read:
         assert [foreign.find_gap(index, index) for index in range(6)] == [None] * 6
     assert read.call_count <= 6
 
 
 def test_each_changed_byte_is_seen(journals: JournalCase) -> None:
-    data = pathlib.Path(journals.path).read_bytes()
+    data = journals.path.read_bytes()
     for place in range(journal.WIDTH):
         changed = bytearray(data)
         changed[place] ^= 1
-        pathlib.Path(journals.path).write_bytes(changed)
+        journals.path.write_bytes(changed)
         assert journals.journal.read(0) is None
         assert journals.journal.read(1) == journals.known[1]
 
 
 def test_cut_moved_and_other_keys(journals: JournalCase) -> None:
-    data = pathlib.Path(journals.path).read_bytes()
-    pathlib.Path(journals.path).write_bytes(data[journal.WIDTH :])
+    data = journals.path.read_bytes()
+    journals.path.write_bytes(data[journal.WIDTH :])
     assert [journals.journal.read(place) for place in range(6)] == [None] * 6
-    pathlib.Path(journals.path).write_bytes(data[:-1])
+    journals.path.write_bytes(data[:-1])
     assert journals.journal.read(5) is None
     assert journals.journal.read(4) == journals.known[4]
-    other = journal.Journal(journals.folder, "other")
-    journals.callback(other.close)
-    assert other.read(4) is None
+    assert journals.open_journal("other").read(4) is None
 
 
 def test_verdicts_of_a_list() -> None:
@@ -168,7 +164,7 @@ def test_verdicts_of_a_list() -> None:
             assert counts[kind] > 0
 
 
-def wrong(given: bytes, verdicts: bytes) -> None:
+def require_refusal(given: bytes, verdicts: bytes) -> None:
     with pytest.raises(ReplyError):
         chunks.validate_verdicts(given, verdicts)
 
@@ -178,22 +174,22 @@ def test_what_is_wrong() -> None:
     chunks.validate_verdicts(KINDS, good)
     lines = good.splitlines(keepends=True)
     for changed in (b"", good[:-1], good + lines[0], good[len(lines[0]) :], good + b"x", good[::-1], KINDS):
-        wrong(KINDS, changed)
+        require_refusal(KINDS, changed)
     for place, line in itertools.product(range(len(lines)), lines):
         if line != lines[place]:
-            wrong(KINDS, b"".join([*lines[:place], line, *lines[place + 1 :]]))
+            require_refusal(KINDS, b"".join([*lines[:place], line, *lines[place + 1 :]]))
 
 
 def test_lines_that_are_no_verdict_lines() -> None:
     machine = b"1RB1LB_1LA1RZ"
     for text in (b"halt 6", b"halt 06 4", b"halt 6 4 ", b" halt 6 4", b"", b"open", b"\x00"):
-        wrong(machine + b"\n", machine + b" " + text + b"\n")
+        require_refusal(machine + b"\n", machine + b" " + text + b"\n")
     for text in (b"refused 3", b"refused 0", b"refused 2 ", b"refused", b"refused 2\n"):
-        wrong(b"1rB1LB\n", text + b"\n")
-    wrong(b"1RA1RA translated\n", b"1RA1RA translated R 1 2 1 1\n")
+        require_refusal(b"1rB1LB\n", text + b"\n")
+    require_refusal(b"1RA1RA translated\n", b"1RA1RA translated R 1 2 1 1\n")
     chunks.validate_verdicts(b"1RA1RA translated\n", b"refused 7\n")
-    wrong(b"1RZ---\n", b"refused 7\n")
-    wrong(b"refused\n", b"refused 5\n")
+    require_refusal(b"1RZ---\n", b"refused 7\n")
+    require_refusal(b"refused\n", b"refused 5\n")
     chunks.validate_verdicts(b"refused\n", b"refused 1\n")
 
 
@@ -214,22 +210,15 @@ def test_replies() -> None:
     reply = chunks.decide_chunk(KINDS, SMALL.numbers())
     asked = chunks.describe_task(chunks.DECIDE, SMALL.numbers())
     assert chunks.open_reply(reply, ours, asked, KINDS)[0] == expected_verdicts(KINDS, [SMALL])
+    outputs, seconds = (reply[0][:-1] + b" ", reply[0].decode()), ("1", float("nan"))
     wrong: list[Any] = [
-        None,
-        b"",
-        [],
-        reply[:4],
-        reply[:5],
-        (*reply[:7], chunks.digest_of(KINDS)),
-        (reply[0][:-1] + b" ", *reply[1:]),
+        *(None, b"", [], reply[:4], reply[:5], (*reply[:7], chunks.digest_of(KINDS))),
+        *((output, *reply[1:]) for output in outputs),
+        *((reply[0], one, *reply[2:]) for one in seconds),
+        *((*reply[:2], "0.0", *reply[3:]), (*reply[:4], "0" * 64, *reply[5:])),
         chunks.decide_chunk(KINDS[:-1], SMALL.numbers()),
         chunks.decide_chunk(KINDS, MIDDLE.numbers()),
         chunks.check_chunk(KINDS, SMALL.numbers()),
-        (reply[0].decode(), *reply[1:]),
-        (reply[0], "1", *reply[2:]),
-        (reply[0], float("nan"), *reply[2:]),
-        (*reply[:2], "0.0", *reply[3:]),
-        (*reply[:4], "0" * 64, *reply[5:]),
     ]
     for changed in wrong:
         with pytest.raises(ReplyError):
@@ -246,5 +235,4 @@ def test_a_chunk_lasts_some_seconds() -> None:
             pace.update(pace.now, pace.now * cost, width)
         assert sizes[0] == 1
         assert all(after <= 8 * before for before, after in zip(sizes, sizes[1:]))
-        seconds = sizes[-1] * cost
-        assert sizes[-1] in (1, 20_000) or 0.7 <= seconds / lasting <= 1.3, sizes
+        assert sizes[-1] in (1, 20_000) or 0.7 <= sizes[-1] * cost / lasting <= 1.3, sizes

@@ -18,6 +18,7 @@ import budlarem
 import pytest
 from budlarem import Agreement, comparison, growth, pictures, reports
 from budlarem.growth import Growth, measure_growth
+from support.program import run_command
 
 CHAMPION = "1RB1LB_1LA1RZ"
 FOUR_STATES = "1RB1LB_1LA0LC_1RZ1LD_1RD0RA"
@@ -103,8 +104,7 @@ def test_machines_that_stay() -> None:
 
 def test_duplicates() -> None:
     machines = [CHAMPION, "1LB1RB_1RA1LZ", "1RA1RA", CHAMPION]
-    before = [first for _, first in budlarem.distinct(machines)]
-    assert before == [None, CHAMPION, None, CHAMPION]
+    assert [first for _, first in budlarem.distinct(machines)] == [None, CHAMPION, None, CHAMPION]
 
 
 def test_no_machine() -> None:
@@ -117,18 +117,10 @@ def test_no_machine() -> None:
         list(budlarem.distinct(wrong))
 
 
-@pytest.mark.parametrize(
-    "counts, found",
-    [
-        ((5, 5, 5), Growth.STAYS),
-        ((5, 9, 9), Growth.STAYS),
-        ((10, 13, 16), Growth.LOGARITHM),
-        ((10, 32, 100), Growth.ROOT),
-        ((10, 100, 1_000), Growth.LINE),
-    ],
-)
-def test_growths(counts: tuple[int, int, int], found: Growth) -> None:
-    assert growth.classify_growth(counts) is found
+def test_growths() -> None:
+    counts = [(5, 5, 5), (5, 9, 9), (10, 13, 16), (10, 32, 100), (10, 100, 1_000)]
+    found = [growth.classify_growth(visited) for visited in counts]
+    assert found == [Growth.STAYS, Growth.STAYS, Growth.LOGARITHM, Growth.ROOT, Growth.LINE]
 
 
 def test_growth_of_runs() -> None:
@@ -155,13 +147,8 @@ def test_a_halt_comes_with_its_steps_and_cells() -> None:
 
 
 def test_rows_are_those_of_the_whole_trace() -> None:
-    for machine in (
-        CHAMPION,
-        UNDECIDED,
-        "1LB2RA3LA4RB0LA_2LA---4RB1LA0RZ",
-        "1LB5RA3LA4RB0LA1LB_2LA---4RB1LA0RZ5LA",
-        "1RB---" + "_1LA0RB" * 24,
-    ):
+    large = ["1LB2RA3LA4RB0LA_2LA---4RB1LA0RZ", "1LB5RA3LA4RB0LA1LB_2LA---4RB1LA0RZ5LA"]
+    for machine in (CHAMPION, UNDECIDED, *large, "1RB---" + "_1LA0RB" * 24):
         rows = list(budlarem.trace(machine, 500))
         lows = itertools.accumulate((now.position for now in rows if now.state != "Z"), min)
         assert all(now.low == low for now, low in zip(rows, lows))
@@ -195,21 +182,17 @@ def test_the_smallest_are_kept() -> None:
 
 @pytest.mark.needs(modules=("matplotlib",))
 def test_a_page(tmp_path: pathlib.Path) -> None:
-    folder = str(tmp_path)
     path = tmp_path / "page.html"
     made = budlarem.report(LINES, path, steps=1_000, title="<lists>")
     page = path.read_text(encoding="utf-8")
     assert (made.path, made.html) == (str(path), page)
-    assert "html=" not in repr(made)
-    assert os.listdir(folder) == ["page.html"]
-    assert "&lt;lists&gt;" in page
-    frame = re.fullmatch(
-        '<iframe title="&lt;lists&gt;" srcdoc="([^"]*)" style="[^"]*"></iframe>', made._repr_html_()
-    )
+    assert "html=" not in repr(made) and os.listdir(tmp_path) == ["page.html"]
+    form = '<iframe title="&lt;lists&gt;" srcdoc="([^"]*)" style="[^"]*"></iframe>'
+    frame = re.fullmatch(form, made._repr_html_())
     assert (frame and html.unescape(frame[1])) == page
-    assert "1 of 1 undecided machines" in page
+    assert "&lt;lists&gt;" in page and "1 of 1 undecided machines" in page
     assert page.count("data:image/png;base64,") == 1
-    assert not ("http" in page.replace("http://www.w3.org", "")), "an address"
+    assert "http" not in page.replace("http://www.w3.org", ""), "an address"
 
 
 @pytest.mark.needs(modules=("matplotlib",))
@@ -218,10 +201,8 @@ def test_lists_that_are_empty_or_wrong(tmp_path: pathlib.Path) -> None:
     with pytest.raises(ValueError, match=r"verdicts\[1\]: no verdict line"):
         budlarem.report(["refused 1", "x"], path)
     assert not path.exists()
-    budlarem.report([], path)
-    page = path.read_text(encoding="utf-8")
-    assert "No verdict has numbers" in page
-    assert "No machine is left undecided." in page
+    page = budlarem.report([], path).html
+    assert "No verdict has numbers" in page and "No machine is left undecided." in page
     page = budlarem.report(LINES, path, diagrams=0).html
     assert "<p>0 of 1 undecided machines are shown.</p>" in page
 
@@ -233,17 +214,15 @@ def test_one_bar_stands_at_a_whole_number() -> None:
 
 
 def test_what_is_missing_is_named() -> None:
-    with mock.patch.dict("sys.modules", {"matplotlib": None}), pytest.raises(
-        budlarem.ReportError, match="pip install"
-    ):
-        budlarem.report([], "page.html")
+    with mock.patch.dict("sys.modules", {"matplotlib": None}):
+        with pytest.raises(budlarem.ReportError, match="pip install"):
+            budlarem.report([], "page.html")
 
 
 def run_with(*words: str, given: str = "") -> tuple[int, list[str], str]:
     """The status of the command, its lines, and what it says."""
-    command = [sys.executable, "-m", "budlarem", *words]
-    ended = subprocess.run(command, input=given.encode(), capture_output=True)
-    return ended.returncode, ended.stdout.decode().splitlines(), ended.stderr.decode()
+    status, output, error = run_command([sys.executable, "-m", "budlarem", *words], given.encode())
+    return status, output.decode().splitlines(), error.decode()
 
 
 def test_fields_are_carried() -> None:
@@ -254,19 +233,14 @@ def test_fields_are_carried() -> None:
 def test_a_refused_line_is_named_and_passed_over(tmp_path: pathlib.Path) -> None:
     machines = [CHAMPION, "1RB1LC_1LA1RZ", "1RA1RA"]
     claims = [CHAMPION + " halt 6 4", "1RA1RA halt 6", "1RA1RA translated R 1 2 1 1"]
-    path = str(tmp_path / "list.txt")
-    rows: list[tuple[list[str], list[str], int]] = [
-        (["read", path], machines, 2),
-        (["decide", path], machines, 3),
-        (["normal", path], machines, 2),
-        (["normal", "--distinct", path], machines, 2),
-        (["compare", path, path], claims, 0),
-    ]
+    path, page = tmp_path / "list.txt", str(tmp_path / "page.html")
+    counts = {"read": 2, "decide": 3, "normal": 2, "normal --distinct": 2, "compare %s" % path: 0}
     if HAS_PLOTS:
-        rows.append((["report", path, "--out", str(tmp_path / "page.html")], claims, 0))
-    for words, lines, count in rows:
-        pathlib.Path(path).write_text("\n".join(lines) + "\n", encoding="utf-8")
-        status, written, said = run_with(*words)
+        counts["report --out " + page] = 0
+    for words, count in counts.items():
+        lines = machines if count else claims
+        path.write_text("\n".join(lines) + "\n", encoding="utf-8")
+        status, written, said = run_with(*words.split(" "), str(path))
         assert (status, len(written)) == (1, count), words
         assert "%s:2: refused: " % path in said, words
 
@@ -280,17 +254,15 @@ def test_a_full_disk_is_named_with_what_was_written() -> None:
 
 
 def test_files_and_statuses(tmp_path: pathlib.Path) -> None:
-    path = str(tmp_path / "verdicts.txt")
-    with open(path, "w", encoding="utf-8") as file:
-        file.write(CHAMPION + " halt 6 4\n")
-    assert run_with("compare", path, path)[:2] == (0, [])
-    status, lines, said = run_with("compare", path, "-", given=CHAMPION + " halt 5 4\n")
+    path = tmp_path / "verdicts.txt"
+    path.write_text(CHAMPION + " halt 6 4\n", encoding="utf-8")
+    assert run_with("compare", str(path), str(path))[:2] == (0, [])
+    status, lines, said = run_with("compare", str(path), "-", given=CHAMPION + " halt 5 4\n")
     assert (status, lines[0].split("\t")[0]) == (1, "contradict")
     assert "contradict 1" in said
-    os.unlink(path)
-    status, _, said = run_with("compare", path, path)
-    assert status == 3
-    assert "verdicts.txt" in said
+    path.unlink()
+    status, _, said = run_with("compare", str(path), str(path))
+    assert status == 3 and "verdicts.txt" in said
 
 
 def test_words_and_limits_that_are_refused() -> None:

@@ -2,20 +2,17 @@
 
 from __future__ import annotations
 
-import argparse
-import contextlib
-import dataclasses
 import io
 import types
 import unittest.mock
 from concurrent.futures import CancelledError, Future
-from typing import Any, Iterator
+from typing import Any
 
 import pytest
-from budlarem import commands
-from budlarem.commands import run as command
+from budlarem.commands import build_parser, run as command
 from budlarem.runner import chunks, dask, progress
 from budlarem.runner.errors import FatalLineError, RunError
+from support.runner import call_command
 
 LIMITS = (30, 16, 3, 5)
 LINES = b"1RZ---\n1RA1RA\n0RZ---\n1LA1LA\n1LZ---\n"
@@ -32,13 +29,6 @@ class KilledWorker(Exception):
     """As dask's."""
 
 
-@dataclasses.dataclass
-class State:
-    """What a client knows of a task."""
-
-    status: str
-
-
 class DoubleClient:
     """A client, and its executor, that does what a test says. `given` has the tasks that were handed over."""
 
@@ -47,7 +37,8 @@ class DoubleClient:
         self.how = how
         self.dashboard_link = "http://page"
         self.workers: dict[str, int] = {"one": 1}
-        self.futures: dict[str, State] = {}
+        # What it knows of each task: its `status`.
+        self.futures: dict[str, types.SimpleNamespace] = {}
         self.given: list[Any] = []
         self.fetched: dict[str, Any] = {}
 
@@ -62,10 +53,9 @@ class DoubleClient:
         if self.status == "closed":
             raise Exception("Tried sending message after closing")
         future: Future[Any] = Future()
-        self.futures[key] = State("pending")
-        self.given.append(
-            types.SimpleNamespace(task=task, lines=lines, limits=limits, key=key, future=future)
-        )
+        self.futures[key] = types.SimpleNamespace(status="pending")
+        given = {"task": task, "lines": lines, "limits": limits, "key": key, "future": future}
+        self.given.append(types.SimpleNamespace(**given))
         return future
 
     def answer(self, place: int = 0) -> None:
@@ -136,8 +126,15 @@ class ClusterCase:
         self.place._next = 0.0
         self.place.maintain()
 
-    def is_right(self, future: Future[Any], lines: bytes = LINES) -> None:
+    def require_reply(self, future: Future[Any], lines: bytes = LINES) -> None:
         assert future.result(0) == reply_to(lines, LIMITS)
+
+    def answer_all(self, *futures: Future[Any]) -> None:
+        """Ends all tasks well, and requires the replies of these futures."""
+        while self.client.given:
+            self.client.answer()
+        for future in futures:
+            self.require_reply(future)
 
     def kill_at(self, line: bytes, future: Future[Any]) -> int:
         """Each task with a line ends its workers, all others are answered; how many did."""
@@ -161,8 +158,7 @@ def double(monkeypatch: pytest.MonkeyPatch) -> ClusterCase:
 
 def test_a_reply_comes_back(double: ClusterCase) -> None:
     future = double.submit()
-    double.client.answer()
-    double.is_right(future)
+    double.answer_all(future)
     assert double.sentences[1:] == ["dask's page is at http://page"]
     assert double.place._submissions == {}
 
@@ -172,10 +168,8 @@ def test_what_was_cancelled_is_handed_over_again(double: ClusterCase) -> None:
     double.client.cancel()
     double.maintain()
     assert len(double.client.given) == 2
-    for future in futures:
-        assert not future.done()
-        double.client.answer()
-        double.is_right(future)
+    assert not any(future.done() for future in futures)
+    double.answer_all(*futures)
 
 
 def test_a_broken_connection(double: ClusterCase) -> None:
@@ -194,10 +188,7 @@ def test_a_broken_connection(double: ClusterCase) -> None:
     assert len(double.client.given) == 2
     before.future.set_result("of the connection before")
     assert not future.done()
-    for _ in range(2):
-        double.client.answer()
-    double.is_right(future)
-    double.is_right(waiting)
+    double.answer_all(future, waiting)
 
 
 def test_a_closed_client_is_made_anew(double: ClusterCase) -> None:
@@ -214,10 +205,7 @@ def test_a_closed_client_is_made_anew(double: ClusterCase) -> None:
     assert double.client is not first
     assert double.client.how["loop"] is first.loop
     assert len(double.client.given) == 2
-    for _ in range(2):
-        double.client.answer()
-    double.is_right(future)
-    double.is_right(waiting)
+    double.answer_all(future, waiting)
     assert "has 1 workers" in double.sentences[-1]
 
 
@@ -256,16 +244,13 @@ def test_lines_that_stood_beside_it_are_not_named(double: ClusterCase) -> None:
     while not all(future.done() for future in futures):
         is_deadly = any(b"1RA1RA" in given.lines for given in double.client.given)
         while double.client.given:
-            if is_deadly:
-                double.client.kill()
-            else:
-                double.client.answer()
+            (double.client.kill if is_deadly else double.client.answer)()
         double.maintain()
     with pytest.raises(FatalLineError) as raised:
         futures[1].result(0)
     assert raised.value.line == 1
-    double.is_right(futures[0], texts[0])
-    double.is_right(futures[2], texts[2])
+    double.require_reply(futures[0], texts[0])
+    double.require_reply(futures[2], texts[2])
 
 
 def test_workers_that_were_killed_by_chance(double: ClusterCase) -> None:
@@ -277,7 +262,7 @@ def test_workers_that_were_killed_by_chance(double: ClusterCase) -> None:
         assert not future.done()
         double.client.answer()
         double.maintain()
-    double.is_right(future)
+    double.require_reply(future)
     assert "5 lines killed their workers" in double.sentences[-1]
 
 
@@ -294,7 +279,7 @@ def test_a_reply_that_cannot_be_read(double: ClusterCase, monkeypatch: pytest.Mo
     double.maintain()
     with pytest.raises(ImportError, match="no such class"):
         lost.result(0)
-    double.is_right(innocent)
+    double.require_reply(innocent)
     assert not busy.done()
 
 
@@ -309,8 +294,7 @@ def test_a_reply_that_dask_forgot(double: ClusterCase, monkeypatch: pytest.Monke
     assert double.client.given == []
     monkeypatch.setattr(dask, "_SILENT", -1.0)
     double.maintain()
-    double.client.answer()
-    double.is_right(future)
+    double.answer_all(future)
 
 
 def test_a_reply_that_comes_late(double: ClusterCase, monkeypatch: pytest.MonkeyPatch) -> None:
@@ -318,17 +302,13 @@ def test_a_reply_that_comes_late(double: ClusterCase, monkeypatch: pytest.Monkey
     future = double.submit()
     key = double.client.given[0].key
     double.client.futures[key].status = "finished"
-    for error in (TimeoutError(), OSError("the connection broke")):
+    for error in (TimeoutError(), OSError("the connection broke"), CancelledError()):
         double.client.fetched[key] = error
-        for _ in range(4):
+        for _ in range(2 if isinstance(error, CancelledError) else 4):
             double.maintain()
         assert not future.done()
-    double.client.fetched[key] = CancelledError()
-    for _ in range(2):
-        double.maintain()
-    assert not future.done()
     double.client.answer(1)
-    double.is_right(future)
+    double.require_reply(future)
 
 
 def test_what_a_task_raises_comes_back(double: ClusterCase) -> None:
@@ -364,14 +344,9 @@ def test_an_error_of_a_half_is_that_of_the_whole() -> None:
         assert isinstance(job.future.exception(0), ValueError)
 
 
-def parse_words(*words: str) -> argparse.Namespace:
-    parser = argparse.ArgumentParser()
-    command.add_command(parser.add_subparsers())
-    return parser.parse_args(["run", "list", "--out", "folder", *words])
-
-
 def place(*words: str) -> Any:
-    return command._make_backend(parse_words(*words), progress.Progress(io.StringIO()))
+    asked = build_parser().parse_args(["run", "list", "--out", "folder", *words])
+    return command._make_backend(asked, progress.Progress(io.StringIO()))
 
 
 def test_words_that_do_not_go_together() -> None:
@@ -395,16 +370,6 @@ def test_options_of_tls() -> None:
 
 
 def test_dask_is_not_installed() -> None:
-    said = io.StringIO()
-    with hide_distributed(), contextlib.redirect_stderr(said):
-        with unittest.mock.patch("budlarem.commands.run.install_signal_handlers"):
-            status = commands.main(["run", "list", "--out", "folder", "--scheduler", "there:8786"])
-    assert status == 3
-    assert "dask isn't installed" in said.getvalue()
-
-
-@contextlib.contextmanager
-def hide_distributed() -> Iterator[None]:
-    """`distributed` isn't there."""
     with unittest.mock.patch.dict("sys.modules", {"distributed": None}):
-        yield
+        status, printed = call_command("run", "list", "--out", "folder", "--scheduler", "there:8786")
+    assert status == 3 and "dask isn't installed" in printed

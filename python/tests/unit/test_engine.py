@@ -6,27 +6,20 @@ import io
 import itertools
 import os
 import re
-import subprocess
 import sys
 import threading
-from typing import Any, Iterator
+from typing import Any, Iterator, cast
 
 import budlarem
 import pytest
 from budlarem import Answer, Limits, Plan
 from budlarem._library import CLEAN, ReplyBuffer
+from support.program import as_lines, run_command
 
 CHAMPION = "1RB1LB_1LA1RZ"
 MACHINES = [CHAMPION, "0RB---_0LA---", "1RA1RA", "1rB1LB", ""]
-LINES = [
-    CHAMPION + " halt 6 4",
-    "0RB---_0LA--- cycler 2 4",
-    "1RA1RA translated R 1 2 1 1",
-    "refused 2",
-    "refused 1",
-]
-# It grows for ever as the square root of its steps, and no decider finds anything.
-COUNTER = "1RB0RA_1LC1LB_1RA0LB"
+LINES = [CHAMPION + " halt 6 4", "0RB---_0LA--- cycler 2 4", "1RA1RA translated R 1 2 1 1"]
+LINES += ["refused 2", "refused 1"]
 
 
 def decide_lines(machines: Any, *given: Any, **more: Any) -> list[str]:
@@ -54,9 +47,8 @@ def test_limits_and_plans() -> None:
 
 def test_order_by_threads() -> None:
     machines = ["1RA1RA", CHAMPION] * 20_000
-    expected = [LINES[2], LINES[0]] * 20_000
     for threads in (1, 4):
-        assert decide_lines(machines, Limits(steps=10), threads=threads) == expected
+        assert decide_lines(machines, Limits(steps=10), threads=threads) == [LINES[2], LINES[0]] * 20_000
 
 
 def test_endless_lists() -> None:
@@ -122,43 +114,35 @@ def test_threads_end_with_the_list() -> None:
 
 def test_lines_and_verdicts() -> None:
     given: list[Any] = [LINES[0], budlarem.Halt(CHAMPION, 6, 5), "x", budlarem.Refused(3), LINES[2]]
-    answers = [Answer.OK, Answer.BAD, Answer.UNREAD, Answer.OPEN, Answer.OK]
-    assert list(budlarem.check(given)) == answers
+    assert list(budlarem.check(given)) == [Answer.OK, Answer.BAD, Answer.UNREAD, Answer.OPEN, Answer.OK]
     assert list(budlarem.check(LINES[:1], Limits(steps=5))) == [Answer.OVER]
     assert str(Answer.OVER) == "over"
 
 
-def test_an_item_that_is_none() -> None:
-    wrong: Any = [LINES[0], 7]
-    with pytest.raises(TypeError, match=r"lines\[1\] is of type int"):
-        list(budlarem.check(wrong))
+TEXT: Any = "6"
+WRONG: dict[str, Any] = {
+    " is of type int": 7,
+    ".steps is '6' of type str, but must be a whole number": budlarem.Halt(CHAMPION, TEXT, 4),
+    ".steps is 6.0 of type float": budlarem.Halt(CHAMPION, cast(Any, 6.0), 4),
+    ".steps is True": budlarem.Halt(CHAMPION, True, 4),
+    ".machine is None of type NoneType, not str": budlarem.Halt(cast(Any, None), 6, 4),
+    ".second is '6'": budlarem.Cycler(CHAMPION, 1, TEXT),
+    ".nodes is '6'": budlarem.Backward(CHAMPION, 1, TEXT),
+    ".extent is of type tuple, not Extent": budlarem.Translated(CHAMPION, "R", 1, 2, cast(Any, (1, 1))),
+    ".extent.length is '6'": budlarem.Translated(CHAMPION, "R", 1, 2, budlarem.Extent(1, TEXT)),
+    ".reason is None": budlarem.Undecided(CHAMPION, cast(Any, None)),
+    ".column is '6'": budlarem.Refused(TEXT),
+}
 
 
-def test_a_verdict_with_a_field_of_another_type() -> None:
-    text: Any = "6"
-    half: Any = 6.0
-    pair: Any = (1, 1)
-    nothing: Any = None
-    cases: list[tuple[budlarem.Verdict, str]] = [
-        (budlarem.Halt(CHAMPION, text, 4), "steps is '6' of type str, but must be a whole number"),
-        (budlarem.Halt(CHAMPION, half, 4), "steps is 6.0 of type float"),
-        (budlarem.Halt(CHAMPION, True, 4), "steps is True"),
-        (budlarem.Halt(nothing, 6, 4), "machine is None of type NoneType, not str"),
-        (budlarem.Cycler(CHAMPION, 1, text), "second is '6'"),
-        (budlarem.Backward(CHAMPION, 1, text), "nodes is '6'"),
-        (budlarem.Translated(CHAMPION, "R", 1, 2, pair), "extent is of type tuple, not Extent"),
-        (budlarem.Translated(CHAMPION, "R", 1, 2, budlarem.Extent(1, text)), "extent.length is '6'"),
-        (budlarem.Undecided(CHAMPION, nothing), "reason is None"),
-        (budlarem.Refused(text), "column is '6'"),
-    ]
-    for wrong, place in cases:
-        with pytest.raises(TypeError, match=r"^lines\[1\]\." + re.escape(place)):
-            list(budlarem.check([LINES[0], wrong]))
+@pytest.mark.parametrize("text", WRONG)
+def test_an_item_of_another_type(text: str) -> None:
+    with pytest.raises(TypeError, match=r"^lines\[1\]" + re.escape(text)):
+        list(budlarem.check([LINES[0], WRONG[text]]))
 
 
 def test_blocks_of_any_kind() -> None:
-    given = "".join(line + "\n" for line in MACHINES).encode()
-    expected = "".join(line + "\n" for line in LINES).encode()
+    given, expected = as_lines(MACHINES), as_lines(LINES)
     cut = [given[k : k + 3] for k in range(0, len(given), 3)]
     kinds: list[Any] = [given, bytearray(given), memoryview(given), io.BytesIO(given), cut, iter([given])]
     for blocks in kinds:
@@ -211,8 +195,7 @@ def test_every_step_and_some() -> None:
     whole = [str(now) for now in budlarem.trace(CHAMPION, 100)]
     assert len(whole) == 7
     assert whole[6] == "6 Z 0 1111"
-    some = [str(now) for now in budlarem.trace(CHAMPION, 100, start=1, every=3)]
-    assert some == whole[1::3]
+    assert [str(now) for now in budlarem.trace(CHAMPION, 100, start=1, every=3)] == whole[1::3]
     assert list(budlarem.trace(CHAMPION, 100, start=7)) == []
 
 
@@ -220,9 +203,7 @@ def test_whether_it_was_cut() -> None:
     for upto, cells, cut in ((6, 4, False), (6, 3, True), (3, 3, False), (4, 3, True)):
         trace = budlarem.trace(CHAMPION, upto, cells)
         assert trace.cut is None
-        for _ in trace:
-            pass
-        assert trace.cut == cut, (upto, cells)
+        assert list(trace) and trace.cut == cut, (upto, cells)
         with pytest.raises(StopIteration):
             next(trace)
 
@@ -240,11 +221,9 @@ def test_wrong_numbers() -> None:
 
 
 def run_with(code: str, **variables: str) -> str:
-    environment = {**os.environ, **variables}
-    command = [sys.executable, "-c", code]
-    ended = subprocess.run(command, env=environment, stdout=subprocess.PIPE, text=True)
-    assert ended.returncode == 0
-    return ended.stdout
+    status, output, _ = run_command([sys.executable, "-c", code], env={**os.environ, **variables})
+    assert status == 0
+    return output.decode()
 
 
 def test_a_library_that_is_not_there() -> None:
@@ -252,16 +231,16 @@ def test_a_library_that_is_not_there() -> None:
     assert "/nowhere/libbb.so" in run_with(code, BB_LIBRARY="/nowhere/libbb.so")
     assert "can't be loaded" in run_with(code, BB_LIBRARY=__file__)
 
-    def test_a_fork_with_threads_is_refused() -> None:
-        code = """
-import os, sys, threading, warnings, budlarem
+
+FORKS = """
+import os, threading, warnings
+from budlarem import decide
 warnings.simplefilter("ignore")
 given = threading.Event()
-with_threads = len(sys.argv) > 0
 def run_forked():
     child = os.fork()
     if child: return os.waitpid(child, 0)
-    try: print(len(list(budlarem.decide(["1RA1RA"]))), flush=True)
+    try: print(len(list(decide(["1RA1RA"]))), flush=True)
     except RuntimeError as error: print(error, flush=True)
     os._exit(0)
 run_forked()
@@ -271,6 +250,8 @@ run_forked()
 given.set()
 thread.join()
 """
-        first, second = run_with(code).splitlines()
-        assert first == "1"
-        assert "spawn" in second
+
+
+def test_a_fork_with_threads_is_refused() -> None:
+    first, second = run_with(FORKS).splitlines()
+    assert first == "1" and "spawn" in second

@@ -8,6 +8,8 @@ from typing import Any, Iterator
 import budlarem
 import pytest
 from budlarem import Cycler, Extent, Limits, LimitsError, Place, Translated, at, parse
+from support.machines import LETTERS
+from support.simulation import simulate
 
 CHAMPION = "1RB1LB_1LA1RZ"
 # Two translated cyclers with a shift above 1, to the left and to the right, and a cycler.
@@ -16,19 +18,8 @@ FAR = ["1RB0LA_0RC---_1RD0LD_1LA1RB", "1LB0RA_0LC---_1LD0RD_1RA1LB", "1LB1RB_1RA
 
 def plain(machine: str, steps: int) -> Iterator[tuple[str, int]]:
     """The states and positions of a machine, up to so many steps or its halt."""
-    groups = [[group[k : k + 3] for k in range(0, len(group), 3)] for group in machine.split("_")]
-    table = dict(zip("ABCDEFGHIJKLMNOPQRSTUVWXY", groups))
-    state, head = "A", 0
-    tape: dict[int, int] = {}
-    yield state, head
-    for _ in range(steps):
-        entry = table[state][tape.get(head, 0)] if state in table else "---"
-        if entry == "---":
-            return
-        tape[head] = int(entry[0])
-        head += 1 if entry[1] == "R" else -1
-        state = entry[2]
-        yield state, head
+    for now in simulate(machine, steps):
+        yield "Z" if now.state is None else LETTERS[now.state], now.head
 
 
 def small_machines() -> list[str]:
@@ -72,12 +63,9 @@ def test_without_an_extent() -> None:
 
 
 def test_steps_that_no_run_reaches() -> None:
-    right = parse("1RA1RA translated R 1 2 1 1")
-    assert str(at(right, 10**30)) == "%d A %d" % (10**30, 10**30)
-    left = parse("1LA1LA translated L 1 2 1 1")
-    assert at(left, 10**15) == Place(10**15, "A", -(10**15))
-    again = parse("0RB---_0LA--- cycler 2 4")
-    assert at(again, 10**15) == Place(10**15, "A", 0)
+    assert str(at(parse("1RA1RA translated R 1 2 1 1"), 10**30)) == "%d A %d" % (10**30, 10**30)
+    assert at(parse("1LA1LA translated L 1 2 1 1"), 10**15) == Place(10**15, "A", -(10**15))
+    assert at(parse("0RB---_0LA--- cycler 2 4"), 10**15) == Place(10**15, "A", 0)
 
 
 @pytest.mark.parametrize(

@@ -34,9 +34,9 @@ def fill(number: int, text: bytes) -> None:
 class DirectoryCase(contextlib.ExitStack):
     def __init__(self, top: pathlib.Path) -> None:
         super().__init__()
-        self.top = top
-        (self.top / "in").mkdir()
-        self.directory = _files.Directory.open(str(self.top / "in"))
+        self.top, self.inside = top, top / "in"
+        self.inside.mkdir()
+        self.directory = _files.Directory.open(str(self.inside))
         self.callback(self.directory.close)
 
     def write(self, name: str, text: bytes) -> None:
@@ -55,22 +55,22 @@ def place(tmp_path: pathlib.Path) -> Iterator[DirectoryCase]:
 
 
 def test_files_stay_in_the_directory_that_was_opened(place: DirectoryCase) -> None:
-    os.rename(place.top / "in", place.top / "moved")
-    (place.top / "in").mkdir()
+    os.rename(place.inside, place.top / "moved")
+    (place.inside).mkdir()
     place.write("a", b"1")
     assert contents(place.top) == {str(place.top / "moved" / "a"): b"1"}
     with pytest.raises(MovedError):
         place.directory.require_named()
-    shutil.rmtree(place.top / "in")
-    os.rename(place.top / "moved", place.top / "in")
+    shutil.rmtree(place.inside)
+    os.rename(place.top / "moved", place.inside)
     place.directory.require_named()
 
 
 def test_links_and_pipes_are_no_files(place: DirectoryCase) -> None:
     (place.top / "other").write_text("mine")
-    os.symlink(place.top / "other", place.top / "in" / "link")
-    os.symlink(place.top, place.top / "in" / "folder")
-    os.mkfifo(place.top / "in" / "pipe")
+    os.symlink(place.top / "other", place.inside / "link")
+    os.symlink(place.top, place.inside / "folder")
+    os.mkfifo(place.inside / "pipe")
     for name, what in (("link", "a link"), ("pipe", "a pipe"), ("folder", "a link")):
         for flags in (os.O_RDONLY, os.O_RDWR):
             with pytest.raises(_files.KindError, match="it is %s, and a file" % what):
@@ -85,17 +85,17 @@ def test_a_file_of_another_is_not_replaced(place: DirectoryCase) -> None:
     known = place.directory.pin("a")
     assert known is not None
     place.callback(known.close)
-    (place.top / "in" / "a").unlink()
-    (place.top / "in" / "a").write_bytes(b"mine")
+    (place.inside / "a").unlink()
+    (place.inside / "a").write_bytes(b"mine")
     with pytest.raises(FileExistsError) as raised:
         _files.write_atomically(place.directory, "a", lambda number: None, known)
-    assert raised.value.filename == str(place.top / "in" / "a")
-    assert contents(place.top) == {str(place.top / "in" / "a"): b"mine"}
+    assert raised.value.filename == str(place.inside / "a")
+    assert contents(place.top) == {str(place.inside / "a"): b"mine"}
 
 
 def test_parts_of_others_stay(place: DirectoryCase) -> None:
     for name in ("a.part", "a.2.part"):
-        (place.top / "in" / name).write_bytes(b"mine")
+        (place.inside / name).write_bytes(b"mine")
     place.write("a", b"1")
     place.write("a", b"2")
     assert sorted(contents(place.top).values()) == [b"2", b"mine", b"mine"]
@@ -118,13 +118,13 @@ def test_nothing_is_left_after_an_error(place: DirectoryCase) -> None:
 
     with pytest.raises(OSError) as raised:
         _files.write_atomically(place.directory, "a", fail, None)
-    assert (raised.value.filename, contents(place.top)) == (str(place.top / "in" / "a"), {})
+    assert (raised.value.filename, contents(place.top)) == (str(place.inside / "a"), {})
 
 
 def test_a_target_whose_folder_is_moved(place: DirectoryCase) -> None:
-    target = _files.FileTarget(str(place.top / "in" / "page"))
+    target = _files.FileTarget(str(place.inside / "page"))
     place.callback(target.close)
-    os.rename(place.top / "in", place.top / "moved")
+    os.rename(place.inside, place.top / "moved")
     with pytest.raises(OSError, match="moved, removed or replaced"):
         target.write(lambda number: fill(number, b"page"))
     assert contents(place.top) == {}
@@ -138,14 +138,6 @@ def test_parts_make_the_whole() -> None:
         whole = b"".join(parts)
         found = [_files.Checksum().add_bytes(part) for part in parts]
         assert found[0].add(found[1]) == _files.Checksum(len(whole), zlib.crc32(whole))
-
-
-def test_the_folder_itself_is_locked(case: RunCase) -> None:
-    first = folder.Folder(str(case.out))
-    case.callback(first.close)
-    assert list(case.out.iterdir()) == []
-    with pytest.raises(FolderError, match="another run works in"):
-        folder.Folder(str(case.out))
 
 
 def test_a_file_where_folders_have_no_locks(case: RunCase) -> None:
@@ -221,17 +213,9 @@ def test_a_folder_without_what_it_was_begun_with(case: RunCase) -> None:
     case.run_over()
     (case.out / "run.json").unlink()
     whole = contents(case.out)
-    texts = {
-        "README.txt": "mine",
-        "summary.json": "{}",
-        "verdicts.txt": "mine\t1\n",
-        "letters": "",
-        "verdicts.txt.part": "mine, too",
-        "pass-1/journal": "mine",
-        "pass-1/pieces.part": "mine, too",
-        "pass-2/notes": "mine",
-        "pass-3/pieces": "mine",
-    }
+    texts = dict.fromkeys(("README.txt", "pass-1/journal", "pass-2/notes", "pass-3/pieces"), "mine")
+    texts.update(dict.fromkeys(("verdicts.txt.part", "pass-1/pieces.part"), "mine, too"))
+    texts.update({"summary.json": "{}", "verdicts.txt": "mine\t1\n", "letters": ""})
     for name, text in texts.items():
         shutil.rmtree(case.out)
         for path, data in whole.items():
@@ -274,15 +258,13 @@ def test_chunks_and_passes_that_are_replaced_meanwhile(case: RunCase) -> None:
         (case.out / "pass-1").mkdir()
         (case.out / "pass-1" / "pieces").write_text("mine")
 
-    for number, replace in enumerate((replace_chunks, replace_pass)):
-        case.out = case.top / str(number)
-        if number == 0:
-            case.run_over(act(replace, 3), limits=[SMALL])
-            assert case.verdicts() == expected_verdicts(LIST, [SMALL])
-        else:
-            with pytest.raises(MovedError):
-                case.run_over(act(replace, 3), limits=[SMALL])
-        assert (case.out / "pass-1" / "pieces").read_text() == "mine"
+    case.run_over(act(replace_chunks, 3), limits=[SMALL])
+    assert case.verdicts() == expected_verdicts(LIST, [SMALL])
+    assert (case.out / "pass-1" / "pieces").read_text() == "mine"
+    case.out = case.top / "other"
+    with pytest.raises(MovedError):
+        case.run_over(act(replace_pass, 3), limits=[SMALL])
+    assert (case.out / "pass-1" / "pieces").read_text() == "mine"
 
 
 def test_folders_of_passes_that_are_not_asked_for(case: RunCase) -> None:
@@ -295,21 +277,12 @@ def test_folders_of_passes_that_are_not_asked_for(case: RunCase) -> None:
     assert (case.out / "pass-7" / "notes").read_text() == "mine"
 
 
-def finished(case: RunCase) -> Iterator[folder.FinishedRun]:
-    found = folder.FinishedRun(str(case.out))
-    try:
-        yield found
-    finally:
-        found.close()
-
-
 def test_a_summary_has_the_checksum_of_the_verdicts(case: RunCase) -> None:
     for limits in (PASSES, [SMALL]):
         case.out = case.top / str(len(limits))
         case.run_over(limits=limits)
-        for found in finished(case):
-            whole = _files.Checksum().add_bytes(case.verdicts())
-            assert found.summary.checksum == whole
+        with contextlib.closing(folder.FinishedRun(str(case.out))) as found:
+            assert found.summary.checksum == _files.Checksum().add_bytes(case.verdicts())
             assert (found.summary.identity, found.summary.lines) == (chunks.identity(), 370)
             found.require_journals()
 
@@ -344,17 +317,6 @@ def test_all_names_are_there() -> None:
         assert getattr(budlarem, name) is not None
         assert name in dir(budlarem)
     assert not hasattr(budlarem, "nothing")
-
-
-def test_a_library_that_was_cut(tmp_path: pathlib.Path) -> None:
-    whole = pathlib.Path(_library.load_library()._name).read_bytes()
-    path = tmp_path / "libbb.so"
-    path.write_bytes(whole)
-    _library.require_whole(path)
-    for length in (len(whole) - 1, len(whole) // 2, 100, 20, 7):
-        path.write_bytes(whole[:length])
-        with pytest.raises(budlarem.LibraryError, match="was cut short"):
-            _library.require_whole(path)
 
 
 def test_a_library_of_another_length_than_the_wheel_says(tmp_path: pathlib.Path) -> None:

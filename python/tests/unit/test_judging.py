@@ -3,7 +3,6 @@
 from __future__ import annotations
 
 import io
-import json
 import pathlib
 import random
 from typing import Iterable
@@ -11,18 +10,16 @@ from unittest import mock
 
 import budlarem
 import pytest
-from budlarem import WORDS, Columns, Form, Halt, Judgement, Limits, Claim, Word
+from budlarem import WORDS, Columns, Halt, Judgement, Limits, Claim, Word
 from budlarem.claims import read_words, claim_in
-from budlarem.judging import rereadable
 from budlarem.normal_forms import canonical_form
 from budlarem.numbers import number_of, numbers_in
+from budlarem.reading import forms
 from budlarem.reading.files import Source
-from support import TOP
 
 CHAMPION = "1RB1LB_1LA1RZ"
 CYCLER = "0RB---_0LA---"
 LEFT = "0RB1LD_0RC1RD_0RD---_1LA0RB"
-FORMS = TOP / "tests" / "support" / "forms.json"
 SMALL = Limits(1_000, 1_000, 30, 1_000)
 
 
@@ -39,18 +36,11 @@ def judgements(lines: Iterable[str], undefined_steps: bool | None = None) -> lis
 
 def test_verdicts_in_many_forms() -> None:
     halt = Halt(CHAMPION, 6, 4)
-    for line in (
-        CHAMPION + " halt 6 4",
-        CHAMPION + " halt 6 4\tthe champion",
-        CHAMPION + ", halt 6 4",
-        "halt 6 4: " + CHAMPION,
-        "1rb1lb 1la1rh halt 6 4",
-        "| %s | halt 6 4 |" % CHAMPION,
-    ):
+    shapes = ("%s halt 6 4", "%s halt 6 4\tthe champion", "%s, halt 6 4", "halt 6 4: %s", "| %s | halt 6 4 |")
+    for line in (*(shape % CHAMPION for shape in shapes), "1rb1lb 1la1rh halt 6 4"):
         assert (claim_of(line).verdict, claim_of(line).trouble) == (halt, None), line
-    assert str(claim_of("1RA1RA, translated R 1 2").verdict) == "1RA1RA translated R 1 2"
-    assert str(claim_of("1RA1RA undecided cells").verdict) == "1RA1RA undecided cells"
-    assert str(claim_of("refused 3").verdict) == "refused 3"
+    for line in ("1RA1RA, translated R 1 2", "1RA1RA undecided cells", "refused 3"):
+        assert str(claim_of(line).verdict) == line.replace(",", "")
 
 
 def test_numbers_with_groups_of_three_digits() -> None:
@@ -67,24 +57,9 @@ def test_numbers_with_groups_of_three_digits() -> None:
 
 
 def test_a_text_has_a_verdict_or_nothing() -> None:
-    for rest in (
-        "halts",
-        "nonhalt",
-        "Halts 7",
-        "halts, 107, 13",
-        "halt: false",
-        "halt=no",
-        "halts,0",
-        "!halt 6 4",
-        "halt 6 4, 7",
-        "halt 6 4, halt 6 4",
-        "halt 6",
-        "halt 06 4",
-        "halt 6 4 7",
-        "translated R 1 2 3",
-        "cycler 1",
-        "halt 6 18446744073709551616",
-    ):
+    words = ["halts", "nonhalt", "Halts 7", "halts, 107, 13", "halt: false", "halt=no", "halts,0"]
+    numbers = ["!halt 6 4", "halt 6 4, 7", "halt 6 4, halt 6 4", "halt 6", "halt 06 4", "halt 6 4 7"]
+    for rest in (*words, *numbers, "translated R 1 2 3", "cycler 1", "halt 6 18446744073709551616"):
         for line in ("%s, %s" % (CHAMPION, rest), "%s %s" % (CHAMPION, rest)):
             found = claim_of(line)
             assert (found.verdict, found.word) == (None, None), line
@@ -98,85 +73,58 @@ def test_words_are_written_as_they_are_looked_up() -> None:
 
 
 def test_a_file_of_words(tmp_path: pathlib.Path) -> None:
-    path = str(tmp_path / "words.txt")
-    with open(path, "w", encoding="utf-8") as file:
-        file.write("# mine\n\nhalting: Yes, it does\nnever halting: no\nNothing: loop\n")
-    words = read_words(path)
+    path = tmp_path / "words.txt"
+    path.write_text("# mine\n\nhalting: Yes, it does\nnever halting: no\nNothing: loop\n", encoding="utf-8")
+    words = read_words(str(path))
     assert (words["yes"], words["itdoes"]) == (Word.HALTS, Word.HALTS)
     assert (words["no"], words["loop"]) == (Word.NEVER_HALTS, Word.UNDECIDED)
     assert words["halt"] == Word.HALTS
     for text, error in (("yes\n", ":1: a line begins"), ("halting: a\nnothing: a\n", ":2: a has two")):
-        with open(path, "w", encoding="utf-8") as file:
-            file.write(text)
+        path.write_text(text, encoding="utf-8")
         with pytest.raises(ValueError, match=error):
-            read_words(path)
+            read_words(str(path))
 
 
-def test_each_list_is_judged(tmp_path: pathlib.Path) -> None:
-    entries = json.loads(FORMS.read_text(encoding="utf-8"))["judged"]
-    assert len(entries) >= 15
-    for entry in entries:
-        path = str(tmp_path / "words.txt")
-        with open(path, "w", encoding="utf-8") as file:
-            file.write(entry.get("words", ""))
-        judging = budlarem.judge(
-            entry["lines"],
-            form=Form(entry["form"]) if "form" in entry else None,
-            columns=Columns(**entry.get("columns", {})),
-            words=read_words(path),
-        )
-        found = [(str(one.judgement), one.reason) for one in judging]
-        assert [judgement for judgement, _ in found] == entry["judgements"]
-        for reason in entry.get("reasons", ()):
-            assert reason in [one for _, one in found]
+# Lines of a text, and the words of a table with their machine, by their judgement.
+CLAIMS = {
+    "confirmed": [CHAMPION + " halt 6 4", CYCLER + " cycler 2 4", CYCLER + " cycler 4 6"],
+    "contradicted": [
+        *(CHAMPION + words for words in (" halt 6 5", " cycler 1 2")),
+        *(CYCLER + words for words in (" cycler 2 5", " halt 1000000000000 1")),
+        LEFT + " halt 20 3",
+    ],
+    "not-judged": [
+        *(CHAMPION + words for words in (" halts", " nonhalt", " halt 6", " halt, nonhalt")),
+        *(CYCLER + words for words in ("", " halts", " undecided", " decided", " halt 6")),
+        *(LEFT + words for words in (" undecided cells", " halt")),
+    ],
+    "unreadable": ["x", "refused 3"],
+}
+TABLE = {
+    "confirmed": {
+        CHAMPION: ["halts", "halt 6 4"],
+        CYCLER: ["bouncer", "Translated Cyclers", "does not halt"],
+    },
+    "contradicted": {CHAMPION: ["nonhalt", "halt 6 5"], CYCLER: ["halting"]},
+    "not-judged": {
+        CYCLER: ["undecided", "decided", "I doubt that it can halt", "halt: false", ""],
+        LEFT: ["halt"],
+    },
+}
 
 
-def test_claims_and_words() -> None:
-    for line, judgement in (
-        (CHAMPION + " halt 6 4", "confirmed"),
-        (CHAMPION + " halt 6 5", "contradicted"),
-        (CHAMPION + " cycler 1 2", "contradicted"),
-        (CYCLER + " cycler 2 4", "confirmed"),
-        (CYCLER + " cycler 4 6", "confirmed"),
-        (CYCLER + " cycler 2 5", "contradicted"),
-        (CYCLER + " halt 1000000000000 1", "contradicted"),
-        (LEFT + " halt 20 3", "contradicted"),
-        (LEFT + " undecided cells", "not-judged"),
-        (LEFT + " halt", "not-judged"),
-        (CHAMPION + " halts", "not-judged"),
-        (CHAMPION + " nonhalt", "not-judged"),
-        (CYCLER + " halts", "not-judged"),
-        (CYCLER + " undecided", "not-judged"),
-        (CYCLER + " decided", "not-judged"),
-        (CYCLER, "not-judged"),
-        (CHAMPION + " halt 6", "not-judged"),
-        (CYCLER + " halt 6", "not-judged"),
-        (CHAMPION + " halt, nonhalt", "not-judged"),
-        ("x", "unreadable"),
-        ("refused 3", "unreadable"),
-    ):
+@pytest.mark.parametrize("judgement", CLAIMS)
+def test_claims_and_words(judgement: str) -> None:
+    for line in CLAIMS[judgement]:
         assert judgements([line]) == [judgement], line
 
 
-def test_words_of_a_table() -> None:
-    for word, machine, judgement in (
-        ("halts", CHAMPION, "confirmed"),
-        ("nonhalt", CHAMPION, "contradicted"),
-        ("bouncer", CYCLER, "confirmed"),
-        ("Translated Cyclers", CYCLER, "confirmed"),
-        ("does not halt", CYCLER, "confirmed"),
-        ("halting", CYCLER, "contradicted"),
-        ("undecided", CYCLER, "not-judged"),
-        ("decided", CYCLER, "not-judged"),
-        ("I doubt that it can halt", CYCLER, "not-judged"),
-        ("halt: false", CYCLER, "not-judged"),
-        ("", CYCLER, "not-judged"),
-        ("halt", LEFT, "not-judged"),
-        ("halt 6 4", CHAMPION, "confirmed"),
-        ("halt 6 5", CHAMPION, "contradicted"),
-    ):
-        lines = ["verdict\tmachine", "%s\t%s" % (word, machine)]
-        assert judgements(lines) == [judgement], (word, machine)
+@pytest.mark.parametrize("judgement", TABLE)
+def test_words_of_a_table(judgement: str) -> None:
+    for machine, words in TABLE[judgement].items():
+        for word in words:
+            lines = ["verdict\tmachine", "%s\t%s" % (word, machine)]
+            assert judgements(lines) == [judgement], (word, machine)
 
 
 def test_numbers_beside_never_halting_are_named() -> None:
@@ -190,8 +138,7 @@ def test_a_translation_is_counted() -> None:
     lines = ["machine,status", "1RA1RA,halt", "1RA1RA,Halt", "1RA1RA,loop", "x,halt", "1RA1RA,no"]
     translation = budlarem.judge(lines, limits=SMALL).theirs.translation
     assert translation is not None
-    right = ["halting: halt 1, Halt 1", "never halting: loop 1", "nothing: no 1"]
-    assert translation.lines == right
+    assert translation.lines == ["halting: halt 1, Halt 1", "never halting: loop 1", "nothing: no 1"]
 
 
 def test_two_columns_that_may_be_meant() -> None:
@@ -214,10 +161,8 @@ def test_steps_alone_that_count_an_undefined_entry() -> None:
 def test_a_claim_over_the_checkers_limits() -> None:
     line = LEFT + " cycler 2000 3000"
     (found,) = budlarem.judge([line], limits=SMALL, checker=Limits(2_999, 1_000, 30, 1_000))
-    assert (str(found.judgement), found.reason) == (
-        "not-judged",
-        "cycler 2000 3000: over the checker's limits",
-    )
+    reason = "cycler 2000 3000: over the checker's limits"
+    assert (found.judgement, found.reason) == (Judgement.NOT_JUDGED, reason)
 
 
 def test_order_and_numbers() -> None:
@@ -228,15 +173,11 @@ def test_order_and_numbers() -> None:
 
 
 def test_steps_counted_for_undefined_entries() -> None:
-    ours = ["1RB---_1LA1RZ halt 1 1", "1RB1LB_1LA--- halt 5 4", CHAMPION + " halt 6 4"]
-    theirs = ["1RB---_1LA--- halt 2 1", "1RB1LB_1LA--- halt 6 4", CHAMPION + " halt 6 4"]
-    verdicts = list(budlarem.decide([line.split(" ")[0] for line in theirs]))
-    stepped = [
-        str(next(budlarem.decide([verdict.machine.replace("---", "1RZ")]))).partition(" ")[2]
-        for verdict in verdicts
-        if verdict.machine is not None
-    ]
-    theirs = ["%s %s" % (verdict.machine, words) for verdict, words in zip(verdicts, stepped)]
+    machines = ["1RB---_1LA---", "1RB1LB_1LA---", CHAMPION]
+    verdicts = list(budlarem.decide(machines))
+    stepped = budlarem.decide(machine.replace("---", "1RZ") for machine in machines)
+    words = [str(verdict).partition(" ")[2] for verdict in stepped]
+    theirs = ["%s %s" % pair for pair in zip(machines, words)]
     judging = budlarem.judge(theirs)
     assert judging.undefined_steps
     assert {one.judgement for one in judging} == {Judgement.CONFIRMED}
@@ -246,9 +187,7 @@ def test_steps_counted_for_undefined_entries() -> None:
     assert judgements(mixed, True) == ["confirmed"] * 3 + ["contradicted"]
     assert judgements(theirs, False)[1] == "contradicted"
     assert not budlarem.judge(map(str, verdicts)).undefined_steps
-    forged = theirs + ["1RB1LB_1LA--- halt 9 4"]
-    assert not budlarem.judge(forged).undefined_steps
-    assert len(ours) == 3
+    assert not budlarem.judge((theirs + ["1RB1LB_1LA--- halt 9 4"])).undefined_steps
 
 
 def test_a_list() -> None:
@@ -261,8 +200,7 @@ def test_a_list() -> None:
 
 def test_files_and_streams(tmp_path: pathlib.Path) -> None:
     path = str(tmp_path / "theirs.txt")
-    with open(path, "w", encoding="utf-8") as file:
-        file.write(CHAMPION + " halt 6 4\n")
+    pathlib.Path(path).write_text(CHAMPION + " halt 6 4\n", encoding="utf-8")
     assert judgements(path) == ["confirmed"]
     with open(path, "rb") as stream:
         assert [str(one.judgement) for one in budlarem.judge(stream)] == ["confirmed"]
@@ -275,16 +213,15 @@ def test_each_reading_has_the_same_lines(tmp_path: pathlib.Path) -> None:
     content = "\n".join(lines).encode()
     right = [(number, line) for number, line in enumerate(lines, 1) if line]
     path = str(tmp_path / "theirs.txt")
-    with open(path, "wb") as file:
-        file.write(content)
+    pathlib.Path(path).write_bytes(content)
     for kept in (10**6, 100, 0):
         given: tuple[Source, ...] = (path, io.BytesIO(content), iter(lines))
         for source in given:
-            with mock.patch.object(rereadable, "_MOST_BUFFERED", kept):
-                twice = rereadable.RereadableList(source)
+            with mock.patch.object(forms, "_MOST_BUFFERED", kept):
+                twice = forms.RereadableList(source)
                 assert [list(twice.lines()), list(twice.lines())] == [right, right]
                 assert (list(twice.once()), twice.empty) == (right, 80)
-    once = rereadable.RereadableList(path)
+    once = forms.RereadableList(path)
     assert (list(once.once()), once.empty) == (right, 80)
 
 

@@ -9,6 +9,7 @@ import pathlib
 import resource
 import subprocess
 import sys
+from typing import Any
 from unittest import mock
 
 import pytest
@@ -18,32 +19,19 @@ from budlarem.numbers import whole_number
 from budlarem.reading import files
 from budlarem.reading.files import EndlessLineError
 
-CHAMPION = "1RB1LB_1LA1RZ"
 MILLION = ("1000000", "1,000,000", "1_000_000", "1e6", "1E+6", "10^6", "+1000000", "1.0e6")
 # Every command that has options of numbers, with the words that it needs.
-COMMANDS = {
-    "read": ["read"],
-    "decide": ["decide"],
-    "normal": ["normal"],
-    "compare": ["compare", "a", "b"],
-    "report": ["report", "--out", "page.html"],
-    "trace": ["trace", "--upto", "1", CHAMPION],
-    "picture": ["picture", "--upto", "1", "--out", "picture.png", CHAMPION],
-    "judge": ["judge", "list"],
-    "check": ["check"],
-    "publish": ["publish", "out.tar", "--verdicts", "verdicts.txt"],
-    "run": ["run", "list", "--out", "folder"],
-}
+NEEDED = ["read", "decide", "normal", "check", "judge list", "compare a b", "report --out page.html"]
+NEEDED += ["run list --out folder", "publish out.tar --verdicts verdicts.txt", "trace --upto 1 1RB1LB_1LA1RZ"]
+NEEDED += ["picture --upto 1 --out picture.png 1RB1LB_1LA1RZ"]
+COMMANDS = {words.split()[0]: words.split() for words in NEEDED}
 
 
 def numbers_of(command: str) -> list[str]:
     """The options of a command whose value is a number."""
     choices = next(action.choices for action in build_parser()._actions if isinstance(action.choices, dict))
-    return [
-        action.option_strings[0]
-        for action in choices[command]._actions
-        if action.option_strings and (action.metavar in ("N", "P", "LINES"))
-    ]
+    actions = [action for action in choices[command]._actions if action.metavar in ("N", "P", "LINES")]
+    return [action.option_strings[0] for action in actions if action.option_strings]
 
 
 def test_every_option_of_every_command() -> None:
@@ -52,8 +40,7 @@ def test_every_option_of_every_command() -> None:
         for option in numbers_of(command):
             for text in MILLION:
                 asked = build_parser().parse_args([*given, option, text])
-                name = option[2:].replace("-", "_")
-                assert getattr(asked, name) == 1_000_000
+                assert getattr(asked, option[2:].replace("-", "_")) == 1_000_000
                 tried += 1
     assert tried > 100
 
@@ -91,7 +78,7 @@ ENDLESS = (
 )
 
 
-def command(*given: str) -> "subprocess.CompletedProcess[str]":
+def command(*given: str) -> subprocess.CompletedProcess[str]:
     """The command over a line that never ends, with at most 1 GB of memory for its data."""
 
     def set_limit() -> None:
@@ -101,15 +88,9 @@ def command(*given: str) -> "subprocess.CompletedProcess[str]":
     command = [sys.executable, "-m", "budlarem", *given]
     with subprocess.Popen([sys.executable, "-c", ENDLESS], stdout=-1, stderr=subprocess.DEVNULL) as feeder:
         try:
-            return subprocess.run(
-                command,
-                stdin=feeder.stdout,
-                capture_output=True,
-                text=True,
-                timeout=60,
-                env={**os.environ, "PYTHONPATH": top},
-                preexec_fn=set_limit,
-            )
+            how: dict[str, Any] = {"stdin": feeder.stdout, "env": {**os.environ, "PYTHONPATH": top}}
+            how.update(capture_output=True, text=True, timeout=60, preexec_fn=set_limit)
+            return subprocess.run(command, **how)
         finally:
             feeder.kill()
 

@@ -6,7 +6,6 @@ import contextlib
 import dataclasses
 import errno
 import gzip
-import io
 import itertools
 import json
 import os
@@ -20,25 +19,11 @@ from typing import Any, Callable, Sequence
 
 import budlarem
 import pytest
-from budlarem import Limits, _files, commands, counts
+from budlarem import Limits, _files, counts
 from budlarem.runner import chunks, folder, input, journal, passes
 from budlarem.runner.errors import CheckError, FolderError, MovedError, RunError, UsageError
-from support.runner import (
-    KINDS,
-    LIST,
-    MIDDLE,
-    PASSES,
-    SMALL,
-    Answering,
-    KeptProgress,
-    Late,
-    RunCase,
-    act,
-    answer_with,
-    counts_of,
-    expected_verdicts,
-    reseal,
-)
+from support.runner import KINDS, LIST, MIDDLE, PASSES, SMALL, Answering, KeptProgress, Late, RunCase
+from support.runner import PoolBackend, act, answer_with, counts_of, expected_verdicts, reseal
 
 
 def test_lists_and_passes(case: RunCase) -> None:
@@ -70,13 +55,9 @@ def test_lines_keep_their_numbers(case: RunCase) -> None:
     case.run_over()
     first, second = (case.open_last_pass(PASSES[:count]) for count in (1, 2))
     for limits, before in (([SMALL], [first]), (PASSES, [first, second])):
-        left = [
-            place
-            for place, line in enumerate(expected_verdicts(LIST, limits).splitlines(), 1)
-            if b" und" in line
-        ]
-        found = [journal.list_line_number(before, line) for line in range(len(left))]
-        assert found == left
+        lines = enumerate(expected_verdicts(LIST, limits).splitlines(), 1)
+        left = [place for place, line in lines if b" und" in line]
+        assert [journal.list_line_number(before, line) for line in range(len(left))] == left
     assert journal.list_line_number([], 7) == 8
 
 
@@ -161,21 +142,11 @@ def test_what_a_folder_was_begun_with() -> None:
 
 
 def test_two_runs_in_a_folder(case: RunCase) -> None:
-    first = folder.Folder(str(case.out))
-    with pytest.raises(FolderError, match="another run works in"):
-        case.run_over()
-    first.close()
-    case.run_over()
-
-
-def test_a_folder_of_something_else(case: RunCase) -> None:
-    case.out.mkdir()
-    for name in ("letters", "verdicts.txt", "summary.json", "README.txt"):
-        (case.out / name).write_text("kept")
-        with pytest.raises(FolderError, match=name):
+    with contextlib.closing(folder.Folder(str(case.out))):
+        assert list(case.out.iterdir()) == [], "the folder itself is locked"
+        with pytest.raises(FolderError, match="another run works in"):
             case.run_over()
-        assert [path.name for path in case.out.iterdir()] == [name]
-        (case.out / name).unlink()
+    case.run_over()
 
 
 def test_a_list_that_would_be_overwritten(case: RunCase) -> None:
@@ -249,9 +220,12 @@ def test_one_pass_is_written_once(case: RunCase) -> None:
     """The file of the chunks becomes the verdicts, and a later run reads the chunks there."""
     case.run_over(limits=[SMALL])
     chunks, verdicts = case.out / "pass-1" / "pieces", case.out / "verdicts.txt"
-    first = verdicts.stat()
+    first, journal = verdicts.stat(), (case.out / "pass-1" / "journal").read_bytes()
     assert (chunks.exists(), first.st_nlink) == (False, 1)
     assert case.open_last_pass([SMALL]).journal.rename_mark() == len(case.records([SMALL]))
+    case.run_over(limits=[SMALL])
+    assert (case.out / "pass-1" / "journal").read_bytes() == journal
+    assert "decided again" not in case.progress.kept.getvalue()
     executor = Answering()
     for _ in range(2):
         case.run_over(executor, limits=[SMALL], check=True)
@@ -262,8 +236,7 @@ def test_one_pass_is_written_once(case: RunCase) -> None:
 
 
 def test_verdicts_share_no_bytes_with_a_later_run(case: RunCase) -> None:
-    """A second name of the verdicts, and verdicts that were moved away, stay as they are, whatever the
-    next run decides."""
+    """A second name of the verdicts, and verdicts that were moved away, stay as they are."""
     for is_moved in (False, True):
         case.out = case.top / str(is_moved)
         kept_lines = case.top / ("kept-%s" % is_moved)
@@ -280,17 +253,28 @@ def test_verdicts_share_no_bytes_with_a_later_run(case: RunCase) -> None:
         assert kept_lines.read_bytes() == expected_verdicts(LIST, [SMALL])
 
 
+def test_another_run_over_the_passes_of_one(case: RunCase) -> None:
+    """The verdicts were moved away, and all other files at the top removed."""
+    case.run_over(limits=[SMALL])
+    os.rename(case.out / "verdicts.txt", case.top / "kept")
+    for path in case.out.iterdir():
+        if path.is_file():
+            path.unlink()
+    case.list.write_bytes(KINDS * 20)
+    case.run_over(limits=[MIDDLE])
+    assert case.verdicts() == expected_verdicts(KINDS * 20, [MIDDLE])
+    assert (case.top / "kept").read_bytes() == expected_verdicts(LIST, [SMALL])
+
+
 def test_a_pass_is_added_to_verdicts_that_were_renamed(case: RunCase) -> None:
     case.run_over(limits=[SMALL])
     kept_lines = case.top / "kept"
     os.link(case.out / "verdicts.txt", kept_lines)
     executor = Answering()
     case.run_over(executor, limits=PASSES)
-    assert (kept_lines.read_bytes(), case.verdicts()) == (
-        expected_verdicts(LIST, [SMALL]),
-        expected_verdicts(LIST),
-    )
-    assert (case.out / "pass-1" / "pieces").read_bytes() == expected_verdicts(LIST, [SMALL])
+    assert case.verdicts() == expected_verdicts(LIST)
+    for path in (kept_lines, case.out / "pass-1" / "pieces"):
+        assert path.read_bytes() == expected_verdicts(LIST, [SMALL])
     assert executor.count == len(case.records(PASSES))
     assert case.open_last_pass([SMALL]).journal.rename_mark() is None
     case.run_over(executor, limits=PASSES)
@@ -319,17 +303,13 @@ def test_verdicts_that_were_changed_in_place(case: RunCase) -> None:
 def test_a_folder_whose_verdicts_are_a_second_name(case: RunCase) -> None:
     """So an earlier version of this package left it."""
     case.run_over(limits=[SMALL])
-    chunks, verdicts, kept_lines = (
-        case.out / "pass-1" / "pieces",
-        case.out / "verdicts.txt",
-        case.top / "kept",
-    )
-    for change in (None, b"x" * 100):
+    verdicts, kept_lines = case.out / "verdicts.txt", case.top / "kept"
+    chunks = case.out / "pass-1" / "pieces"
+    for change in (b"", b"x" * 100):
         os.link(verdicts, chunks)
         os.link(verdicts, kept_lines)
-        if change is not None:
-            with open(kept_lines, "r+b") as file:
-                file.write(change)
+        with open(kept_lines, "r+b") as file:
+            file.write(change)
         before = kept_lines.read_bytes()
         case.run_over(limits=[SMALL])
         assert (case.verdicts(), kept_lines.read_bytes()) == (expected_verdicts(LIST, [SMALL]), before)
@@ -370,6 +350,32 @@ def test_a_file_that_another_makes_meanwhile(case: RunCase, name: str) -> None:
     assert (case.out / name).read_text() == "mine"
     (case.out / name).unlink()
     require_resumed(case)
+
+
+def test_a_page_that_another_makes_meanwhile(case: RunCase) -> None:
+    page = case.out / "README.txt"
+
+    def replace() -> None:
+        page.unlink(missing_ok=True)
+        page.write_text("mine")
+
+    case.run_over(act(replace))
+    assert (page.read_text(), case.verdicts()) == ("mine", expected_verdicts(LIST))
+
+
+def test_a_link_to_the_folder_that_is_pointed_elsewhere(case: RunCase) -> None:
+    real, elsewhere = case.top / "real", case.top / "elsewhere"
+    real.mkdir()
+    elsewhere.mkdir()
+    case.out.symlink_to(real)
+
+    def point_elsewhere() -> None:
+        case.out.unlink()
+        case.out.symlink_to(elsewhere)
+
+    with pytest.raises(MovedError):
+        case.run_over(act(point_elsewhere, 5))
+    assert list(elsewhere.iterdir()) == []
 
 
 class WriterCase:
@@ -415,12 +421,12 @@ def writer(case: RunCase) -> WriterCase:
     return WriterCase(case)
 
 
-def test_a_little_out_of_order(writer: WriterCase) -> None:
-    assert writer.whole([2, 0, 1, 5, 4, 3, 6, 8, 7, 9], 50)
-
-
-def test_one_that_comes_last(writer: WriterCase) -> None:
-    assert not writer.whole([*range(1, 30), 0], 20)
+@pytest.mark.parametrize(
+    "order, most, is_in_order", [([2, 0, 1, 5, 4, 3, 6, 8, 7, 9], 50, True), ([*range(1, 30), 0], 20, False)]
+)
+def test_chunks_out_of_order(writer: WriterCase, order: list[int], most: int, is_in_order: bool) -> None:
+    """A little out of order, and one that comes last."""
+    assert writer.whole(order, most) == is_in_order
 
 
 def test_one_that_comes_late(writer: WriterCase) -> None:
@@ -560,12 +566,12 @@ def test_late_answers_in_another_order(case: RunCase) -> None:
 
 
 def test_one_answer_for_two_chunks(case: RunCase) -> None:
-    kept_lines: list[Future[Any]] = []
+    futures: list[Future[Any]] = []
 
     class Same(Answering):
-        def submit(case, function: Any, /, *given: Any, **named: Any) -> Any:
-            kept_lines.append(super().submit(function, *given, **named))
-            return kept_lines[0]
+        def submit(self, function: Any, /, *given: Any, **named: Any) -> Any:
+            futures.append(super().submit(function, *given, **named))
+            return futures[0]
 
     with pytest.raises(RunError, match="pass 1, lines? .* tried 3 times|one future"):
         case.run_over(Same(lambda reply, before: reply))
@@ -574,11 +580,11 @@ def test_one_answer_for_two_chunks(case: RunCase) -> None:
 
 def test_an_executor_that_takes_or_answers_nothing(case: RunCase) -> None:
     class Closed(Executor):
-        def submit(case, function: Any, /, *given: Any, **named: Any) -> Any:
+        def submit(self, function: Any, /, *given: Any, **named: Any) -> Any:
             raise RuntimeError("it was closed")
 
     class Cancelling(Executor):
-        def submit(case, function: Any, /, *given: Any, **named: Any) -> Any:
+        def submit(self, function: Any, /, *given: Any, **named: Any) -> Any:
             future: Future[Any] = Future()
             future.cancel()
             return future
@@ -615,15 +621,23 @@ def test_a_lying_worker_is_found_here(case: RunCase) -> None:
             case.run_over(Answering(lie), limits=[SMALL])
         with pytest.raises(CheckError, match="^line (5|15|25): the checker answers bad: "):
             case.run_over(Answering(lie), limits=[SMALL], check=True, here=True)
+    case.out = case.top / "command"
+    backend = PoolBackend(Answering(lie), 2)
+    with unittest.mock.patch("budlarem.commands.run._make_backend", return_value=backend):
+        status, said = case.call("--pass", "steps=30,cells=16,depth=3,nodes=5", "--check-here")
+    assert status == 1
+    assert re.search("^budlarem: line (5|15|25): the checker answers bad: 1RB1LC_1RC1RB", said, re.M)
+    case.run_over(Answering(), limits=[SMALL], check=True, here=True)
+    assert case.verdicts() == expected_verdicts(LIST, [SMALL])
 
 
 def test_answers_to_other_verdicts(case: RunCase) -> None:
-    kept_lines: list[chunks.ChunkReply] = []
+    replies: list[chunks.ChunkReply] = []
 
     def swap(reply: chunks.ChunkReply, before: int) -> chunks.ChunkReply:
-        kept_lines.append(reply)
+        replies.append(reply)
         is_check = reply[6].startswith(chunks.CHECK)
-        return next(one for one in kept_lines if one[6] == reply[6]) if is_check else reply
+        return next(one for one in replies if one[6] == reply[6]) if is_check else reply
 
     with pytest.raises(RunError, match="answers other lines; tried 3 times"):
         case.run_over(Answering(swap), check=True)
@@ -640,43 +654,26 @@ def test_seconds_that_did_not_pass(case: RunCase) -> None:
         assert summary["passes"][0]["work_seconds"] < 600
 
 
-def call(case: RunCase, *arguments: str) -> tuple[int, str]:
-    """The status of the command, and what it writes to standard error."""
-    said = io.StringIO()
-    with contextlib.redirect_stderr(said):
-        with unittest.mock.patch("budlarem.commands.run.install_signal_handlers"):
-            status = commands.main(["run", str(case.list), "--out", str(case.out), *arguments])
-    return status, said.getvalue()
-
-
 def test_statuses(case: RunCase) -> None:
     small = "steps=30,cells=16,depth=3,nodes=5"
-    assert call(case, "--pass", small)[0] == 1
+    assert case.call("--pass", small)[0] == 1
     assert case.verdicts() == expected_verdicts(LIST, [SMALL])
-    status, said = call(case, "--pass", small, "--pass", "steps=1000,cells=128,depth=20,nodes=100", "--check")
+    status, said = case.call("--pass", small, "--pass", "steps=1000,cells=128,depth=20,nodes=100", "--check")
     assert (status, case.verdicts()) == (1, expected_verdicts(LIST))
     assert "370 lines: " in said
     case.list.write_bytes(b"1RZ---\n")
-    status, said = call(case, "--pass", small)
+    status, said = case.call("--pass", small)
     assert status == 2
     case.out = case.top / "other"
-    assert call(case)[0] == 0
+    assert case.call()[0] == 0
     case.list.unlink()
-    assert call(case)[0] == 3
+    assert case.call()[0] == 3
 
 
 def test_what_is_refused(case: RunCase) -> None:
-    for words in (
-        ["--pass", "steps=1,steps=2"],
-        ["--pass", "step=1"],
-        ["--pass", ""],
-        ["--pass", "steps=-1"],
-        ["--pass", "cells=0"],
-        ["--pass", "depth=300,cells=10"],
-        ["--threads", "0"],
-        ["--piece", "0"],
-    ):
-        status, said = call(case, *words)
+    limits = ("steps=1,steps=2", "step=1", "", "steps=-1", "cells=0", "depth=300,cells=10")
+    for words in (*(["--pass", value] for value in limits), ["--threads", "0"], ["--piece", "0"]):
+        status, said = case.call(*words)
         assert (status, case.out.exists()) == (2, False), words
         assert said.startswith("budlarem: ")
 
@@ -689,10 +686,8 @@ def test_a_terminal() -> None:
     shown._next = 0.0
     shown.tick("3 workers")
     text = shown.kept.getvalue()
-    assert re.search(
-        r"^\rpass 1 of 2, 1 chunks, 20k lines, 0%, \d+[kM]? lines/s, [0-9.]+ \w+ left, 3 work", text
-    )
-    assert len(text) < 81
+    figures = r"20k lines, 0%, \d+[kM]? lines/s, [0-9.]+ \w+ left, 3 work"
+    assert re.match(r"\rpass 1 of 2, 1 chunks, " + figures, text) and len(text) < 81
     shown.print_line("a sentence")
     assert shown.kept.getvalue().endswith("\rbudlarem: a sentence\n")
 

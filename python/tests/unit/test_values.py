@@ -14,45 +14,17 @@ from budlarem import Limits, LimitsError, Plan, _api
 from budlarem._text import escape_controls
 
 CHAMPION = "1RB1LB_1LA1RZ"
-LINES = [
-    CHAMPION + " halt 6 4",
-    CHAMPION + " halt 18446744073709551615 0",
-    "0RB---_0LA--- cycler 2 4",
-    "1RA1RA translated R 1 2 1 1",
-    "1LA1LA translated L 1 2",
-    "0RB---_0LA--- backward 2 4",
-    "1RA1RA undecided steps",
-    "1RA1RA undecided cells",
-    "refused 1",
-    "refused 775",
-]
-UNREAD = [
-    "",
-    CHAMPION,
-    CHAMPION + " halt",
-    CHAMPION + " halt 6",
-    CHAMPION + " halt 6 4 ",
-    CHAMPION + "  halt 6 4",
-    CHAMPION + " halt 06 4",
-    CHAMPION + " halt +6 4",
-    CHAMPION + " halt 6 -4",
-    CHAMPION + " halt 6 4\n",
-    CHAMPION + " halt 18446744073709551616 0",
-    CHAMPION + " halt \u0666 4",
-    CHAMPION + " loops 6 4",
-    "1RB1LC_1LA1RZ halt 6 4",
-    "1RB1LB halt 6 4",
-    "1RA1RA translated U 1 2",
-    "1RA1RA translated R 1 2 1",
-    "1RA1RA translated R 1 2 1 1 1",
-    "1RA1RA undecided",
-    "1RA1RA undecided nodes",
-    "refused",
-    "refused 0",
-    "refused 01",
-    "refused 776",
-    "refused 1 1",
-]
+HALTS = ["halt 6 4", "halt 18446744073709551615 0"]
+OTHERS = ["translated R 1 2 1 1", "translated L 1 2", "undecided steps", "undecided cells", "backward 2 4"]
+LINES = [CHAMPION + " " + words for words in HALTS] + ["1RA1RA " + words for words in OTHERS]
+LINES += ["0RB---_0LA--- cycler 2 4", "refused 1", "refused 775"]
+NO_HALTS = ["halt", "halt 6", "halt 6 4 ", " halt 6 4", "halt 06 4", "halt +6 4", "halt 6 -4", "halt 6 4\n"]
+NO_HALTS += ["halt 18446744073709551616 0", "halt \u0666 4", "loops 6 4"]
+NO_PAIRS = ["translated U 1 2", "translated R 1 2 1", "translated R 1 2 1 1 1"]
+NO_PAIRS += ["undecided", "undecided nodes"]
+UNREAD = [CHAMPION + " " + words for words in NO_HALTS] + ["1RA1RA " + words for words in NO_PAIRS]
+UNREAD += ["", CHAMPION, "1RB1LC_1LA1RZ halt 6 4", "1RB1LB halt 6 4"]
+UNREAD += ["refused", "refused 0", "refused 01", "refused 776", "refused 1 1"]
 
 
 def test_are_the_programs_where_nothing_is_said() -> None:
@@ -60,13 +32,11 @@ def test_are_the_programs_where_nothing_is_said() -> None:
     assert Plan().switches() == (True, True, True)
 
 
-@pytest.mark.parametrize(
-    "name, given",
-    [
-        *(("steps", -1), ("steps", 10**12 + 1), ("cells", 0), ("cells", 67_108_865), ("depth", 10_001)),
-        ("nodes", 2**64),
-    ],
-)
+OUT_OF_RANGE = [("steps", -1), ("steps", 10**12 + 1), ("cells", 0), ("cells", 67_108_865)]
+OUT_OF_RANGE += [("depth", 10_001), ("nodes", 2**64)]
+
+
+@pytest.mark.parametrize("name, given", OUT_OF_RANGE)
 def test_numbers_out_of_range(name: str, given: int) -> None:
     with pytest.raises(LimitsError) as raised:
         Limits(**{name: given})

@@ -12,7 +12,7 @@ import errno
 import io
 import os
 import sys
-from typing import List, NoReturn, Optional
+from typing import NoReturn
 
 from .._text import escape_controls
 from .._version import VERSION
@@ -39,13 +39,13 @@ def build_parser() -> argparse.ArgumentParser:
     return parser
 
 
-def do_help(parser: argparse.ArgumentParser, command: Optional[str]) -> int:
+def do_help(parser: argparse.ArgumentParser, command: str | None) -> int:
     """Prints the help of a command, or of all."""
     parser.parse_args(["--help"] if command is None else [command, "--help"])
     return 0
 
 
-def main(arguments: Optional[List[str]] = None) -> int:
+def main(arguments: list[str] | None = None) -> int:
     """Runs a command; returns the exit status."""
     asked = build_parser().parse_args(arguments)
     if isinstance(sys.stdout, io.TextIOWrapper):

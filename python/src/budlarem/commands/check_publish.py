@@ -4,22 +4,22 @@ from __future__ import annotations
 
 import argparse
 import contextlib
+import dataclasses
 import os
 import signal
 import sys
 from types import FrameType
-from typing import Optional
 
 from .._text import LONGEST_SHOWN, escape_controls
-from ..limits import Limits, limits_of
+from ..limits import GREATEST, Limits, limits_of
 from ..publishing import UnconfirmedError, publish
 from ..reading.files import BytesFile
 from ..runner.errors import RunError
 from ..runner.progress import TerminalLine, short_count
 from ..verdicts import Answer
 from ..verification import CheckSummary, answer_blocks, explain
-from .shared import Subcommands, add_command, add_file, add_greatest_limits, add_number, greatest_limits
-from .shared import source_of
+from .shared import Subcommands, add_command, add_file, add_greatest_limits, add_number, add_passes
+from .shared import counts_text, greatest_limits, source_of
 
 _CHECK = """Checks verdict lines of any origin, and writes an answer to each line, the bytes of bb check: ok,
 the claim holds; bad, it doesn't; over, it exceeds the limits, or its run needs more cells; open, it claims
@@ -30,12 +30,6 @@ The check of a claim takes as many steps as it names, whatever the limits, so th
 The tapes of each thread then take 134 MB. Pass --steps against claims of 10^12 steps, which take hours."""
 
 
-def counts_text(summary: CheckSummary) -> str:
-    """The count of each answer so far."""
-    counts = ((short_count(summary.counts[answer]), answer) for answer in Answer if summary.counts[answer])
-    return ", ".join("%s %s" % pair for pair in counts)
-
-
 def do_check(asked: argparse.Namespace) -> int:
     """Writes the checker's answers."""
     limits, progress = greatest_limits(asked), TerminalLine()
@@ -43,7 +37,7 @@ def do_check(asked: argparse.Namespace) -> int:
     summary = CheckSummary()
     with contextlib.closing(BytesFile(source_of(asked.file))) as file:
         for answers in answer_blocks(file, limits, asked.threads, summary):
-            progress.show(lambda: counts_text(summary))
+            progress.show(lambda: counts_text(summary.counts, Answer))
             sys.stdout.write(answers.decode())
     progress.clear()
     sys.stdout.flush()
@@ -74,21 +68,20 @@ may be gzips; the archive has them uncompressed.
 Status 1 if a verdict isn't confirmed, 2 if something can't be published; nothing is written then."""
 
 
-class _Ended(BaseException):
+class _Signal(BaseException):
     """A signal that ends the process, once the half archive is removed."""
 
 
-def _raise_ended(number: int, frame: Optional[FrameType]) -> None:
-    raise _Ended(number)
+def _raise_signal(number: int, frame: FrameType | None) -> None:
+    raise _Signal(number)
 
 
 def do_publish(asked: argparse.Namespace) -> int:
     """Writes an archive of a decided list."""
     for number in (signal.SIGINT, signal.SIGTERM, signal.SIGHUP):
         if signal.getsignal(number) is not signal.SIG_IGN:
-            signal.signal(number, _raise_ended)
+            signal.signal(number, _raise_signal)
     progress = TerminalLine(is_beside=False)
-    most = {name: highest for name, (_, highest) in Limits.RANGES.items()}
     try:
         try:
             archive = publish(
@@ -96,7 +89,7 @@ def do_publish(asked: argparse.Namespace) -> int:
                 asked.verdicts,
                 asked.list,
                 passes=[limits_of(words) for words in asked.passes or ()],
-                limits=Limits(**{**most, "steps": asked.steps}),
+                limits=dataclasses.replace(GREATEST, steps=asked.steps),
                 threads=len(os.sched_getaffinity(0)) if asked.threads is None else asked.threads,
                 progress=lambda lines: progress.show(lambda: "%s lines checked" % short_count(lines)),
             )
@@ -108,7 +101,7 @@ def do_publish(asked: argparse.Namespace) -> int:
         text, status = str(error), 1
     except RunError as error:
         text, status = str(error), 3
-    except _Ended as end:
+    except _Signal as end:
         text, status = "%s: no archive is written" % signal.Signals(end.args[0]).name, 128 + end.args[0]
     print("budlarem: %s" % escape_controls(text), file=sys.stderr)
     return status
@@ -117,22 +110,14 @@ def do_publish(asked: argparse.Namespace) -> int:
 def add_publish(commands: Subcommands) -> None:
     """Adds the command to a parser."""
     columns = [("sha256", "of the archive"), ("name", "of the archive, a line for `sha256sum --check`")]
-    parser = add_command(
-        commands, "publish", do_publish, "an archive that others can check", _PUBLISH, columns, "two spaces"
-    )
-    parser.add_argument("out", metavar="OUT.tar", help="the archive; an existing file isn't replaced")
-    parser.add_argument(
-        "--verdicts", required=True, metavar="FILE", help="verdict lines, or the folder of `budlarem run`"
-    )
-    parser.add_argument(
-        "--list", metavar="LIST", help="the machines, one a line, in the order of the verdicts"
-    )
-    parser.add_argument(
-        "--pass",
-        action="append",
-        dest="passes",
-        metavar="steps=N,cells=N,depth=N,nodes=N",
-        help="limits by which the verdicts were decided, for the readers; a run's folder has them",
-    )
+    help = "an archive that others can check"
+    parser = add_command(commands, "publish", do_publish, help, _PUBLISH, columns, "two spaces")
+    add = parser.add_argument
+    add("out", metavar="OUT.tar", help="the archive; an existing file isn't replaced")
+    help = "verdict lines, or the folder of `budlarem run`"
+    add("--verdicts", required=True, metavar="FILE", help=help)
+    add("--list", metavar="LIST", help="the machines, one a line, in the order of the verdicts")
+    help = "limits by which the verdicts were decided, for the readers; a run's folder has them"
+    add_passes(parser, help)
     add_number(parser, "--steps", "the most steps of a claim", Limits.RANGES["steps"][1])
     add_number(parser, "--threads", "cores used (default: all)")

@@ -4,22 +4,23 @@ from __future__ import annotations
 
 import argparse
 import collections
+import contextlib
 import os
 import sys
-from typing import BinaryIO, Counter, Dict, Iterator, Optional, Union
+from typing import BinaryIO, Counter, Iterator
 
-from ..claims import WORDS, Claims, Translation, Word, read_words
+from ..claims import WORDS, Claims, read_words
 from ..comparison import Agreement, compare
 from ..judging import Judgement, judge, translation_in
-from ..judging.rereadable import RereadableList
 from ..limits import GREATEST, Limits
 from ..numbers import option_number
 from ..reading import Skipped
+from ..reading.forms import RereadableList
 from ..reports import report
 from ..runner.progress import TerminalLine, short_count
 from ..verdicts import Verdict
 from .shared import ListReader, Subcommands, add_claims_form, add_command, add_file, add_limits, add_number
-from .shared import columns_of, form_of, limits_of
+from .shared import columns_of, counts_text, form_of, limits_of
 
 _CLAIMS = """A list has one of the forms of `budlarem help read`: verdict lines; a table with a column of
 verdicts, or of words for halting beside columns of steps and scores, by a translation that is printed first; a
@@ -39,10 +40,10 @@ class ClaimReader(ListReader):
     """Reads a list of claims. Prints its form, the translation of a table's words, and rewritten, refused and
     skipped lines on standard error."""
 
-    def __init__(self, path: Optional[str], asked: argparse.Namespace) -> None:
+    def __init__(self, path: str | None, asked: argparse.Namespace) -> None:
         super().__init__(path, None, form_of(asked), columns_of(asked))
-        self.words: Dict[str, Word] = WORDS if asked.words is None else read_words(asked.words)
-        self._word_file: Optional[str] = asked.words
+        self.words = WORDS if asked.words is None else read_words(asked.words)
+        self._word_file: str | None = asked.words
 
     def verdicts(self) -> Iterator[Verdict]:
         """The verdict of each line that has one. Raises OSError, ValueError."""
@@ -63,12 +64,8 @@ class ClaimReader(ListReader):
             else:
                 why = claim.trouble or "no verdict of %s" % claim.reading.machine
                 self.refuse(claim.reading.number, "refused: %s" % why)
-        empty = {Skipped.EMPTY: source.empty} if source.empty else {}
-        self.print_skipped(claims.skipped + collections.Counter(empty), source.undecoded)
-
-    def print_translation(self, translation: Optional[Translation]) -> None:
-        for line in translation.lines if translation is not None else ():
-            self.print_line(line)
+        skipped = claims.skipped + collections.Counter({Skipped.EMPTY: source.empty})
+        self.print_skipped(skipped, source.undecoded)
 
 
 def do_compare(asked: argparse.Namespace) -> int:
@@ -87,30 +84,21 @@ def do_compare(asked: argparse.Namespace) -> int:
     return 1 if counts[Agreement.CONTRADICT] else max(first.status, second.status)
 
 
-def require_other_file(out: str, given: Union[str, BinaryIO]) -> None:
+def require_other_file(out: str, given: str | BinaryIO) -> None:
     """Raises ValueError if the output would replace the list."""
-    try:
+    with contextlib.suppress(OSError):
         listed = os.stat(given if isinstance(given, str) else given.fileno())
-        written = os.stat(out)
-    except OSError:
-        return
-    if os.path.samestat(listed, written):
-        raise ValueError("--out %s is the list itself, which would be replaced; give another name" % out)
+        if os.path.samestat(listed, os.stat(out)):
+            raise ValueError("--out %s is the list itself, which would be replaced; give another name" % out)
 
 
 def do_report(asked: argparse.Namespace) -> int:
     """Writes one HTML file on a list of verdict lines."""
     reader = ClaimReader(asked.file, asked)
     require_other_file(asked.out, reader.source)
-    report(
-        reader.verdicts(),
-        asked.out,
-        diagrams=asked.diagrams,
-        steps=asked.steps,
-        cells=asked.cells,
-        threads=asked.threads,
-        title=asked.title or os.path.basename(asked.file or "Verdicts"),
-    )
+    numbers = {name: getattr(asked, name) for name in ("diagrams", "steps", "cells", "threads")}
+    title = asked.title or os.path.basename(asked.file or "Verdicts")
+    report(reader.verdicts(), asked.out, title=title, **numbers)
     return reader.status
 
 
@@ -157,11 +145,6 @@ for a machine of LIST without a line; not-listed, for a machine of THEIRS that i
 same there up to the names of states and symbols, and left and right."""
 
 
-def counts_text(counts: Counter[Judgement]) -> str:
-    """The count of each judgement so far."""
-    return ", ".join("%s %s" % (short_count(counts[kind]), kind) for kind in Judgement if counts[kind])
-
-
 def do_judge(asked: argparse.Namespace) -> int:
     """Judges a list of claims."""
     if asked.theirs == "-" == asked.list:
@@ -184,15 +167,14 @@ def do_judge(asked: argparse.Namespace) -> int:
     )
     theirs = judging.theirs
     reader.print_form(theirs.form)
-    for line in theirs.translation.lines if theirs.translation is not None else ():
-        reader.print_line(line)
+    reader.print_translation(theirs.translation)
     reader.print_unused_words(theirs.form, asked.words)
     counts: Counter[Judgement] = collections.Counter()
     for judged in judging:
         counts[judged.judgement] += 1
         reader.print_rewritten(judged.claim.reading)
         sys.stdout.write("%s\n" % judged)
-        progress.show(lambda: counts_text(counts))
+        progress.show(lambda: counts_text(counts, Judgement))
     others = {"no-line": judging.missing(), "not-listed": judging.foreign()}
     progress.clear()
     if asked.list is not None:

@@ -11,17 +11,8 @@ from ..limits import Limits, Plan
 from ..normal_forms import distinct
 from ..numbers import option_number
 from ..pictures import picture
-from .shared import (
-    LIST_HELP,
-    ListReader,
-    Subcommands,
-    add_command,
-    add_file,
-    add_form,
-    add_limits,
-    add_number,
-)
-from .shared import columns_of, form_of, limits_of
+from .shared import LIST_HELP, ListReader, Subcommands, add_command, add_file, add_form, add_limits
+from .shared import add_number, columns_of, form_of, limits_of
 
 _READ = "Writes the machine of each line of a list, as bb reads it.\n\n%s Status 1 if a line was refused."
 _DECIDE = """Decides the machine of each line of a list, and copies the other fields of the line.

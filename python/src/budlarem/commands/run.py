@@ -13,28 +13,19 @@ import os
 import signal
 import sys
 from types import FrameType
-from typing import List, Optional
 
 from .._text import escape_controls
 from ..limits import Limits, limits_of
-from ..numbers import option_number
 from ..runner.chunks import identity, parse_retention
-from ..runner.errors import (
-    CheckError,
-    FolderError,
-    ListError,
-    MovedError,
-    RunError,
-    UsageError,
-    describe_error,
-)
+from ..runner.errors import CheckError, FolderError, ListError, MovedError, RunError, UsageError
+from ..runner.errors import describe_error
 from ..runner.folder import Folder, require_separate_list
 from ..runner.input import ListFile, require_form
 from ..runner.journal import VERDICTS
 from ..runner.local import ThreadBackend
 from ..runner.passes import HERE, SENT, Backend, RunOptions, run
 from ..runner.progress import Progress
-from .shared import Subcommands
+from .shared import Subcommands, add_number, add_passes
 
 _HELP = """Decides a list of any length in chunks, on all cores of this computer or by a dask cluster. FOLDER
 gets verdicts.txt, with a line for each line of LIST in its order, and summary.json. After any interruption the
@@ -58,54 +49,33 @@ def add_command(commands: Subcommands) -> None:
     parser.set_defaults(do=do_run)
     parser.add_argument("list", metavar="LIST", help="a file, plain or gzip; - is standard input")
     parser.add_argument("--out", required=True, metavar="FOLDER", help="the folder for the verdicts")
-    parser.add_argument(
-        "--pass",
-        action="append",
-        dest="passes",
-        metavar="steps=N,cells=N,depth=N,nodes=N",
-        help="limits of a pass, each of them optional; the next pass decides its holdouts (default: one pass,"
-        " at the defaults of bb)",
-    )
-    parser.add_argument("--threads", type=option_number, metavar="N", help="cores used (default: all)")
+    help = "limits of a pass, each of them optional; the next pass decides its holdouts"
+    add_passes(parser, help + " (default: one pass, at the defaults of bb)")
+    add_number(parser, "--threads", "cores used (default: all)")
     parser.add_argument("--scheduler", metavar="ADDRESS", help="of dask, whose workers decide the chunks")
     for name, (_, what) in TLS.items():
         parser.add_argument("--" + name, metavar="FILE", help="dask's option: %s" % what)
     parser.add_argument("--check", action="store_true", help="have the checker confirm each verdict")
-    parser.add_argument(
-        "--check-here", action="store_true", help="the same, in this process and not by workers"
-    )
-    parser.add_argument(
-        "--keep",
-        action="append",
-        metavar="left|halts=N",
-        help="keep only the lines of holdouts and refusals of each pass; with halts=N also those of halts"
-        " after more than N steps (default: all)",
-    )
-    parser.add_argument(
-        "--piece",
-        type=option_number,
-        metavar="LINES",
-        help="the most lines of a chunk (default: {:,}, over dask {:,})".format(HERE.lines, SENT.lines),
-    )
+    help = "the same, in this process and not by workers"
+    parser.add_argument("--check-here", action="store_true", help=help)
+    help = "keep only the lines of holdouts and refusals of each pass; with halts=N also those of halts"
+    help += " after more than N steps (default: all)"
+    parser.add_argument("--keep", action="append", metavar="left|halts=N", help=help)
+    help = f"the most lines of a chunk (default: {HERE.lines:,}, over dask {SENT.lines:,})"
+    add_number(parser, "--piece", help, metavar="LINES")
 
 
 def install_signal_handlers(progress: Progress, folder: str) -> None:
-    """Has SIGINT, SIGTERM and SIGHUP end the process at once, with a message: finished chunks are on the
-    disk."""
-    words = {
-        signal.SIGINT: "interrupted",
-        signal.SIGTERM: "ended by SIGTERM",
-        signal.SIGHUP: "ended by SIGHUP",
-    }
+    """Has SIGINT, SIGTERM and SIGHUP end the process at once, with a message; its chunks are stored."""
 
-    def end(number: int, frame: Optional[FrameType]) -> None:
-        line = "%sbudlarem: %s%s in %s\n"
-        line %= (progress.erase_sequence(), words[signal.Signals(number)], _RESUME, escape_controls(folder))
+    def end(number: int, frame: FrameType | None) -> None:
+        what = "interrupted" if number == signal.SIGINT else "ended by " + signal.Signals(number).name
+        line = f"{progress.erase_sequence()}budlarem: {what}{_RESUME} in {escape_controls(folder)}\n"
         with contextlib.suppress(OSError):
             os.write(2, line.encode("utf-8", "replace"))
         os._exit(128 + number)
 
-    for number in words:
+    for number in (signal.SIGINT, signal.SIGTERM, signal.SIGHUP):
         if signal.getsignal(number) is not signal.SIG_IGN:
             signal.signal(number, end)
 
@@ -165,23 +135,22 @@ def do_run(asked: argparse.Namespace) -> int:
     try:
         return _decide_list(asked, passes, progress)
     except (FolderError, UsageError) as error:
-        progress.print_line(str(error))
-        return 2
+        text, status = str(error), 2
     except CheckError as error:
-        progress.print_line(str(error))
-        return 1
+        text, status = str(error), 1
     except (ListError, MovedError) as error:
-        progress.print_line(str(error))
+        text, status = str(error), 3
     except RunError as error:
-        progress.print_line("%s%s" % (error, _RESUME))
+        text, status = str(error) + _RESUME, 3
     except Exception as error:
         # Every other error is a fault, never a status of the list.
         text = str(error) if isinstance(error, OSError) else describe_error(error)
-        progress.print_line("%s%s once the cause is removed" % (text, _RESUME))
-    return 3
+        text, status = text + _RESUME + " once the cause is removed", 3
+    progress.print_line(text)
+    return status
 
 
-def _decide_list(asked: argparse.Namespace, passes: List[Limits], progress: Progress) -> int:
+def _decide_list(asked: argparse.Namespace, passes: list[Limits], progress: Progress) -> int:
     """Decides a list; returns 0 or 1. Raises all other errors."""
     backend = _make_backend(asked, progress)
     with contextlib.ExitStack() as stack:

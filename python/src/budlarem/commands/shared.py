@@ -3,20 +3,23 @@
 from __future__ import annotations
 
 import argparse
+import dataclasses
 import sys
 import textwrap
-from typing import TYPE_CHECKING, BinaryIO, Callable, Iterable, Iterator, Mapping, Optional, Tuple, Union
+from typing import TYPE_CHECKING, BinaryIO, Callable, Iterable, Iterator, Mapping, TypeVar
 
 from .._text import escape_controls, pluralize
-from ..limits import Limits
+from ..claims import Translation
+from ..limits import GREATEST, Limits
 from ..numbers import option_number
 from ..reading import Columns, Form, ListForm, Reading, Readings, Skipped
-from ..runner.progress import TerminalLine
+from ..runner.progress import TerminalLine, short_count
 
 if TYPE_CHECKING:
     Subcommands = argparse._SubParsersAction[argparse.ArgumentParser]
 else:
     Subcommands = argparse._SubParsersAction
+Kind = TypeVar("Kind")
 # The width of a help page.
 WIDTH = 79
 # The forms of a list, for the help of the commands that read one.
@@ -37,7 +40,12 @@ _ROLES = {
 }
 
 
-def source_of(path: Optional[str]) -> Union[str, BinaryIO]:
+def counts_text(counts: Mapping[Kind, int], kinds: Iterable[Kind]) -> str:
+    """The count of each kind so far, for a terminal."""
+    return ", ".join("%s %s" % (short_count(counts[kind]), kind) for kind in kinds if counts[kind])
+
+
+def source_of(path: str | None) -> str | BinaryIO:
     """The path of a FILE, or standard input."""
     return sys.stdin.buffer if path is None or path == "-" else path
 
@@ -48,9 +56,9 @@ class ListReader:
 
     def __init__(
         self,
-        path: Optional[str],
-        progress: Optional[TerminalLine] = None,
-        form: Optional[Form] = None,
+        path: str | None,
+        progress: TerminalLine | None = None,
+        form: Form | None = None,
         columns: Columns = Columns(),
     ) -> None:
         self.name = "standard input" if path is None or path == "-" else path
@@ -67,7 +75,7 @@ class ListReader:
         """The machines alone."""
         return (reading.machine for reading in self.readings() if reading.machine is not None)
 
-    def print_line(self, text: str, number: Optional[int] = None) -> None:
+    def print_line(self, text: str, number: int | None = None) -> None:
         """Prints a message on the list, or on a line of it."""
         if self._progress is not None:
             self._progress.clear()
@@ -88,7 +96,12 @@ class ListReader:
             is_given = self.form is not None or self.columns != Columns()
             self.print_line(str(form) if is_given else "%s; --form overrides it" % form)
 
-    def print_unused_words(self, form: ListForm, words: Optional[str]) -> None:
+    def print_translation(self, translation: Translation | None) -> None:
+        """Prints the translation of a table's words, if there are any."""
+        for line in translation.lines if translation is not None else ():
+            self.print_line(line)
+
+    def print_unused_words(self, form: ListForm, words: str | None) -> None:
         """Prints that the file of `--words` isn't used, if the list is no table."""
         if words is not None and form.layout is None:
             self.print_line("--words is for tables; nothing is translated in the form %s" % form.form)
@@ -134,7 +147,7 @@ class _PrintedReadings(Readings):
         self._reader.print_skipped(self.skipped, self.undecoded)
 
 
-def form_of(asked: argparse.Namespace) -> Optional[Form]:
+def form_of(asked: argparse.Namespace) -> Form | None:
     """The form of `--form`, or None."""
     return None if asked.form is None else Form(asked.form)
 
@@ -158,11 +171,14 @@ def add_form(parser: argparse.ArgumentParser, roles: Iterable[str] = ("machine",
 def add_claims_form(parser: argparse.ArgumentParser) -> None:
     """Adds the options for the form of a list of claims, and the words of a table."""
     add_form(parser, _ROLES)
-    parser.add_argument(
-        "--words",
-        metavar="FILE",
-        help="words of a table: lines such as `halting: yes, true`, `never halting: no` and `nothing: open`",
-    )
+    help = "words of a table: lines such as `halting: yes, true`, `never halting: no` and `nothing: open`"
+    parser.add_argument("--words", metavar="FILE", help=help)
+
+
+def add_passes(parser: argparse.ArgumentParser, help: str) -> None:
+    """Adds `--pass`, the limits of a pass; it may be repeated."""
+    metavar = "steps=N,cells=N,depth=N,nodes=N"
+    parser.add_argument("--pass", action="append", dest="passes", metavar=metavar, help=help)
 
 
 def limits_of(asked: argparse.Namespace) -> Limits:
@@ -170,7 +186,7 @@ def limits_of(asked: argparse.Namespace) -> Limits:
 
 
 def add_number(
-    parser: argparse.ArgumentParser, name: str, help: str, default: Optional[int] = None, metavar: str = "N"
+    parser: argparse.ArgumentParser, name: str, help: str, default: int | None = None, metavar: str = "N"
 ) -> None:
     """Adds an option of a whole number."""
     help += "" if default is None else " (default: {:,})".format(default)
@@ -190,11 +206,11 @@ def add_greatest_limits(parser: argparse.ArgumentParser) -> None:
 
 def greatest_limits(asked: argparse.Namespace) -> Limits:
     """The given limits; the others are the greatest that go with the cells. Raises LimitsError."""
-    given = {name: getattr(asked, name) for name in Limits.RANGES}
-    highest = {name: most for name, (_, most) in Limits.RANGES.items()}
-    cells = highest["cells"] if given["cells"] is None else given["cells"]
+    given = {name: getattr(asked, name) for name in Limits.RANGES if getattr(asked, name) is not None}
+    highest = dataclasses.asdict(GREATEST)
+    cells = given.get("cells", highest["cells"])
     highest["depth"] = max(min(highest["depth"], (cells + 1) // 2), 0)
-    return Limits(**{name: highest[name] if given[name] is None else given[name] for name in given})
+    return Limits(**{**highest, **given})
 
 
 def add_file(parser: argparse.ArgumentParser) -> None:
@@ -207,7 +223,7 @@ def add_command(
     do: Callable[[argparse.Namespace], int],
     help: str,
     text: str,
-    columns: Iterable[Tuple[str, str]] = (),
+    columns: Iterable[tuple[str, str]] = (),
     separator: str = "a tab",
 ) -> argparse.ArgumentParser:
     """Adds a command: its function, a line of help, a description, and the columns of its output with their

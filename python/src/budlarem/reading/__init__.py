@@ -6,8 +6,6 @@ skipped lines are counted. `tests/support/forms.json` of the repository has exam
 
 from __future__ import annotations
 
-from typing import Optional
-
 from .files import EncodingError, EndlessLineError, Source
 from .forms import ListForm, Readings
 from .readings import Form, Reading, Reason, Rewriting, Skipped
@@ -21,7 +19,7 @@ __all__ = [
 # fmt: on
 
 
-def read(lines: Source, form: Optional[Form] = None, columns: Columns = Columns()) -> Readings:
+def read(lines: Source, form: Form | None = None, columns: Columns = Columns()) -> Readings:
     """The reading of each line; empty lines, comments and the like are skipped.
 
     `lines` is a path, a file that is open for reading bytes, or an iterable of lines, with or without their

@@ -4,7 +4,7 @@ from __future__ import annotations
 
 import dataclasses
 import re
-from typing import List, Sequence, Set, Tuple, Union
+from typing import Sequence, Union
 
 from .._text import pluralize, first_hidden, code_point
 from ..verdicts import MOST_SYMBOLS, STATES, is_machine
@@ -33,12 +33,12 @@ class Found:
     """A machine as `bb` reads it, and the rewritings."""
 
     machine: str
-    rewritten: Tuple[Rewriting, ...] = ()
+    rewritten: tuple[Rewriting, ...] = ()
 
 
 Outcome = Union[Found, Reason]
 # The entries of a group, each with its index in the line.
-Group = List[Tuple[int, str]]
+Group = list[tuple[int, str]]
 
 
 def read_words(words: Sequence[Word]) -> Outcome:
@@ -79,9 +79,9 @@ def read_arrays(groups: Sequence[Sequence[Word]]) -> Outcome:
     return _machine(entries, letters | {Rewriting.ARRAYS})
 
 
-def _entries_of_groups(groups: Sequence[Word]) -> Union[List[Group], Reason]:
+def _entries_of_groups(groups: Sequence[Word]) -> list[Group] | Reason:
     """The entries of each group, or why a group has others."""
-    entries: List[Group] = []
+    entries: list[Group] = []
     for place, group in enumerate(groups):
         found = _entries_of(group, sum(map(len, entries)), place, place + 1 < len(groups))
         if isinstance(found, Reason):
@@ -90,7 +90,7 @@ def _entries_of_groups(groups: Sequence[Word]) -> Union[List[Group], Reason]:
     return entries
 
 
-def _entries_of(group: Word, before: int, place: int, is_followed: bool) -> Union[Group, Reason]:
+def _entries_of(group: Word, before: int, place: int, is_followed: bool) -> Group | Reason:
     """The entries of a group behind so many entries and groups; `is_followed`: a `_` or a space follows."""
     if not group.text:
         return Reason("empty-group", "group %d is empty" % (place + 1), group.begin + 1)
@@ -104,54 +104,46 @@ def _entries_of(group: Word, before: int, place: int, is_followed: bool) -> Unio
 
 
 def _no_entry(text: str, number: int, place: int, is_followed: bool) -> Reason:
-    """Why a text of up to three characters is no entry."""
     whole = text + "_" if len(text) == 2 and is_followed else text
     if _LOST.fullmatch(whole):
-        sentence = "entry %d is %s: the %s that it writes would be lost" % (number, whole, whole[0])
-        return Reason("lost", sentence, place)
+        what = f"entry {number} is {whole}: the {whole[0]} that it writes would be lost"
+        return Reason("lost", what, place)
     hidden = first_hidden(text)
     if hidden is not None:
-        sentence = "entry %d has %s, a character that doesn't show" % (number, code_point(text[hidden]))
-        return Reason("hidden", sentence, place + hidden)
-    return Reason("entry", "entry %d is no entry: %s" % (number, text), place)
+        code = code_point(text[hidden])
+        return Reason("hidden", f"entry {number} has {code}, a character that doesn't show", place + hidden)
+    return Reason("entry", f"entry {number} is no entry: {text}", place)
 
 
-def _letters(groups: Sequence[Word]) -> Set[Rewriting]:
-    """The rewritings of the letters of these groups."""
+def _letters(groups: Sequence[Word]) -> set[Rewriting]:
     text = "".join(group.text for group in groups)
-    found = set()
-    if text != text.upper():
-        found.add(Rewriting.SMALL_LETTERS)
-    if "..." in text:
-        found.add(Rewriting.UNDEFINED_ENTRIES)
-    return found
+    found = {Rewriting.SMALL_LETTERS} if text != text.upper() else set()
+    return found | {Rewriting.UNDEFINED_ENTRIES} if "..." in text else found
 
 
-def _divide(entries: Group, rewritten: Set[Rewriting]) -> Outcome:
+def _divide(entries: Group, rewritten: set[Rewriting]) -> Outcome:
     """The machine of a text without `_`, if one division into groups makes one."""
     count, begin = len(entries), entries[0][0]
     states = [number for number in range(1, len(STATES) + 1) if count % number == 0]
     sizes = [(number, count // number) for number in states if 2 <= count // number <= MOST_SYMBOLS]
     if not sizes:
-        sentence = "%s can't be divided into 1 to 25 groups of 2 to 10" % pluralize(count, "entry", "entries")
-        return Reason("division", sentence, begin + 1)
-    outcomes: List[Outcome] = []
+        what = pluralize(count, "entry", "entries")
+        return Reason("division", f"{what} can't be divided into 1 to 25 groups of 2 to 10", begin + 1)
+    outcomes: list[Outcome] = []
     for number, size in sizes:
         more = {Rewriting.UNDERSCORES} if number > 1 else set()
         groups = [entries[k : k + size] for k in range(0, count, size)]
         outcomes.append(_machine(groups, rewritten | more))
     found = [outcome for outcome in outcomes if isinstance(outcome, Found)]
     if len(found) == 1 or len(outcomes) == 1:
-        return found[0] if found else outcomes[0]
+        return (found or outcomes)[0]
+    how = f"to divide {count} entries into groups"
     if not found:
-        sentence = "no way to divide %d entries into groups makes a machine" % count
-        return Reason("division", sentence, begin + 1)
-    sentence = "%d ways to divide %d entries into groups make a machine" % (len(found), count)
-    return Reason("divisions", sentence, begin + 1)
+        return Reason("division", f"no way {how} makes a machine", begin + 1)
+    return Reason("divisions", f"{len(found)} ways {how} make a machine", begin + 1)
 
 
-def _machine(groups: Sequence[Group], rewritten: Set[Rewriting]) -> Outcome:
-    """The machine of these groups."""
+def _machine(groups: Sequence[Group], rewritten: set[Rewriting]) -> Outcome:
     wrong = _wrong_size(groups)
     if wrong is not None:
         return wrong
@@ -174,34 +166,32 @@ def _machine(groups: Sequence[Group], rewritten: Set[Rewriting]) -> Outcome:
     return Found("_".join(texts), tuple(kind for kind in Rewriting if kind in rewritten))
 
 
-def _wrong_size(groups: Sequence[Group]) -> Union[Reason, None]:
+def _wrong_size(groups: Sequence[Group]) -> Reason | None:
     """Why no machine has groups of these lengths, if so."""
     lengths = list(dict.fromkeys(map(len, groups)))
-    begin = groups[0][0][0]
     if len(lengths) > 1:
         other = next(group for group in groups if len(group) != lengths[0])
         numbers = "%s and %d" % (", ".join(map(str, lengths[:-1])), lengths[-1])
-        return Reason("groups", "the groups have %s entries" % numbers, other[0][0] + 1)
+        return Reason("groups", f"the groups have {numbers} entries", other[0][0] + 1)
     if not 2 <= lengths[0] <= MOST_SYMBOLS:
-        sentence = "the groups have %s, not 2 to 10" % pluralize(lengths[0], "entry", "entries")
-        return Reason("symbols", sentence, begin + 1)
+        what = pluralize(lengths[0], "entry", "entries")
+        return Reason("symbols", f"the groups have {what}, not 2 to 10", groups[0][0][0] + 1)
     if len(groups) > len(STATES):
         place = groups[len(STATES)][0][0] + 1
-        return Reason("states", "there are %d groups, not 1 to 25" % len(groups), place)
+        return Reason("states", f"there are {len(groups)} groups, not 1 to 25", place)
     return None
 
 
-def _wrong_entry(entry: str, number: int, begin: int, states: int, symbols: int) -> Union[Reason, None]:
+def _wrong_entry(entry: str, number: int, begin: int, states: int, symbols: int) -> Reason | None:
     """Why no machine of so many states and symbols has this entry, if so."""
     if entry == "---":
         return None
     if int(entry[0]) >= symbols:
-        sentence = "entry %d writes %s, but there are %d symbols" % (number, entry[0], symbols)
-        return Reason("symbol", sentence, begin + 1)
+        what = f"entry {number} writes {entry[0]}, but there are {symbols} symbols"
+        return Reason("symbol", what, begin + 1)
     if entry[2] in STATES[:states] + "Z":
         return None
     if entry[2] == "H" and states <= MOST_BEFORE_H:
         return Reason("halting-state", "H: the halting state is Z here", begin + 3)
-    there_are = "there is 1 state" if states == 1 else "there are %d states" % states
-    sentence = "entry %d names state %s, but %s" % (number, entry[2], there_are)
-    return Reason("state", sentence, begin + 3)
+    there_are = "there is 1 state" if states == 1 else f"there are {states} states"
+    return Reason("state", f"entry {number} names state {entry[2]}, but {there_are}", begin + 3)

@@ -8,7 +8,7 @@ import gzip
 import io
 import os
 import zlib
-from typing import Any, BinaryIO, Callable, Iterable, Iterator, Optional, Tuple, Union
+from typing import Any, BinaryIO, Callable, Iterable, Iterator, Union
 
 from .._text import BYTES_KEPT, LONGEST_UNENDED, LONGEST_VALUE
 
@@ -44,14 +44,12 @@ class EndlessLineError(ValueError):
     """A line of a list has more than LONGEST_UNENDED bytes. `number` is its number, from 1 on."""
 
     def __init__(self, name: object, number: int) -> None:
-        super().__init__(
-            "%s: line %s has more than %s bytes and no newline; a list has a machine or a verdict a line"
-            % (name, "{:,}".format(number), "{:,}".format(LONGEST_UNENDED))
-        )
+        what = f"line {number:,} has more than {LONGEST_UNENDED:,} bytes and no newline"
+        super().__init__(f"{name}: {what}; a list has a machine or a verdict a line")
         self.number = number
 
 
-def find_encoding(start: bytes) -> Optional[str]:
+def find_encoding(start: bytes) -> str | None:
     """The encoding or format of a file by its first bytes; None if it may be UTF-8."""
     for mark, name in _MARKS:
         if start.startswith(mark):
@@ -68,7 +66,7 @@ GZIP = b"\x1f\x8b"
 BLOCK = 1 << 19
 _EMPTY = frozenset((b"", b"\r"))
 # A line's number, from 1 on, and its text.
-Numbered = Tuple[int, str]
+Numbered = tuple[int, str]
 Source = Union[str, "os.PathLike[str]", BinaryIO, Iterable[str], Iterable[bytes]]
 
 
@@ -148,7 +146,7 @@ class Lines(Iterator[Numbered]):
                     self.undecoded += 1
                 yield number, text
 
-    def _split_lines(self, file: BytesFile) -> Iterator[Tuple[int, bytes]]:
+    def _split_lines(self, file: BytesFile) -> Iterator[tuple[int, bytes]]:
         """The lines of a file, each cut to BYTES_KEPT bytes. Raises EncodingError, EndlessLineError."""
         number, rest, unended = 1, b"", 0
         block = file.first(4)

@@ -5,7 +5,10 @@ from __future__ import annotations
 import collections
 import dataclasses
 import itertools
-from typing import Counter, Iterator, List, Optional
+import os
+import stat
+import tempfile
+from typing import IO, Any, Counter, Iterator
 
 from ..verdicts import is_machine
 from .files import Lines, Numbered, Source
@@ -23,16 +26,16 @@ class ListForm:
     """The form of a list, the layout of a table, and whether the form was detected."""
 
     form: Form
-    layout: Optional[Layout] = None
+    layout: Layout | None = None
     is_found: bool = False
 
     def __str__(self) -> str:
         return "form %s" % self.form if self.layout is None else "form %s: %s" % (self.form, self.layout)
 
 
-def find_form(lines: Iterator[Numbered], ahead: List[Numbered]) -> Optional[Form]:
+def find_form(lines: Iterator[Numbered], ahead: list[Numbered]) -> Form | None:
     """The form of the first lines, which are added to `ahead`; None if there are none."""
-    alone: List[str] = []
+    alone: list[str] = []
     verdicts = 0
     for number, line in lines:
         ahead.append((number, line))
@@ -70,7 +73,7 @@ def _is_alone(number: int, bare: str) -> bool:
 
 
 def form_of(
-    lines: Iterator[Numbered], ahead: List[Numbered], form: Optional[Form], columns: Columns
+    lines: Iterator[Numbered], ahead: list[Numbered], form: Form | None, columns: Columns
 ) -> ListForm:
     """The form of a list: the given one, a table if a column is given, or that of its first lines. Raises
     ValueError if the layout of a table isn't known."""
@@ -89,7 +92,7 @@ def form_of(
     return ListForm(form, find_layout(ahead, columns), True)
 
 
-def reading_of(number: int, line: str, form: ListForm) -> Optional[Reading]:
+def reading_of(number: int, line: str, form: ListForm) -> Reading | None:
     """The reading of a line of a list in this form; None for a skipped line."""
     if form.layout is not None:
         return read_row(number, line, form.layout)
@@ -100,11 +103,11 @@ class Readings(Iterator[Reading]):
     """The readings of a list's lines. `form` is the list's; `skipped` counts so far the skipped lines, and
     `undecoded` those that aren't UTF-8."""
 
-    def __init__(self, lines: Source, form: Optional[Form] = None, columns: Columns = Columns()) -> None:
+    def __init__(self, lines: Source, form: Form | None = None, columns: Columns = Columns()) -> None:
         self._source = Lines(lines)
         self._given = form, columns
-        self._form: Optional[ListForm] = None
-        self._ahead: List[Numbered] = []
+        self._form: ListForm | None = None
+        self._ahead: list[Numbered] = []
         self._skipped: Counter[Skipped] = collections.Counter()
         self._readings = self._read()
 
@@ -118,8 +121,7 @@ class Readings(Iterator[Reading]):
     @property
     def skipped(self) -> Counter[Skipped]:
         """The number of skipped lines of each kind so far."""
-        empty = self._source.empty
-        return self._skipped + collections.Counter({Skipped.EMPTY: empty} if empty else {})
+        return self._skipped + collections.Counter({Skipped.EMPTY: self._source.empty})
 
     @property
     def undecoded(self) -> int:
@@ -145,3 +147,55 @@ class Readings(Iterator[Reading]):
 def skip_kind(line: str) -> Skipped:
     """The kind of a skipped line."""
     return skip_reason(line.lstrip("\ufeff").strip(SPACES)) or Skipped.HEADER
+
+
+# The bytes of a list that are held. A regular file is read again; more of another source goes to the disk.
+_MOST_BUFFERED = 8_000_000
+
+
+class RereadableList:
+    """The non-empty lines of a list, to be read more than once. `form` is the list's."""
+
+    def __init__(self, source: Source, form: Form | None = None, columns: Columns = Columns()) -> None:
+        self._source: Any = source
+        self._lines = Lines(source)
+        self._ahead: list[Numbered] = []
+        self._copy: IO[bytes] | None = None
+        self._is_started = False
+        self.form: ListForm = form_of(self._lines, self._ahead, form, columns)
+
+    def __del__(self) -> None:
+        copy = getattr(self, "_copy", None)
+        if copy is not None:
+            copy.close()
+
+    @property
+    def empty(self) -> int:
+        """The number of empty lines read so far."""
+        return self._lines.empty
+
+    @property
+    def undecoded(self) -> int:
+        """The number of lines read so far that aren't UTF-8."""
+        return self._lines.undecoded
+
+    def once(self) -> Iterator[Numbered]:
+        """The lines, for the last time."""
+        return self.lines() if self._is_started else itertools.chain(self._ahead, self._lines)
+
+    def lines(self) -> Iterator[Numbered]:
+        """The lines, from the first on. Raises OSError."""
+        self._is_started = True
+        is_path = isinstance(self._source, (str, os.PathLike))
+        if is_path and stat.S_ISREG(os.stat(self._source).st_mode):
+            self._lines = Lines(self._source)
+            yield from self._lines
+            return
+        if self._copy is None:
+            self._copy = tempfile.SpooledTemporaryFile(_MOST_BUFFERED)
+            for number, line in itertools.chain(self._ahead, self._lines):
+                self._copy.write(b"%d %s\n" % (number, line.encode("utf-8", "surrogatepass")))
+        self._copy.seek(0)
+        for record in self._copy:
+            place, _, text = record[:-1].partition(b" ")
+            yield int(place), text.decode("utf-8", "surrogatepass")

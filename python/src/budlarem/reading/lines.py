@@ -4,10 +4,10 @@ from __future__ import annotations
 
 import re
 import string
-from typing import List, Optional, Sequence, Tuple
+from typing import Sequence
 
 from .._text import LONGEST_LINE, code_point, is_hidden, quote
-from ..verdicts import Refused, Verdict, is_machine, parse
+from ..verdicts import Verdict, is_machine, parse
 from .entries import Found, Outcome, Word, read_arrays, read_entries, read_words
 from .readings import Form, Reading, Reason, Rewriting
 from .tokens import SPACES, Parts, Text, is_comment_of_machine, parts_of, row_beside, skip_reason
@@ -25,12 +25,11 @@ _STATE = re.compile(
 # The characters of machines, in any spelling.
 OF_MACHINES = frozenset(string.ascii_letters + string.digits + "_-.\\" + SPACES)
 # A text of the line, and its machine or reason.
-Read = Tuple[Text, Outcome]
+Read = tuple[Text, Outcome]
 
 
-def read_line(number: int, line: str, form: Form = Form.TEXT) -> Optional[Reading]:
-    """The reading of a line without its newline, in a form other than that of a table; None for a skipped
-    line."""
+def read_line(number: int, line: str, form: Form = Form.TEXT) -> Reading | None:
+    """The reading of a line without its newline, in any form but a table's; None for a skipped line."""
 
     def is_rule(text: str) -> bool:
         """Whether a row of dashes is a rule in this form."""
@@ -40,7 +39,7 @@ def read_line(number: int, line: str, form: Form = Form.TEXT) -> Optional[Readin
         return Reading(number, line, line)
     line = line.lstrip("\ufeff").rstrip("\r")
     if len(line) > LONGEST_LINE:
-        text = "the line has more than {:,} characters".format(LONGEST_LINE)
+        text = f"the line has more than {LONGEST_LINE:,} characters"
         return Reading(number, line, None, reason=Reason("long", text, LONGEST_LINE + 1))
     bare = line.strip(SPACES)
     if form is Form.VERDICTS:
@@ -56,7 +55,7 @@ def read_line(number: int, line: str, form: Form = Form.TEXT) -> Optional[Readin
     return _require_alone(reading, bare) if form is Form.MACHINES else reading
 
 
-def verdict_in(bare: str) -> Optional[Verdict]:
+def verdict_in(bare: str) -> Verdict | None:
     """The verdict of a verdict line, which may have fields behind a tab; None of another line."""
     try:
         return parse(bare.partition("\t")[0])
@@ -64,17 +63,15 @@ def verdict_in(bare: str) -> Optional[Verdict]:
         return None
 
 
-def _read_verdict(number: int, line: str, bare: str) -> Optional[Reading]:
-    """The reading of a line in the form of verdicts."""
+def _read_verdict(number: int, line: str, bare: str) -> Reading | None:
     verdict = verdict_in(bare)
     if verdict is None and skip_reason(bare) is not None:
         return None
-    place = len(line) - len(line.lstrip(SPACES)) + 1
-    if verdict is None:
-        return Reading(number, line, None, reason=Reason("verdict", "this is no verdict line", place))
-    if isinstance(verdict, Refused):
-        return Reading(number, line, None, reason=Reason("none", "no machine in this line", place))
-    return Reading(number, line, verdict.machine, behind=bare[len(verdict.machine) + 1 :])
+    if verdict is not None and verdict.machine is not None:
+        return Reading(number, line, verdict.machine, behind=bare[len(verdict.machine) + 1 :])
+    text = ("verdict", "this is no verdict line") if verdict is None else ("none", "no machine in this line")
+    reason = Reason(*text, len(line) - len(line.lstrip(SPACES)) + 1)
+    return Reading(number, line, None, reason=reason)
 
 
 def _require_alone(reading: Reading, bare: str) -> Reading:
@@ -82,12 +79,11 @@ def _require_alone(reading: Reading, bare: str) -> Reading:
     has_more = reading.before or reading.behind or not OF_MACHINES.issuperset(bare)
     if reading.machine is None or not has_more:
         return reading
-    reason = Reason("beside", "the line has more than the machine %s" % quote(reading.machine), 1)
+    reason = Reason("beside", f"the line has more than the machine {quote(reading.machine)}", 1)
     return Reading(reading.number, reading.line, None, reason=reason)
 
 
 def _read_plain(number: int, line: str) -> Reading:
-    """The reading of a line that isn't skipped."""
     plain, places = _unescape(line)
     read = _read(plain, parts_of(plain))
     if isinstance(read, Reason):
@@ -104,7 +100,7 @@ def _read_plain(number: int, line: str) -> Reading:
     return Reading(number, line, found.machine, kinds, before, behind)
 
 
-def _unescape(line: str) -> Tuple[str, Sequence[int]]:
+def _unescape(line: str) -> tuple[str, Sequence[int]]:
     r"""The line with `_` for `\_`, and the place in the line of each of its places, its end too."""
     if "\\_" not in line:
         return line, range(len(line) + 1)
@@ -112,12 +108,12 @@ def _unescape(line: str) -> Tuple[str, Sequence[int]]:
     return "".join(line[place] for place in kept), [*kept, len(line)]
 
 
-def _read(line: str, parts: Parts) -> "List[Read] | Reason":
+def _read(line: str, parts: Parts) -> list[Read] | Reason:
     """The texts of a line that are its one machine, or why there is none."""
     if is_comment_of_machine(line.strip(SPACES)):
         place = parts.texts[0].begin + 1
         return Reason("comment", "a machine in a line that begins as a comment", place)
-    found: List[Read] = []
+    found: list[Read] = []
     for text in parts.texts:
         read = _state_line(line, text) or _read_text(text)
         if isinstance(read, Reason):
@@ -131,12 +127,12 @@ def _read(line: str, parts: Parts) -> "List[Read] | Reason":
             return outcome
         row = row_beside(line, text, parts.rows) if isinstance(outcome, Found) else None
         if row is not None and "_" not in text.written:
-            sentence = "%s may be a rule or a group of the machine" % quote(row.text)
-            return Reason("rule-or-group", sentence, row.begin + 1)
+            what = f"{quote(row.text)} may be a rule or a group of the machine"
+            return Reason("rule-or-group", what, row.begin + 1)
     return _single_machine(found)
 
 
-def _state_line(line: str, text: Text) -> Optional[Reason]:
+def _state_line(line: str, text: Text) -> Reason | None:
     """Why a text behind the letter of a state is no machine: it is the line of that state."""
     if "_" in text.written or text.arrays or text.is_address:
         return None
@@ -146,13 +142,11 @@ def _state_line(line: str, text: Text) -> Optional[Reason]:
     group = letter.lastindex or 0
     if group == 2 and text.written == text.written.upper():
         return None
-    sentence = "%s before %s: a machine of a state a line isn't read"
-    words = (letter.group(group), quote(text.written))
-    return Reason("state-line", sentence % words, letter.start(group) + 1)
+    what = f"{letter.group(group)} before {quote(text.written)}: a machine of a state a line isn't read"
+    return Reason("state-line", what, letter.start(group) + 1)
 
 
 def _no_text(line: str, parts: Parts) -> Reason:
-    """Why a line without entries has no machine."""
     for row in parts.rows:
         if len(row.text) >= 6 or row.text == line.strip(SPACES):
             what = "dashes" if "-" in row.text else "dots"
@@ -164,7 +158,7 @@ def _no_text(line: str, parts: Parts) -> Reason:
     return Reason("none", "no machine in this line", place)
 
 
-def _read_text(text: Text) -> "List[Read] | Reason":
+def _read_text(text: Text) -> list[Read] | Reason:
     """The machine of a text; its words by themselves if each is a machine and the text can't be one."""
     if not text.is_last:
         return Reason("none", "no machine in this line", text.words[0].begin + 1)
@@ -188,54 +182,46 @@ def _read_text(text: Text) -> "List[Read] | Reason":
     return alone if is_each and len(machines) > 1 else [(text, together)]
 
 
-def _ambiguous_dots(word: Word) -> Optional[Reason]:
+def _ambiguous_dots(word: Word) -> Reason | None:
     """Why a word is no machine that is one with the dots at an end, and without them too."""
     for start, end in ((0, len(word.text) - 3), (3, len(word.text))):
-        dots = word.begin + (end if start == 0 else 0)
         rest = Word(word.begin + start, word.text[start:end])
         if word.text[:start] + word.text[end:] != "..." or not rest.text:
             continue
         if isinstance(read_words([rest]), Found) and isinstance(read_words([word]), Found):
+            dots = word.begin + (end if start == 0 else 0)
             return Reason("dots", "... may be an undefined entry, or no part of the machine", dots + 1)
     return None
 
 
 def _several_machines(count: int, place: int) -> Reason:
-    sentence = "each of %d words is a machine by itself, and they may be one together" % count
-    return Reason("words", sentence, place)
+    what = f"each of {count} words is a machine by itself, and they may be one together"
+    return Reason("words", what, place)
 
 
-def _single_machine(found: List[Read]) -> "List[Read] | Reason":
+def _single_machine(found: list[Read]) -> list[Read] | Reason:
     """The texts that are one machine, or why they aren't."""
     read = [(text, outcome) for text, outcome in found if isinstance(outcome, Found)]
-    is_set_apart = all("_" in text.written for text, _ in read)
-    others = [
-        (text, outcome)
-        for text, outcome in found
-        if isinstance(outcome, Reason) and not (read and is_set_apart and text.is_lone_entry)
-    ]
+    reasons = [(text, outcome) for text, outcome in found if isinstance(outcome, Reason)]
     if not read:
-        longest = max(others, key=lambda other: len(other[0].written))
-        assert isinstance(longest[1], Reason)
-        return longest[1]
-    machine = read[0][1].machine
-    if others:
-        other = others[0][0]
-        sentence = "%s beside the machine %s may be a part of it" % (quote(other.written), quote(machine))
-        return Reason("part", sentence, other.words[0].begin + 1)
+        return max(reasons, key=lambda other: len(other[0].written))[1]
+    machine, is_set_apart = read[0][1].machine, all("_" in text.written for text, _ in read)
+    for other, _ in reasons:
+        if not (is_set_apart and other.is_lone_entry):
+            what = f"{quote(other.written)} beside the machine {quote(machine)} may be a part of it"
+            return Reason("part", what, other.words[0].begin + 1)
     for text, outcome in read:
         if outcome.machine != machine:
-            sentence = "two different machines: %s and %s" % (quote(machine), quote(outcome.machine))
-            return Reason("two", sentence, text.words[0].begin + 1)
+            what = f"two different machines: {quote(machine)} and {quote(outcome.machine)}"
+            return Reason("two", what, text.words[0].begin + 1)
     plain = [text for text, _ in read if not text.is_address and "_" not in text.written]
     if len(plain) > 1:
         return _several_machines(len(plain), plain[1].begin + 1)
     return [(text, outcome) for text, outcome in read]
 
 
-def _span(line: str, read: List[Read]) -> Tuple[int, int]:
-    """The place of the machine in a line, with enclosing pairs of characters, and with the address of a link
-    whose text it is."""
+def _span(line: str, read: list[Read]) -> tuple[int, int]:
+    """The machine's place in a line, with pairs of characters around it, and the address of its link."""
     start, end = read[0][0].begin, read[0][0].end
     while start > 0 and end < len(line) and line[start - 1] + line[end] in _PAIRS:
         start, end = start - 1, end + 1

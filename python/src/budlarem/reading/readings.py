@@ -3,7 +3,6 @@
 from __future__ import annotations
 
 import dataclasses
-from typing import Optional, Tuple
 
 from .._text import Words
 from ..engine import column_of
@@ -96,8 +95,7 @@ ADVICE = {
 
 @dataclasses.dataclass(frozen=True)
 class Reason:
-    """Why a line has no machine: the kind as a word, a sentence, and the character of the line, from 1 on,
-    perhaps one past the end."""
+    """Why a line has no machine: the kind, a sentence, and the character, from 1 on, perhaps past the end."""
 
     kind: str
     text: str
@@ -124,12 +122,12 @@ class Reading:
 
     number: int
     line: str
-    machine: Optional[str]
-    rewritten: Tuple[Rewriting, ...] = ()
+    machine: str | None
+    rewritten: tuple[Rewriting, ...] = ()
     before: str = ""
     behind: str = ""
-    reason: Optional[Reason] = None
-    row: Optional[Tuple[str, ...]] = None
+    reason: Reason | None = None
+    row: tuple[str, ...] | None = None
 
     @property
     def fields(self) -> str:
@@ -137,7 +135,7 @@ class Reading:
         return "\t".join(part for part in (self.before, self.behind) if part)
 
     @property
-    def column(self) -> Optional[int]:
+    def column(self) -> int | None:
         """The column at which `bb` refuses the line as it stands; None if there is a machine, or `bb` reads one
         that the list's form doesn't allow there. Raises LibraryError."""
         return column_of(self.line) if self.machine is None else None

@@ -6,7 +6,7 @@ import contextlib
 import csv
 import dataclasses
 import re
-from typing import Dict, FrozenSet, List, Optional, Sequence, Tuple
+from typing import Sequence
 
 from .._text import pluralize, quote
 from ..verdicts import is_machine
@@ -16,7 +16,7 @@ from .tokens import MACHINE_NAMES, SPACES, skip_reason, plain_name
 
 # The separators of cells; a space only where nothing else separates.
 SEPARATORS = ("\t", ",", ";", "|")
-_NAMES: Dict[str, FrozenSet[str]] = {
+_NAMES: dict[str, frozenset[str]] = {
     "machine": MACHINE_NAMES,
     "verdict": frozenset("verdict verdicts status result decision halts".split()),
     "steps": frozenset("steps step stepcount numberofsteps".split()),
@@ -24,17 +24,17 @@ _NAMES: Dict[str, FrozenSet[str]] = {
 }
 _SEPARATOR_NAMES = {"\t": "tab", ",": "comma", ";": "semicolon", "|": "|", " ": "space", "": "none"}
 # A line's number, from 1 on, and its text.
-Numbered = Tuple[int, str]
+Numbered = tuple[int, str]
 
 
 @dataclasses.dataclass(frozen=True)
 class Columns:
     """The columns of a table, each by its name or its number from 1 on; None is looked up in the header."""
 
-    machine: Optional[str] = None
-    verdict: Optional[str] = None
-    steps: Optional[str] = None
-    score: Optional[str] = None
+    machine: str | None = None
+    verdict: str | None = None
+    steps: str | None = None
+    score: str | None = None
 
 
 @dataclasses.dataclass(frozen=True)
@@ -45,10 +45,10 @@ class Layout:
 
     separator: str
     width: int
-    names: Tuple[str, ...]
-    columns: Dict[str, int]
-    header: Optional[int] = None
-    doubts: Tuple[str, ...] = ()
+    names: tuple[str, ...]
+    columns: dict[str, int]
+    header: int | None = None
+    doubts: tuple[str, ...] = ()
 
     def __str__(self) -> str:
         parts = ["separator %s" % _SEPARATOR_NAMES[self.separator]]
@@ -58,7 +58,7 @@ class Layout:
         return ", ".join(parts)
 
 
-def cells_of(bare: str, separator: str) -> Tuple[str, ...]:
+def cells_of(bare: str, separator: str) -> tuple[str, ...]:
     """The cells of a record, without spaces at their ends. Raises csv.Error."""
     if separator in (" ", ""):
         return tuple(bare.split()) if separator else (bare,)
@@ -68,7 +68,7 @@ def cells_of(bare: str, separator: str) -> Tuple[str, ...]:
     return tuple(cell.strip(SPACES) for cell in row)
 
 
-def find_header(bare: str) -> Optional[str]:
+def find_header(bare: str) -> str | None:
     """The separator of a header that names a column of machines, behind # too; None for another line."""
     bare = bare.lstrip("#").strip(SPACES)
     if plain_name(bare) in MACHINE_NAMES:
@@ -132,20 +132,16 @@ def _layout_by_position(records: Sequence[Numbered], separator: str, columns: Co
     place = _place_of(columns.machine or "", row)
     if _machine_in(0, row[place]).machine is None:
         return _with_header(records[0], separator, columns)
-    found = {
-        role: _place_of(given, row)
-        for role, given in dataclasses.asdict(columns).items()
-        if given is not None
-    }
-    return Layout(separator, len(row), (), found)
+    named = ((role, given) for role, given in dataclasses.asdict(columns).items() if given is not None)
+    return Layout(separator, len(row), (), {role: _place_of(given, row) for role, given in named})
 
 
 def _with_header(header: Numbered, separator: str, columns: Columns) -> Layout:
     """The layout of a table by its header. Raises ValueError."""
     number, bare = header
     names = cells_of(bare.lstrip("#").strip(SPACES), separator)
-    found: Dict[str, int] = {}
-    doubts: List[str] = []
+    found: dict[str, int] = {}
+    doubts: list[str] = []
     for role, given in dataclasses.asdict(columns).items():
         if given is not None:
             found[role] = _place_of(given, names)
@@ -180,13 +176,11 @@ def _machine_in(number: int, cell: str) -> Reading:
     """The reading of a cell of the column of machines."""
     if is_machine(cell):
         return Reading(number, cell, cell)
-    reading = read_line(number, cell)
-    if reading is None:
-        return Reading(number, cell, None, reason=Reason("column", "no machine in this cell", 1))
-    return reading
+    nothing = Reading(number, cell, None, reason=Reason("column", "no machine in this cell", 1))
+    return read_line(number, cell) or nothing
 
 
-def read_row(number: int, line: str, layout: Layout) -> Optional[Reading]:
+def read_row(number: int, line: str, layout: Layout) -> Reading | None:
     """The reading of a record; None for a skipped line."""
     line = line.lstrip("\ufeff").rstrip("\r")
     bare = line.strip(SPACES if layout.separator != "\t" else SPACES.replace("\t", ""))
@@ -194,20 +188,19 @@ def read_row(number: int, line: str, layout: Layout) -> Optional[Reading]:
         return None
     place = len(line) - len(line.lstrip(SPACES)) + 1
     if bare.startswith("#"):
-        reason: Optional[Reason] = Reason("comment", "a machine in a line that begins as a comment", place)
-        return Reading(number, line, None, reason=reason)
+        comment = Reason("comment", "a machine in a line that begins as a comment", place)
+        return Reading(number, line, None, reason=comment)
     try:
         row = cells_of(bare, layout.separator)
     except csv.Error as error:
-        return Reading(number, line, None, reason=Reason("row", "no record: %s" % error, place))
+        return Reading(number, line, None, reason=Reason("row", f"no record: {error}", place))
     if len(row) != layout.width:
-        sentence = "the record has %s, not %d" % (_cells(len(row)), layout.width)
-        return Reading(number, line, None, reason=Reason("row", sentence, place), row=row)
+        wrong = Reason("row", f"the record has {_cells(len(row))}, not {layout.width}", place)
+        return Reading(number, line, None, reason=wrong, row=row)
     column = layout.columns["machine"]
     found = _machine_in(number, row[column])
     reason = found.reason
     if reason is not None:
-        at = max(line.find(row[column]), 0)
-        reason = Reason(reason.kind, reason.text, at + reason.place)
+        reason = dataclasses.replace(reason, place=max(line.find(row[column]), 0) + reason.place)
     before, behind = (layout.separator.join(part) for part in (row[:column], row[column + 1 :]))
     return Reading(number, line, found.machine, found.rewritten, before, behind, reason, row)

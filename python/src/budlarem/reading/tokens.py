@@ -5,15 +5,14 @@ from __future__ import annotations
 
 import dataclasses
 import re
-from typing import Iterator, List, Optional, Tuple
+from typing import Iterator
 
 from .entries import Word
 from .readings import Skipped
 
 # The spaces: those of JavaScript's \s.
-SPACES = "\t\n\v\f\r \u00a0\u1680\u2028\u2029\u202f\u205f\u3000\ufeff" + "".join(
-    map(chr, range(0x2000, 0x200B))
-)
+SPACES = "\t\n\v\f\r \u00a0\u1680\u2028\u2029\u202f\u205f\u3000\ufeff"
+SPACES += "".join(map(chr, range(0x2000, 0x200B)))
 _QUOTES = "`\"'\u2018\u2019\u201a\u201c\u201d\u201e\u00ab\u00bb"
 # The characters that end an address; and those that end a word, too.
 _ENDS = SPACES + ",;|()[]{}<>*" + _QUOTES
@@ -46,12 +45,12 @@ class Text:
     """Words with only spaces between them. `begin` and `end` are its place in the line, with an address around
     it; `is_last`: it is the last part of that address. `arrays` has the entries of each group of arrays."""
 
-    words: Tuple[Word, ...]
+    words: tuple[Word, ...]
     begin: int
     end: int
     is_address: bool = False
     is_last: bool = True
-    arrays: Tuple[Tuple[Word, ...], ...] = ()
+    arrays: tuple[tuple[Word, ...], ...] = ()
 
     @property
     def written(self) -> str:
@@ -71,8 +70,8 @@ class Text:
 class Parts:
     """The candidates of a line, and its rows of dashes or dots."""
 
-    texts: List[Text]
-    rows: List[Word]
+    texts: list[Text]
+    rows: list[Word]
 
 
 def parts_of(line: str) -> Parts:
@@ -80,9 +79,9 @@ def parts_of(line: str) -> Parts:
     arrays = _arrays_of(line)
     for text in arrays:
         line = line[: text.begin] + "|" * (text.end - text.begin) + line[text.end :]
-    words: List[Word] = []
-    rows: List[Word] = []
-    addresses: List[Text] = []
+    words: list[Word] = []
+    rows: list[Word] = []
+    addresses: list[Text] = []
     for match in _TOKEN.finditer(line):
         token = Word(match.start(), match.group())
         if match.group("address") is not None:
@@ -99,9 +98,8 @@ def parts_of(line: str) -> Parts:
     return Parts(sorted(texts, key=lambda text: text.words[0].begin), rows)
 
 
-def _arrays_of(line: str) -> List[Text]:
-    """The arrays of entries in a line."""
-    texts: List[Text] = []
+def _arrays_of(line: str) -> list[Text]:
+    texts: list[Text] = []
     for match in _ARRAYS.finditer(line) if "[" in line else ():
         groups = tuple(
             tuple(
@@ -129,7 +127,6 @@ def _without_stop(word: Word) -> Word:
 
 
 def _texts_in_address(address: Word) -> Iterator[Text]:
-    """The candidates in an address."""
     last = address.text.rstrip("/").rfind("/") + 1
     for match in _PART.finditer(address.text):
         part = _without_stop(Word(address.begin + match.start(), match.group()))
@@ -137,7 +134,7 @@ def _texts_in_address(address: Word) -> Iterator[Text]:
             yield Text((part,), address.begin, address.end, True, match.start() >= last)
 
 
-def _row_in_address(address: Word) -> List[Word]:
+def _row_in_address(address: Word) -> list[Word]:
     """The row that is the last part of an address."""
     begin = address.text.rfind("/") + 1
     last = Word(address.begin + begin, address.text[begin:])
@@ -151,10 +148,9 @@ def _has_entries(text: str) -> bool:
     return _ENTRIES.fullmatch(text) is not None or _FRAGMENTS.search(text) is not None
 
 
-def _join_words(line: str, words: List[Word], rows: List[Word]) -> List[Text]:
-    """The texts of these words: words with only spaces between them are one. Between lone entries `---` is an
-    entry."""
-    texts: List[Text] = []
+def _join_words(line: str, words: list[Word], rows: list[Word]) -> list[Text]:
+    """The texts of these words: those with only spaces between them. Between lone entries `---` is one."""
+    texts: list[Text] = []
     dashes = [row for row in rows if row.text == "---"]
     for run in _runs(line, sorted(words + dashes, key=lambda word: word.begin)):
         places = [place for place, word in enumerate(run) if word.text != "---"]
@@ -166,9 +162,9 @@ def _join_words(line: str, words: List[Word], rows: List[Word]) -> List[Text]:
     return texts
 
 
-def _runs(line: str, words: List[Word]) -> Iterator[List[Word]]:
+def _runs(line: str, words: list[Word]) -> Iterator[list[Word]]:
     """Groups of words with only spaces between them."""
-    held: List[Word] = []
+    held: list[Word] = []
     for word in words:
         if held and line[held[-1].end : word.begin].strip(_TOGETHER):
             yield held
@@ -178,11 +174,11 @@ def _runs(line: str, words: List[Word]) -> Iterator[List[Word]]:
         yield held
 
 
-def _text(words: List[Word]) -> Text:
+def _text(words: list[Word]) -> Text:
     return Text(tuple(words), words[0].begin, words[-1].end)
 
 
-def row_beside(line: str, text: Text, rows: List[Word]) -> Optional[Word]:
+def row_beside(line: str, text: Text, rows: list[Word]) -> Word | None:
     """The row beside a text that may be a group of it: only spaces between them, and as long as a word."""
     before = len(line[: text.begin].rstrip(_TOGETHER))
     behind = len(line) - len(line[text.end :].lstrip(_TOGETHER))
@@ -212,7 +208,7 @@ def plain_name(text: str) -> str:
     return re.sub("[^a-z0-9]", "", text.lower())
 
 
-def skip_reason(bare: str) -> Optional[Skipped]:
+def skip_reason(bare: str) -> Skipped | None:
     """Why a line without spaces at its ends is skipped; None if it isn't."""
     if not bare:
         return Skipped.EMPTY
@@ -231,7 +227,6 @@ def is_comment_of_machine(bare: str) -> bool:
 
 
 def _is_header(bare: str) -> bool:
-    """Whether a line has the names of a table's columns."""
     if bare.startswith("!"):
         return not parts_of(bare).texts
     cells = [cell.strip() for cell in _CELLS.split(bare)]

@@ -16,7 +16,7 @@ import threading
 import time
 import zlib
 from concurrent.futures import Future
-from typing import Any, Callable, Dict, Iterator, List, Optional, Sequence, Tuple
+from typing import Any, Callable, Iterator, Sequence
 
 from .._library import ReplyBuffer, load_library, validate_replies
 from .._text import LONGEST_OF_REPLY
@@ -26,12 +26,12 @@ from ..engine import Call, check_call, decide_call
 from ..limits import Limits, Plan
 from .errors import FatalLineError, ReplyError, UsageError
 
-Numbers = Tuple[int, int, int, int]
+Numbers = tuple[int, int, int, int]
 # Output, seconds, version, commit and sha256 of the library; then the digest of the input, the description of
 # the task, and the digest of the output.
-ChunkReply = Tuple[bytes, float, str, str, str, str, str, str]
+ChunkReply = tuple[bytes, float, str, str, str, str, str, str]
 Task = Callable[[bytes, Numbers], ChunkReply]
-Counts = Dict[str, int]
+Counts = dict[str, int]
 
 DECIDE, CHECK = "decide", "check"
 _LEFT, _HALTS = "left", "halts="
@@ -51,7 +51,7 @@ class Identity:
         return "version %s, commit %s, library %s" % (self.version, self.commit, self.library[:16])
 
     @classmethod
-    def of_fields(cls, fields: Dict[str, Any]) -> Identity:
+    def of_fields(cls, fields: dict[str, Any]) -> Identity:
         return cls(*(str(fields[name]) for name in ("version", "commit", "library")))
 
 
@@ -68,8 +68,7 @@ def hash_of(data: bytes) -> str:
 
 
 def digest_of(data: bytes) -> str:
-    """The CRC-32 of bytes in transit, in 8 hexadecimal digits. It detects accidents, not attacks: use TLS
-    against those."""
+    """The CRC-32 of bytes in transit, in 8 hexadecimal digits, against accidents. Use TLS against attacks."""
     return "%08x" % zlib.crc32(data)
 
 
@@ -109,7 +108,7 @@ def quote_line(line: bytes) -> str:
     return ascii(line[:LONGEST_OF_REPLY].decode("latin-1")) + end
 
 
-def _split(lines: bytes, count: int, what: str) -> List[bytes]:
+def _split(lines: bytes, count: int, what: str) -> list[bytes]:
     """These lines without their newlines. Raises ReplyError unless there are `count` whole ones."""
     parts = lines.split(b"\n")
     if parts.pop() != b"":
@@ -143,7 +142,7 @@ def validate_answers(verdicts: bytes, answers: bytes) -> None:
     raise ReplyError(lines[place].decode(), place)
 
 
-def open_reply(reply: object, ours: Identity, task: str, lines: bytes) -> Tuple[bytes, float]:
+def open_reply(reply: object, ours: Identity, task: str, lines: bytes) -> tuple[bytes, float]:
     """The output and seconds of a reply. Raises ReplyError unless package, library, task and input are the
     expected ones and the digests match."""
     if not (isinstance(reply, tuple) and len(reply) >= 5 and isinstance(reply[0], bytes)):
@@ -169,7 +168,7 @@ class Retention:
     `halts_after` steps where that is a number."""
 
     only_holdouts: bool = False
-    halts_after: Optional[int] = None
+    halts_after: int | None = None
 
     def __str__(self) -> str:
         if not self.only_holdouts:
@@ -201,10 +200,10 @@ def find_all(word: bytes, lines: bytes) -> Iterator[int]:
         place = lines.find(word, place + 1)
 
 
-def parse_retention(words: Optional[Sequence[str]]) -> Retention:
+def parse_retention(words: Sequence[str] | None) -> Retention:
     """The retention named by words such as `left` and `halts=1000` name. Raises UsageError."""
     parts = [part for word in words or () for part in word.split(",")]
-    halts: Optional[int] = None
+    halts: int | None = None
     for part in parts:
         if part.startswith(_HALTS) and re.fullmatch("[0-9]{1,15}", part[len(_HALTS) :]):
             halts = int(part[len(_HALTS) :])
@@ -215,8 +214,7 @@ def parse_retention(words: Optional[Sequence[str]]) -> Retention:
 
 @dataclasses.dataclass(eq=False)
 class Job:
-    """A submitted task. `first` lines of the whole task come before its lines; `turn` counts how often it was
-    submitted or lost."""
+    """A task. `first` lines of the whole come before its own; `turn` counts its submissions and losses."""
 
     task: Task
     lines: bytes
@@ -226,7 +224,7 @@ class Job:
     turn: int = 0
 
 
-def bisect_job(job: Job) -> List[Job]:
+def bisect_job(job: Job) -> list[Job]:
     """Two jobs for the halves of a job's lines, which end the job once both are done. A job of one line fails
     here with FatalLineError, and has no halves."""
     lines = [line + b"\n" for line in job.lines.split(b"\n")[:-1]]
@@ -254,11 +252,11 @@ def bisect_job(job: Job) -> List[Job]:
     return halves
 
 
-def merge_replies(parts: List[bytes], replies: List[Any]) -> Any:
+def merge_replies(parts: list[bytes], replies: list[Any]) -> Any:
     """The reply to lines whose parts had these replies. An invalid reply, or one of another library or task
     than the first, is returned as it is; `open_reply` refuses it."""
 
-    def origin_of(reply: Any) -> Tuple[Any, ...]:
+    def origin_of(reply: Any) -> tuple[Any, ...]:
         return (*reply[2:5], reply[6])
 
     for lines, reply in zip(parts, replies):

@@ -19,7 +19,7 @@ import time
 import uuid
 import warnings
 from concurrent.futures import CancelledError, Future
-from typing import Any, Callable, Deque, Dict, Mapping, Optional
+from typing import Any, Callable, Deque, Mapping
 
 from .chunks import Job, Numbers, Task, bisect_job
 from .errors import RunError
@@ -43,9 +43,8 @@ def import_distributed() -> Any:
     try:
         return importlib.import_module("distributed")
     except ImportError as error:
-        raise RunError(
-            "dask isn't installed (%s): pip install distributed, or Debian's python3-distributed" % error
-        ) from None
+        how = "pip install distributed, or Debian's python3-distributed"
+        raise RunError(f"dask isn't installed ({error}): {how}") from None
 
 
 @dataclasses.dataclass
@@ -56,7 +55,7 @@ class Submission:
     connection: Any
     key: str
     own: Any = None
-    since: Optional[float] = None
+    since: float | None = None
 
 
 class DaskBackend(ExecutorBackend):
@@ -73,13 +72,13 @@ class DaskBackend(ExecutorBackend):
         # It guards the jobs, which dask's thread ends.
         self._lock = threading.RLock()
         # Jobs that dask has, and jobs to submit again.
-        self._submissions: Dict[Job, Submission] = {}
+        self._submissions: dict[Job, Submission] = {}
         self._lost: Deque[Job] = collections.deque()
         # Jobs whose workers died, and their halves. One half at a time is submitted: dask blames all tasks of
         # a dead worker, and only one killed it.
         self._killed: Deque[Job] = collections.deque()
         self._halves: Deque[Job] = collections.deque()
-        self._suspect: Optional[Job] = None
+        self._suspect: Job | None = None
         self._workers, self._threads, self._next = 0, 0, 0.0
         self._missing = ""
         self._client: Any = None
@@ -92,7 +91,7 @@ class DaskBackend(ExecutorBackend):
         except Exception:
             self._report("the scheduler at %s has no page" % self._address)
 
-    def _connect(self) -> Optional[Exception]:
+    def _connect(self) -> Exception | None:
         """Makes a new client; returns the error, if any. A failed client leaves its thread behind, so all use
         the thread of the first one."""
         loop = None if self._client is None else self._client.loop
@@ -152,7 +151,7 @@ class DaskBackend(ExecutorBackend):
             error = cancelled
         self._finish(job, turn, None if error else inner.result(), error)
 
-    def _finish(self, job: Job, turn: int, reply: object, error: Optional[BaseException]) -> None:
+    def _finish(self, job: Job, turn: int, reply: object, error: BaseException | None) -> None:
         """Ends a job, unless its turn is over."""
         with self._lock:
             if turn != job.turn:
@@ -212,8 +211,7 @@ class DaskBackend(ExecutorBackend):
             self._report(text)
 
     def _requeue_stale(self) -> None:
-        """Requeues jobs of another connection: dask's executor never ends those whose replies were in transit
-        when it broke."""
+        """Requeues jobs of another connection: dask never ends those whose replies were in transit."""
         connection = self._connection()
         with self._lock:
             for job in [job for job, one in self._submissions.items() if one.connection is not connection]:

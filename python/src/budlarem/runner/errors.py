@@ -2,8 +2,6 @@
 
 from __future__ import annotations
 
-from typing import Optional
-
 from .._text import LONGEST_OF_ERROR
 
 
@@ -34,7 +32,7 @@ class CheckError(Exception):
 class ReplyError(Exception):
     """The reply for a chunk is invalid. `line` is the index of the line in the chunk, or None."""
 
-    def __init__(self, text: str, line: Optional[int] = None) -> None:
+    def __init__(self, text: str, line: int | None = None) -> None:
         super().__init__(text)
         self.line = line
 
@@ -43,11 +41,8 @@ class FatalLineError(Exception):
     """Every worker that decided a line died. `line` is its index in the chunk."""
 
     def __init__(self, line: int) -> None:
-        super().__init__(line)
+        super().__init__("every worker that decided it died")
         self.line = line
-
-    def __str__(self) -> str:
-        return "every worker that decided it died"
 
 
 def describe_error(error: BaseException) -> str:

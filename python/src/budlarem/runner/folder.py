@@ -9,23 +9,15 @@ import errno
 import fcntl
 import json
 import os
+import pathlib
 import re
 import shlex
 import stat
 import string
-from typing import Any, Callable, Dict, Iterable, Iterator, List, Optional, Sequence, Tuple
+from typing import Any, Callable, Iterable, Iterator, Sequence
 
-from .._files import (
-    Checksum,
-    Directory,
-    FileId,
-    KindError,
-    Pin,
-    id_of,
-    kind_of,
-    write_atomically,
-    write_blocks,
-)
+from .._files import Checksum, Directory, FileId, KindError, Pin, id_of, kind_of, write_atomically
+from .._files import write_blocks
 from .._text import escape_controls
 from ..counts import KINDS
 from ..limits import Limits, limits_of, words_of
@@ -36,7 +28,7 @@ from .journal import JOURNAL, KEPT, VERDICTS, Journal, PassFolder, has_records, 
 
 LOCK, RUN, README, SUMMARY = "lock", "run.json", "README.txt", "summary.json"
 FILES = (RUN, README, VERDICTS, SUMMARY)
-# How these files start in each version that writes this format.
+# How these files start in each version that writes this format, as folder.txt does.
 PAGE_BEGIN = "Verdicts on the machines of "
 _STARTS = {RUN: '{\n  "format": ', README: PAGE_BEGIN, SUMMARY: '{\n  "list": ', LOCK: ""}
 _PASS_PREFIX = "pass-"
@@ -82,10 +74,9 @@ def _require_kind(directory: Directory, name: str, kind: int) -> None:
     """Raises FolderError for a name that leads to something else than `kind`, a regular file or a folder."""
     status = directory.status(name)
     if status is not None and stat.S_IFMT(status.st_mode) != kind:
-        raise FolderError(
-            "%s is %s, and a run has a %s there; take it away, or give another folder"
-            % (directory.at(name), kind_of(status), "folder" if kind == stat.S_IFDIR else "file")
-        )
+        found, wanted = kind_of(status), "folder" if kind == stat.S_IFDIR else "file"
+        why = f"is {found}, and a run has a {wanted} there; take it away, or give another folder"
+        raise FolderError(f"{directory.at(name)} {why}")
 
 
 def require_regular(directory: Directory, names: Sequence[str]) -> None:
@@ -102,7 +93,7 @@ def _open_pass(top: Directory, name: str) -> Iterator[Directory]:
         yield inside
 
 
-def require_own(top: Directory, known_passes: Optional[int]) -> None:
+def require_own(top: Directory, known_passes: int | None) -> None:
     """Raises FolderError for anything foreign in a folder. `known_passes` is the number of its passes; None
     without a configuration, when each file has to show that it is a run's."""
     names = top.names()
@@ -110,7 +101,7 @@ def require_own(top: Directory, known_passes: Optional[int]) -> None:
     if known_passes is None:
         foreign = next(_foreign_names(top, names, bool(passes)), None)
         if foreign is not None:
-            raise FolderError("%s has other files in it, as %s; give an empty folder" % (top.path, foreign))
+            raise _foreign_error(top, foreign)
     require_regular(top, (*FILES, LOCK))
     for name in passes:
         if known_passes is None:
@@ -120,8 +111,11 @@ def require_own(top: Directory, known_passes: Optional[int]) -> None:
                 require_regular(inside, (KEPT, JOURNAL))
 
 
+def _foreign_error(directory: Directory, name: str) -> FolderError:
+    return FolderError(f"{directory.path} has other files in it, as {name}; give an empty folder")
+
+
 def _foreign_names(top: Directory, names: Sequence[str], has_passes: bool) -> Iterator[str]:
-    """The names of foreign files here."""
     checked = (README, VERDICTS, SUMMARY, LOCK) if has_passes else (LOCK,)
     for name in names:
         is_own = name in checked and _has_start(top, name, name)
@@ -134,9 +128,8 @@ def require_own_pass(top: Directory, name: str) -> None:
     with _open_pass(top, name) as inside:
         names = inside.names()
         if _OLD_CHUNK in names:
-            raise FolderError(
-                "%s has chunks that another version of this package wrote; give another folder" % top.path
-            )
+            why = "has chunks that another version of this package wrote; give another folder"
+            raise FolderError(f"{top.path} {why}")
         require_regular(inside, (KEPT, JOURNAL))
         foreign = [one for one in names if one not in (KEPT, JOURNAL) and not _is_leftover(inside, one)]
         output = inside.status(KEPT)
@@ -145,11 +138,10 @@ def require_own_pass(top: Directory, name: str) -> None:
         elif JOURNAL not in names and output is not None and output.st_size:
             foreign.append(KEPT)
         if foreign:
-            text = "%s has other files in it, as %s; give an empty folder"
-            raise FolderError(text % (inside.path, foreign[0]))
+            raise _foreign_error(inside, foreign[0])
 
 
-def require_other_list(top: Directory, listed: Optional[FileId]) -> None:
+def require_other_list(top: Directory, listed: FileId | None) -> None:
     """Raises FolderError if the list is one of the run's files here."""
     for name in top.names() if listed is not None else ():
         if name in (*FILES, LOCK) or _PART.fullmatch(name):
@@ -162,16 +154,15 @@ def require_other_list(top: Directory, listed: Optional[FileId]) -> None:
                     _require_other(inside, inner, listed)
 
 
-def _require_other(directory: Directory, name: str, listed: Optional[FileId]) -> None:
+def _require_other(directory: Directory, name: str, listed: FileId | None) -> None:
     """Raises FolderError if a name leads to the list, by a link too."""
     with contextlib.suppress(OSError):
         if id_of(os.stat(name, dir_fd=directory.handle)) == listed:
-            raise FolderError(
-                "the list is %s, which a run in that folder writes; give another" % directory.at(name)
-            )
+            path = directory.at(name)
+            raise FolderError(f"the list is {path}, which a run in that folder writes; give another")
 
 
-def require_separate_list(path: str, list_id: Optional[FileId]) -> None:
+def require_separate_list(path: str, list_id: FileId | None) -> None:
     """Raises FolderError if the list is one of the run's files here."""
     if os.path.isdir(path):
         with contextlib.closing(Directory.open(path)) as top:
@@ -190,30 +181,7 @@ _SIZE = 8
 _SEALED = ',\n  "seal": "%s"\n}\n'
 # Errors of file systems that lock no directories: NFS wants a locked file to be open for writing.
 _NO_LOCKS = (errno.EBADF, errno.EINVAL, errno.EISDIR, errno.ENOLCK, errno.ENOSYS, errno.EOPNOTSUPP)
-_PAGE = string.Template(
-    PAGE_BEGIN
-    + """$list
-
-`budlarem run` made this folder (version $version, commit $commit).
-
-  verdicts.txt  $verdicts,
-                written at the end of the run
-  summary.json  counts, limits and times, written at the end too
-  run.json      the configuration of the run, with a seal over it
-  pass-1, ..    for each pass `pieces`, its verdict lines so far, and `journal`,
-                the index of the chunks in it. A run of one pass renames
-                `pieces` to verdicts.txt. Unless passes will be added, these
-                folders may be removed
-  README.txt    this page
-
-The same command resumes the run after any interruption, in the same directory$same.
-More passes may be added at its end; they decide the holdouts.
-
-    $resume
-
-$check
-"""
-)
+_PAGE = pathlib.Path(__file__).parents[1] / "folder.txt"
 
 
 def as_argument(path: str) -> str:
@@ -226,12 +194,12 @@ class RunConfig:
     """The configuration of a run. `list_bytes` is known for an uncompressed file, `list_lines` once the first
     pass has seen the end."""
 
-    passes: List[Limits]
+    passes: list[Limits]
     keep: Retention
     identity: Identity
     list_name: str
-    list_bytes: Optional[int] = None
-    list_lines: Optional[int] = None
+    list_bytes: int | None = None
+    list_lines: int | None = None
 
     def text(self) -> str:
         """The text of `run.json`."""
@@ -257,7 +225,7 @@ class RunConfig:
         if self.keep.only_holdouts:
             words += ["--keep", str(self.keep)]
             verdicts = "the verdicts that are kept (%s), in order" % self.keep
-        return _PAGE.substitute(
+        return string.Template(_PAGE.read_text(encoding="utf-8")).substitute(
             list=escape_controls(self.list_name),
             same=",\nwith the same list on standard input" if is_piped else "",
             verdicts=verdicts,
@@ -277,27 +245,19 @@ class RunConfig:
         return "To check the verdicts again, and to publish them:\n\n%s\n    %s" % (check, publish)
 
     @classmethod
-    def read(cls, text: str) -> Optional[RunConfig]:
+    def read(cls, text: str) -> RunConfig | None:
         """The configuration of a text; None if it is truncated. Raises FolderError unless `text` could have
         returned it."""
         if _is_truncated(text):
             return None
         fields: Any = None
-        try:
+        with contextlib.suppress(ValueError, TypeError, KeyError, AttributeError, RecursionError):
             fields = json.loads(text)
-            listed = fields["list"]
-            config = cls(
-                [limits_of(words) for words in fields["passes"]],
-                parse_retention([fields["keep"]]),
-                Identity.of_fields(fields),
-                str(listed["name"]),
-                listed["bytes"],
-                listed["lines"],
-            )
+            passes, keep = list(map(limits_of, fields["passes"])), parse_retention([fields["keep"]])
+            name, *numbers = (fields["list"][role] for role in ("name", "bytes", "lines"))
+            config = cls(passes, keep, Identity.of_fields(fields), str(name), *numbers)
             if config.text() == text:
                 return config
-        except (ValueError, TypeError, KeyError, AttributeError, RecursionError):
-            pass
         other = fields.get("format", FORMAT) if isinstance(fields, dict) else FORMAT
         if other != FORMAT:
             raise FolderError("it has format %.20s, which another version of this package writes" % other)
@@ -323,15 +283,15 @@ class Folder:
     list's file, if it is one. Raises FolderError if another process has the lock, the folder has foreign
     files, or the run would write the list; OSError."""
 
-    def __init__(self, path: str, list_id: Optional[FileId] = None) -> None:
+    def __init__(self, path: str, list_id: FileId | None = None) -> None:
         self.path = path
         if os.path.exists(path) and not os.path.isdir(path):
             raise FolderError("%s is a file; give a folder, which need not exist yet" % path)
         os.makedirs(path, exist_ok=True)
         self._top = Directory.open(path)
-        self._locked: List[int] = []
+        self._locked: list[int] = []
         # The files that may be replaced.
-        self._pins: Dict[str, Pin] = {}
+        self._pins: dict[str, Pin] = {}
         try:
             self._lock()
             require_other_list(self._top, list_id)
@@ -367,7 +327,7 @@ class Folder:
         """The path of a file in it, for messages."""
         return self._top.at(name)
 
-    def read_config(self) -> Optional[RunConfig]:
+    def read_config(self) -> RunConfig | None:
         """Its configuration; None if missing or truncated. Raises FolderError if it was changed, is no file,
         or another version of this package wrote it."""
         require_regular(self._top, (RUN,))
@@ -397,8 +357,7 @@ class Folder:
         self._write_file(name, lambda number: write_blocks(number, [data]))
 
     def _write_file(self, name: str, fill: Callable[[int], None]) -> None:
-        """Writes a file atomically. Raises RunError if a foreign file has the name by now, what `fill` does,
-        OSError."""
+        """Writes a file atomically. Raises RunError for a foreign file, what `fill` does, OSError."""
         with self._error_for_others(name):
             written = write_atomically(self._top, name, fill, self._pins.get(name))
         if name in self._pins:
@@ -411,10 +370,8 @@ class Folder:
         try:
             yield
         except FileExistsError:
-            raise RunError(
-                "%s was made or replaced by another process while the run worked, and stays as it is;"
-                " take it away" % self.at(name)
-            ) from None
+            why = "was made or replaced by another process while the run worked, and stays as it is"
+            raise RunError(f"{self.at(name)} {why}; take it away") from None
 
     def write_verdicts(self, only: PassFolder) -> None:
         """Writes the verdicts of a run of one pass. Raises RunError, OSError."""
@@ -454,13 +411,10 @@ class Folder:
         self._top.close()
 
 
-def _counts_of(fields: Dict[str, Any]) -> Counts:
-    return {kind: int(fields["counts"][kind]) for kind in KINDS}
-
-
-def _checksum_of(fields: Dict[str, Any]) -> Optional[Checksum]:
-    """The checksum of verdicts in a summary; None in one of an earlier version of this package."""
-    return None if "verdicts" not in fields else Checksum.of_fields(fields["verdicts"])
+def _figures_of(fields: dict[str, Any]) -> tuple[int, Counts, Checksum | None]:
+    """Lines, counts and checksum of a summary or a pass in it; no checksum by an earlier version."""
+    checksum = Checksum.of_fields(fields["verdicts"]) if "verdicts" in fields else None
+    return int(fields["lines"]), {kind: int(fields["counts"][kind]) for kind in KINDS}, checksum
 
 
 @dataclasses.dataclass(frozen=True)
@@ -468,39 +422,31 @@ class PassSummary:
     """A pass in a summary. `checksum` covers the output of its chunks."""
 
     limits: Limits
-    lines: int
     chunks: int
+    lines: int
     counts: Counts
-    checksum: Optional[Checksum]
+    checksum: Checksum | None
 
 
 @dataclasses.dataclass(frozen=True)
 class RunSummary:
     """The summary of a run. `checksum` covers the verdicts."""
 
-    passes: Tuple[PassSummary, ...]
+    passes: tuple[PassSummary, ...]
     identity: Identity
     kept: str
     lines: int
     counts: Counts
-    checksum: Optional[Checksum]
+    checksum: Checksum | None
 
     @classmethod
     def read(cls, text: str) -> RunSummary:
         """The summary of a text. Raises ValueError, KeyError, TypeError."""
         fields = json.loads(text)
-        passes = tuple(
-            PassSummary(
-                Limits(**one["limits"]),
-                int(one["lines"]),
-                int(one["pieces"]),
-                _counts_of(one),
-                _checksum_of(one),
-            )
-            for one in fields["passes"]
-        )
-        kept, lines = str(parse_retention([fields["kept"]])), int(fields["lines"])
-        return cls(passes, Identity.of_fields(fields), kept, lines, _counts_of(fields), _checksum_of(fields))
+        pairs = ((Limits(**one["limits"]), one) for one in fields["passes"])
+        passes = tuple(PassSummary(limits, int(one["pieces"]), *_figures_of(one)) for limits, one in pairs)
+        kept = str(parse_retention([fields["kept"]]))
+        return cls(passes, Identity.of_fields(fields), kept, *_figures_of(fields))
 
 
 class FinishedRun:
@@ -521,9 +467,7 @@ class FinishedRun:
     def _read(self) -> RunSummary:
         path = self._top.path
         if self._top.status(RUN) is None:
-            raise FolderError(
-                "%s is a folder, but not of `budlarem run`; give a file of verdict lines" % path
-            )
+            raise FolderError(f"{path} is a folder, but not of `budlarem run`; give a file of verdict lines")
         for name in (SUMMARY, VERDICTS):
             if self._top.status(name) is None:
                 raise FolderError("%s has no %s: that run isn't finished; resume it" % (path, name))
@@ -534,9 +478,8 @@ class FinishedRun:
         except KindError as error:
             raise FolderError(str(error)) from None
         except (ValueError, KeyError, TypeError) as error:
-            raise FolderError(
-                "%s isn't as a run writes it: %s; run its command again" % (self._top.at(SUMMARY), error)
-            ) from None
+            why = f"isn't as a run writes it: {error}; run its command again"
+            raise FolderError(f"{self._top.at(SUMMARY)} {why}") from None
 
     def require_journals(self) -> None:
         """Raises FolderError if the journal of a pass is there, and isn't of this run; OSError."""
@@ -567,22 +510,19 @@ class FinishedRun:
             why = "it has %d lines, and the summary has %d" % (lines, one.lines)
         elif not why and one.checksum not in (None, checksum):
             why = "its chunks aren't those of the summary"
+        self._require_match(os.path.join(pass_name(number), JOURNAL), SUMMARY, why)
+
+    def _require_match(self, name: str, other: str, why: str) -> None:
+        """Raises FolderError if there is a reason why two files don't match."""
         if why:
-            raise self._mismatch(os.path.join(self._top.at(pass_name(number)), JOURNAL), SUMMARY, why)
+            text = "%s doesn't match %s: %s; run that folder's command again, which writes both"
+            raise FolderError(text % (self._top.at(name), other, why))
 
-    def _mismatch(self, path: str, name: str, why: str) -> FolderError:
-        text = "%s doesn't match %s: %s; run that folder's command again, which writes both"
-        return FolderError(text % (path, name, why))
-
-    def require_verdicts(self, checksum: Checksum, counts: Dict[str, int]) -> None:
+    def require_verdicts(self, checksum: Checksum, counts: dict[str, int]) -> None:
         """Raises FolderError unless verdicts with this checksum and these counts are those of the summary."""
-        known = self.summary.counts
-        other = next((kind for kind in known if known[kind] != counts.get(kind, 0)), None)
-        why = ""
-        if other is not None:
-            why = "it counts %d %s, and there are %d" % (known[other], other, counts.get(other, 0))
-        elif self.summary.checksum not in (None, checksum):
-            why = "the bytes differ"
-        if why:
-            raise self._mismatch(self._top.at(SUMMARY), VERDICTS, why)
+        for kind, known in self.summary.counts.items():
+            why = "it counts %d %s, and there are %d" % (known, kind, counts.get(kind, 0))
+            self._require_match(SUMMARY, VERDICTS, why if known != counts.get(kind, 0) else "")
+        is_same = self.summary.checksum in (None, checksum)
+        self._require_match(SUMMARY, VERDICTS, "" if is_same else "the bytes differ")
         self._top.require_named()

@@ -11,7 +11,7 @@ import os
 import select
 import stat
 import zlib
-from typing import Callable, Iterator, List, Optional, Protocol, Tuple, Union
+from typing import Callable, Iterator, Protocol
 
 from .._text import LONGEST_GIVEN, LONGEST_SHOWN, LONGEST_UNENDED, LONGEST_VALUE
 from ..engine import column_of
@@ -77,8 +77,7 @@ class StreamLines:
 
 
 class FileLines:
-    """The lines of a file from `place` on, each chunk read when it is cut. `at_end` is called at the end.
-    Raises OSError."""
+    """The lines of a file from `place` on, read when cut. `at_end` is called at the end. Raises OSError."""
 
     def __init__(self, number: int, place: int, at_end: Callable[[], None]) -> None:
         self._number, self._place, self._at_end = number, place, at_end
@@ -119,7 +118,7 @@ class FileLines:
                 return self._advance(line + b"\n", size, 1)
 
 
-def _end_of(held: bytes, start: int, lines: int) -> Tuple[Optional[int], int]:
+def _end_of(held: bytes, start: int, lines: int) -> tuple[int | None, int]:
     """The end of so many lines; None, and the number of missing lines, if there are fewer. It jumps by the
     length of the lines before; as many bytes as lines are missing can't pass the end."""
     jump = lines
@@ -165,7 +164,7 @@ def truncate_lines(lines: bytes) -> bytes:
     return lines
 
 
-def _poll(number: int, milliseconds: Optional[float] = None) -> bool:
+def _poll(number: int, milliseconds: float | None = None) -> bool:
     """Whether an open file has bytes or an end within this time."""
     poll = select.poll()
     poll.register(number, select.POLLIN)
@@ -202,25 +201,25 @@ class ListFile:
         return os.lseek(self._number, 0, os.SEEK_CUR)
 
     @property
-    def size(self) -> Optional[int]:
+    def size(self) -> int | None:
         """The bytes of the file on disk; None for anything else than a regular file."""
         return self._status.st_size if self.is_regular else None
 
     @property
-    def id(self) -> Tuple[int, int]:
+    def id(self) -> tuple[int, int]:
         """The numbers of its device and inode."""
         return self._status.st_dev, self._status.st_ino
 
-    def fraction(self, taken: int) -> Optional[float]:
+    def fraction(self, taken: int) -> float | None:
         """The estimated fraction of the file that so many bytes of the list are; None if unknown."""
         if not self.size:
             return None
         return min((self._offset() if self.is_compressed else taken) / self.size, 1.0)
 
-    def first_lines(self, most: int) -> List[bytes]:
+    def first_lines(self, most: int) -> list[bytes]:
         """Its first lines, each cut to LONGEST_GIVEN bytes; `lines` and `blocks` return them again. None
         if it pauses before so many came. Raises what `blocks` does."""
-        held: List[bytes] = []
+        held: list[bytes] = []
         count, size, is_paused = 0, 0, False
         while count < most and size < most * LONGEST_GIVEN and not is_paused:
             block = next(self._blocks, b"")
@@ -245,7 +244,7 @@ class ListFile:
 
     def _read_blocks(self) -> Iterator[bytes]:
         """The bytes, uncompressed. Raises RunError, also for a line that never ends."""
-        opened: Union[gzip.GzipFile, io.BufferedReader] = self._file
+        opened: gzip.GzipFile | io.BufferedReader = self._file
         if self.is_compressed:
             opened = gzip.GzipFile(fileobj=self._file)
         size = 0
@@ -253,8 +252,8 @@ class ListFile:
             for block in iter(lambda: opened.read1(BLOCK), b""):
                 size = size + len(block) if block.rfind(b"\n") < 0 else 0
                 if size > LONGEST_UNENDED:
-                    text = "%s has a line of more than {:,} bytes and no newline; a list has a machine a line"
-                    raise RunError(text.format(LONGEST_UNENDED) % self.name)
+                    text = f"has a line of more than {LONGEST_UNENDED:,} bytes and no newline"
+                    raise RunError(f"{self.name} {text}; a list has a machine a line")
                 yield block
         except (OSError, EOFError, zlib.error) as error:
             kind = "as gzip" if self.is_compressed else "to its end"
@@ -265,10 +264,9 @@ class ListFile:
         """Raises RunError if the file has changed since it was opened."""
         now, then = os.fstat(self._number), self._status
         if self.is_regular and (now.st_size, now.st_mtime_ns) != (then.st_size, then.st_mtime_ns):
-            raise RunError(
-                "%s changed while it was read (from %d to %d bytes); run again with the list as it was,"
-                " or with another folder" % (self.name, then.st_size, now.st_size)
-            )
+            sizes = f"from {then.st_size} to {now.st_size} bytes"
+            how = "run again with the list as it was, or with another folder"
+            raise RunError(f"{self.name} changed while it was read ({sizes}); {how}")
 
     def close(self) -> None:
         self._file.close()
@@ -281,24 +279,15 @@ SAMPLE_LINES = 1_000
 
 
 def require_form(source: ListFile) -> None:
-    """Raises FolderError if more than half of the first lines would be refused, RunError if the list can't be
-    read."""
-    lines = source.first_lines(SAMPLE_LINES)
-    refused: List[Tuple[int, str]] = []
-    for number, line in enumerate(lines, 1):
-        text = line.decode("utf-8", "surrogateescape")
-        if not is_machine(text):
-            refused.append((number, text))
+    """Raises FolderError if most of the first lines would be refused, RunError for an unreadable list."""
+    lines = [line.decode("utf-8", "surrogateescape") for line in source.first_lines(SAMPLE_LINES)]
+    refused = [(number, line) for number, line in enumerate(lines, 1) if not is_machine(line)]
     if 2 * len(refused) > len(lines):
         number, text = refused[0]
-        raise FolderError(
-            "%d of the first %d lines of %s would be refused, so nothing was decided; line %d: %.*r: %s."
-            " `budlarem read LIST` writes the machines of a list in other forms"
-            % (
-                *(len(refused), len(lines), source.name, number),
-                *(LONGEST_SHOWN, text, refusal_reason(number, text)),
-            )
-        )
+        count = f"{len(refused)} of the first {len(lines)} lines of {source.name} would be refused"
+        line = "line %d: %.*r: %s" % (number, LONGEST_SHOWN, text, refusal_reason(number, text))
+        advice = "`budlarem read LIST` writes the machines of a list in other forms"
+        raise FolderError(f"{count}, so nothing was decided; {line}. {advice}")
 
 
 def refusal_reason(number: int, line: str) -> str:

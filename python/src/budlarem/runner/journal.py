@@ -17,7 +17,7 @@ import stat
 import threading
 import zlib
 from concurrent.futures import Future, ThreadPoolExecutor
-from typing import Deque, Iterator, List, Optional, Sequence, Tuple
+from typing import Deque, Iterator, Sequence
 
 from .._files import Checksum, Directory, Pin, id_of, name_errors, write_all
 from ..counts import KINDS
@@ -43,12 +43,12 @@ class Record:
 
     first: int
     lines: int
-    given: Tuple[int, str]
+    given: tuple[int, str]
     place: int
-    kept: Tuple[int, int]
+    kept: tuple[int, int]
     milliseconds: int
     is_checked: bool
-    counts: Tuple[int, ...]
+    counts: tuple[int, ...]
 
     @classmethod
     def of(cls, first: int, lines: int, given: bytes, kept: bytes, seconds: float, counts: Counts) -> Record:
@@ -98,7 +98,7 @@ class Journal:
             with name_errors(self._path):
                 os.posix_fallocate(self._number, 0, self._reserved * WIDTH)
 
-    def _words(self, index: int) -> List[str]:
+    def _words(self, index: int) -> list[str]:
         """The words of a valid line; none otherwise."""
         if index >= self.length:
             return []
@@ -107,7 +107,7 @@ class Journal:
         is_whole = len(words) == _WORDS + 1 and line == self._seal(index, line[: -_SEAL - 1])
         return words if is_whole else []
 
-    def read(self, index: int) -> Optional[Record]:
+    def read(self, index: int) -> Record | None:
         """The record of a chunk; None without a valid one."""
         words = self._words(index)
         if not words or words[0] == RENAMED:
@@ -129,7 +129,7 @@ class Journal:
             write_all(self._number, line, index * WIDTH)
         self.length = max(self.length, index + 1)
 
-    def rename_mark(self) -> Optional[int]:
+    def rename_mark(self) -> int | None:
         """The number of chunks whose file was renamed; None unless the journal records that."""
         lines = (index for index in reversed(range(self.length)) if self._words(index)[:1] == [RENAMED])
         return next(lines, None)
@@ -151,7 +151,7 @@ class Journal:
         with name_errors(self._path):
             os.fsync(self._number)
 
-    def find_gap(self, index: int, first: int) -> Optional[Tuple[int, int]]:
+    def find_gap(self, index: int, first: int) -> tuple[int, int] | None:
         """The chunks and lines from a chunk without a record, before which there are `first` lines, to the
         next one with a record; None if there is none."""
         start, end = self._empty
@@ -209,7 +209,7 @@ class PassFolder:
         self._end = self.journal.end()
         self._is_writable = False
 
-    def _open_chunks(self) -> Tuple[int, bool]:
+    def _open_chunks(self) -> tuple[int, bool]:
         """The file of the chunks, and whether that is `verdicts.txt`."""
         with contextlib.suppress(FileNotFoundError):
             return self._inside.open_file(KEPT, os.O_RDWR), False
@@ -271,15 +271,15 @@ class PassFolder:
         with name_errors(self.kept):
             os.fdatasync(self._file)
 
-    def read(self, record: Record) -> Optional[bytes]:
+    def read(self, record: Record) -> bytes | None:
         """The output of a chunk; None if it doesn't match the record."""
         kept = os.pread(self._file, record.kept[0], record.place)
         return kept if record.has(kept) else None
 
-    def read_chunks(self) -> Iterator[Tuple[int, bytes]]:
+    def read_chunks(self) -> Iterator[tuple[int, bytes]]:
         """The output of each chunk, with the number of lines before it. Raises RunError for one that doesn't
         match its record."""
-        ahead: Deque[Future[Tuple[int, bytes]]] = collections.deque()
+        ahead: Deque[Future[tuple[int, bytes]]] = collections.deque()
         with ThreadPoolExecutor(_READERS, "budlarem read") as readers:
             for index in range(self.chunks):
                 ahead.append(readers.submit(self._read_chunk, index))
@@ -288,7 +288,7 @@ class PassFolder:
             while ahead:
                 yield ahead.popleft().result()
 
-    def _read_chunk(self, index: int) -> Tuple[int, bytes]:
+    def _read_chunk(self, index: int) -> tuple[int, bytes]:
         record = self._record(index)
         kept = self.read(record)
         if kept is None:
@@ -302,10 +302,8 @@ class PassFolder:
         return record
 
     def _changed_error(self, index: int) -> RunError:
-        return RunError(
-            "chunk %d in %s was cut or changed since the journal recorded it; run again to decide it again"
-            % (index + 1, self.path)
-        )
+        why = "was cut or changed since the journal recorded it; run again to decide it again"
+        return RunError(f"chunk {index + 1} in {self.path} {why}")
 
     def checksum(self) -> Checksum:
         """The checksum of all output in the list's order, by the journal. Raises RunError."""
@@ -314,9 +312,9 @@ class PassFolder:
             total = total.add(Checksum(*record.kept))
         return total
 
-    def _extents(self) -> List[Tuple[int, int]]:
+    def _extents(self) -> list[tuple[int, int]]:
         """Place and length of all output in the list's order, adjacent chunks merged. Raises RunError."""
-        found: List[Tuple[int, int]] = []
+        found: list[tuple[int, int]] = []
         for record in map(self._record, range(self.chunks)):
             if found and sum(found[-1]) == record.place:
                 found[-1] = found[-1][0], found[-1][1] + record.kept[0]
@@ -348,7 +346,7 @@ class PassFolder:
         found = self._top.id_at(VERDICTS) if self.is_renamed else self._inside.id_at(KEPT)
         return found == id_of(os.fstat(self._file))
 
-    def rename_to_verdicts(self, over: Optional[Pin]) -> None:
+    def rename_to_verdicts(self, over: Pin | None) -> None:
         """Renames the file of the chunks to `verdicts.txt`, and records that. Replaces only the file `over`.
         Raises FileExistsError, OSError."""
         if not self.is_renamed:
@@ -358,17 +356,15 @@ class PassFolder:
 
     def restore(self) -> None:
         """Moves the file of the chunks back into this folder if it is `verdicts.txt`. Raises OSError."""
-        if not self.is_renamed:
-            return
-        if self.has_name():
+        if self.is_renamed and self.has_name():
             self._inside.install(VERDICTS, KEPT, None, self._top)
             self.is_renamed = False
             self.journal.clear_rename_mark()
-        else:
+        elif self.is_renamed:
             self._copy_chunks()
 
 
-def _spans(verdicts: bytes) -> Iterator[Tuple[int, int, int]]:
+def _spans(verdicts: bytes) -> Iterator[tuple[int, int, int]]:
     """Start of each undecided line, end of its machine, and end of the line with its newline."""
     for place in find_all(b" undecided ", verdicts):
         yield verdicts.rfind(b"\n", 0, place) + 1, place, verdicts.find(b"\n", place) + 1
@@ -393,7 +389,7 @@ def merge_passes(passes: Sequence[PassFolder]) -> Iterator[bytes]:
 def _merge_lines(verdicts: bytes, lines: StreamLines) -> bytes:
     """Verdict lines, each undecided one replaced by the next of `lines` if that is on the same machine, and
     dropped otherwise. A machine has one verdict wherever it stands in a list."""
-    parts: List[bytes] = []
+    parts: list[bytes] = []
     done = 0
     for start, place, end in _spans(verdicts):
         parts.append(verdicts[done:start])

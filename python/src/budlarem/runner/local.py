@@ -3,11 +3,12 @@ runs in Python for a single line, and all calls release Python's lock."""
 
 from __future__ import annotations
 
+import contextlib
 import dataclasses
 import queue
 import threading
 import time
-from typing import Iterator, List, Optional
+from typing import Iterator
 
 from .._library import CLEAN, ReplyBuffer
 from ..engine import check_call, decide_call
@@ -39,11 +40,11 @@ class LocalRun(PassRun):
         self._feed, self._pace = threading.Lock(), threading.Lock()
         self._is_stopped = False
         # The error that ended each thread, or None.
-        self._ended: queue.SimpleQueue[Optional[BaseException]] = queue.SimpleQueue()
+        self._ended: queue.SimpleQueue[BaseException | None] = queue.SimpleQueue()
 
     def _decide(self, lines: LineSource) -> None:
         chunks = self._chunker.chunks(lines)
-        workers: List[threading.Thread] = []
+        workers: list[threading.Thread] = []
         for _ in range(self._threads):
             # Daemon threads let the process end in the middle of a machine.
             workers.append(threading.Thread(target=self._work, args=(chunks,), name="budlarem", daemon=True))
@@ -52,13 +53,11 @@ class LocalRun(PassRun):
             except RuntimeError as error:
                 raise RunError("%d threads can't be started: %s" % (self._threads, error)) from error
         while workers:
-            try:
+            with contextlib.suppress(queue.Empty):
                 failure = self._ended.get(timeout=0.1)
                 workers.pop()
                 if failure is not None:
                     raise failure
-            except queue.Empty:
-                pass
             self._sync_if_due()
             self._options.progress.tick()
 
@@ -66,6 +65,7 @@ class LocalRun(PassRun):
         self._is_stopped = True
 
     def _work(self, chunks: Iterator[Chunk]) -> None:
+        failure: BaseException | None = None
         try:
             buffers = ReplyBuffer(), ReplyBuffer()
             while not self._is_stopped:
@@ -75,13 +75,11 @@ class LocalRun(PassRun):
                     break
                 self._process(chunk, *buffers)
         except BaseException as error:
-            self._ended.put(error)
-        else:
-            self._ended.put(None)
+            failure = error
+        self._ended.put(failure)
 
     def _process(self, chunk: Chunk, buffer: ReplyBuffer, answers: ReplyBuffer) -> None:
-        """Decides a chunk unless it is stored, checks it if asked, and stores it. Raises CheckError, OSError,
-        MemoryError."""
+        """Decides, checks and stores a chunk, as far as needed. Raises CheckError, OSError, MemoryError."""
         if not self._is_stored(chunk):
             started = time.monotonic()
             self._decide_lines(buffer, chunk.given)

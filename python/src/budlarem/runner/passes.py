@@ -10,8 +10,7 @@ import datetime
 import json
 import threading
 import time
-from typing import Any, Callable, Counter, Dict, Iterator, List, NamedTuple, Optional, Protocol, Sequence, Set
-from typing import Tuple
+from typing import Any, Callable, Counter, Iterator, NamedTuple, NoReturn, Protocol, Sequence
 
 from .._files import Checksum
 from ..counts import KINDS, UNDECIDED
@@ -69,9 +68,9 @@ class Chunk:
     first: int
     given: bytes
     lines: int
-    record: Optional[Record] = None
-    written: Optional[bytes] = None
-    kept: Optional[bytes] = None
+    record: Record | None = None
+    written: bytes | None = None
+    kept: bytes | None = None
     is_resumed: bool = False
     seconds: float = 0.0
     submitted: float = 0.0
@@ -86,10 +85,9 @@ class Chunk:
 
 
 class Chunker:
-    """Cuts the lines of a pass: chunks of the journal as they are there, others by the pace. `known` is the
-    number of lines, if known."""
+    """Cuts the lines of a pass as its journal did, else by the pace. `known` is their number, if known."""
 
-    def __init__(self, folder: PassFolder, list_name: str, most: ChunkSize, known: Optional[int]) -> None:
+    def __init__(self, folder: PassFolder, list_name: str, most: ChunkSize, known: int | None) -> None:
         self._folder, self._list_name, self._known = folder, list_name, known
         self._most_bytes = most.bytes
         self.pace = ChunkPace(most.lines)
@@ -106,16 +104,16 @@ class Chunker:
             given = lines.take(count, size)
             found = lines.lines_taken - before
             if (record is not None and not record.fits(given)) or (is_fixed and found != count):
-                raise self._mismatch(first, count, found)
+                self._raise_mismatch(first, count, found)
             known = self._known
             if known is not None and (first + found > known or (not found and first < known)):
-                raise self._other_list("that one had %d lines" % known)
+                self._raise_other_list(f"that one had {known} lines")
             if not given:
                 return
             yield Chunk(index, first, given, found, record)
             index, first = index + 1, first + found
 
-    def _room_of(self, record: Optional[Record], index: int, first: int) -> Tuple[int, int, bool]:
+    def _room_of(self, record: Record | None, index: int, first: int) -> tuple[int, int, bool]:
         """The lines and bytes of the next chunk, and whether there must be so many lines."""
         if record is not None:
             return record.lines, _ANY_SIZE, True
@@ -125,17 +123,17 @@ class Chunker:
         chunks, count = gap
         return -(-count // chunks), _ANY_SIZE, True
 
-    def _other_list(self, why: str) -> FolderError:
+    def _raise_other_list(self, why: str) -> NoReturn:
         text = "%s isn't the list that this folder was started with; give that list, or another folder: %s"
-        return FolderError(text % (self._list_name, why))
+        raise FolderError(text % (self._list_name, why))
 
-    def _mismatch(self, first: int, count: int, found: int) -> FolderError:
+    def _raise_mismatch(self, first: int, count: int, found: int) -> NoReturn:
         if self._folder.number > 1:
-            text = "%s was decided from other lines than the holdouts of the pass before; remove it and run again"
-            return FolderError(text % self._folder.path)
-        if found < count:
-            return self._other_list("it ends after line %d" % (first + found))
-        return self._other_list("lines %d to %d differ" % (first + 1, first + count))
+            text = "was decided from other lines than the holdouts of the pass before"
+            raise FolderError(f"{self._folder.path} {text}; remove it and run again")
+        is_short = found < count
+        lines = f"lines {first + 1} to {first + count} differ"
+        self._raise_other_list(f"it ends after line {first + found}" if is_short else lines)
 
 
 # Chunks wait for earlier ones at most so many seconds, and so many bytes of them.
@@ -150,13 +148,13 @@ class Writer:
         self._folder, self._most = folder, most
         self._changed = threading.Condition()
         # Chunks that wait, and the bytes of them to be written.
-        self._waiting: Dict[int, Chunk] = {}
+        self._waiting: dict[int, Chunk] = {}
         self._size = 0
         # The next chunk in order, since when it is missing, and later ones that were written ahead.
         self._next, self._since = 0, time.monotonic()
-        self._ahead: Set[int] = set()
+        self._ahead: set[int] = set()
         # Chunks written and not yet synced; the threads that are writing.
-        self._written: List[Chunk] = []
+        self._written: list[Chunk] = []
         self._writing, self._is_closed = 0, False
 
     def add(self, chunk: Chunk) -> None:
@@ -191,18 +189,17 @@ class Writer:
             self._write(due)
         finally:
             with self._changed:
-                while self._writing:
-                    self._changed.wait()
+                self._changed.wait_for(lambda: not self._writing)
 
-    def pop_written(self) -> List[Chunk]:
+    def pop_written(self) -> list[Chunk]:
         """The chunks written since the last call."""
         with self._changed:
             chunks, self._written = self._written, []
         return chunks
 
-    def _pop_ready(self) -> List[Chunk]:
+    def _pop_ready(self) -> list[Chunk]:
         """The chunks whose turn it is, with places."""
-        due: List[Chunk] = []
+        due: list[Chunk] = []
         while self._next in self._waiting or self._next in self._ahead:
             self._ahead.discard(self._next)
             if self._next in self._waiting:
@@ -210,7 +207,7 @@ class Writer:
             self._next, self._since = self._next + 1, time.monotonic()
         return due
 
-    def _pop_all(self) -> List[Chunk]:
+    def _pop_all(self) -> list[Chunk]:
         """All waiting chunks, with places."""
         due = [self._assign_place(self._waiting[index]) for index in sorted(self._waiting)]
         self._ahead.update(self._waiting)
@@ -225,7 +222,7 @@ class Writer:
             chunk.record = dataclasses.replace(chunk.record, place=self._folder.reserve(len(chunk.kept)))
         return chunk
 
-    def _write(self, due: List[Chunk]) -> None:
+    def _write(self, due: list[Chunk]) -> None:
         try:
             for chunk in due:
                 if chunk.kept is not None and chunk.record is not None:
@@ -259,10 +256,10 @@ class PassResult:
         self.is_checked = self.is_checked and record.is_checked
         self.counts.update(record.counts_by_kind())
 
-    def fields(self) -> Dict[str, Any]:
+    def fields(self) -> dict[str, Any]:
         """The fields of a summary."""
         return {
-            "limits": dict(zip(Limits.RANGES, self.limits.numbers())),
+            "limits": dataclasses.asdict(self.limits),
             "lines": self.lines,
             "counts": {kind: self.counts[kind] for kind in KINDS},
             "pieces": self.chunks,
@@ -290,7 +287,7 @@ class RunOptions:
     identity: Identity
     progress: Progress
     list_name: str
-    most_lines: Optional[int] = None
+    most_lines: int | None = None
     is_checked: bool = False
     is_checked_here: bool = False
     keep: Retention = Retention()
@@ -306,7 +303,7 @@ class Pass:
     limits: Limits
     options: RunOptions
     before: Sequence[PassFolder]
-    known: Optional[int]
+    known: int | None
 
 
 # Bounds of the seconds between two syncs, and the least ratio to the time that one takes.
@@ -329,14 +326,10 @@ class PassRun:
 
     def run(self, lines: LineSource) -> PassResult:
         """Decides the lines of all chunks that aren't stored. Raises what `Backend.run_pass` does."""
-        try:
+        with contextlib.ExitStack() as stack:
+            for end in (self._sync, self._writer.close, self._stop):
+                stack.callback(end)
             self._decide(lines)
-        finally:
-            try:
-                self._stop()
-                self._writer.close()
-            finally:
-                self._sync()
         self._folder.chunks = self._result.chunks
         self._result.checksum = self._folder.checksum()
         return self._result
@@ -370,10 +363,8 @@ class PassRun:
         chunk.seconds = record.milliseconds / 1_000
         if self._needs_check(chunk):
             if self._options.keep.only_holdouts:
-                raise FolderError(
-                    "%s: verdicts were dropped before they were checked; resume without --check, or start"
-                    " again with it in another folder" % self._folder.path
-                )
+                text = "verdicts were dropped before they were checked; resume without --check"
+                raise FolderError(f"{self._folder.path}: {text}, or start again with it in another folder")
             chunk.written = kept
         return True
 
@@ -385,9 +376,8 @@ class PassRun:
         if chunk.record is None and chunk.written is not None:
             self._options.on_verdicts(chunk.written)
             chunk.kept = self._options.keep.select(chunk.written)
-            chunk.record = Record.of(
-                chunk.first, chunk.lines, chunk.given, chunk.kept, chunk.seconds, chunk.counts
-            )
+            data, seconds, counts = (chunk.given, chunk.kept), chunk.seconds, chunk.counts
+            chunk.record = Record.of(chunk.first, chunk.lines, *data, seconds, counts)
         if chunk.record is not None:
             chunk.record = dataclasses.replace(chunk.record, is_checked=chunk.is_confirmed)
         self._writer.add(chunk)
@@ -404,7 +394,7 @@ class PassRun:
             raise CheckError("%s: the checker answers %s: %s" % (where, error, line)) from None
         chunk.is_confirmed = True
 
-    def _describe_lines(self, first: int, last: Optional[int] = None) -> str:
+    def _describe_lines(self, first: int, last: int | None = None) -> str:
         """The numbers in the list of some lines of the pass, in words; both ends are included."""
         ends, suffix = [first, first if last is None else last], ""
         if self._before and self._options.keep.only_holdouts:
@@ -464,9 +454,8 @@ class Outcome:
 
     def __str__(self) -> str:
         undecided, refused = sum(self.counts[kind] for kind in UNDECIDED), self.counts["refused"]
-        return "{:,} lines: {:,} decided, {:,} undecided, {:,} refused".format(
-            self.lines, self.lines - undecided - refused, undecided, refused
-        )
+        decided = self.lines - undecided - refused
+        return f"{self.lines:,} lines: {decided:,} decided, {undecided:,} undecided, {refused:,} refused"
 
 
 def run(folder: Folder, source: ListFile, passes: Sequence[Limits], options: RunOptions) -> Outcome:
@@ -484,8 +473,8 @@ def _run_passes(folder: Folder, source: ListFile, passes: Sequence[Limits], opti
     started = time.time(), time.monotonic()
     config = start_or_resume(folder, source, passes, options)
     folder.write(README, config.readme(folder.path))
-    results: List[PassResult] = []
-    folders: List[PassFolder] = []
+    results: list[PassResult] = []
+    folders: list[PassFolder] = []
     with contextlib.ExitStack() as stack:
         for number, limits in enumerate(passes, 1):
             folder.require_named()
@@ -514,12 +503,10 @@ def _run_passes(folder: Folder, source: ListFile, passes: Sequence[Limits], opti
     return outcome
 
 
-def _total_estimator(
-    source: ListFile, lines: LineSource, known: Optional[int]
-) -> Callable[[int], Optional[float]]:
+def _total_estimator(source: ListFile, lines: LineSource, known: int | None) -> Callable[[int], float | None]:
     """A function that estimates the total number of lines from those done."""
 
-    def total(done: int) -> Optional[float]:
+    def total(done: int) -> float | None:
         if known is not None:
             return known
         fraction = source.fraction(lines.bytes_taken)
@@ -531,8 +518,7 @@ def _total_estimator(
 def start_or_resume(
     folder: Folder, source: ListFile, passes: Sequence[Limits], options: RunOptions
 ) -> RunConfig:
-    """The configuration of a folder, written or extended by new passes. Raises FolderError if the folder was
-    started with another one."""
+    """The configuration of a folder, maybe with more passes. Raises FolderError if it has another one."""
     size = None if source.is_compressed else source.size
     config = folder.read_config()
     if config is None:
@@ -540,11 +526,9 @@ def start_or_resume(
         folder.write_config(config)
         return config
     _require_same(folder, config, passes, options)
-    if size is not None and config.list_bytes is not None and size != config.list_bytes:
-        raise FolderError(
-            "%s isn't the list that %s was started with; give that list, or another folder:"
-            " it has %d bytes, and that one had %d" % (source.name, folder.path, size, config.list_bytes)
-        )
+    if size is not None and config.list_bytes not in (None, size):
+        text = f"{source.name} isn't the list that {folder.path} was started with; give that list, or another"
+        raise FolderError(f"{text} folder: it has {size} bytes, and that one had {config.list_bytes}")
     folder.require_free(range(len(config.passes) + 1, len(passes) + 1))
     if list(passes) != config.passes:
         config.passes = list(passes)
@@ -558,20 +542,17 @@ def _require_same(folder: Folder, config: RunConfig, passes: Sequence[Limits], o
     def text_of(passes: Sequence[Limits]) -> str:
         return " ".join("--pass " + words_of(limits) for limits in passes)
 
-    sentence = ""
-    if config.identity.library != options.identity.library:
-        sentence = "another library: %s; here is %s; install that one, or give another folder"
-        sentence %= (config.identity, options.identity)
+    sentence, ours = "", options.identity
+    if config.identity.library != ours.library:
+        advice = "install that one, or give another folder"
+        sentence = f"another library: {config.identity}; here is {ours}; {advice}"
     elif list(passes[: len(config.passes)]) != config.passes:
-        sentence = (
-            "other passes: %s; here are %s; give the same ones, and more behind them, or another folder"
-        )
-        sentence %= (text_of(config.passes), text_of(passes))
+        advice = "give the same ones, and more behind them, or another folder"
+        sentence = f"other passes: {text_of(config.passes)}; here are {text_of(passes)}; {advice}"
     elif config.keep != options.keep:
-        sentence = "--keep %s; here is --keep %s; give the same, or another folder"
-        sentence %= (config.keep, options.keep)
+        sentence = f"--keep {config.keep}; here is --keep {options.keep}; give the same, or another folder"
     if sentence:
-        raise FolderError("%s was started with %s" % (folder.path, sentence))
+        raise FolderError(f"{folder.path} was started with {sentence}")
 
 
 def summary_of(
@@ -579,9 +560,9 @@ def summary_of(
     results: Sequence[PassResult],
     outcome: Outcome,
     options: RunOptions,
-    started: Tuple[float, float],
+    started: tuple[float, float],
     checksum: Checksum,
-) -> Dict[str, Any]:
+) -> dict[str, Any]:
     """The fields of the summary. `started` is a time of the wall clock and of the monotonic clock, by which the
     seconds are counted; `checksum` covers the verdicts."""
     seconds = time.monotonic() - started[1]

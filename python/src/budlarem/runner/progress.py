@@ -6,7 +6,7 @@ import os
 import shutil
 import sys
 import time
-from typing import Callable, Optional, TextIO
+from typing import Callable, TextIO
 
 from .._text import escape_controls
 
@@ -43,13 +43,13 @@ def short_count(number: float) -> str:
 class Progress:
     """The progress of a run, on standard error or another stream."""
 
-    def __init__(self, stream: Optional[TextIO] = None) -> None:
+    def __init__(self, stream: TextIO | None = None) -> None:
         self._stream = sys.stderr if stream is None else stream
         self._is_terminal = self._stream.isatty()
         self._is_open = False
         self._next = 0.0
         self._pass, self._passes = 0, 0
-        self._total: Callable[[int], Optional[float]] = lambda lines: None
+        self._total: Callable[[int], float | None] = lambda lines: None
         self._reset()
 
     def _reset(self) -> None:
@@ -57,7 +57,7 @@ class Progress:
         self._resumed, self._decided, self._chunks = 0, 0, 0
         self._is_announced = False
 
-    def start(self, number: int, passes: int, total: Callable[[int], Optional[float]]) -> None:
+    def start(self, number: int, passes: int, total: Callable[[int], float | None]) -> None:
         """Starts a pass. `total` estimates the total number of lines from those done, or returns None."""
         self._reset()
         self._pass, self._passes, self._total = number, passes, total
@@ -74,7 +74,7 @@ class Progress:
         self._decided += lines
         self._chunks += 1
 
-    def remaining_seconds(self) -> Optional[float]:
+    def remaining_seconds(self) -> float | None:
         """The seconds to the end of the pass at the present pace; None if unknown."""
         done = self._resumed + self._decided
         total = self._total(done)

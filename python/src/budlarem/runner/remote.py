@@ -5,7 +5,7 @@ from __future__ import annotations
 import queue
 import time
 from concurrent.futures import CancelledError, Future, ThreadPoolExecutor
-from typing import Any, Dict, Iterator, List, Optional
+from typing import Any, Iterator
 
 from .chunks import CHECK, DECIDE, Numbers, Task, check_chunk, decide_chunk, describe_task, open_reply
 from .chunks import quote_line, validate_verdicts
@@ -47,14 +47,14 @@ class RemoteRun(PassRun):
     def __init__(self, task: Pass, backend: ExecutorBackend) -> None:
         super().__init__(task)
         self._backend = backend
-        self._pending: Dict[Future[Any], Chunk] = {}
-        self._validating: Dict[Future[Any], Chunk] = {}
+        self._pending: dict[Future[Any], Chunk] = {}
+        self._validating: dict[Future[Any], Chunk] = {}
         self._done: queue.SimpleQueue[Future[Any]] = queue.SimpleQueue()
         self._validators = ThreadPoolExecutor(_VALIDATORS, "budlarem validate")
         # The list may be slow: a thread of its own reads the next chunk.
         self._reader = ThreadPoolExecutor(1, "budlarem read")
-        self._read: Optional[Future[Optional[Chunk]]] = None
-        self._skipped: List[str] = []
+        self._read: Future[Chunk | None] | None = None
+        self._skipped: list[str] = []
 
     def _decide(self, lines: LineSource) -> None:
         chunks = self._chunker.chunks(lines)
@@ -139,8 +139,7 @@ class RemoteRun(PassRun):
         future.add_done_callback(self._done.put)
 
     def _validate(self, chunk: Chunk, reply: object) -> None:
-        """Validates a reply, and stores the chunk once no check is needed. Raises ReplyError, CheckError,
-        OSError."""
+        """Validates a reply; stores a chunk that needs no check. Raises ReplyError, CheckError, OSError."""
         limits, elapsed = self._limits.numbers(), time.monotonic() - chunk.submitted
         if chunk.written is None:
             task = describe_task(DECIDE, limits)

@@ -3,21 +3,22 @@
 from __future__ import annotations
 
 import collections
+import dataclasses
+import itertools
 import time
-from typing import Counter, Deque, Dict, Iterator, List, Optional, Tuple, Union
+from typing import Callable, Counter, Deque, Iterable, Iterator, TypeVar
 
-from .._text import quote
-from ..claims import WORDS, Claim, Claims, Translation, Word, translation_of
-from ..comparison import Agreement, agreement
-from ..engine import decide
-from ..limits import GREATEST, Limits, Plan
-from ..reading import Columns, Form, ListForm, Readings, Skipped, read
-from ..reading.files import Source
-from ..verdicts import Answer, Halt, Refused, Undecided, Verdict
-from ..verification import answers_of
-from .judgements import Judged, Judgement, ListOverlap, ProgressCallback, count_progress
-from .rereadable import RereadableList
-from .undefined_steps import counts_undefined_steps, halt_with_steps, with_steps
+from ._text import Words, escape_controls, quote
+from .claims import WORDS, Claim, Claims, Translation, Word, translation_of
+from .comparison import Agreement, agreement
+from .engine import decide
+from .limits import GREATEST, Limits, Plan
+from .normal_forms import canonical_form
+from .reading import Columns, Form, Reading, Readings, Skipped, read
+from .reading.files import Source
+from .reading.forms import RereadableList
+from .verdicts import Answer, Halt, Refused, Undecided, Verdict
+from .verification import answers_of
 
 __all__ = ["Judged", "Judgement", "Judging", "judge"]
 
@@ -25,19 +26,103 @@ __all__ = ["Judged", "Judgement", "Judging", "judge"]
 _TOGETHER, _SECONDS = 4_096, 1.0
 
 
+class Judgement(Words):
+    """The judgement of a line.
+
+    `CONFIRMED`: the checker confirms the claim, or our verdict agrees with the word. `CONTRADICTED`: the
+    checker refutes the claim, or our verdict disagrees. `NOT_JUDGED`: neither, or the line makes no claim.
+    `UNREADABLE`: the line has no one machine.
+    """
+
+    CONFIRMED = "confirmed"
+    CONTRADICTED = "contradicted"
+    NOT_JUDGED = "not-judged"
+    UNREADABLE = "unreadable"
+
+
+@dataclasses.dataclass(frozen=True)
+class Judged:
+    """A claim of theirs, its judgement and the reason, and our verdict on its machine, if it has one."""
+
+    judgement: Judgement
+    claim: Claim
+    ours: Verdict | None
+    reason: str
+
+    @property
+    def number(self) -> int:
+        """The line's number, from 1 on."""
+        return self.claim.reading.number
+
+    def __str__(self) -> str:
+        line = escape_controls(self.claim.reading.line.replace("\t", " "))
+        ours = line if self.ours is None else str(self.ours)
+        return "%s\t%d\t%s\t%s" % (self.judgement, self.number, ours, self.reason)
+
+
+# The number of a line, and its machine.
+NumberedMachine = tuple[int, str]
+# Called with a description of the work, and the lines done.
+ProgressCallback = Callable[[str, int], None]
+_Item = TypeVar("_Item")
+
+
+def count_progress(items: Iterable[_Item], what: str, progress: ProgressCallback) -> Iterator[_Item]:
+    """The items; `progress` is called with each one's count."""
+    for count, item in enumerate(items, 1):
+        progress(what, count)
+        yield item
+
+
+class ListOverlap:
+    """The machines of two lists with their line numbers. Machines of one canonical form are the same."""
+
+    def __init__(self, listed: Iterable[Reading], progress: ProgressCallback) -> None:
+        self._listed: dict[str, int] = {}
+        self._theirs: dict[str, list[int]] = {}
+        self._progress = progress
+        for reading in count_progress(listed, "of the list read", progress):
+            if reading.machine is not None:
+                self._listed.setdefault(reading.machine, reading.number)
+
+    def add(self, reading: Reading) -> None:
+        """Adds a line of theirs."""
+        if reading.machine is not None:
+            self._theirs.setdefault(reading.machine, []).append(reading.number)
+
+    def missing(self) -> list[NumberedMachine]:
+        """The machines of the list without a line of theirs, each with its first line's number."""
+        return [(self._listed[machine], machine) for machine in self._others(self._listed, self._theirs)]
+
+    def foreign(self) -> list[NumberedMachine]:
+        """Their lines with machines missing from the list."""
+        found = self._others(self._theirs, self._listed)
+        return sorted((number, machine) for machine in found for number in self._theirs[machine])
+
+    def _others(self, machines: Iterable[str], those: dict[str, _Item]) -> Iterator[str]:
+        """The machines that aren't among those, in any form."""
+        rest = [machine for machine in machines if machine not in those]
+        forms: set[str] = set()
+        if rest:
+            compared = count_progress(those, "compared by form", self._progress)
+            forms.update(canonical_form(machine).text for machine in compared)
+        found = count_progress(rest, "compared by form", self._progress)
+        return (machine for machine in found if canonical_form(machine).text not in forms)
+
+
 def judge(
     theirs: Source,
-    listed: Union[Source, Readings, None] = None,
+    listed: Source | Readings | None = None,
     *,
     limits: Limits = Limits(),
     plan: Plan = Plan(),
     checker: Limits = GREATEST,
-    undefined_steps: Optional[bool] = None,
+    undefined_steps: bool | None = None,
     threads: int = 1,
     progress: ProgressCallback = lambda what, lines: None,
-    form: Optional[Form] = None,
+    form: Form | None = None,
     columns: Columns = Columns(),
-    words: Optional[Dict[str, Word]] = None,
+    words: dict[str, Word] | None = None,
 ) -> Judging:
     """Judges the claim of each line of a list, by the form of the list.
 
@@ -77,10 +162,9 @@ def judge(
 
 
 def translation_in(
-    source: RereadableList, words: Dict[str, Word], progress: ProgressCallback
-) -> Optional[Translation]:
-    """The translation of a table's words, if there are any. Raises ValueError if two columns may have the
-    verdicts or their numbers."""
+    source: RereadableList, words: dict[str, Word], progress: ProgressCallback
+) -> Translation | None:
+    """The translation of a table's words, if any. Raises ValueError for two columns of one role."""
     layout = source.form.layout
     if layout is not None and layout.doubts:
         raise ValueError("%s: say which" % layout.doubts[0])
@@ -94,15 +178,13 @@ class JudgedList:
     """The judged list: its form, the translation of a table's words, and so far the number of skipped
     lines of each kind, and of lines that aren't UTF-8."""
 
-    def __init__(self, source: RereadableList, claims: Claims, translation: Optional[Translation]) -> None:
-        self.form: ListForm = source.form
-        self.translation = translation
+    def __init__(self, source: RereadableList, claims: Claims, translation: Translation | None) -> None:
+        self.form, self.translation = source.form, translation
         self._source, self._claims = source, claims
 
     @property
     def skipped(self) -> Counter[Skipped]:
-        empty = self._source.empty
-        return self._claims.skipped + collections.Counter({Skipped.EMPTY: empty} if empty else {})
+        return self._claims.skipped + collections.Counter({Skipped.EMPTY: self._source.empty})
 
     @property
     def undecoded(self) -> int:
@@ -111,7 +193,7 @@ class JudgedList:
 
 def _decide_claims(
     claims: Iterator[Claim], limits: Limits, plan: Plan, threads: int
-) -> Iterator[Tuple[Claim, Optional[Verdict]]]:
+) -> Iterator[tuple[Claim, Verdict | None]]:
     """Each claim with our verdict on its machine, if it has one."""
     waiting: Deque[Claim] = collections.deque()
 
@@ -136,8 +218,8 @@ class Judging(Iterator[Judged]):
 
     def __init__(
         self,
-        decided: Iterator[Tuple[Claim, Optional[Verdict]]],
-        lists: Optional[ListOverlap],
+        decided: Iterator[tuple[Claim, Verdict | None]],
+        lists: ListOverlap | None,
         checker: Limits,
         undefined_steps: bool,
         threads: int,
@@ -158,17 +240,17 @@ class Judging(Iterator[Judged]):
             judged = next(self._held)
         return judged
 
-    def missing(self) -> List[Tuple[int, str]]:
+    def missing(self) -> list[tuple[int, str]]:
         """The machines of the other list that have no line, each with the number of its line there."""
         return [] if self._lists is None else self._lists.missing()
 
-    def foreign(self) -> List[Tuple[int, str]]:
+    def foreign(self) -> list[tuple[int, str]]:
         """The lines with machines missing from the other list: number and machine."""
         return [] if self._lists is None else self._lists.foreign()
 
-    def _judge_batch(self) -> List[Judged]:
+    def _judge_batch(self) -> list[Judged]:
         started = time.monotonic()
-        batch: List[Tuple[Claim, Optional[Verdict], Optional[Judged]]] = []
+        batch: list[tuple[Claim, Verdict | None, Judged | None]] = []
         for claim, ours in self._decided:
             if self._lists is not None:
                 self._lists.add(claim.reading)
@@ -186,7 +268,7 @@ class Judging(Iterator[Judged]):
             return with_steps(claim.verdict)
         return claim.verdict
 
-    def _judge_without_checker(self, claim: Claim, ours: Optional[Verdict]) -> Optional[Judged]:
+    def _judge_without_checker(self, claim: Claim, ours: Verdict | None) -> Judged | None:
         """The judgement of a claim, or None if it needs the checker."""
         if ours is None:
             text = str(claim.reading.reason or "a refusal names no machine")
@@ -225,7 +307,7 @@ class Judging(Iterator[Judged]):
         suffix = " with 1RZ for ---" if halt.machine != ours.machine else ""
         return Judged(Judgement.CONFIRMED, claim, ours, "%s, as ours says%s" % (_words_of(claim), suffix))
 
-    def _judge_by_answer(self, claim: Claim, ours: Optional[Verdict], answer: Answer) -> Judged:
+    def _judge_by_answer(self, claim: Claim, ours: Verdict | None, answer: Answer) -> Judged:
         suffix = " with 1RZ for ---" if self._checked_claim(claim) != claim.verdict else ""
         words = str(claim.verdict).partition(" ")[2]
         if answer is Answer.OK:
@@ -245,3 +327,66 @@ def _words_of(claim: Claim) -> str:
     steps = [] if claim.steps is None else ["after {:,} steps".format(claim.steps)]
     score = [] if claim.score is None else ["with a score of {:,}".format(claim.score)]
     return " ".join([str(claim.word), *steps, *score])
+
+
+def with_steps(halt: Halt) -> Halt:
+    """The same halt of the machine with `1RZ` for each undefined transition."""
+    return dataclasses.replace(halt, machine=halt.machine.replace("---", "1RZ"))
+
+
+def halt_with_steps(halt: Halt) -> Halt:
+    """The halt of the machine with `1RZ` for each undefined transition; `halt` if there is no later one."""
+    machine = with_steps(halt).machine
+    if machine == halt.machine:
+        return halt
+    cells = max(1_024, min(halt.steps + 2, GREATEST.cells))
+    verdict = next(decide([machine], Limits(min(halt.steps + 1, GREATEST.steps), cells)))
+    return verdict if isinstance(verdict, Halt) else halt
+
+
+def counts_undefined_steps(claims: Iterable[Claim], limits: Limits, checker: Limits, threads: int) -> bool:
+    """Whether each halt of a list at an undefined transition is true of the machine with `1RZ` there, and
+    there is one. Claims over the checker's limits don't count."""
+    verdicts = (claim.verdict or _complete_halt(claim, limits) for claim in claims)
+    halts = (verdict for verdict in verdicts if isinstance(verdict, Halt) and "---" in verdict.machine)
+    is_counted = False
+    while True:
+        batch = list(itertools.islice(halts, _TOGETHER))
+        if not batch:
+            return is_counted
+        for counted in _counts_steps(batch, limits, checker, threads):
+            if not counted:
+                return False
+            is_counted = True
+
+
+def _complete_halt(claim: Claim, limits: Limits) -> Halt | None:
+    """The halt of a record that has one of its numbers; the other is that of the run."""
+    machine = claim.reading.machine
+    if machine is None or "---" not in machine or (claim.steps is None and claim.score is None):
+        return None
+    ours = next(decide([machine], limits))
+    if not isinstance(ours, Halt):
+        return None
+    later = halt_with_steps(ours)
+    is_later = claim.steps in (None, later.steps) and claim.score in (None, later.score)
+    steps, score = (later.steps, later.score) if is_later else (claim.steps, claim.score)
+    return Halt(machine, ours.steps if steps is None else steps, ours.score if score is None else score)
+
+
+def _counts_steps(halts: list[Halt], limits: Limits, checker: Limits, threads: int) -> list[bool]:
+    """For each halt that is one at an undefined transition, as far as known: whether it counts a step."""
+    verdicts = list(decide([halt.machine for halt in halts], limits, threads=threads))
+    pairs = [(halt, ours) for halt, ours in zip(halts, verdicts) if isinstance(ours, (Halt, Undecided))]
+    known = [ours if isinstance(ours, Halt) else halt for halt, ours in pairs]
+    stepped, plain, same = (
+        answers_of(those, checker, threads)
+        for those in ([with_steps(halt) for halt, _ in pairs], known, list(map(with_steps, known)))
+    )
+    # A halt is at an undefined transition if it is one of the machine and none with `1RZ` there, or the other
+    # way round.
+    return [
+        counted is Answer.OK
+        for counted, own, unchanged in zip(stepped, plain, same)
+        if (unchanged is Answer.BAD if own is Answer.OK else counted is Answer.OK)
+    ]
