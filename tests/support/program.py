@@ -98,7 +98,9 @@ def begins_modulo_64(built: str) -> List[int]:
     `nm`; FileNotFoundError where there is none."""
     symbols = run_command(["nm", built]).output.decode("utf-8", "replace").splitlines()
     return [
-        int(symbol.split()[0], 16) % 64 for symbol in symbols if "single_pass::continue_single_pass::" in symbol
+        int(symbol.split()[0], 16) % 64
+        for symbol in symbols
+        if "single_pass::continue_single_pass::" in symbol
     ]
 
 
