@@ -25,6 +25,8 @@ from __future__ import annotations
 
 import importlib
 
+# It sees the forks from here on.
+from . import _fork as _fork
 from ._version import COMMIT as COMMIT, VERSION
 
 __version__ = VERSION

@@ -234,13 +234,13 @@ def test_a_library_that_is_not_there() -> None:
 
 FORKS = """
 import os, threading, warnings
-from budlarem import decide
+import budlarem
 warnings.simplefilter("ignore")
 given = threading.Event()
 def run_forked():
     child = os.fork()
     if child: return os.waitpid(child, 0)
-    try: print(len(list(decide(["1RA1RA"]))), flush=True)
+    try: print(len(list(budlarem.decide(["1RA1RA"]))), flush=True)
     except RuntimeError as error: print(error, flush=True)
     os._exit(0)
 run_forked()
