@@ -28,7 +28,7 @@ impl BitCells {
         BitCells { bits: 0 }
     }
 
-    /// The cells of which the bits of a number tell.
+    /// The cells that the bits of a number stand for.
     #[inline(always)]
     pub fn of_bits(bits: u64) -> BitCells
         ensures { content_of result ≡ bits_content bits }

@@ -1,4 +1,4 @@
-//! A run that leaves the registers: its cells and window on a tape, and the runner that continues it.
+//! A run on leaving the registers: its cells and window on a tape, and the runner that continues it.
 ghost use Rattle.std.specs.Prelude.{◌≡◌, ◌<◌, ℕ, IfOk, IsTrue, OnErr, OnOk, pos, ◌-ℤ◌, ◌<ℤ◌, ◌≤ℤ◌};
 ghost use Rattle.std.specs.Int.{bit_at};
 ghost use Rattle.bb_tape.specs.Content.{blank};
@@ -59,7 +59,7 @@ impl NarrowRun {
     }
 }
 
-/// The position of the lowest bit that is set.
+/// The position of the lowest set bit.
 fn lowest_position(bits: u64) -> i64
     requires some { 0 < bits }
     ensures { IsLowest bits result }

@@ -12,7 +12,7 @@ use crate::table::NarrowTable;
 use bb_machine::{Limits, Machine};
 use bb_sim::{Meter, Outcome};
 
-/// What a call of `NarrowRun::advance` did.
+/// The outcome of `NarrowRun::advance`.
 #[derive(Clone, Copy, Debug, PartialEq, Eq)]
 pub enum NarrowMoved {
     /// The run is at the next configuration.
