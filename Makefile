@@ -102,6 +102,19 @@ $(plain)/target/release/bb: $(plain_sources) crates.txt
 	@echo "$(plain) is built by cargo and not proved; docs/plain.md says how to confirm its lists" >&2
 	@touch $@
 
+.PHONY: plain-library
+plain-library: $(plain)/target/release/libbb.so ## link the library of that workspace: libbb.so and libbb.a in out/plain/target/release
+
+# The six calls stay global; Rust's std becomes local, so that a Rust program has its own beside it.
+$(plain)/target/release/libbb.so: $(plain)/target/release/bb
+	@set -e; parts=$$(mktemp -d); trap 'rm -rf "$$parts"' EXIT; cd $(@D); \
+	calls=$$(nm -g --defined-only libbb_c.a 2>/dev/null | sed -n 's/^.* T \(bb_[a-z_]*\)$$/-u \1/p'); \
+	ld -r --strip-debug --gc-sections --force-group-allocation $$calls -o "$$parts/bb.o" libbb_c.a; \
+	objcopy --wildcard --keep-global-symbol='bb_*' "$$parts/bb.o"; \
+	rm -f libbb.a; ar rcs libbb.a "$$parts/bb.o"; \
+	cc -shared -Wl,-soname,libbb.so -Wl,-z,noexecstack -o "$$parts/libbb.so" "$$parts/bb.o"; \
+	mv "$$parts/libbb.so" libbb.so
+
 manual_page := docs/budlarem.1
 
 .PHONY: manual

@@ -105,9 +105,9 @@ def flags(options: List[str], *others: str) -> str:
 
 
 # The processor is the one of the proved build.
-FLAGS = (
-    """[target.'cfg(target_arch = "x86_64")']\n%s\n[target.'cfg(not(target_arch = "x86_64"))']\n%s"""
-    % (flags(ON_X86, "target-cpu=x86-64-v2"), flags(EVERYWHERE))
+FLAGS = """[target.'cfg(target_arch = "x86_64")']\n%s\n[target.'cfg(not(target_arch = "x86_64"))']\n%s""" % (
+    flags(ON_X86, "target-cpu=x86-64-v2"),
+    flags(EVERYWHERE),
 )
 FROM_DEBIAN = '\n[source.crates-io]\nreplace-with = "debian"\n\n[source.debian]\ndirectory = "%s"\n' % DEBIAN
 
