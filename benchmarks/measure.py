@@ -243,8 +243,8 @@ def measure_plain(bench: Bench, seed: int) -> None:
     program, table = bench.program, bench.table
     built = str(make("plain", "out/plain/target/release/bb"))
     table.head("The build by cargo beside the proved one, in processor time")
-    verdicts = verdicts_of(program, halting_machines(random.Random(seed), 10 * CHECKED, 5))
-    checking = Case("checking the lines of %d machines of five states" % (10 * CHECKED), [], verdicts)
+    verdicts = 100 * verdicts_of(program, halting_machines(random.Random(seed), CHECKED, 5))
+    checking = Case("checking %d lines of machines of five states" % verdicts.count("\n"), [], verdicts)
     cases = [*cases_in_turn(seed), *cases_in_one_run(program, random.Random(seed))]
     cases += searches(program, random.Random(seed))
     for word, case in [*(("decide", case) for case in cases), ("check", checking)]:

@@ -55,6 +55,8 @@ RULES: List[Tuple[str, str, str]] = [
     ),
     ("a copy that may fail", r"\.clone\(\)(?=\?)", ".clone_with()"),
     ("an expectation", r"\.expect\((?=\s*&?rt\b)", ".expect_with("),
+    # A step is made by calls that belong into their loop; rustc leaves them outside, at twice the time.
+    ("a call to inline", r"#\[inline\]", "#[inline(always)]"),
     ("a version", r'((?:\.version\(|\()"|"bb )(\d+\.\d+\.\d+)', r"\1\2 (plain)"),
     ("a program's start", r"fn main\((?=rt: HostRuntime\))", "std::main!(start);\n\nfn start("),
 ]
@@ -90,11 +92,10 @@ debug-assertions = true
 """
 
 
-# What rustc does otherwise, and what that costs the single-pass run of the champion. The calls of a step stay
-# outside their loop: twice the time. Tests joined by `&&` become one: 79 instructions a step in place of 60.
-# On some processors branches are slow that cross a multiple of 32 bytes: 1.6 of the time.
-EVERYWHERE = """inline-threshold=2000 two-entry-phi-node-folding-threshold=0
-    simplifycfg-branch-fold-threshold=0""".split()
+# What rustc does otherwise, and what it costs the single-pass run of the champion. Tests joined by `&&` become
+# one without a branch: 80 instructions a step in place of 70. On some processors branches are slow that cross
+# a multiple of 32 bytes, 1.3 of the time.
+EVERYWHERE = ["simplifycfg-branch-fold-threshold=0"]
 ON_X86 = [*EVERYWHERE, "x86-branches-within-32B-boundaries", "align-loops=32"]
 
 
