@@ -91,7 +91,7 @@ web/out/built: web/out/bb.wasm $(page)
 ## Without the kit
 
 plain := out/plain
-plain_sources := $(shell find crates/*/src plain -type f ! -name '*.pyc' 2>/dev/null)
+plain_sources := plain/erase.py $(shell find crates/*/src plain/shim -type f 2>/dev/null)
 
 .PHONY: plain
 plain: $(plain)/target/release/bb ## write the crates as a Cargo workspace without contracts, out/plain, and build it
