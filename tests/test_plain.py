@@ -147,3 +147,18 @@ def test_tests_of_the_crates(plain: pathlib.Path) -> None:
     written = [path.read_text().count("#[test]") for path in TOP.glob("crates/*/src/**/*.rt")]
     assert sum(counts) == sum(written) > 100
     print("%d tests of the crates passed" % sum(counts))
+
+
+@pytest.mark.slow
+@pytest.mark.usefixtures("plain")
+def test_two_folders_give_the_same_bytes(tmp_path: pathlib.Path) -> None:
+    """Also the archive for C, and in folders of different lengths."""
+    built = []
+    for folder in (tmp_path / "one", tmp_path / "another folder"):
+        subprocess.run([str(TOP / "plain" / "erase.py"), str(folder)], check=True)
+        command = ["cargo", "build", "--release", "--quiet", "-p", "bb", "-p", "cover", "-p", "bb_c"]
+        subprocess.run(command, cwd=folder, check=True)
+        release = folder / "target" / "release"
+        names = ("bb", "cover", "libbb_c.a", "libbb_c.so")
+        built.append({name: (release / name).read_bytes() for name in names})
+    assert [name for name in built[0] if built[0][name] != built[1][name]] == []
