@@ -34,7 +34,16 @@ from test_plain import COMMANDS, EDGES, FOUR, GIVEN, WORDS  # noqa: E402
 
 CRATES = ("bb_machine", "bb_sim", "bb_cert", "bb_decide", "bb_lines", "bb_run")
 TESTED = ("tests_of_parts", "tests_of_verdicts", "tests_of_runs", "bb", "bb_c")
-QUICK = '[profile.dev]\ndebug = false\noverflow-checks = false\npanic = "abort"\n\n[profile.test]\ndebug = false\noverflow-checks = true\n'
+QUICK = """
+[profile.dev]
+debug = false
+overflow-checks = false
+panic = "abort"
+
+[profile.test]
+debug = false
+overflow-checks = true
+"""
 SECONDS = 60
 Result = Tuple[int, bytes, bytes]
 
@@ -116,7 +125,7 @@ class Workspace:
         self.folder, self.lists = folder, lists
         write_workspace(folder)
         path = folder / "Cargo.toml"
-        path.write_text(path.read_text().replace(PROFILES, "\n" + QUICK))
+        path.write_text(path.read_text().replace(PROFILES, QUICK))
         assert self.cargo("build", "-p", "bb", "-p", "cover") == 0
         same = [pair for pair in expected if self.run(pair[0]) == pair[1]]
         self.expected = same
