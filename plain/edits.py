@@ -3,10 +3,10 @@
 
     plain/edits.py [--jobs N] [CRATE]...
 
-It applies the must-fail edits of the crates one at a time to a plain workspace, builds it without optimization,
+It applies the must-fail edits of the crates one at a time to a plain workspace, builds it without optimizing,
 and compares the program with the unedited build by a selection of `tests/test_plain.py`, up to the first
 difference. Where there is none, it runs the library's test in C and the tests of the crates. It prints how
-each edit is seen, and the counts. All edits take about an hour with two jobs.
+each edit is seen, and the counts.
 """
 
 from __future__ import annotations
