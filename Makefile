@@ -92,16 +92,30 @@ web/out/built: web/out/bb.wasm $(page)
 ## Without the kit
 
 plain := out/plain
-plain_sources := $(shell find crates/*/src plain -type f ! -name '*.pyc' 2>/dev/null)
+plain_sources := plain/erase.py $(shell find crates/*/src plain/shim -type f 2>/dev/null)
 
 .PHONY: plain
 plain: $(plain)/target/release/bb ## write the crates as a Cargo workspace without contracts, out/plain, and build it
 $(plain)/target/release/bb: $(plain_sources) crates.txt
 	@plain/erase.py $(plain)
-	@cargo fmt --version >/dev/null 2>&1 && cd $(plain) && cargo fmt --all || true
-	@cd $(plain) && MAKEFLAGS= cargo build --release --quiet
+	@cargo fmt --version >/dev/null 2>&1 && cd $(plain) && MAKEFLAGS= cargo fmt --all || true
+	@cd $(plain) && MAKEFLAGS= cargo build --release --quiet -p bb -p cover
 	@echo "$(plain) is built by cargo and not proved; docs/plain.md says how to confirm its lists" >&2
 	@touch $@
+
+.PHONY: plain-library
+plain-library: $(plain)/target/release/libbb.so ## link the library of that workspace: libbb.so and libbb.a in out/plain/target/release
+
+# The six calls stay global; Rust's std becomes local, so that a Rust program has its own beside it.
+$(plain)/target/release/libbb.so: $(plain)/target/release/bb
+	@set -e; parts=$$(mktemp -d); trap 'rm -rf "$$parts"' EXIT; \
+	(cd $(plain) && MAKEFLAGS= cargo build --release --quiet -p bb_c); cd $(@D); \
+	calls=$$(nm -g --defined-only libbb_c.a 2>/dev/null | sed -n 's/^.* T \(bb_[a-z_]*\)$$/-u \1/p'); \
+	ld -r --strip-debug --gc-sections --force-group-allocation $$calls -o "$$parts/bb.o" libbb_c.a; \
+	objcopy --wildcard --keep-global-symbol='bb_*' "$$parts/bb.o"; \
+	rm -f libbb.a; ar rcs libbb.a "$$parts/bb.o"; \
+	cc -shared -Wl,-soname,libbb.so -Wl,-z,noexecstack -o "$$parts/libbb.so" "$$parts/bb.o"; \
+	mv "$$parts/libbb.so" libbb.so
 
 manual_page := docs/budlarem.1
 

@@ -8,7 +8,7 @@ import subprocess
 from typing import Callable, List
 
 import pytest
-from support import TOP, build, require
+from support import TOP, build, has_kit, require
 
 
 def pytest_addoption(parser: pytest.Parser) -> None:
@@ -39,16 +39,33 @@ def rng(request: pytest.FixtureRequest) -> random.Random:
     return random.Random(request.config.getoption("--seed"))
 
 
+def proved_or_plain(request: pytest.FixtureRequest, name: str, path: str) -> pathlib.Path:
+    """Build what is proved. Without the kit, and where nothing proved is built, build it by cargo."""
+    if has_kit() or (TOP / path).exists():
+        return build(name, path)
+    if name == "library":
+        library: pathlib.Path = request.getfixturevalue("plain_library")
+        return library
+    folder: pathlib.Path = request.getfixturevalue("plain")
+    return folder / name
+
+
 @pytest.fixture(scope="session")
-def bb() -> str:
+def bb(request: pytest.FixtureRequest) -> str:
     """The path of the program."""
-    return str(build("bb", "crates/bb/out/bb"))
+    return str(proved_or_plain(request, "bb", "crates/bb/out/bb"))
 
 
 @pytest.fixture(scope="session")
-def cover() -> str:
+def cover(request: pytest.FixtureRequest) -> str:
     """The path of the program that checks whether a list is complete."""
-    return str(build("cover", "crates/cover/out/cover"))
+    return str(proved_or_plain(request, "cover", "crates/cover/out/cover"))
+
+
+@pytest.fixture(scope="session")
+def library(request: pytest.FixtureRequest) -> pathlib.Path:
+    """The path of libbb.so; libbb.a is beside it."""
+    return proved_or_plain(request, "library", "crates/bb_c/out/libbb.so")
 
 
 @pytest.fixture(scope="session")
@@ -61,9 +78,10 @@ def plain() -> pathlib.Path:
 
 
 @pytest.fixture(scope="session")
-def library() -> pathlib.Path:
-    """The path of libbb.so; libbb.a is beside it."""
-    return build("library", "crates/bb_c/out/libbb.so")
+def plain_library(plain: pathlib.Path) -> pathlib.Path:
+    """The path of the libbb.so that cargo builds; libbb.a is beside it."""
+    require("ar", "ld", "nm", "objcopy", "cc")
+    return build("plain-library", str(plain.relative_to(TOP) / "libbb.so"))
 
 
 @pytest.fixture(scope="session")

@@ -1,13 +1,15 @@
 #!/usr/bin/python3
-"""Compare the program with `peer`, a plain Rust program that does the same work.
+"""Compare the program with `peer`, a plain Rust program that does the same work, and with the build by cargo.
 
-    benchmarks/measure.py [PROGRAM] [--runs N] [--seed N]
+    benchmarks/measure.py [PROGRAM] [--runs N] [--seed N] [--part PART]...
 
 It builds the peer by `rustc -O` (1.65 or later), makes its lists from a seed, requires that both write the
 same bytes and end with the same status, runs both in turn, and prints the least times and their ratio, of a
 search the spread of single runs too. The peer has two forms: in one run, and in turn. The instructions a step
-are those that `valgrind --tool=callgrind` counts, which other work on the machine doesn't change. It takes
-about ten minutes, with `--runs 1` about five.
+are those that `valgrind --tool=callgrind` counts, which other work on the machine doesn't change. The part
+`plain` compares the program that `make plain` builds on the same lists, in processor time. All parts take
+about a quarter of an hour, with `--runs 1` about five minutes. The status is 1 where a figure doesn't hold
+its bar.
 """
 
 import functools
@@ -21,7 +23,7 @@ from typing import NamedTuple, Sequence
 
 sys.path.insert(0, str(pathlib.Path(__file__).resolve().parents[1]))
 
-from benchmarks.measuring import TOP, Cost, Table, has, list_machines, parser  # noqa: E402
+from benchmarks.measuring import TOP, Cost, Table, has, list_machines, make, parser  # noqa: E402
 from benchmarks.measuring import program_of, run, take_turns  # noqa: E402
 from support.machines import CHAMPION, halting_once, uniform  # noqa: E402
 from support.program import MAX_CELLS, SIMULATION, as_lines, begins_modulo_64, run_command  # noqa: E402
@@ -31,6 +33,8 @@ CHAMPION_LIST = CHAMPION + "\n"
 LIMITS = ["--steps", "1000", "--cells", "200", "--depth", "60"]
 LIST, DRAWN, HALTING_LIST, REFUSED_BYTES = 100_000, 800_000, 1_000_000, 50_000_000
 TREES, CHECKED, RANDOM, KINDS, OPEN_LONG = 4_000, 2_000, 10_000, 3_000, 300
+# What the build by cargo may take, beside the proved one.
+PLAIN_BAR = 1.25
 
 
 class Case(NamedTuple):
@@ -191,8 +195,8 @@ def measure_search(bench: Bench, case: Case) -> None:
     bench.table.ratio(what, min(searching), min(without))
 
 
-def measure(bench: Bench, seed: int) -> None:
-    """Make each measurement."""
+def measure_peer(bench: Bench, seed: int) -> None:
+    """Compare with the plain Rust program."""
     program, peer, table = bench.program, bench.peer, bench.table
     table.head("Beside the plain Rust program")
     for case in cases_in_turn(seed):
@@ -210,28 +214,67 @@ def measure(bench: Bench, seed: int) -> None:
     if has("instructions a step", "valgrind"):
         table.row("instructions a step of the program", count_instructions(program))
         table.row("instructions a step of plain Rust", count_instructions(peer, "--one-run"))
+
+
+def measure_searches(bench: Bench, seed: int) -> None:
+    """Compare each search with the simulation of the same lines, and checking with deciding."""
+    program, table = bench.program, bench.table
     table.head("Searches and checking, in processor time")
     for case in searches(program, random.Random(seed)):
         measure_search(bench, case)
     machines = halting_machines(random.Random(seed), CHECKED, 5)
-    verdicts = as_lines(replies([program, "decide"], machines.splitlines())).decode()
-    (checking,) = bench.processors(verdicts, [[program, "check"]])
-    (deciding,) = bench.processors(machines, [[program, "decide"]])
+    verdicts = verdicts_of(program, machines)
+    (checking,), (deciding,) = (
+        bench.processors(lines, [[program, word]])
+        for word, lines in (("check", verdicts), ("decide", machines))
+    )
     what = "checking the lines of %d machines of five states, beside deciding them" % CHECKED
     table.ratio(what, min(checking), min(deciding))
 
 
-def main() -> None:
-    words = parser(__doc__, runs=5)
+def verdicts_of(program: str, machines: str) -> str:
+    """Decide machines with the default limits."""
+    return as_lines(replies([program, "decide"], machines.splitlines())).decode()
+
+
+def measure_plain(bench: Bench, seed: int) -> None:
+    """Compare the program that cargo builds with the proved one, on the lists of all parts."""
+    program, table = bench.program, bench.table
+    built = str(make("plain", "out/plain/target/release/bb"))
+    table.head("The build by cargo beside the proved one, in processor time")
+    verdicts = 100 * verdicts_of(program, halting_machines(random.Random(seed), CHECKED, 5))
+    checking = Case("checking %d lines of machines of five states" % verdicts.count("\n"), [], verdicts)
+    cases = [*cases_in_turn(seed), *cases_in_one_run(program, random.Random(seed))]
+    cases += searches(program, random.Random(seed))
+    for word, case in [*(("decide", case) for case in cases), ("check", checking)]:
+        commands = [[each, word, *case.options] for each in (built, program)]
+        plain, proved = (
+            min(cost.processor for cost in costs) for costs in bench.costs(case.lines, commands, True)
+        )
+        table.ratio(case.name, plain, proved, PLAIN_BAR)
+    if has("instructions a step", "valgrind"):
+        table.row("instructions a step of the build by cargo", count_instructions(built))
+
+
+WORKS = (measure_peer, measure_searches, measure_plain)
+PARTS = {work.__name__.partition("_")[2]: work for work in WORKS}
+
+
+def main() -> int:
+    words = parser(__doc__, runs=5, parts=list(PARTS))
     words.add_argument("--seed", type=int, default=1962, metavar="S", help="of the lists (default: 1962)")
     asked = words.parse_args()
     if not has("the comparison", "rustc"):
-        sys.exit(1)
+        return 1
     with tempfile.TemporaryDirectory() as folder:
         peer, source = folder + "/peer", str(TOP / "benchmarks" / "peer" / "main.rs")
         subprocess.run(["rustc", "-O", "-C", "codegen-units=1", "-o", peer, source], check=True)
-        measure(Bench(Table(asked.runs), program_of(asked), peer, pathlib.Path(folder)), asked.seed)
+        bench = Bench(Table(asked.runs), program_of(asked), peer, pathlib.Path(folder))
+        for name in asked.part or PARTS:
+            if has(name, *(["cargo"] if name == "plain" else [])):
+                PARTS[name](bench, asked.seed)
+    return bench.table.end()
 
 
 if __name__ == "__main__":
-    main()
+    sys.exit(main())

@@ -55,6 +55,8 @@ RULES: List[Tuple[str, str, str]] = [
     ),
     ("a copy that may fail", r"\.clone\(\)(?=\?)", ".clone_with()"),
     ("an expectation", r"\.expect\((?=\s*&?rt\b)", ".expect_with("),
+    # A step is made by calls that belong into their loop; rustc leaves them outside, at twice the time.
+    ("a call to inline", r"#\[inline\]", "#[inline(always)]"),
     ("a version", r'((?:\.version\(|\()"|"bb )(\d+\.\d+\.\d+)', r"\1\2 (plain)"),
     ("a program's start", r"fn main\((?=rt: HostRuntime\))", "std::main!(start);\n\nfn start("),
 ]
@@ -90,14 +92,24 @@ debug-assertions = true
 """
 
 
-# A step is made by calls that belong into their loop. rustc leaves them out of it by its own measure, and
-# then a simulation takes twice as long. The processor is the one of the proved build.
-FLAGS = """[target.'cfg(target_arch = "x86_64")']
-rustflags = ["-C", "llvm-args=-inline-threshold=2000", "-C", "target-cpu=x86-64-v2"]
+# What rustc does otherwise, and what it costs the single-pass run of the champion. Tests joined by `&&` become
+# one without a branch: 80 instructions a step in place of 70. On some processors branches are slow that cross
+# a multiple of 32 bytes, 1.3 of the time.
+EVERYWHERE = ["simplifycfg-branch-fold-threshold=0"]
+ON_X86 = [*EVERYWHERE, "x86-branches-within-32B-boundaries", "align-loops=32"]
 
-[target.'cfg(not(target_arch = "x86_64"))']
-rustflags = ["-C", "llvm-args=-inline-threshold=2000"]
-"""
+
+def flags(options: List[str], *others: str) -> str:
+    """Return rustflags with these options of LLVM."""
+    words = [*others, *("llvm-args=-" + option for option in options)]
+    return "rustflags = %s\n" % json.dumps([part for word in words for part in ("-C", word)])
+
+
+# The processor is the one of the proved build.
+FLAGS = """[target.'cfg(target_arch = "x86_64")']\n%s\n[target.'cfg(not(target_arch = "x86_64"))']\n%s""" % (
+    flags(ON_X86, "target-cpu=x86-64-v2"),
+    flags(EVERYWHERE),
+)
 FROM_DEBIAN = '\n[source.crates-io]\nreplace-with = "debian"\n\n[source.debian]\ndirectory = "%s"\n' % DEBIAN
 
 

@@ -1,4 +1,4 @@
-"""The library for other languages and its examples, against the program."""
+"""The library for other languages and its examples, against the program: the proved one, and cargo's."""
 
 from __future__ import annotations
 
@@ -10,7 +10,7 @@ from typing import Callable, List
 
 import budlarem
 import pytest
-from support import TOP, require
+from support import TOP, build, require
 from support.program import as_lines, begins_modulo_64, run_command, replies
 from support.simulation import compare_lines, insert_low
 
@@ -34,6 +34,15 @@ C_WORDS = ["-Wall", "-Wextra", "-Werror", "-O2", "-pthread", "-I", str(TOP / "in
 VALGRIND = ["valgrind", "-q", "--error-exitcode=9", "--leak-check=full"]
 LONG = b"1RB1LB_1LA1RZ" * 100_000
 Compile = Callable[..., str]
+
+
+@pytest.fixture(scope="module", params=["proved", "plain"])
+def library(request: pytest.FixtureRequest) -> pathlib.Path:
+    """The path of libbb.so; libbb.a is beside it."""
+    if request.param == "proved":
+        return build("library", "crates/bb_c/out/libbb.so")
+    path: pathlib.Path = request.getfixturevalue("plain_library")
+    return path
 
 
 @pytest.fixture
@@ -73,8 +82,9 @@ def test_library_exports_its_calls_alone(library: pathlib.Path) -> None:
 
 
 @pytest.mark.needs("nm")
-def test_single_pass_run_begins_at_a_multiple_of_64(library: pathlib.Path) -> None:
-    assert begins_modulo_64(str(library)) == [0]
+def test_single_pass_run_begins_at_a_multiple_of_64() -> None:
+    """In the proved library; rustc aligns the branches of the other one."""
+    assert begins_modulo_64(str(build("library", "crates/bb_c/out/libbb.so"))) == [0]
 
 
 @pytest.mark.parametrize("compiler", [C, CPP], ids=" ".join)

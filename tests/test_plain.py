@@ -12,7 +12,7 @@ import subprocess
 from typing import Callable, List, Tuple
 
 import pytest
-from support import TOP
+from support import TOP, build
 from support.examples import Example, read_examples
 from support.machines import random_machines
 from support.program import ROWS, CommandResult, as_lines, run_command, options
@@ -56,9 +56,15 @@ Programs = Tuple[str, str]
 
 
 @pytest.fixture(scope="module")
-def programs(bb: str, plain: pathlib.Path) -> Programs:
+def programs(plain: pathlib.Path) -> Programs:
     """The paths of the proved program and of the one that cargo builds."""
-    return bb, str(plain / "bb")
+    return str(build("bb", "crates/bb/out/bb")), str(plain / "bb")
+
+
+@pytest.fixture(scope="module")
+def covers(plain: pathlib.Path) -> Programs:
+    """The same for `cover`."""
+    return str(build("cover", "crates/cover/out/cover")), str(plain / "cover")
 
 
 def without_text_of_clap(text: bytes) -> bytes:
@@ -83,15 +89,11 @@ def folder(tmp_path: pathlib.Path, four_states: List[str]) -> pathlib.Path:
     return tmp_path
 
 
-def test_all_machines_of_four_states(
-    programs: Programs, cover: str, plain: pathlib.Path, four_states: List[str]
-) -> None:
+def test_all_machines_of_four_states(programs: Programs, covers: Programs, four_states: List[str]) -> None:
     lines = as_lines(four_states)
     decided = require_same(programs, lambda bb: run_command([bb, "decide", *FOUR], lines))
     require_same(programs, lambda bb: run_command([bb, "check", *FOUR], decided.output))
-    checked = require_same(
-        (cover, str(plain / "cover")), lambda one: run_command([one, *FOUR], decided.output)
-    )
+    checked = require_same(covers, lambda cover: run_command([cover, *FOUR], decided.output))
     assert checked.status == 0
     print("%d machines decided, checked and covered by both" % len(four_states))
 
@@ -145,3 +147,18 @@ def test_tests_of_the_crates(plain: pathlib.Path) -> None:
     written = [path.read_text().count("#[test]") for path in TOP.glob("crates/*/src/**/*.rt")]
     assert sum(counts) == sum(written) > 100
     print("%d tests of the crates passed" % sum(counts))
+
+
+@pytest.mark.slow
+@pytest.mark.usefixtures("plain")
+def test_two_folders_give_the_same_bytes(tmp_path: pathlib.Path) -> None:
+    """Also the archive for C, and in folders of different lengths."""
+    built = []
+    for folder in (tmp_path / "one", tmp_path / "another folder"):
+        subprocess.run([str(TOP / "plain" / "erase.py"), str(folder)], check=True)
+        command = ["cargo", "build", "--release", "--quiet", "-p", "bb", "-p", "cover", "-p", "bb_c"]
+        subprocess.run(command, cwd=folder, check=True)
+        release = folder / "target" / "release"
+        names = ("bb", "cover", "libbb_c.a", "libbb_c.so")
+        built.append({name: (release / name).read_bytes() for name in names})
+    assert [name for name in built[0] if built[0][name] != built[1][name]] == []

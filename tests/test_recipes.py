@@ -18,7 +18,7 @@ import time
 from typing import Callable
 
 import pytest
-from support import TOP, require, restore_signals
+from support import TOP, build, require, restore_signals
 from support.machines import mixed_machines
 from support.program import GREATEST, CommandResult, as_lines, run_command, options, options_of_pass
 
@@ -84,7 +84,7 @@ CLAIMS_ELSEWHERE = b"""1RB1LB_1LA--- halt 6 4
 """
 # Programs as recipes find them: the package's command, and a `bb` that is killed in the middle of the piece
 # with the line `x`.
-BUDLAREM = "#!/bin/sh\nPYTHONPATH='%s' exec '%s' -m budlarem \"$@\"\n"
+BUDLAREM = "#!/bin/sh\nBB_LIBRARY='%s' PYTHONPATH='%s' exec '%s' -m budlarem \"$@\"\n"
 KILLED = """#!%s
 import os, signal, subprocess, sys
 
@@ -123,7 +123,7 @@ class Folder:
         self.path, self.bb = path, bb
         (path / "crates" / "bb" / "out").mkdir(parents=True)
         self.place_program(bb)
-        for name in ("scripts", "tools", "examples", "crates/bb_c"):
+        for name in ("scripts", "tools", "examples"):
             (path / name).symlink_to(TOP / name)
 
     def place_program(self, program: str) -> None:
@@ -131,6 +131,11 @@ class Folder:
         for link in (self.path / "bb", self.path / "crates" / "bb" / "out" / "bb"):
             link.unlink(missing_ok=True)
             link.symlink_to(program)
+
+    def place_library(self, library: pathlib.Path) -> None:
+        """Put the folder of the library where the recipes look for it."""
+        (self.path / "crates" / "bb_c").mkdir()
+        (self.path / "crates" / "bb_c" / "out").symlink_to(library.parent)
 
     def write(self, name: str, content: bytes) -> None:
         (self.path / name).write_bytes(content)
@@ -158,10 +163,16 @@ def folder(bb: str, tmp_path: pathlib.Path) -> Folder:
 
 
 @pytest.fixture
-def package(folder: Folder, library: pathlib.Path) -> None:
+def placed_library(folder: Folder, library: pathlib.Path) -> pathlib.Path:
+    """The library that is built, where the recipes look for it."""
+    folder.place_library(library)
+    return library
+
+
+@pytest.fixture
+def package(folder: Folder, placed_library: pathlib.Path) -> None:
     """The package's command, where the recipes look for it; it takes the library that is built."""
-    assert library.exists()
-    folder.write_script("budlarem", BUDLAREM % (TOP / "python" / "src", sys.executable))
+    folder.write_script("budlarem", BUDLAREM % (placed_library, TOP / "python" / "src", sys.executable))
 
 
 def test_each_block_has_its_test() -> None:
@@ -402,7 +413,7 @@ def test_runner_refuses_a_list_in_other_forms(folder: Folder) -> None:
 
 
 @pytest.mark.needs("rustc")
-@pytest.mark.usefixtures("library")
+@pytest.mark.usefixtures("placed_library")
 @each_list
 def test_many_cores_without_python(folder: Folder, content: bytes) -> None:
     folder.write("machines.txt", content)
@@ -422,10 +433,11 @@ def test_pictures_are_those_of_the_documents(folder: Folder, at: int, name: str)
     assert found.convert("RGB").tobytes() == expected.convert("RGB").tobytes()
 
 
-def test_program_is_copied_from_where_it_is(bb: str) -> None:
-    """What needs another computer isn't run."""
+def test_program_is_copied_from_where_it_is() -> None:
+    """What needs another computer isn't run. A build by cargo stands elsewhere."""
+    proved = build("bb", "crates/bb/out/bb")
     (command,) = RECIPES["Copy the program"]
-    assert command == "scp %s host:bin/" % pathlib.Path(bb).relative_to(TOP)
+    assert command == "scp %s host:bin/" % proved.relative_to(TOP)
 
 
 def interrupt(folder: Folder, content: bytes) -> int:
@@ -471,9 +483,9 @@ def test_cut_verdicts_are_completed_twice(folder: Folder, content: bytes) -> Non
         assert folder.run(RESUME).status == 0 and folder.read("verdicts.txt") == whole
 
 
-@pytest.mark.usefixtures("library")
-def test_machines_that_another_program_makes(folder: Folder) -> None:
-    environment = {**os.environ, "PYTHONPATH": str(TOP / "python" / "src")}
+def test_machines_that_another_program_makes(folder: Folder, placed_library: pathlib.Path) -> None:
+    package = {"PYTHONPATH": str(TOP / "python" / "src"), "BB_LIBRARY": str(placed_library)}
+    environment = {**os.environ, **package}
     (program,) = RECIPES["Call the engine from a program"]
     output = run_command([sys.executable, "-c", program], cwd=str(folder.path), env=environment).output
     assert output == folder.decide(b"1RB1LB_1LA1RZ\n1RA1RA\n")

@@ -15,7 +15,7 @@ import pytest
 
 TOP = pathlib.Path(__file__).resolve().parents[2]
 # Targets of the Makefile that take no proof kit.
-WITHOUT_KIT = ("coq", "lister", "plain")
+WITHOUT_KIT = ("coq", "lister", "plain", "plain-library")
 
 
 def debian_package(program: str) -> str:
@@ -44,6 +44,11 @@ def require(*programs: str, modules: Sequence[str] = ()) -> None:
         pytest.skip("; ".join(missing))
 
 
+def has_kit() -> bool:
+    """Tell whether the proof kit is installed."""
+    return shutil.which("rt") is not None
+
+
 @functools.lru_cache(maxsize=None)
 def build(target: str, path: str) -> pathlib.Path:
     """Build a target of the Makefile where it is out of date, and return its file.
@@ -52,7 +57,7 @@ def build(target: str, path: str) -> pathlib.Path:
     there is none, the running test is skipped. Processes build one after another.
     """
     built = TOP / path
-    if shutil.which("rt") is None and target not in WITHOUT_KIT:
+    if not has_kit() and target not in WITHOUT_KIT:
         if not built.exists():
             pytest.skip("%s isn't built, and there is no kit to build it" % path)
         return built

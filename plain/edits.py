@@ -1,0 +1,245 @@
+#!/usr/bin/python3
+"""Show that the comparison of the two builds notices wrong code.
+
+    plain/edits.py [--jobs N] [CRATE]...
+
+It applies the must-fail edits of the crates one at a time to a plain workspace, builds it without optimizing,
+and compares the program with the unedited build by a selection of `tests/test_plain.py`, up to the first
+difference. Where there is none, it runs the library's test in C and the tests of the crates. It prints how
+each edit is seen, and the counts.
+"""
+
+from __future__ import annotations
+
+import argparse
+import collections
+import functools
+import os
+import pathlib
+import queue
+import random
+import re
+import subprocess
+import sys
+import threading
+from typing import Callable, Counter, Iterator, List, NamedTuple, Optional, Tuple
+
+TOP = pathlib.Path(__file__).resolve().parents[1]
+sys.path[:0] = [str(TOP), str(TOP / "tests"), str(TOP / "python" / "src")]
+
+from plain.erase import PROFILES, Source, plain, write_workspace  # noqa: E402
+from support.examples import read_examples  # noqa: E402
+from support.machines import random_machines  # noqa: E402
+from support.program import ROWS, as_lines, options  # noqa: E402
+from test_plain import COMMANDS, EDGES, FOUR, GIVEN, WORDS  # noqa: E402
+
+CRATES = ("bb_machine", "bb_sim", "bb_cert", "bb_decide", "bb_lines", "bb_run")
+TESTED = ("tests_of_parts", "tests_of_verdicts", "tests_of_runs", "bb", "bb_c")
+QUICK = """
+[profile.dev]
+debug = false
+overflow-checks = false
+panic = "abort"
+
+[profile.test]
+debug = false
+overflow-checks = true
+"""
+SECONDS = 60
+Result = Tuple[int, bytes, bytes]
+
+
+class Probe(NamedTuple):
+    """A command of a shell, in which BB and COVER stand for the programs, with its input."""
+
+    name: str
+    command: str
+    given: bytes
+
+
+class Edit(NamedTuple):
+    """A must-fail edit: the file below `src`, and the texts that it replaces."""
+
+    crate: str
+    name: str
+    file: str
+    pairs: List[Tuple[str, str]]
+
+    def apply(self, text: str) -> str:
+        for old, new in self.pairs:
+            assert text.count(old) == 1, "%s: %s" % (self.name, old)
+            text = text.replace(old, new)
+        return text
+
+
+def read_edit(path: pathlib.Path) -> Edit:
+    text = path.read_text(encoding="utf-8")
+    file = re.search(r"^file: src/(.*)$", text, re.M)
+    assert file
+    pairs = list(zip(re.findall(r"^old: (.*)$", text, re.M), re.findall(r"^new: ?(.*)$", text, re.M)))
+    return Edit(path.parents[1].name, path.stem, file[1], pairs)
+
+
+def run(probe: Probe, programs: pathlib.Path, cwd: pathlib.Path) -> Result:
+    """Run a probe; one that takes too long differs by its status."""
+    command = probe.command.replace("BB", str(programs / "bb")).replace("COVER", str(programs / "cover"))
+    try:
+        done = subprocess.run(
+            ["timeout", str(SECONDS), "sh", "-c", command], input=probe.given, capture_output=True, cwd=cwd
+        )
+    except BrokenPipeError:
+        return -1, b"", b""
+    return done.returncode, done.stdout, done.stderr
+
+
+def probes(programs: pathlib.Path, lists: pathlib.Path) -> Iterator[Probe]:
+    """The commands that are compared, in the order in which differences are likely."""
+    source, four = random.Random(1), lists / "four.txt"
+    chosen = as_lines(four.read_text().splitlines()[::60])
+    verdicts = {}
+    for limits in (FOUR, *(options(row) for row in ROWS)):
+        words = " ".join(limits)
+        machines = chosen if limits is FOUR else as_lines(random_machines(400, source))
+        decide = Probe("decide " + words, "BB decide " + words, machines)
+        yield decide
+        verdicts[words] = run(decide, programs, lists)[1]
+        forged = re.sub(rb"\d(?=\n)", lambda digit: b"%d" % (source.randrange(10)), verdicts[words])
+        yield Probe("check " + words, "BB check " + words, verdicts[words])
+        yield Probe("forged " + words, "BB check " + words, forged)
+    for example in read_examples():
+        yield Probe("example " + example.name, "cd %s; BB %s" % (TOP, " ".join(example.words)), example.given)
+    three = run(Probe("", "BB decide " + " ".join(FOUR), (lists / "three.txt").read_bytes()), programs, lists)
+    yield Probe("cover", "COVER " + " ".join(FOUR), three[1])
+    for command in EDGES:
+        yield Probe(command.strip(), command.replace("PROGRAM", "BB"), b"")
+    for _ in range(300):
+        words = " ".join(["'%s'" % word for word in source.choices(WORDS, k=source.randint(0, 5))])
+        yield Probe("words " + words, "BB %s %s" % (source.choice(COMMANDS), words), GIVEN)
+
+
+class Workspace:
+    """A plain workspace in which one edit at a time stands."""
+
+    def __init__(
+        self, folder: pathlib.Path, expected: List[Tuple[Probe, Result]], lists: pathlib.Path
+    ) -> None:
+        self.folder, self.lists = folder, lists
+        write_workspace(folder)
+        path = folder / "Cargo.toml"
+        path.write_text(path.read_text().replace(PROFILES, QUICK))
+        assert self.cargo("build", "-p", "bb", "-p", "cover") == 0
+        same = [pair for pair in expected if self.run(pair[0]) == pair[1]]
+        self.expected = same
+        print("%d of them end alike without optimization" % len(same), flush=True)
+
+    def run(self, probe: Probe) -> Result:
+        return run(probe, self.folder / "target" / "debug", self.lists)
+
+    def cargo(self, *words: str) -> int:
+        with open(self.folder / "log", "wb") as log:
+            command = ["timeout", "900", "cargo", *words, "--quiet"]
+            return subprocess.run(command, cwd=self.folder, stdout=log, stderr=log).returncode
+
+    def seen_by(self, edit: Edit) -> Optional[str]:
+        """Return what notices an edit, if anything does."""
+        path = TOP / "crates" / edit.crate / "src" / edit.file
+        target = self.folder / edit.crate / "src" / (edit.file[:-3] + ".rs")
+        right, text = target.read_text(), path.read_text(encoding="utf-8")
+        copy = self.folder / "edited.rt"
+        copy.write_text(edit.apply(text), encoding="utf-8")
+        try:
+            target.write_text(plain(Source(copy, edit.file)))
+            return self.compare()
+        finally:
+            target.write_text(right)
+
+    def compare(self) -> Optional[str]:
+        if self.cargo("build", "-p", "bb", "-p", "cover") != 0:
+            return "the compiler"
+        for probe, expected in self.expected:
+            if self.run(probe) != expected:
+                return probe.name
+        return self.library() or (
+            "the tests of the crates" if self.cargo("test", *("-p%s" % name for name in TESTED)) else None
+        )
+
+    def library(self) -> Optional[str]:
+        """Return what the library's test in C says."""
+        self.cargo("build", "-p", "bb_c")
+        made, archive = self.folder / "calls", self.folder / "target" / "debug" / "libbb_c.a"
+        source = TOP / "tests" / "library" / "calls.c"
+        subprocess.run(
+            ["cc", "-pthread", "-I", TOP / "include", source, archive, "-lm", "-o", made], check=True
+        )
+        status = subprocess.run(["timeout", "300", str(made)], capture_output=True).returncode
+        return "the library's test" if status else None
+
+
+def expected_results(programs: pathlib.Path, lists: pathlib.Path) -> List[Tuple[Probe, Result]]:
+    """Run the unedited build twice: what depends on chance isn't compared."""
+    found = [(probe, run(probe, programs, lists)) for probe in probes(programs, lists)]
+    return [(probe, result) for probe, result in found if run(probe, programs, lists) == result]
+
+
+def write_lists(lists: pathlib.Path) -> None:
+    lists.mkdir(parents=True, exist_ok=True)
+    for states, name in ((3, "three.txt"), (4, "four.txt")):
+        words = [str(TOP / "tools" / "out" / "tree_normal_form"), "--states", str(states)]
+        (lists / name).write_bytes(subprocess.run(words, stdout=subprocess.PIPE, check=True).stdout)
+    (lists / "list.txt").write_bytes(b"1RB1LB_1LA1RZ\n1rB1LB\n0RB---_0LA---\n")
+
+
+def try_all(edits: List[Edit], workspaces: List[Callable[[], Workspace]]) -> List[Tuple[Edit, Optional[str]]]:
+    """Try the edits side by side, and print how each is seen."""
+    waiting: "queue.SimpleQueue[Edit]" = queue.SimpleQueue()
+    for edit in edits:
+        waiting.put(edit)
+    found: List[Tuple[Edit, Optional[str]]] = []
+
+    def work(make: Callable[[], Workspace]) -> None:
+        workspace = make()
+        while not waiting.empty():
+            edit = waiting.get()
+            seen = workspace.seen_by(edit)
+            print("%s/%s: %s" % (edit.crate, edit.name, seen or "NOT SEEN"), flush=True)
+            found.append((edit, seen))
+
+    threads = [threading.Thread(target=work, args=(make,)) for make in workspaces]
+    for thread in threads:
+        thread.start()
+    for thread in threads:
+        thread.join()
+    return found
+
+
+def main() -> int:
+    words = argparse.ArgumentParser(description=__doc__, formatter_class=argparse.RawDescriptionHelpFormatter)
+    words.add_argument("--jobs", type=int, default=2, metavar="N", help="edits at a time (default: 2)")
+    words.add_argument("crates", nargs="*", metavar="CRATE", default=CRATES)
+    asked = words.parse_args()
+    subprocess.run(["make", "-s", "plain", "lister"], cwd=TOP, check=True)
+    folder = TOP / "out" / "edits"
+    write_lists(folder / "lists")
+    expected = expected_results(TOP / "out" / "plain" / "target" / "release", folder / "lists")
+    print("%d commands are compared" % len(expected), flush=True)
+    paths = [
+        path for name in asked.crates for path in sorted((TOP / "crates" / name / "must-fail").glob("*.edit"))
+    ]
+    edits = [read_edit(path) for path in paths]
+    makers = [
+        functools.partial(Workspace, folder / str(job), expected, folder / "lists")
+        for job in range(asked.jobs)
+    ]
+    found = try_all(edits, makers)
+    for name in asked.crates:
+        counts: Counter[Optional[str]] = collections.Counter(
+            seen if seen is None or seen.startswith("the ") else "a command"
+            for edit, seen in found
+            if edit.crate == name
+        )
+        print(name, dict(counts))
+    return 0 if len(found) == len(edits) else 1
+
+
+if __name__ == "__main__":
+    sys.exit(main())
