@@ -22,7 +22,7 @@ import re
 import subprocess
 import sys
 import threading
-from typing import Callable, Counter, Iterator, List, NamedTuple, Optional, Tuple
+from typing import Callable, Counter, Iterator, List, NamedTuple, Optional, Sequence, Tuple
 
 TOP = pathlib.Path(__file__).resolve().parents[1]
 sys.path[:0] = [str(TOP), str(TOP / "tests"), str(TOP / "python" / "src")]
@@ -33,7 +33,7 @@ from support.machines import random_machines  # noqa: E402
 from support.program import ROWS, as_lines, options  # noqa: E402
 from test_plain import COMMANDS, EDGES, FOUR, GIVEN, WORDS  # noqa: E402
 
-CRATES = ("bb_machine", "bb_sim", "bb_cert", "bb_decide", "bb_lines", "bb_run")
+CRATES = ("bb_machine", "bb_sim", "bb_narrow", "bb_cert", "bb_decide", "bb_lines", "bb_run")
 TESTED = ("tests_of_parts", "tests_of_verdicts", "tests_of_runs", "bb", "bb_c")
 QUICK = """
 [profile.dev]
@@ -189,7 +189,9 @@ def write_lists(lists: pathlib.Path) -> None:
     (lists / "list.txt").write_bytes(b"1RB1LB_1LA1RZ\n1rB1LB\n0RB---_0LA---\n")
 
 
-def try_all(edits: List[Edit], workspaces: List[Callable[[], Workspace]]) -> List[Tuple[Edit, Optional[str]]]:
+def try_all(
+    edits: List[Edit], workspaces: Sequence[Callable[[], Workspace]]
+) -> List[Tuple[Edit, Optional[str]]]:
     """Try the edits side by side, and print how each is seen."""
     waiting: "queue.SimpleQueue[Edit]" = queue.SimpleQueue()
     for edit in edits:
