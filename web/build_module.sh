@@ -71,7 +71,8 @@ translate() {
 
 # Compiles and links the module, from intermediate code that web/narrow.py takes as text. The code names a
 # processor that this target lacks; clang says so, and goes on. Unrolled loops make the module an eighth
-# larger, and no faster; so does as much inlining as clang does by itself (its threshold is 250).
+# larger, and no faster; so does as much inlining as clang does by itself (its threshold is 250). Vectors for
+# short loops and for loops with tests inside make it 2,400 bytes larger, and no faster.
 compile() {
     say 'compiling bb.wasm'
     ln -s "$kit/toolchain/bin/ld.lld" "$room/wasm-ld"
@@ -79,7 +80,8 @@ compile() {
         -o "$room/wide.ll"
     python3 "$web/narrow.py" "$room/wide.ll" "$room/narrow.ll"
     translate "$room/narrow.ll" --target=wasm32-unknown-unknown -msimd128 -mbulk-memory \
-        -fno-unroll-loops -mllvm -inline-threshold=200 -c -o "$room/module.o"
+        -fno-unroll-loops -mllvm -inline-threshold=200 -mllvm -enable-if-conversion=false \
+        -mllvm -vectorizer-min-trip-count=100 -c -o "$room/module.o"
     exported=
     for call in $calls; do
         exported="$exported --export-if-defined=$call"
