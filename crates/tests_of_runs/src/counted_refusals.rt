@@ -1,6 +1,7 @@
 //! Steps counted after an allocation failure: all those made.
 //!
-//! The machine writes a 1 in each of its six steps, the last into Z. The search for cycles keeps its
+//! The machine writes a 1 in each of its six steps, the last into Z. It never reads a 2, which keeps its runs
+//! on tapes: machines of two symbols run in registers. The search for cycles keeps its
 //! configurations 1, 2 and 4. Its first record on the right comes at step 1, its first two on the left at
 //! steps 3 and 4; each is kept.
 
@@ -12,7 +13,7 @@ use bb_machine::{Limits, Machine};
 use bb_sim::{Meter, simulate};
 use std::process::Abort;
 
-const MACHINE: &[u8] = b"1RB1LB_1LA1RZ";
+const MACHINE: &[u8] = b"1RB1LB---_1LA1RZ---";
 
 /// The kinds of calls that make a run.
 #[derive(Clone, Copy, Debug)]

@@ -13,13 +13,13 @@ use bb_sim::Meter;
 use bb_tape::{MapTape, RingTape, Tape};
 use std::process::Abort;
 
-/// The limits, a machine, and the most writes of deciding it, on all tapes together: one for each step, two
-/// for each node.
+/// The limits, a machine of three symbols, and the most writes of deciding it, on all tapes together: one for
+/// each step, two for each node. Machines of two symbols would run in registers.
 static DECIDED: [(Four, &[u8], u64); 4] = [
-    (DEFAULTS, b"0RB---_0LA---", 1_000_004),
-    ([3, 65_536, 300, 1_000_000], b"0RB---_0LA---", 17),
-    (DEFAULTS, b"1RA1RA", 131_072),
-    ([1, 65_536, 300, 1_000_000], b"1RA1RA", 3),
+    (DEFAULTS, b"0RB------_0LA------", 1_000_004),
+    ([3, 65_536, 300, 1_000_000], b"0RB------_0LA------", 25),
+    (DEFAULTS, b"1RA1RA1RA", 131_072),
+    ([1, 65_536, 300, 1_000_000], b"1RA1RA1RA", 3),
 ];
 
 /// Decides a line on such tapes, and answers how often it wrote.
@@ -78,7 +78,7 @@ fn deciding_writes_once_a_step_and_twice_a_node(rt: HostRuntime) {
 
 /// In one run the first cycle is suspected and found, twice 4 steps, and the first agreeing records are found
 /// at step 2; with fewer steps the run and the tree are made.
-static IN_ONE_RUN: [u64; 4] = [8, 3 + 8, 2, 1];
+static IN_ONE_RUN: [u64; 4] = [8, 3 + 16, 2, 1];
 
 #[test]
 fn deciding_in_one_run_writes_once_a_step_and_twice_a_node(rt: HostRuntime) {
@@ -91,7 +91,7 @@ fn deciding_in_one_run_writes_once_a_step_and_twice_a_node(rt: HostRuntime) {
 /// A claim, its answer, the least and the most steps and the most nodes of checking it, and the most writes
 /// on both tapes.
 static CHECKED: [(&[u8], &[u8], [u64; 2], u64, u64); 4] = [
-    (b"1RB1LB_1LA1RZ halt 5 4", b"bad\n", [0, 5], 0, 5),
+    (b"1RB1LB---_1LA1RZ--- halt 5 4", b"bad\n", [0, 5], 0, 5),
     (
         b"1RA1RA translated R 1 65535",
         b"ok\n",

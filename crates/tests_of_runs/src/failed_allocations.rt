@@ -49,19 +49,20 @@ fn wanted_memory(
     false
 }
 
-const MACHINES: &[u8] = b"1RB1LB_1LA1RZ
-1RB0RA_1LA---
-0RB---_0LA---
+/// Machines of three symbols, which run on tapes; those of two would run in registers. None reads a 2.
+const MACHINES: &[u8] = b"1RB1LB---_1LA1RZ---
+1RB0RA---_1LA------
+0RB------_0LA------
 ";
 
-const BY_PAIRS: &[u8] = b"1RB1LB_1LA1RZ halt 6 4
-1RB0RA_1LA--- translated R 4 8 2 1
-0RB---_0LA--- cycler 2 4
+const BY_PAIRS: &[u8] = b"1RB1LB---_1LA1RZ--- halt 6 4
+1RB0RA---_1LA------ translated R 4 8 2 1
+0RB------_0LA------ cycler 2 4
 ";
 
-const BY_TREES: &[u8] = b"1RB1LB_1LA1RZ halt 6 4
-1RB0RA_1LA--- undecided cells
-0RB---_0LA--- backward 2 4
+const BY_TREES: &[u8] = b"1RB1LB---_1LA1RZ--- halt 6 4
+1RB0RA---_1LA------ undecided cells
+0RB------_0LA------ backward 2 8
 ";
 
 /// Decides the list, with a reader and a writer over arrays.
@@ -204,15 +205,15 @@ fn refusals_of_deciding(
 /// The first machine writes a 1 into 4 cells. The second writes a 1 in two steps of four: 64 times in a whole
 /// run of 127 steps, and 4 times up to its records. Its whole run is compared with configurations 1, 2, 4 ..
 /// 64, its records with the first and the second. The third's run is compared with configurations 1 and 2;
-/// its tree has 4 nodes, each with a cell unknown before. In one run the second stops at its records; the
+/// its tree has 8 nodes, each with a cell unknown before. In one run the second stops at its records; the
 /// third, without a 1, runs to its cycle and once more.
 #[test]
 fn deciding_ends_at_each_refusal(rt: HostRuntime) {
     for (engine, plan, output, changed, copied) in [
         (Engine::InTurn, PAIRS, BY_PAIRS, 4 + 64 + 64 + 4, 7 + 2 + 2),
-        (Engine::InTurn, TREES, BY_TREES, 4 + 64 + 4, 0),
+        (Engine::InTurn, TREES, BY_TREES, 4 + 64 + 8, 0),
         (Engine::InOneRun, PAIRS, BY_PAIRS, 4 + 4, 2 + 2),
-        (Engine::InOneRun, TREES, BY_TREES, 4 + 64 + 4, 0),
+        (Engine::InOneRun, TREES, BY_TREES, 4 + 64 + 8, 0),
     ] {
         let while_running = refusals_of_deciding(&rt, engine, plan, output, 0);
         let at_right = refusals_of_deciding(&rt, engine, plan, output, 1);
