@@ -16,6 +16,8 @@ const HELP: &str = "\
 Lists all machines of so many states and symbols in tree normal form, one a line.
 
     tools/tree_normal_form --states N [--symbols N] [--steps T] [--part K/N] [--every N]
+    tools/tree_normal_form --states N [--symbols N] [--steps T] --shards K
+    tools/tree_normal_form --below MACHINE [--steps T] [--shards K]
 
 From the table with no entry on, each machine is run on the blank tape. One that meets an undefined entry
 is listed as it stands, halting there; and while more than one entry is undefined, each entry that could
@@ -28,6 +30,9 @@ to the right. A machine that meets no undefined entry within T steps is listed a
   --part K/N   the part K of N alone, K from 1 on, N up to 1,000,000: each machine is in one part, and all
                parts are about as large where there are many machines
   --every N    each so many-th machine alone, of those that are listed otherwise; N up to 1,000,000,000
+  --below M    the machine M of the list, and those that it leads to: a shard
+  --shards K   the machines with at most K entries, K from 1 on; one with K entries that leads to others stands
+               for its shard, as `M below`
 
 Of two symbols there are 3, 61, 5,417 and 858,909 machines of one to four states, and 181,385,789 of five
 states with 1,000 steps, of which the list takes half a minute. The status is 0; 1 where whoever reads
@@ -57,12 +62,17 @@ struct Asked {
     steps: usize,
     part: Part,
     every: u64,
+    /// The machine at which the list begins, if it isn't the one with no entry.
+    below: Option<Vec<u8>>,
+    /// A machine with so many entries that leads to others stands for its shard.
+    shards: usize,
 }
 
 impl Asked {
     /// Reads the words of a command line. The error is a sentence.
     fn read(words: &[String]) -> Result<Asked, String> {
         let (mut states, mut asked) = (None, Asked::default());
+        let mut cuts = None;
         let mut words = words.iter();
         while let Some(word) = words.next() {
             let (name, value) = match word.split_once('=') {
@@ -74,10 +84,29 @@ impl Asked {
                 "--states" => states = Some(number(name, value()?, 1, LETTERS.len() as u64)? as usize),
                 "--symbols" => asked.symbols = number(name, value()?, 2, MOST_SYMBOLS)? as usize,
                 "--steps" => asked.steps = number(name, value()?, 0, MOST_STEPS)? as usize,
-                "--part" => asked.part = Part::read(value()?)?,
-                "--every" => asked.every = number(name, value()?, 1, MOST_EVERY)?,
+                "--part" => {
+                    cuts = Some(name);
+                    asked.part = Part::read(value()?)?
+                }
+                "--every" => {
+                    cuts = Some(name);
+                    asked.every = number(name, value()?, 1, MOST_EVERY)?
+                }
+                "--below" => asked.below = Some(value()?.as_bytes().to_vec()),
+                "--shards" => asked.shards = number(name, value()?, 1, ENTRIES as u64)? as usize,
                 _ => return Err(format!("{} is no option; --help tells them", word)),
             }
+        }
+        if let (Some(cut), true) = (cuts, asked.below.is_some() || asked.shards < ENTRIES) {
+            return Err(format!("{} doesn't go with --below or --shards", cut));
+        }
+        if let Some(text) = &asked.below {
+            let (states_of, symbols) = size_of(text)?;
+            if states.map_or(false, |states| states != states_of) {
+                return Err("--states isn't the size of --below's machine".to_string());
+            }
+            states = Some(states_of);
+            asked.symbols = symbols;
         }
         asked.states = states.ok_or("--states isn't given; it says how many states the machines have")?;
         Ok(asked)
@@ -101,8 +130,29 @@ impl Default for Asked {
                 given: 0,
             },
             every: 1,
+            below: None,
+            shards: ENTRIES,
         }
     }
+}
+
+/// How many states and symbols the machine with this text has. The error is a sentence.
+fn size_of(text: &[u8]) -> Result<(usize, usize), String> {
+    let groups: Vec<&[u8]> = text.split(|byte| *byte == b'_').collect();
+    let symbols = groups[0].len() / 3;
+    let fits = 2 <= symbols && symbols as u64 <= MOST_SYMBOLS && groups.len() <= LETTERS.len();
+    let is_entry = |entry: &[u8]| {
+        entry == b"---"
+            || (entry[0].wrapping_sub(b'0') as usize) < symbols
+                && (entry[1] == b'L' || entry[1] == b'R')
+                && LETTERS[..groups.len()].contains(&entry[2])
+    };
+    let is_group = |group: &&[u8]| group.len() == 3 * symbols && group.chunks(3).all(is_entry);
+    if !fits || !groups.iter().all(is_group) {
+        let text = String::from_utf8_lossy(text);
+        return Err(format!("--below is {}, but must be a machine without Z", text));
+    }
+    Ok((groups.len(), symbols))
 }
 
 /// A number of an option within its range. The error is a sentence.
@@ -366,9 +416,15 @@ impl<W: Write> Tree<W> {
         }
     }
 
-    /// Lists all machines.
+    /// Lists all machines, or those from one machine on.
     fn list(&mut self) -> io::Result<()> {
         let run = start_of(&self.asked);
+        if let Some(text) = self.asked.below.take() {
+            let (entries, used) = self.fill(&text);
+            self.tapes.resize_with(entries + 1, || Tape::new(self.asked.steps));
+            self.list_from(entries, run, used)?;
+            return self.out.flush();
+        }
         if self.asked.part.takes_next() {
             self.write()?;
         }
@@ -378,6 +434,53 @@ impl<W: Write> Tree<W> {
         };
         self.grow(0, run, first)?;
         self.out.flush()
+    }
+
+    /// Sets the table to that of a machine. Returns how many entries it has, and what they use.
+    fn fill(&mut self, text: &[u8]) -> (usize, Used) {
+        let symbols = self.asked.symbols;
+        let mut entries = 0;
+        let mut used = Used {
+            states: 0,
+            symbols: 0,
+        };
+        for (index, entry) in text.split(|byte| *byte == b'_').flat_map(|group| group.chunks(3)).enumerate() {
+            if entry == b"---" {
+                continue;
+            }
+            let (write, state) = ((entry[0] - b'0') as usize, (entry[2] - b'A') as usize);
+            self.table[index] = Entry {
+                is_defined: true,
+                write: write as u8,
+                step: if entry[1] == b'R' { 1 } else { -1 },
+                row: (state * symbols) as u8,
+            };
+            entries += 1;
+            used.states = used.states.max(state + 1).max(index / symbols + 1);
+            used.symbols = used.symbols.max(write + 1).max(index % symbols + 1);
+        }
+        self.text[..text.len()].copy_from_slice(text);
+        (entries, used)
+    }
+
+    /// Lists the machine at hand, with so many entries, and what it leads to.
+    fn list_from(&mut self, entries: usize, mut run: Run, used: Used) -> io::Result<()> {
+        let leads_on = entries + 1 < self.asked.entries()
+            && self.tapes[entries].run(&self.table, &mut run, self.asked.steps, &mut self.mark);
+        if leads_on && entries == self.asked.shards {
+            return self.write_shard();
+        }
+        self.write()?;
+        if leads_on {
+            self.grow(entries, run, used)?;
+        }
+        Ok(())
+    }
+
+    /// Writes the machine at hand as that of a shard.
+    fn write_shard(&mut self) -> io::Result<()> {
+        self.out.write_all(&self.text[..self.text.len() - 1])?;
+        self.out.write_all(b" below\n")
     }
 
     /// Lists what a machine with so many entries leads to, whose run has met an undefined entry.
@@ -399,10 +502,11 @@ impl<W: Write> Tree<W> {
     /// Lists a machine with so many entries, whose run stands before its newest one, and what it leads to.
     fn visit(&mut self, entries: usize, mut run: Run, used: Used) -> io::Result<()> {
         let is_taken = entries > SHARED || self.asked.part.takes_next();
-        if is_taken {
+        let leads_nowhere = entries + 1 == self.asked.entries() || (entries == SHARED && !is_taken);
+        if is_taken && (leads_nowhere || entries != self.asked.shards) {
             self.write()?;
         }
-        if entries + 1 == self.asked.entries() || (entries == SHARED && !is_taken) {
+        if leads_nowhere {
             return Ok(());
         }
         if self.tapes.len() == entries {
@@ -410,6 +514,9 @@ impl<W: Write> Tree<W> {
         }
         let (before, after) = self.tapes.split_at_mut(entries);
         after[0].copy(&before[entries - 1]);
+        if entries == self.asked.shards {
+            return self.list_from(entries, run, used);
+        }
         if after[0].run(&self.table, &mut run, self.asked.steps, &mut self.mark) {
             self.grow(entries, run, used)?;
         }

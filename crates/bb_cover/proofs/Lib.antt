@@ -1,8 +1,12 @@
 mod Asks
+mod Contents
 mod Halting
 mod Judging
 mod Lefts
+mod Parts
 mod Reasons
+mod ShardLines
+mod Spaces
 mod Steps
 mod Tables
 mod Tallies

@@ -1,10 +1,9 @@
 -- Which reason to stop at a line comes first.
 use Rattle.std.proofs.Common.{◌≡◌, ◌≢◌, ℕ, ◌≤◌, List, [], Option, None, subst, arith}
-use Rattle.bb_machine.specs.Limits.{Bounds}
 use Rattle.bb_machine.specs.Machine.{Table}
 use Rattle.bb_cert.specs.declared.checker.answer.Answer.{Answer}
 use Rattle.bb_cert.specs.declared.verdict.Verdict.{Verdict}
-use Rattle.bb_cert.specs.declared.verdict.reader.Line.TheVariants.{Claim}
+use Rattle.bb_cert.specs.declared.verdict.reader.Line.TheVariants as said
 use Rattle.bb_cert.specs.verdict.Line.{IsLineOf}
 use Rattle.laws_of_verdicts.specs.Closed.{VerdictLine}
 use Rattle.bb_cover.specs.declared.found.Why.{Why}
@@ -12,13 +11,16 @@ use Rattle.bb_cover.specs.declared.found.Why.TheVariants.{Unread, NotNext, Refus
 use Rattle.bb_cover.specs.declared.list.Size.{Size}
 use Rattle.bb_cover.specs.Claims.{IsRefusedClaim}
 use Rattle.bb_cover.specs.CoverProgress.{Applies, IsAsked, IsWrong, rank}
-use Rattle.bb_cover.proofs.Steps.{one_line}
+use Rattle.bb_cover.specs.declared.content.Content.TheVariants.{Claim}
+use Rattle.bb_cover.specs.declared.task.Task.{Task}
+use Rattle.bb_cover.specs.Content.{IsItemLine, Item}
+use Rattle.bb_cover.proofs.ShardLines.{one_item}
 
-module _ (bounds : Bounds) (size : Option Size) (left : List Table) (bytes : List ℕ) where
-  pub beyond_first : (size ≢ None) × (left ≡ []) → IsWrong bounds size left bytes Beyond
+module _ (task : Task) (size : Option Size) (left : List Table) (bytes : List ℕ) where
+  pub beyond_first : (size ≢ None) × (left ≡ []) → IsWrong task size left bytes Beyond
   beyond_first done = record { applies = done; first = first }
     where
-      first : (other : Why) → Applies bounds size left bytes other → rank Beyond ≤ rank other
+      first : (other : Why) → Applies task size left bytes other → rank Beyond ≤ rank other
       first Beyond applies = omega arith
       first Unread applies = omega arith
       first NotNext applies = omega arith
@@ -26,40 +28,46 @@ module _ (bounds : Bounds) (size : Option Size) (left : List Table) (bytes : Lis
       first TooSoon applies = omega arith
 
   pub unread_first : ((size ≢ None) × (left ≡ []) → ⊥)
-      → ((table : Table) (verdict : Verdict) → IsLineOf (Claim table verdict) bytes → ⊥)
-      → IsWrong bounds size left bytes Unread
+      → ((item : Item) → IsItemLine task.form item bytes → ⊥)
+      → IsWrong task size left bytes Unread
   unread_first not_done unread = record { applies = unread; first = first }
     where
-      first : (other : Why) → Applies bounds size left bytes other → rank Unread ≤ rank other
+      first : (other : Why) → Applies task size left bytes other → rank Unread ≤ rank other
       first Beyond applies = absurd (not_done applies)
       first Unread applies = omega arith
       first NotNext applies = omega arith
       first (Refused given) applies = omega arith
       first TooSoon applies = omega arith
 
-  module _ (not_done : (size ≢ None) × (left ≡ []) → ⊥) (line : VerdictLine)
-      (of : IsLineOf (Claim line.table line.verdict) bytes) where
-    pub not_next_first : ((rest : List Table) → IsAsked size left line.table rest → ⊥)
-        → IsWrong bounds size left bytes NotNext
-    not_next_first not_asked = record { applies = (line, of, not_asked); first = first }
+  module _ (not_done : (size ≢ None) × (left ≡ []) → ⊥) (item : Item) (of : IsItemLine task.form item bytes) where
+    pub not_next_first : ((rest : List Table) → IsAsked task.below size left item.table rest → ⊥)
+        → IsWrong task size left bytes NotNext
+    not_next_first not_asked = record { applies = (item, of, not_asked); first = first }
       where
-        first : (other : Why) → Applies bounds size left bytes other → rank NotNext ≤ rank other
+        first : (other : Why) → Applies task size left bytes other → rank NotNext ≤ rank other
         first Beyond applies = absurd (not_done applies)
-        first Unread applies = absurd (applies line.table line.verdict of)
+        first Unread applies = absurd (applies item of)
         first NotNext applies = omega arith
         first (Refused given) applies = omega arith
         first TooSoon applies = omega arith
 
-    pub refused_first : (rest : List Table) → IsAsked size left line.table rest → (given : Answer)
-        → IsRefusedClaim bounds line.table line.verdict given
-        → IsWrong bounds size left bytes (Refused given)
-    refused_first rest asked given refused = record { applies = (line, of, refused); first = first }
+  module _ (not_done : (size ≢ None) × (left ≡ []) → ⊥) (table : Table) (verdict : Verdict)
+      (of : IsLineOf (said.Claim table verdict) bytes) where
+    pub refused_first : (rest : List Table) → IsAsked task.below size left table rest → (given : Answer)
+        → IsRefusedClaim task.limits table verdict given
+        → IsWrong task size left bytes (Refused given)
+    refused_first rest asked given refused =
+        record { applies = (record { table = table; verdict = verdict }, of, refused); first = first }
       where
-        first : (other : Why) → Applies bounds size left bytes other → rank (Refused given) ≤ rank other
+        item : Item
+        item = record { table = table; content = Claim verdict }
+
+        first : (other : Why) → Applies task size left bytes other → rank (Refused given) ≤ rank other
         first Beyond applies = absurd (not_done applies)
-        first Unread applies = absurd (applies line.table line.verdict of)
+        first Unread applies = absurd (applies item of)
         first NotNext applies =
-            let same = one_line bytes line applies.0 of applies.1 in
-            absurd (applies.2 rest (subst (λ (l : VerdictLine). IsAsked size left l.table rest) same asked))
+            let same = one_item task.form bytes item applies.0 of applies.1 in
+            absurd (applies.2 rest
+            (subst (λ (i : Item). IsAsked task.below size left i.table rest) same asked))
         first (Refused other) applies = omega arith
         first TooSoon applies = omega arith

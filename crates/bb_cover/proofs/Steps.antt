@@ -1,10 +1,10 @@
 -- What one line does to a walk.
-use Rattle.std.proofs.Common.{◌≡◌, ◌↔◌, ℕ, ◌+◌, ◌⊎◌, Bool, true, false, List, ◌∷◌, ◌++◌}
+use Rattle.std.proofs.Common.{◌≡◌, ◌↔◌, ℕ, ◌+◌, ◌⊎◌, Bool, true, false, List, [], ◌∷◌, ◌++◌}
 use Rattle.std.proofs.Common.{Option, Some, None, length, map, min, inr, refl, ap, sym, subst, ◌∙◌, arith}
 use Rattle.std.specs.Prelude.{IsTrue, is_some}
-use Rattle.bb_machine.specs.Limits.{Bounds}
 use Rattle.bb_machine.specs.Machine.{Table, symbols_of}
 use Rattle.bb_cert.specs.declared.verdict.Verdict.{Verdict}
+use Rattle.bb_cert.specs.declared.verdict.Verdict.TheVariants.{Undecided}
 use Rattle.bb_cert.specs.declared.verdict.reader.Line.TheVariants.{Claim, Refusal}
 use Rattle.bb_cert.specs.verdict.Line.{IsLineOf}
 use Rattle.bb_cert.proofs.Facts.{line_unique}
@@ -16,6 +16,7 @@ use Rattle.bb_cover.specs.declared.found.Stop.{Stop}
 use Rattle.bb_cover.specs.declared.found.Why.{Why}
 use Rattle.bb_cover.specs.declared.undefined.UndefinedEntry.{UndefinedEntry}
 use Rattle.bb_cover.specs.declared.list.CoverProgress.{CoverProgress}
+use Rattle.bb_cover.specs.declared.task.Task.{Task}
 use Rattle.bb_cover.specs.Counts.{saturated}
 use Rattle.bb_cover.specs.CoverProgress.{IsWrong, Stopped, Took, TookBy, Visited}
 use Rattle.bb_cover.specs.UndefinedEntries.{IsToFill}
@@ -28,18 +29,6 @@ pub never_both : (bytes : List ℕ) (table : Table) (verdict : Verdict) (column 
     → IsLineOf (Claim table verdict) bytes → IsLineOf (Refusal column) bytes → ⊥
 never_both bytes table verdict column one two =
     cc (line_unique (Claim table verdict) (Refusal column) bytes one two)
-
-pub one_line : (bytes : List ℕ) (a b : VerdictLine) → IsLineOf (Claim a.table a.verdict) bytes
-    → IsLineOf (Claim b.table b.verdict) bytes → a ≡ b
-one_line bytes a b one two = same a.table b.table a.verdict b.verdict
-    (line_unique (Claim a.table a.verdict) (Claim b.table b.verdict) bytes one two)
-  where
-    same : (t u : Table) (v x : Verdict) → Claim t v ≡ Claim u x
-        → ◌≡◌ {A = VerdictLine} (record { table = t; verdict = v }) (record { table = u; verdict = x })
-    same t u v x e =
-        let tables : t ≡ u = cc in
-        let verdicts : v ≡ x = cc in
-        λ i. record { table = tables i; verdict = verdicts i }
 
 -- which machines a line leads to
 
@@ -98,24 +87,29 @@ goes_on line undefined more rest fill fills tail = (
       (leads_nowhere_else line undefined more walk.1.0 fill fills walk.1.1) walk.1.2,
 )
 
+-- an undecided machine leads to no other
+pub undecided_nowhere : (table : Table) (why : _) (more : List Table)
+    → LeadsTo (record { table = table; verdict = Undecided why }) more → more ≡ []
+undecided_nowhere table why more leads = leads.none (λ q s halts. let says = halts.says in cc)
+
 -- a line of a walk that hasn't stopped
 
 none_of : (stop : Option Stop) → is_some stop ≡ false → stop ≡ None
 none_of None e = refl
 none_of (Some stop) e = cc
 
-pub took : (bounds : Bounds) (old : CoverProgress) (bytes : List ℕ) (new : CoverProgress) → is_some old.stop ≡ false
-    → (old.stop ≡ None → Visited bounds old bytes new ⊎ Stopped bounds old bytes new)
-    → Took bounds old bytes new
-took bounds old bytes new going did =
+pub took : (task : Task) (old : CoverProgress) (bytes : List ℕ) (new : CoverProgress) → is_some old.stop ≡ false
+    → (old.stop ≡ None → Visited task old bytes new ⊎ Stopped task old bytes new)
+    → Took task old bytes new
+took task old bytes new going did =
     let none = none_of old.stop going in
-    subst (λ s. TookBy s bounds old bytes new) (sym none) (did none)
+    subst (λ s. TookBy s task old bytes new) (sym none) (did none)
 
-pub stops : (bounds : Bounds) (old : CoverProgress) (bytes : List ℕ) (new : CoverProgress) (why : Why)
-    → is_some old.stop ≡ false → IsWrong bounds old.size old.walk bytes why
-    → new ≡ record old { stop = Some (record { line = saturated (old.counts.lines + 1); why = why }) }
-    → Took bounds old bytes new
-stops bounds old bytes new why going wrong is = took bounds old bytes new going (λ _. inr (record {
+pub stops : (task : Task) (old : CoverProgress) (bytes : List ℕ) (new : CoverProgress) (why : Why)
+    → is_some old.stop ≡ false → IsWrong task old.size old.walk bytes why
+    → new ≡ record old { stop = Some (record { line = saturated (old.counts.read + 1); why = why }) }
+    → Took task old bytes new
+stops task old bytes new why going wrong is = took task old bytes new going (λ _. inr (record {
   why = why;
   wrong = wrong;
   stop = ap (λ (x : CoverProgress). x.stop) is;

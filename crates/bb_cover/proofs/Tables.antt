@@ -3,7 +3,7 @@ use Rattle.std.proofs.Common.{◌≡◌, ℕ, suc, ◌+◌, ◌*◌, ◌<◌, �
 use Rattle.std.proofs.Common.{replicate, inl, inr, refl, ap, sym, ◌∙◌, arith}
 use Rattle.std.proofs.lemmas.Bool.{cases_eq, cases_lt}
 use Rattle.std.proofs.lemmas.List.{ext_get_or, length-set, get_or-set_same, get_or-set_other}
-use Rattle.std.proofs.lemmas.List.{get_or-replicate}
+use Rattle.std.proofs.lemmas.List.{get_or-replicate, set-get_or}
 use Rattle.std.proofs.lemmas.List.{get_or_past, length-replicate, take_more}
 use Rattle.bb_machine.specs.declared.entry.Dir.TheVariants as dir
 use Rattle.bb_machine.specs.declared.entry.Entry.{Entry}
@@ -44,6 +44,11 @@ same_table child table machine machine_too q s e states symbols same =
     ext_get_or Undefined (get_or child i []) (get_or (with_entry table q s e) i [])
     (omega (arith, groups_long child machine i h, wide_too, symbols)) (λ j inside.
     same i below j (omega (arith, inside, groups_long child machine i h, symbols))))
+
+-- the machine with an entry that it has is itself
+pub own_entry : (table : Table) (q s : ℕ) → with_entry table q s (entry_of table q s) ≡ table
+own_entry table q s =
+    ap (set table q) (set-get_or (get_or table q []) s Undefined) ∙ set-get_or table q []
 
 -- the machine that has only gaps
 pub all_empty : (table : Table) → IsMachine table

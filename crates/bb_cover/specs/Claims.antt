@@ -4,14 +4,16 @@ use Rattle.bb_machine.specs.Limits.{Bounds}
 use Rattle.bb_machine.specs.Machine.{Table}
 use Rattle.bb_cert.specs.declared.checker.answer.Answer.{Answer}
 use Rattle.bb_cert.specs.declared.verdict.Verdict.{Verdict}
-use Rattle.bb_cert.specs.declared.verdict.reader.Line.TheVariants as said
 use Rattle.bb_cert.specs.checker.Answer.{IsAnswer, is_fine}
-use Rattle.bb_cert.specs.verdict.Line.{IsLineOf}
 use Rattle.laws_of_verdicts.specs.Closed.{VerdictLine}
 use Rattle.laws_of_verdicts.specs.UndefinedEntry.{HasOtherUndefined}
 use Rattle.bb_cover.specs.declared.claim.Judged.{Judged}
 use Rattle.bb_cover.specs.declared.claim.Judged.TheVariants.{Fine, Refused}
 use Rattle.bb_cover.specs.declared.undefined.UndefinedEntry.{UndefinedEntry}
+use Rattle.bb_cover.specs.declared.content.Content.{Content}
+use Rattle.bb_cover.specs.declared.content.Content.TheVariants.{Claim, Shard}
+use Rattle.bb_cover.specs.declared.task.Task.{Task}
+use Rattle.bb_cover.specs.Content.{IsItemLine, Item}
 use Rattle.bb_cover.specs.Counts.{is_halt}
 use Rattle.bb_cover.specs.UndefinedEntries.{IsToFill}
 
@@ -43,15 +45,24 @@ IsJudged table bounds verdict (Fine undefined) = IsFineClaim bounds table verdic
     × IsToFill (record { table = table; verdict = verdict }) undefined
 IsJudged table bounds verdict (Refused given) = IsRefusedClaim bounds table verdict given
 
--- the bytes are the line of this machine and this verdict, which may stand in a list
-pub record IsTrueLine (bounds : Bounds) (bytes : List ℕ) (line : VerdictLine) : Type 0 where
-  pub is_line : IsLineOf (said.Claim line.table line.verdict) bytes
-  pub is_fine : IsFineClaim bounds line.table line.verdict
+-- the content of a line is judged so; the counts of a shard lead to no machine
+abbrev pub IsJudgedContent : Table → Bounds → Content → Judged → Type 0
+IsJudgedContent table bounds (Claim verdict) judged = IsJudged table bounds verdict judged
+IsJudgedContent table bounds (Shard shard) judged = judged ≡ Fine None
 
--- these bytes, in their order, are these lines
-abbrev pub AreTrueLines : Bounds → List (List ℕ) → List VerdictLine → Type 0
-AreTrueLines bounds [] [] = Unit {0}
-AreTrueLines bounds [] (line ∷ lines) = ⊥
-AreTrueLines bounds (bytes ∷ more) [] = ⊥
-AreTrueLines bounds (bytes ∷ more) (line ∷ lines) =
-    IsTrueLine bounds bytes line × AreTrueLines bounds more lines
+-- a verdict may stand in a list; the counts of a shard are taken as they are
+abbrev pub IsFineContent : Bounds → Table → Content → Type 0
+IsFineContent bounds table (Claim verdict) = IsFineClaim bounds table verdict
+IsFineContent bounds table (Shard shard) = Unit {0}
+
+-- the bytes are the line of this item, which may stand in the list
+pub record IsTrueLine (task : Task) (bytes : List ℕ) (item : Item) : Type 0 where
+  pub is_line : IsItemLine task.form item bytes
+  pub is_fine : IsFineContent task.limits item.table item.content
+
+-- these bytes, in their order, are the lines of these items
+abbrev pub AreTrueLines : Task → List (List ℕ) → List Item → Type 0
+AreTrueLines task [] [] = Unit {0}
+AreTrueLines task [] (item ∷ items) = ⊥
+AreTrueLines task (bytes ∷ more) [] = ⊥
+AreTrueLines task (bytes ∷ more) (item ∷ items) = IsTrueLine task bytes item × AreTrueLines task more items

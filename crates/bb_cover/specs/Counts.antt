@@ -1,10 +1,15 @@
 -- How many lines of each kind there are.
 use Rattle.std.specs.Prelude.{◌≡◌, ℕ, ◌+◌, ◌-◌, ◌^◌, min, Bool, true, false, cond, nat_lt, List, count_by}
-use Rattle.std.specs.Prelude.{length}
+use Rattle.std.specs.Prelude.{length, [], ◌∷◌}
+use Rattle.bb_machine.specs.Machine.{Table}
 use Rattle.bb_cert.specs.declared.verdict.Verdict.{Verdict}
 use Rattle.bb_cert.specs.declared.verdict.Verdict.TheVariants.{Halt, Cycler, Translated, Backward, Undecided}
 use Rattle.laws_of_verdicts.specs.Closed.{VerdictLine}
+use Rattle.bb_cover.specs.declared.content.Content.{Content}
+use Rattle.bb_cover.specs.declared.content.Content.TheVariants.{Claim, Shard}
+use Rattle.bb_cover.specs.declared.content.ShardCounts.{ShardCounts}
 use Rattle.bb_cover.specs.declared.counts.Counts.{Counts}
+use Rattle.bb_cover.specs.Content.{Item}
 use Rattle.bb_cover.specs.UndefinedEntries.{undefined_entries_of}
 
 -- of five, the one for the verdict's kind
@@ -42,6 +47,8 @@ saturated n = min n (2 ^ 64 - 1)
 
 abbrev pub no_counts : Counts
 no_counts = record {
+  read = 0;
+  shards = 0;
   lines = 0;
   halt = 0;
   cycler = 0;
@@ -55,9 +62,10 @@ no_counts = record {
 abbrev pub more_if : Bool → ℕ → ℕ
 more_if b n = cond b (saturated (n + 1)) n
 
--- the counts with one line more
-abbrev pub counted : Counts → VerdictLine → Counts
-counted counts line = record {
+-- the counts with one line more, that of a verdict
+abbrev pub counted_claim : Counts → VerdictLine → Counts
+counted_claim counts line = record counts {
+  read = saturated (counts.read + 1);
   lines = saturated (counts.lines + 1);
   halt = more_if (is_halt line.verdict) counts.halt;
   cycler = more_if (is_cycler line.verdict) counts.cycler;
@@ -67,12 +75,66 @@ counted counts line = record {
   wide = more_if (is_wide line) counts.wide;
 }
 
--- these are the counts of the lines
-pub record AreCounts (lines : List VerdictLine) (counts : Counts) : Type 0 where
-  pub all : counts.lines ≡ saturated (length lines)
-  pub halt : counts.halt ≡ saturated (count_by (λ line. is_halt line.verdict) lines)
-  pub cycler : counts.cycler ≡ saturated (count_by (λ line. is_cycler line.verdict) lines)
-  pub translated : counts.translated ≡ saturated (count_by (λ line. is_translated line.verdict) lines)
-  pub backward : counts.backward ≡ saturated (count_by (λ line. is_backward line.verdict) lines)
-  pub undecided : counts.undecided ≡ saturated (count_by (λ line. is_undecided line.verdict) lines)
-  pub wide : counts.wide ≡ saturated (count_by is_wide lines)
+-- that of a shard, whose own lines are counted with it
+abbrev pub counted_shard : Counts → ShardCounts → Counts
+counted_shard counts shard = record counts {
+  read = saturated (counts.read + 1);
+  shards = saturated (counts.shards + 1);
+  lines = saturated (counts.lines + shard.lines);
+  undecided = saturated (counts.undecided + shard.undecided);
+  wide = saturated (counts.wide + shard.wide);
+}
+
+abbrev pub counted_content : Counts → Table → Content → Counts
+counted_content counts table (Claim verdict) =
+    counted_claim counts (record { table = table; verdict = verdict })
+counted_content counts table (Shard shard) = counted_shard counts shard
+
+abbrev pub counted : Counts → Item → Counts
+counted counts item = counted_content counts item.table item.content
+
+-- whether an item is a shard, and how many lines it stands for, how many of them undecided, and wide
+
+abbrev pub is_shard : Content → Bool
+is_shard (Claim verdict) = false
+is_shard (Shard shard) = true
+
+abbrev pub is_claim_of : (Verdict → Bool) → Content → Bool
+is_claim_of test (Claim verdict) = test verdict
+is_claim_of test (Shard shard) = false
+
+abbrev pub lines_in : Content → ℕ
+lines_in (Claim verdict) = 1
+lines_in (Shard shard) = shard.lines
+
+abbrev pub undecided_in : Content → ℕ
+undecided_in (Claim verdict) = cond (is_undecided verdict) 1 0
+undecided_in (Shard shard) = shard.undecided
+
+abbrev pub wide_in : Table → Content → ℕ
+wide_in table (Claim verdict) = cond (is_wide (record { table = table; verdict = verdict })) 1 0
+wide_in table (Shard shard) = shard.wide
+
+-- the sum of a number over items
+abbrev pub sum_of : (Item → ℕ) → List Item → ℕ
+sum_of f [] = 0
+sum_of f (item ∷ items) = f item + sum_of f items
+
+-- these are the counts of the items
+pub record AreCounts (items : List Item) (counts : Counts) : Type 0 where
+  pub read : counts.read ≡ saturated (length items)
+  pub shards : counts.shards ≡ saturated (count_by (λ item. is_shard item.content) items)
+  pub all : counts.lines ≡ saturated (sum_of (λ item. lines_in item.content) items)
+  pub halt : counts.halt ≡ saturated (count_by (λ item. is_claim_of is_halt item.content) items)
+  pub cycler : counts.cycler ≡ saturated (count_by (λ item. is_claim_of is_cycler item.content) items)
+  pub translated : counts.translated
+      ≡ saturated (count_by (λ item. is_claim_of is_translated item.content) items)
+  pub backward : counts.backward ≡ saturated (count_by (λ item. is_claim_of is_backward item.content) items)
+  pub undecided : counts.undecided ≡ saturated (sum_of (λ item. undecided_in item.content) items)
+  pub wide : counts.wide ≡ saturated (sum_of (λ item. wide_in item.table item.content) items)
+
+-- a list has so many lines, so many of them undecided, and so many of those with more than one `---`
+pub record HasTotals (verdicts : List VerdictLine) (lines undecided wide : ℕ) : Type 0 where
+  pub lines_are : lines ≡ saturated (length verdicts)
+  pub undecided_are : undecided ≡ saturated (count_by (λ line. is_undecided line.verdict) verdicts)
+  pub wide_are : wide ≡ saturated (count_by is_wide verdicts)

@@ -1,9 +1,7 @@
 -- How a walk goes along a list, line by line.
 use Rattle.std.specs.Prelude.{◌≡◌, ◌≢◌, ◌⊎◌, ℕ, ◌+◌, ◌≤◌, List, [], ◌∷◌, ◌++◌, length, Option, Some, None}
-use Rattle.bb_machine.specs.Limits.{Bounds}
 use Rattle.bb_machine.specs.Machine.{Table, symbols_of}
 use Rattle.bb_cert.specs.declared.verdict.reader.Line.TheVariants as said
-use Rattle.bb_cert.specs.declared.verdict.Verdict.{Verdict}
 use Rattle.bb_cert.specs.verdict.Line.{IsLineOf}
 use Rattle.laws_of_verdicts.specs.Closed.{VerdictLine}
 use Rattle.laws_of_verdicts.specs.NormalForm.{IsEmpty}
@@ -16,14 +14,21 @@ use Rattle.bb_cover.specs.declared.undefined.UndefinedEntry.{UndefinedEntry}
 use Rattle.bb_cover.specs.declared.list.CoverProgress.{CoverProgress}
 use Rattle.bb_cover.specs.declared.list.Size.{Size}
 use Rattle.bb_cover.specs.Claims.{IsRefusedClaim, IsTrueLine}
+use Rattle.bb_cover.specs.declared.task.Task.{Task}
+use Rattle.bb_cover.specs.Content.{IsItemLine, Item, line_of}
 use Rattle.bb_cover.specs.Counts.{counted, saturated}
 use Rattle.bb_cover.specs.UndefinedEntries.{IsToFill}
 use Rattle.bb_cover.specs.Left.{FillsAt}
 
--- the machine is the next one, before these; that of the first line is one with no entry
-abbrev pub IsAsked : Option Size → List Table → Table → List Table → Type 0
-IsAsked None left table rest = IsEmpty table × (rest ≡ [])
-IsAsked (Some size) left table rest = left ≡ table ∷ rest
+-- the walk begins at this machine: the one that the list is asked for, or one with no entry
+abbrev pub Starts : Option Table → Table → Type 0
+Starts None table = IsEmpty table
+Starts (Some first) table = table ≡ first
+
+-- the machine is the next one, before these; that of the first line is one at which the walk begins
+abbrev pub IsAsked : Option Table → Option Size → List Table → Table → List Table → Type 0
+IsAsked below None left table rest = Starts below table × (rest ≡ [])
+IsAsked below (Some size) left table rest = left ≡ table ∷ rest
 
 -- the size is that of the first line's machine
 abbrev pub size_after : Option Size → Table → Option Size
@@ -31,36 +36,35 @@ size_after None table = Some (record { states = length table; symbols = symbols_
 size_after (Some size) table = Some size
 
 -- a machine was visited: those that fill its `---`, if there is one to fill, come in its place
-pub record GoesOn (old : CoverProgress) (table : Table) (undefined : Option UndefinedEntry) (new : CoverProgress) : Type 0 where
+pub record GoesOn (below : Option Table) (old : CoverProgress) (table : Table) (undefined : Option UndefinedEntry)
+    (new : CoverProgress) : Type 0 where
   pub rest : List Table
-  pub asked : IsAsked old.size old.walk table rest
+  pub asked : IsAsked below old.size old.walk table rest
   pub more : List Table
   pub fills : FillsAt table undefined more
   pub size : new.size ≡ size_after old.size table
   pub walk : new.walk ≡ more ++ rest
   pub stop : new.stop ≡ old.stop
 
--- the line was that of the next machine, with a verdict that may stand there
-pub record Visited (bounds : Bounds) (old : CoverProgress) (bytes : List ℕ) (new : CoverProgress) : Type 0 where
-  pub line : VerdictLine
-  pub is_true : IsTrueLine bounds bytes line
+-- the line was that of the next machine, with a verdict that may stand there, or with the counts of its shard
+pub record Visited (task : Task) (old : CoverProgress) (bytes : List ℕ) (new : CoverProgress) : Type 0 where
+  pub item : Item
+  pub is_true : IsTrueLine task bytes item
   pub undefined : Option UndefinedEntry
-  pub to_fill : IsToFill line undefined
-  pub goes : GoesOn old line.table undefined new
-  pub counts : new.counts ≡ counted old.counts line
+  pub to_fill : IsToFill (line_of item) undefined
+  pub goes : GoesOn task.below old item.table undefined new
+  pub counts : new.counts ≡ counted old.counts item
 
 -- the condition of each reason to stop at a line, apart from the others
-abbrev pub Applies : Bounds → Option Size → List Table → List ℕ → Why → Type 0
-Applies bounds size left bytes Beyond = (size ≢ None) × (left ≡ [])
-Applies bounds size left bytes Unread =
-    (table : Table) (verdict : Verdict) → IsLineOf (said.Claim table verdict) bytes → ⊥
-Applies bounds size left bytes NotNext = (line : VerdictLine)
+abbrev pub Applies : Task → Option Size → List Table → List ℕ → Why → Type 0
+Applies task size left bytes Beyond = (size ≢ None) × (left ≡ [])
+Applies task size left bytes Unread = (item : Item) → IsItemLine task.form item bytes → ⊥
+Applies task size left bytes NotNext = (item : Item) × IsItemLine task.form item bytes
+    × ((rest : List Table) → IsAsked task.below size left item.table rest → ⊥)
+Applies task size left bytes (Refused given) = (line : VerdictLine)
     × IsLineOf (said.Claim line.table line.verdict) bytes
-    × ((rest : List Table) → IsAsked size left line.table rest → ⊥)
-Applies bounds size left bytes (Refused given) = (line : VerdictLine)
-    × IsLineOf (said.Claim line.table line.verdict) bytes
-    × IsRefusedClaim bounds line.table line.verdict given
-Applies bounds size left bytes TooSoon = ⊥
+    × IsRefusedClaim task.limits line.table line.verdict given
+Applies task size left bytes TooSoon = ⊥
 
 -- in this order
 abbrev pub rank : Why → ℕ
@@ -71,30 +75,30 @@ rank (Refused given) = 4
 rank TooSoon = 5
 
 -- the first reason that applies, while the walk has still to visit these machines
-pub record IsWrong (bounds : Bounds) (size : Option Size) (left : List Table) (bytes : List ℕ) (why : Why)
+pub record IsWrong (task : Task) (size : Option Size) (left : List Table) (bytes : List ℕ) (why : Why)
     : Type 0 where
-  pub applies : Applies bounds size left bytes why
-  pub first : (other : Why) → Applies bounds size left bytes other → rank why ≤ rank other
+  pub applies : Applies task size left bytes why
+  pub first : (other : Why) → Applies task size left bytes other → rank why ≤ rank other
 
 -- the line isn't the one expected by the walk
-pub record Stopped (bounds : Bounds) (old : CoverProgress) (bytes : List ℕ) (new : CoverProgress) : Type 0 where
+pub record Stopped (task : Task) (old : CoverProgress) (bytes : List ℕ) (new : CoverProgress) : Type 0 where
   pub why : Why
-  pub wrong : IsWrong bounds old.size old.walk bytes why
-  pub stop : new.stop ≡ Some (record { line = saturated (old.counts.lines + 1); why = why })
+  pub wrong : IsWrong task old.size old.walk bytes why
+  pub stop : new.stop ≡ Some (record { line = saturated (old.counts.read + 1); why = why })
   pub counts : new.counts ≡ old.counts
 
 -- what a line does, by whether the walk stopped before
-abbrev pub TookBy : Option Stop → Bounds → CoverProgress → List ℕ → CoverProgress → Type 0
-TookBy None bounds old bytes new = Visited bounds old bytes new ⊎ Stopped bounds old bytes new
-TookBy (Some stop) bounds old bytes new = new ≡ old
+abbrev pub TookBy : Option Stop → Task → CoverProgress → List ℕ → CoverProgress → Type 0
+TookBy None task old bytes new = Visited task old bytes new ⊎ Stopped task old bytes new
+TookBy (Some stop) task old bytes new = new ≡ old
 
-abbrev pub Took : Bounds → CoverProgress → List ℕ → CoverProgress → Type 0
-Took bounds old bytes new = TookBy old.stop bounds old bytes new
+abbrev pub Took : Task → CoverProgress → List ℕ → CoverProgress → Type 0
+Took task old bytes new = TookBy old.stop task old bytes new
 
 -- the list ended before the walk did
 pub record EndsTooSoon (progress : CoverProgress) (stop : Stop) : Type 0 where
   pub not_stopped : progress.stop ≡ None
-  pub line : stop.line ≡ saturated (progress.counts.lines + 1)
+  pub line : stop.line ≡ saturated (progress.counts.read + 1)
   pub why : stop.why ≡ TooSoon
   pub something : progress.size ≢ None → progress.walk ≢ []
 

@@ -1,5 +1,6 @@
 pub mod Asked
 pub mod Claims
+pub mod Content
 pub mod Counts
 pub mod CoverProgress
 pub mod Covering

@@ -3,8 +3,9 @@ ghost use Rattle.std.specs.Prelude.{◌≡◌, ◌≤◌, IfOk, IsTrue, OnErr};
 ghost use Rattle.bb_cert.specs.checker.Pair.{PairHasCells};
 ghost use Rattle.bb_cert.specs.checker.Answer.{IsAnswer};
 ghost use Rattle.bb_cert.specs.tree.Path.{depth_of};
-ghost use Rattle.bb_cover.specs.Claims.{IsHalt, IsJudged, IsOneOf};
+ghost use Rattle.bb_cover.specs.Claims.{IsHalt, IsJudged, IsJudgedContent, IsOneOf};
 
+use crate::content::Content;
 use crate::halt::{Halted, halt_at};
 use crate::undefined::{UndefinedEntry, has_other_undefined};
 use bb_cert::{Answer, Pair, Path, Verdict, check};
@@ -22,8 +23,29 @@ pub(crate) enum Judged {
     Refused(Answer),
 }
 
+/// Judges the content of a line. The counts of a shard are taken as they are.
+pub(crate) fn judge_content<T: Tape>(
+    machine: &Machine,
+    content: &Content,
+    limits: &Limits,
+    pair: &mut Pair<T>,
+    path: &mut Path,
+) -> Result<Judged, Memory>
+    requires tapes { PairHasCells T.view limits.now.cells pair.old }
+    requires path { limits.now.depth ≤ depth_of path.old }
+    ensures judged { IfOk result (IsJudgedContent machine.now limits.now content.now) }
+    ensures tapes { PairHasCells T.view limits.now.cells pair.new }
+    ensures path { depth_of path.new ≡ depth_of path.old }
+    ensures memory { OnErr result (IsTrue T.GROWS) }
+{
+    match content {
+        Content::Claim(verdict) => judge(machine, verdict, limits, pair, path),
+        Content::Shard(_) => Ok(Judged::Fine(None)),
+    }
+}
+
 /// Judges a verdict. To confirm a halt takes one run; any other claim goes to the checker.
-pub(crate) fn judge<T: Tape>(
+fn judge<T: Tape>(
     machine: &Machine,
     verdict: &Verdict,
     limits: &Limits,

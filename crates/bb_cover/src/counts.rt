@@ -1,8 +1,9 @@
 //! How many lines of each kind a list has.
 ghost use Rattle.std.specs.Prelude.{◌≡◌, ◌+◌, nat_lt};
-ghost use Rattle.bb_cover.specs.Counts.{counted, more_if, no_counts, saturated};
+ghost use Rattle.bb_cover.specs.Counts.{counted, counted_claim, counted_shard, more_if, no_counts, saturated};
 ghost use Rattle.bb_cover.specs.UndefinedEntries.{undefined_entries_of};
 
+use crate::content::{Content, ShardCounts};
 use crate::table::count_undefined_entries;
 use bb_cert::Verdict;
 use bb_machine::Machine;
@@ -10,7 +11,11 @@ use bb_machine::Machine;
 /// How many lines were visited, and how many have each verdict. A count stops at 2^64 - 1.
 #[derive(Clone, Copy, Debug, PartialEq, Eq)]
 pub struct Counts {
-    /// All of them.
+    /// The lines of the list itself.
+    pub read: u64,
+    /// Those that stand for a shard.
+    pub shards: u64,
+    /// All verdict lines: those of the list, and those of its shards.
     pub lines: u64,
     /// The machine halts.
     pub halt: u64,
@@ -20,9 +25,9 @@ pub struct Counts {
     pub translated: u64,
     /// It never halts: the backward tree ends.
     pub backward: u64,
-    /// It is undecided.
+    /// It is undecided, in the list or a shard.
     pub undecided: u64,
-    /// It is undecided and has more than one `---`.
+    /// It is undecided and has more than one `---`, in the list or a shard.
     pub wide: u64,
 }
 
@@ -32,6 +37,8 @@ impl Counts {
         ensures { result ≡ no_counts }
     {
         Counts {
+            read: 0,
+            shards: 0,
             lines: 0,
             halt: 0,
             cycler: 0,
@@ -43,9 +50,21 @@ impl Counts {
     }
 
     /// Counts a line.
-    pub(crate) fn add(&mut self, machine: &Machine, verdict: &Verdict)
-        ensures { self.new ≡ counted self.old (record { table = machine.now; verdict = verdict.now }) }
+    pub(crate) fn add(&mut self, machine: &Machine, content: &Content)
+        ensures { self.new ≡ counted self.old (record { table = machine.now; content = content.now }) }
     {
+        match content {
+            Content::Claim(verdict) => self.add_verdict(machine, verdict),
+            Content::Shard(shard) => self.add_shard(*shard),
+        }
+    }
+
+    /// Counts the line of a verdict.
+    fn add_verdict(&mut self, machine: &Machine, verdict: &Verdict)
+        ensures { self.new
+            ≡ counted_claim self.old (record { table = machine.now; verdict = verdict.now }) }
+    {
+        self.read = self.read.saturating_add(1);
         self.lines = self.lines.saturating_add(1);
         match *verdict {
             Verdict::Halt { .. } => self.halt = self.halt.saturating_add(1),
@@ -54,6 +73,17 @@ impl Counts {
             Verdict::Backward { .. } => self.backward = self.backward.saturating_add(1),
             Verdict::Undecided(_) => self.add_undecided(machine),
         }
+    }
+
+    /// Counts the line of a shard, and the lines for which it stands.
+    fn add_shard(&mut self, shard: ShardCounts)
+        ensures { self.new ≡ counted_shard self.old shard }
+    {
+        self.read = self.read.saturating_add(1);
+        self.shards = self.shards.saturating_add(1);
+        self.lines = self.lines.saturating_add(shard.lines);
+        self.undecided = self.undecided.saturating_add(shard.undecided);
+        self.wide = self.wide.saturating_add(shard.wide);
     }
 
     /// Counts an undecided line, as such alone.

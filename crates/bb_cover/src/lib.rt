@@ -4,18 +4,22 @@
 
 mod asked;
 mod claim;
+mod content;
 mod counts;
 mod found;
 mod halt;
 pub mod laws;
 mod list;
 mod table;
+mod task;
 mod text;
 mod undefined;
 mod used;
 mod walk;
 
+pub use content::ShardCounts;
 pub use counts::Counts;
 pub use found::{Found, Stop, Why};
 pub use list::{Cover, run_cover};
+pub use task::{Form, Task};
 pub use text::Text;

@@ -2,30 +2,28 @@
 ghost use Rattle.std.specs.Prelude.{◌≡◌, ◌≢◌, ◌↔◌, ◌⊎◌, ◌+◌, ◌≤◌, [], List, false, true};
 ghost use Rattle.std.specs.Prelude.{IfNone, IfOk, IfSome, IsTrue, None};
 ghost use Rattle.bb_machine.specs.Machine.{Table};
-ghost use Rattle.bb_cert.specs.declared.verdict.Verdict.{Verdict};
-ghost use Rattle.bb_cert.specs.declared.verdict.reader.Line.{Line};
 ghost use Rattle.bb_cert.specs.checker.Pair.{PairHasCells};
 ghost use Rattle.bb_cert.specs.tree.Path.{depth_of};
-ghost use Rattle.bb_cert.specs.verdict.Line.{IsLineOf};
 ghost use Rattle.bb_lines.specs.Watched.{is_marked, watched_inner};
-ghost use Rattle.laws_of_verdicts.specs.Closed.{VerdictLine};
 ghost use Rattle.bb_cover.specs.Counts.{counted, saturated};
-ghost use Rattle.bb_cover.specs.CoverProgress.{GoesOn, IsAsked, IsFoundBy};
+ghost use Rattle.bb_cover.specs.CoverProgress.{GoesOn, IsAsked, IsFoundBy, Starts};
 ghost use Rattle.bb_cover.specs.Covering.{CoverEnds};
 ghost use Rattle.bb_cover.specs.UndefinedEntries.{IsUndefinedOf};
 
-use crate::claim::{Judged, judge};
+use crate::claim::{Judged, judge_content};
+use crate::content::{Content, read_content};
 use crate::counts::Counts;
 use crate::found::{Found, Stop, Why};
-use crate::table::is_empty;
+use crate::table::{is_empty, is_same};
+use crate::task::Task;
 use crate::text::{Text, next_text, text_of};
 use crate::undefined::UndefinedEntry;
 use crate::walk::Walk;
-use bb_cert::{LINE_BUFFER, LineContent, Pair, Path, Verdict, read_line_in_place};
+use bb_cert::{LINE_BUFFER, Pair, Path};
 use bb_lines::fault::Fault;
 use bb_lines::sink::{LineSink, drain_lines};
 use bb_lines::watched::Watched;
-use bb_machine::{Limits, Machine};
+use bb_machine::Machine;
 use bb_tape::Tape;
 use std::alloc::{AllocError, Global};
 use std::cell::Cell;
@@ -65,7 +63,7 @@ pub struct Cover {
 /// The sink for the lines of a list.
 #[derive(Drop)]
 struct Checker<'a, T> {
-    limits: Limits,
+    task: &'a Task,
     pair: &'a mut Pair<T>,
     path: &'a mut Path,
     // The machine of the last line with one. Each is read in its place.
@@ -77,14 +75,14 @@ struct Checker<'a, T> {
 
 impl CoverProgress {
     /// Whether the machine is the next one to be visited.
-    fn asks(&self, machine: &Machine) -> bool
+    fn asks(&self, below: &Option<Machine>, machine: &Machine) -> bool
         ensures next { IsTrue result
-            → (rest : List Table) × IsAsked self.now.size self.now.walk machine.now rest }
+            → (rest : List Table) × IsAsked below.now self.now.size self.now.walk machine.now rest }
         ensures only { result ≡ false
-            → (rest : List Table) → IsAsked self.now.size self.now.walk machine.now rest → ⊥ }
+            → (rest : List Table) → IsAsked below.now self.now.size self.now.walk machine.now rest → ⊥ }
     {
         match self.size {
-            None => is_empty(machine),
+            None => starts(below, machine),
             Some(_) => self.walk.is_next(machine),
         }
     }
@@ -102,27 +100,32 @@ impl CoverProgress {
     /// Stops at the line after the visited ones.
     fn stop_for(&mut self, why: Why)
         ensures { self.new ≡ record self.old {
-          stop = Some (record { line = saturated (self.old.counts.lines + 1); why = why });
+          stop = Some (record { line = saturated (self.old.counts.read + 1); why = why });
         } }
     {
         self.stop = Some(Stop {
-            line: self.counts.lines.saturating_add(1),
+            line: self.counts.read.saturating_add(1),
             why,
         });
     }
 
-    /// Visits the next machine, with its verdict and its undefined transition, if it halts on one of several.
+    /// Visits the next machine, with its content and its undefined transition, if it halts on one of several.
     /// The machine is moved then.
-    fn visit(&mut self, machine: &mut Machine, verdict: &Verdict, undefined: Option<UndefinedEntry>)
-        requires asked { (rest : List Table) × IsAsked self.old.size self.old.walk machine.old rest }
+    fn visit(
+        &mut self,
+        below: &Option<Machine>,
+        machine: &mut Machine,
+        content: &Content,
+        undefined: Option<UndefinedEntry>,
+    )
+        requires asked { (rest : List Table) × IsAsked below.now self.old.size self.old.walk machine.old rest }
         requires unbegun { self.old.size ≡ None → self.old.walk ≡ [] }
         requires undefined { IfSome undefined (IsUndefinedOf machine.old) }
-        ensures goes { GoesOn self.old machine.old undefined self.new }
-        ensures counts { let line : VerdictLine
-            = record { table = machine.old; verdict = verdict.now } in
-            self.new.counts ≡ counted self.old.counts line }
+        ensures goes { GoesOn below.now self.old machine.old undefined self.new }
+        ensures counts { self.new.counts
+            ≡ counted self.old.counts (record { table = machine.old; content = content.now }) }
     {
-        self.counts.add(machine, verdict);
+        self.counts.add(machine, content);
         match self.size {
             None => {
                 self.size = Some(Size {
@@ -154,12 +157,20 @@ impl CoverProgress {
         }
     }
 
+    /// The text of the next machine, for messages. Before the first line it is empty, if the size is open.
+    fn asked_text(&self, below: &Option<Machine>) -> Text {
+        match (self.size, below) {
+            (None, Some(first)) => text_of(first),
+            _ => next_text(&self.walk),
+        }
+    }
+
     /// The list ends before the walk does.
     fn too_soon(&self) -> Stop
-        ensures { result ≡ record { line = saturated (self.now.counts.lines + 1); why = Why.TooSoon } }
+        ensures { result ≡ record { line = saturated (self.now.counts.read + 1); why = Why.TooSoon } }
     {
         Stop {
-            line: self.counts.lines.saturating_add(1),
+            line: self.counts.read.saturating_add(1),
             why: Why::TooSoon,
         }
     }
@@ -174,14 +185,14 @@ impl<T: Tape> LineSink for Checker<'_, T> {
     ghost use Rattle.bb_cover.specs.CoverProgress.{Took};
     ghost use Rattle.bb_cover.specs.KeptBytes.{took_of_kept};
 
-    ghost took = { λ a line b. (b.limits ≡ a.limits) × Took a.limits a.progress.now line b.progress.now };
+    ghost took = { λ a line b. (b.task.now ≡ a.task.now) × Took a.task.now a.progress.now line b.progress.now };
 
-    ghost keeps = { λ a b. (b.limits ≡ a.limits) × (b.pair.ghost_name ≡ a.pair.ghost_name)
+    ghost keeps = { λ a b. (b.task ≡ a.task) × (b.pair.ghost_name ≡ a.pair.ghost_name)
         × (b.path.ghost_name ≡ a.path.ghost_name) × (depth_of b.path.now ≡ depth_of a.path.now)
         × (b.progress.ghost_name ≡ a.progress.ghost_name) };
 
-    ghost is_ready = { λ c. PairHasCells T.view c.limits.cells c.pair.now
-        × (c.limits.depth ≤ depth_of c.path.now) × (c.progress.now.size ≡ None → c.progress.now.walk ≡ []) };
+    ghost is_ready = { λ c. PairHasCells T.view c.task.now.limits.cells c.pair.now
+        × (c.task.now.limits.depth ≤ depth_of c.path.now) × (c.progress.now.size ≡ None → c.progress.now.walk ≡ []) };
 
     ghost GROWS = { T.GROWS };
 
@@ -197,7 +208,7 @@ impl<T: Tape> LineSink for Checker<'_, T> {
 
     ghost took_by_kept = { λ a line b took. (
       took.0,
-      took_of_kept a.limits line a.progress.now b.progress.now took.1,
+      took_of_kept a.task.now line a.progress.now b.progress.now took.1,
     ) };
 
     fn bytes_kept(&self) -> usize {
@@ -212,18 +223,25 @@ impl<T: Tape> LineSink for Checker<'_, T> {
             self.progress.stop_for(Why::Beyond);
             return Ok(());
         }
-        let Some(verdict) = read_verdict(line, &mut self.machine) else {
+        let Some(content) = read_content(line, self.task.form, &mut self.machine) else {
             self.progress.stop_for(Why::Unread);
             return Ok(());
         };
-        if !self.progress.asks(&self.machine) {
+        if !self.progress.asks(&self.task.below, &self.machine) {
             self.progress.stop_for(Why::NotNext);
             return Ok(());
         }
-        match judge(&self.machine, &verdict, &self.limits, self.pair, self.path) {
+        match judge_content(
+            &self.machine,
+            &content,
+            &self.task.limits,
+            self.pair,
+            self.path,
+        ) {
             Ok(Judged::Fine(undefined)) => {
-                self.progress.visit(&mut self.machine, &verdict, undefined);
-                self.seen.set(self.progress.counts.lines);
+                self.progress
+                    .visit(&self.task.below, &mut self.machine, &content, undefined);
+                self.seen.set(self.progress.counts.read);
                 Ok(())
             }
             Ok(Judged::Refused(answer)) => {
@@ -235,39 +253,37 @@ impl<T: Tape> LineSink for Checker<'_, T> {
     }
 }
 
-/// The verdict in a line, if it has one. The machine is read in place of another.
-fn read_verdict(line: &[u8], machine: &mut Machine) -> Option<Verdict>
-    ensures found { IfSome result (λ verdict. IsLineOf (Line.Claim machine.new verdict) line.now) }
-    ensures none { IfNone result ((table : Table) (verdict : Verdict)
-        → IsLineOf (Line.Claim table verdict) line.now → ⊥) }
+/// Whether the walk begins at a machine.
+fn starts(below: &Option<Machine>, machine: &Machine) -> bool
+    ensures some { IsTrue result → Starts below.now machine.now }
+    ensures none { result ≡ false → Starts below.now machine.now → ⊥ }
 {
-    match read_line_in_place(line, machine) {
-        Some(LineContent::Claim(verdict)) => Some(verdict),
-        Some(LineContent::Refusal(_)) => None,
-        None => None,
+    match below {
+        Some(first) => is_same(machine, first),
+        None => is_empty(machine),
     }
 }
 
-/// Walks along the verdict lines of a list, and checks each claim: whether they are those of a walk in depth
-/// through all machines of a size, in tree normal form. It allocates once, before the first line. `seen` has
-/// the number of lines so far.
+/// Walks along the lines of a list, and checks each claim: whether they are those of a walk in depth through all
+/// machines of a size, or below a machine, in tree normal form. It allocates once, before the first line. `seen`
+/// has the number of lines so far.
 ///
 /// A line ends at a newline; a last line without one counts if it isn't empty. Reads to end of file, also
 /// after the walk stops. After a fault, don't use the reader again.
 pub fn run_cover<R: Read, T: Tape>(
     alloc: Global,
     reader: &mut Watched<R>,
-    limits: &Limits,
+    task: &Task,
     pair: &mut Pair<T>,
     path: &mut Path,
     seen: &Cell<u64>,
 ) -> Result<Cover, Fault>
     requires reader { is_marked reader.old ≡ false }
-    requires tapes { PairHasCells T.view limits.now.cells pair.old }
-    requires path { limits.now.depth ≤ depth_of path.old }
+    requires tapes { PairHasCells T.view task.now.limits.cells pair.old }
+    requires path { task.now.limits.depth ≤ depth_of path.old }
 
     // The result of the run and of the walk.
-    ensures ends { CoverEnds limits.now
+    ensures ends { CoverEnds task.now
         (R.remaining (watched_inner reader.old)) (R.remaining (watched_inner reader.new)) result }
 
     // The fault, if any. Allocation fails only in the tapes, or before the first read.
@@ -275,7 +291,7 @@ pub fn run_cover<R: Read, T: Tape>(
     ensures read { (result ≡ Err Fault.Read) ↔ (is_marked reader.new ≡ true) }
     ensures no_write { result ≢ Err Fault.Write }
 
-    ensures tapes { PairHasCells T.view limits.now.cells pair.new }
+    ensures tapes { PairHasCells T.view task.now.limits.cells pair.new }
     ensures path { depth_of path.new ≡ depth_of path.old }
 {
     let Ok(walk) = Walk::new(alloc) else {
@@ -288,7 +304,7 @@ pub fn run_cover<R: Read, T: Tape>(
         counts: Counts::new(),
     };
     let mut checker = Checker {
-        limits: *limits,
+        task,
         pair,
         path,
         machine: Machine::blank(),
@@ -299,7 +315,7 @@ pub fn run_cover<R: Read, T: Tape>(
     Ok(Cover {
         found: checker.progress.found(),
         counts: checker.progress.counts,
-        asked: next_text(&checker.progress.walk),
+        asked: checker.progress.asked_text(&task.below),
         given: text_of(&checker.machine),
     })
 }

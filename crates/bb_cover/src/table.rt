@@ -79,6 +79,15 @@ pub(crate) fn entry_with(
     entry
 }
 
+/// Whether two machines are the same.
+pub(crate) fn is_same(machine: &Machine, other: &Machine) -> bool
+    ensures same { IsTrue result → machine.now ≡ other.now }
+    ensures only { machine.now ≡ other.now → IsTrue result }
+{
+    other.show_machine();
+    is_with_entry(other, 0, 0, other.entry(0, 0), machine)
+}
+
 /// Whether a machine has no entry.
 pub(crate) fn is_empty(machine: &Machine) -> bool
     ensures { IsTrue result ↔ IsEmpty machine.now }

@@ -1,14 +1,25 @@
 -- The request of the program's words, and the reasons for refusing them: this project's own.
-use Rattle.std.specs.Prelude.{◌≡◌, ◌⊎◌, List, [], ◌∷◌, true, codes, option_map}
+use Rattle.std.specs.Prelude.{◌≡◌, ◌⊎◌, ℕ, Bool, false, true, List, [], ◌∷◌, Option, Some, None, codes, cond}
+use Rattle.std.specs.Prelude.{option_map}
 use Rattle.std.specs.String.{string_bytes}
 use Rattle.clap.specs.Simple.{new_shape}
-use Rattle.clap.specs.Words.{App, Text, fault_of, first_of, matches_of}
-use Rattle.bb_command.specs.Command.{IsLimitsStop, IsWordsStop, list_bounds}
-use Rattle.bb_command.specs.CommandLine.{by_default, number_rule, positional_rule}
-use Rattle.bb_command.specs.declared.command.Stop.{Stop}
+use Rattle.clap.specs.Words.{App, Rule, Text, fault_of, first_of, matches_of, new_rule}
+use Rattle.bb_machine.specs.Column.{IsColumn}
+use Rattle.bb_machine.specs.Machine.{Table, IsMachine, text}
+use Rattle.bb_command.specs.Command.{IsLimitsStop, IsWordsStop, is_given, list_bounds}
+use Rattle.bb_command.specs.CommandLine.{by_default, number_rule, positional_rule, switch_rule}
+use Rattle.bb_cover.specs.declared.task.Form.{Form}
+use Rattle.bb_cover.specs.declared.task.Form.TheVariants.{Skeleton, Verdicts}
 use Rattle.cover.specs.declared.command.Asked.{Asked}
+use Rattle.cover.specs.declared.command.Refusal.{Refusal}
+use Rattle.cover.specs.declared.command.Refusal.TheVariants.{Common, Machine}
 
--- cover [--steps N] [--cells N] [--depth N] [--nodes N] [FILE]; a limit that isn't given is the greatest
+-- an option with a text, as `--below MACHINE`
+abbrev pub text_rule : Text → Rule
+text_rule name = record (new_rule name) { long = Some name; value_names = 1 }
+
+-- cover [--steps N] [--cells N] [--depth N] [--nodes N] [--below MACHINE] [--skeleton] [FILE]; a limit that
+-- isn't given is the greatest
 abbrev pub command_line : App
 command_line = record {
   top = record (new_shape (codes "cover")) {
@@ -17,19 +28,42 @@ command_line = record {
         ∷ by_default (codes "67108864") (number_rule (codes "cells"))
         ∷ by_default (codes "10000") (number_rule (codes "depth"))
         ∷ by_default (codes "1000000000000") (number_rule (codes "nodes"))
+        ∷ text_rule (codes "below")
+        ∷ switch_rule (codes "skeleton")
         ∷ positional_rule (codes "file")
         ∷ [];
   };
   subs = [];
 }
 
--- the words are a command line, with the list of this file under these limits
+-- with --skeleton, a line may stand for a shard
+abbrev pub form_by : Bool → Form
+form_by is_skeleton = cond is_skeleton Skeleton Verdicts
+
+-- the machine with this text, if one is given
+abbrev pub IsBelow : Option Text → Option Table → Type 0
+IsBelow None None = Unit {0}
+IsBelow None (Some table) = ⊥
+IsBelow (Some given) None = ⊥
+IsBelow (Some given) (Some table) = IsMachine table × (text table ≡ given)
+
+-- the words are a command line, with the list of this file, and the walk that it has to be
 pub record IsAskedBy (words : List Text) (asked : Asked) : Type 0 where
   pub no_fault : fault_of command_line words ≡ []
-  pub limits : asked.limits ≡ list_bounds (matches_of command_line words)
+  pub limits : asked.task.limits ≡ list_bounds (matches_of command_line words)
+  pub below : IsBelow (first_of (codes "below") (matches_of command_line words)) asked.task.below
+  pub form : asked.task.form ≡ form_by (is_given (codes "skeleton") (matches_of command_line words))
   pub file : option_map string_bytes asked.file ≡ first_of (codes "file") (matches_of command_line words)
 
--- why nothing is done: the words give nothing, or they are a command line, and its limits are refused
-abbrev pub IsStopOf : List Text → Stop → Type 0
-IsStopOf words stop = IsWordsStop (fault_of command_line words) stop
+-- a text is given, and no machine has it: this is the column of its first error
+abbrev pub IsTextRefused : Option Text → ℕ → Type 0
+IsTextRefused None column = ⊥
+IsTextRefused (Some given) column = IsColumn given column
+
+-- why nothing is done: the words give nothing; or they are a command line, and its limits are refused, or else
+-- its machine is
+abbrev pub IsStopOf : List Text → Refusal → Type 0
+IsStopOf words (Common stop) = IsWordsStop (fault_of command_line words) stop
     ⊎ ((fault_of command_line words ≡ []) × IsLimitsStop (list_bounds (matches_of command_line words)) stop)
+IsStopOf words (Machine refused) = (fault_of command_line words ≡ [])
+    × IsTextRefused (first_of (codes "below") (matches_of command_line words)) refused.column

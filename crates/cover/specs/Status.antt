@@ -4,6 +4,9 @@ use Rattle.bb_lines.specs.declared.fault.Fault.{Fault}
 use Rattle.bb_cover.specs.declared.found.Found.{Found}
 use Rattle.bb_cover.specs.declared.found.Found.TheVariants.{Covers, Stops}
 use Rattle.bb_cover.specs.declared.list.Cover.{Cover}
+use Rattle.bb_command.specs.Command.{stop_status}
+use Rattle.cover.specs.declared.command.Refusal.{Refusal}
+use Rattle.cover.specs.declared.command.Refusal.TheVariants.{Common, Machine}
 
 abbrev pub found_status : Found → ℕ
 found_status (Covers states symbols) = 0
@@ -13,3 +16,8 @@ found_status (Stops stop) = 1
 abbrev pub end_status : Result Cover Fault → ℕ
 end_status (Ok cover) = found_status cover.found
 end_status (Err fault) = 3
+
+-- that of a common stop; 2 where the machine is refused
+abbrev pub refusal_status : Refusal → ℕ
+refusal_status (Common stop) = stop_status stop
+refusal_status (Machine refused) = 2

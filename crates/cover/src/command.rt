@@ -1,38 +1,92 @@
-//! The command line: the list and its limits.
-ghost use Rattle.std.specs.Prelude.{◌≡◌, [], false, true, IfErr, IfOk, codes, map, option_map};
+//! The command line: the list, the walk that it has to be, and its limits.
+ghost use Rattle.std.specs.Prelude.{◌≡◌, [], false, true, IfErr, IfOk, Some, codes, map, option_map};
 ghost use Rattle.std.specs.String.{string_bytes};
 ghost use Rattle.clap.specs.Simple.{new_shape};
 ghost use Rattle.clap.specs.Words.{app_of, first_of, found_of, kind_of, rows_of, rule_of};
-ghost use Rattle.bb_command.specs.Command.{IsKindStop, IsLimitsStop, list_bounds, number_of};
-ghost use Rattle.bb_command.specs.CommandLine.{by_default, number_rule, positional_rule};
-ghost use Rattle.cover.specs.CommandLine.{IsAskedBy, IsStopOf, command_line};
+ghost use Rattle.bb_machine.specs.Column.{IsColumn};
+ghost use Rattle.bb_command.specs.Command.{IsKindStop, IsLimitsStop, is_given, list_bounds, number_of};
+ghost use Rattle.bb_command.specs.CommandLine.{by_default, number_rule, positional_rule, switch_rule};
+ghost use Rattle.cover.specs.CommandLine.{IsAskedBy, IsBelow, IsStopOf, command_line, form_by, text_rule};
+ghost use Rattle.cover.specs.CommandLine.{IsTextRefused};
+ghost use Rattle.cover.specs.Status.{refusal_status};
 
 use bb_command::Stop;
-use bb_machine::Limits;
+use bb_cover::{Form, Task};
+use bb_machine::{Limits, Machine, Refused};
 use clap::error::ErrorKind;
-use clap::{Arg, ArgMatches, Command, Error, value_parser};
+use clap::{Arg, ArgAction, ArgMatches, Command, Error, value_parser};
 use std::alloc::{AllocError, Global};
 
 /// A parsed command line.
-#[derive(Debug, Drop)]
+#[derive(Drop)]
 pub struct Asked {
-    pub limits: Limits,
+    /// The walk that the list has to be, and the limits of its claims.
+    pub task: Task,
     /// The list's file; standard input if none.
     pub file: Option<String>,
 }
 
-/// Reads a command line. The first word is the program's name.
-pub fn ask(alloc: Global, words: &[&str]) -> Result<Asked, Stop>
+/// The reason for doing no work.
+#[derive(Drop)]
+pub enum Refusal {
+    /// One that `bb` has too: the words, help, the limits or an allocation.
+    Common(Stop),
+    /// The text of `--below` is no machine.
+    Machine(Refused),
+}
+
+impl Refusal {
+    /// The program's exit status: that of a common stop, or 2 for a refused machine.
+    pub fn status(&self) -> u8
+        ensures { result ≡ refusal_status self.now }
+    {
+        match self {
+            Refusal::Common(stop) => stop.status(),
+            Refusal::Machine(_) => 2,
+        }
+    }
+}
+
+impl From<AllocError> for Refusal {
+    ghost use Rattle.std.specs.Prelude.{◌≡◌};
+    ghost use Rattle.bb_command.specs.declared.command.Stop.TheVariants.{Memory};
+    ghost use Rattle.cover.specs.declared.command.Refusal.TheVariants.{Common};
+
+    ghost from_gives = { λ _ refusal. refusal ≡ Common Memory };
+
+    fn from(_error: AllocError) -> Refusal {
+        Refusal::Common(Stop::Memory)
+    }
+}
+
+/// Reads a command line. The first word is the program's name. Words come before limits, and limits before the
+/// machine.
+pub fn ask(alloc: Global, words: &[&str]) -> Result<Asked, Refusal>
     ensures asked { IfOk result (IsAskedBy (map (λ word. word.now) words.now)) }
     ensures stop { IfErr result (IsStopOf (map (λ word. word.now) words.now)) }
 {
     let matches = match program(alloc)?.try_get_matches_from(words) {
         Ok(matches) => matches,
-        Err(error) => return Err(stop_of(alloc, &error)?),
+        Err(error) => return Err(Refusal::Common(stop_of(alloc, &error)?)),
     };
-    let limits = limits_of(&matches)?;
+    let limits = match limits_of(&matches) {
+        Ok(limits) => limits,
+        Err(stop) => return Err(Refusal::Common(stop)),
+    };
+    let below = match below_of(&matches) {
+        Ok(below) => below,
+        Err(refused) => return Err(Refusal::Machine(refused)),
+    };
+    let form = form_of(&matches);
     let file = file_of(alloc, &matches)?;
-    Ok(Asked { limits, file })
+    Ok(Asked {
+        task: Task {
+            limits,
+            below,
+            form,
+        },
+        file,
+    })
 }
 
 /// The most cells of any limit, as the default: a claim may need as many.
@@ -53,6 +107,10 @@ writes them. Each claim is checked. Out: one line. For a complete list it is
 Then each machine of the size halts, at most a step later than one of the list, never
 halts, or completes an undecided one, up to a change. Otherwise the line names the first
 wrong line of the list, and the reason.
+
+With --below the walk begins at MACHINE: the list is a shard. A skeleton has in place of
+a shard's lines one line, MACHINE below N U G SHA256: its lines, those undecided, those of
+them with more than one ---, and the digest of its file, which isn't read.
 
 2 times the depth, less 1, must be at most the cells.
 
@@ -87,6 +145,8 @@ fn program<'a>(alloc: Global) -> Result<Command<'a>, AllocError>
             MOST_STEPS,
             "The most nodes that a claim may name, 0 to 1000000000000",
         ))?
+        .arg(below(alloc))?
+        .arg(skeleton(alloc))?
         .arg(file(alloc))
 }
 
@@ -109,6 +169,28 @@ fn file<'a>(alloc: Global) -> Arg<'a>
     Arg::new(alloc, "file")
         .value_name("FILE")
         .help("The list of verdict lines [default: standard input]")
+}
+
+/// The option with the machine at which the walk begins.
+fn below<'a>(alloc: Global) -> Arg<'a>
+    ensures rule { rule_of result ≡ text_rule (codes "below") }
+    ensures local { result.global ≡ false }
+{
+    Arg::new(alloc, "below")
+        .long("below")
+        .value_name("MACHINE")
+        .help("The machine at which the walk begins [default: one with no entry]")
+}
+
+/// The option for a list with shards.
+fn skeleton<'a>(alloc: Global) -> Arg<'a>
+    ensures rule { rule_of result ≡ switch_rule (codes "skeleton") }
+    ensures local { result.global ≡ false }
+{
+    Arg::new(alloc, "skeleton")
+        .long("skeleton")
+        .help("Takes lines that stand for shards, and adds up their counts")
+        .action(ArgAction::SetTrue)
 }
 
 /// An option with a number. Help is one literal, so the ranges of `bb_machine::limits` are written out in it.
@@ -149,6 +231,32 @@ fn limits_of(matches: &ArgMatches<'_>) -> Result<Limits, Stop>
         value(matches, "nodes"),
     )
     .map_err(Stop::Limits)
+}
+
+/// The machine at which the walk begins, if one is given.
+fn below_of(matches: &ArgMatches<'_>) -> Result<Option<Machine>, Refused>
+    ensures ok { IfOk result (IsBelow (first_of (codes "below") (rows_of (found_of matches.now)))) }
+    ensures refused { IfErr result (λ refused.
+        IsTextRefused (first_of (codes "below") (rows_of (found_of matches.now))) refused.column) }
+{
+    match matches.get_str("below") {
+        Some(text) => match Machine::read(text.as_bytes()) {
+            Ok(machine) => Ok(Some(machine)),
+            Err(refused) => Err(refused),
+        },
+        None => Ok(None),
+    }
+}
+
+/// The lines that the list may have.
+fn form_of(matches: &ArgMatches<'_>) -> Form
+    ensures { result ≡ form_by (is_given (codes "skeleton") (rows_of (found_of matches.now))) }
+{
+    if matches.get_one::<bool>("skeleton").unwrap_or(false) {
+        Form::Skeleton
+    } else {
+        Form::Verdicts
+    }
 }
 
 /// The list's file.

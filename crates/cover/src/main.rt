@@ -1,4 +1,5 @@
-//! `cover`: whether a list of verdicts settles every machine of a size, as defined in `docs/cover.md`.
+//! `cover`: whether a list of verdicts settles every machine of a size, or is one shard of such a list, as defined
+//! in `docs/cover.md`.
 #![tactic(auto)]
 
 mod command;
@@ -12,9 +13,10 @@ use bb_lines::watched::Watched;
 use bb_terminal::failures::{open_list, print_failure, read_arguments};
 use bb_terminal::progress::Progress;
 use bb_terminal::streams::Observed;
-use command::{Asked, ask};
-use report::{FaultText, LineCount, Report, StopText};
+use command::{Asked, Refusal, ask};
+use report::{FaultText, LineCount, MachineText, Report, StopText};
 use serve::{cover_list, status};
+use std::alloc::AllocError;
 use std::cell::Cell;
 use std::io;
 use std::io::{IsTerminal, Read};
@@ -23,20 +25,23 @@ use std::process::ExitCode;
 fn main(rt: HostRuntime) -> ExitCode {
     let status = match parse_request(&rt) {
         Ok(asked) => answer_request(&rt, &asked),
-        Err(stop) => report_stop(&rt, &stop),
+        Err(refusal) => report_refusal(&rt, &refusal),
     };
     ExitCode::from(status)
 }
 
 /// The request of the process's arguments, which must be UTF-8.
-fn parse_request(rt: &HostRuntime) -> Result<Asked, Stop> {
-    let arguments = read_arguments(rt)?;
-    let words: Vec<&str> = arguments
+fn parse_request(rt: &HostRuntime) -> Result<Asked, Refusal> {
+    let arguments = read_arguments(rt).map_err(Refusal::Common)?;
+    let words: Result<Vec<&str>, AllocError> = arguments
         .as_slice()
         .iter()
         .map(|word| word.as_str())
-        .collect(rt.alloc())?;
-    ask(rt.alloc(), words.as_slice())
+        .collect(rt.alloc());
+    match words {
+        Ok(words) => ask(rt.alloc(), words.as_slice()),
+        Err(_) => Err(Refusal::Common(Stop::Memory)),
+    }
 }
 
 /// Walks along the list, reports the result, and returns the exit status. A file that can't be opened is a
@@ -52,7 +57,11 @@ fn answer_request(rt: &HostRuntime, asked: &Asked) -> u8 {
     };
     match &end {
         Ok(cover) => {
-            if let Err(error) = rt.println(Report { cover }) {
+            let report = Report {
+                cover,
+                task: &asked.task,
+            };
+            if let Err(error) = rt.println(report) {
                 return report_fault(rt, asked, Fault::Write, Some(&error));
             }
         }
@@ -78,7 +87,7 @@ fn cover_input<R: Read + Drop>(
     };
     let shown = progress.as_ref();
     let mut reader = Watched::new(Observed::new(input, shown));
-    let end = cover_list(rt.alloc(), &asked.limits, &mut reader, seen);
+    let end = cover_list(rt.alloc(), &asked.task, &mut reader, seen);
     if let Some(progress) = shown {
         progress.end();
     }
@@ -96,28 +105,31 @@ fn report_fault(rt: &HostRuntime, asked: &Asked, fault: Fault, error: Option<&io
     3
 }
 
-/// Prints the reason for doing no work, and returns the exit status: that of the stop, or 3 if help or the
+/// Prints the reason for doing no work, and returns the exit status: that of the refusal, or 3 if help or the
 /// version can't be written.
-fn report_stop(rt: &HostRuntime, stop: &Stop) -> u8 {
-    match (print_stop(rt, stop), stop) {
-        (Err(_), Stop::Help(_)) => {
+fn report_refusal(rt: &HostRuntime, refusal: &Refusal) -> u8 {
+    match (print_refusal(rt, refusal), refusal) {
+        (Err(_), Refusal::Common(Stop::Help(_))) => {
             let _ = rt.eprintln(FaultText {
                 fault: Fault::Write,
             });
             3
         }
-        _ => stop.status(),
+        _ => refusal.status(),
     }
 }
 
 /// Prints help to standard output, and any other cause to standard error.
-fn print_stop(rt: &HostRuntime, stop: &Stop) -> io::Result<()> {
-    match stop {
-        Stop::Help(text) => rt.print(text),
-        Stop::Words(text) => rt.eprint(text),
-        Stop::Limits(fault) => rt.eprintln(StopText { fault: *fault }),
-        Stop::Memory => rt.eprintln(FaultText {
+fn print_refusal(rt: &HostRuntime, refusal: &Refusal) -> io::Result<()> {
+    match refusal {
+        Refusal::Common(Stop::Help(text)) => rt.print(text),
+        Refusal::Common(Stop::Words(text)) => rt.eprint(text),
+        Refusal::Common(Stop::Limits(fault)) => rt.eprintln(StopText { fault: *fault }),
+        Refusal::Common(Stop::Memory) => rt.eprintln(FaultText {
             fault: Fault::Memory,
+        }),
+        Refusal::Machine(refused) => rt.eprintln(MachineText {
+            column: refused.column,
         }),
     }
 }

@@ -7,7 +7,7 @@ ghost use Rattle.bb_cover.specs.Covering.{CoverEnds};
 ghost use Rattle.cover.specs.Status.{end_status};
 
 use bb_cert::{Pair, Path};
-use bb_cover::{Cover, Found, run_cover};
+use bb_cover::{Cover, Found, Task, run_cover};
 use bb_lines::fault::Fault;
 use bb_lines::watched::Watched;
 use bb_machine::Limits;
@@ -20,19 +20,19 @@ use std::io::Read;
 /// `run_cover`, or an allocation failure before the first read.
 pub fn cover_list<R: Read>(
     alloc: Global,
-    limits: &Limits,
+    task: &Task,
     reader: &mut Watched<R>,
     seen: &Cell<u64>,
 ) -> Result<Cover, Fault>
     requires { is_marked reader.old ≡ false }
-    ensures ends { CoverEnds limits.now
+    ensures ends { CoverEnds task.now
         (R.remaining (watched_inner reader.old)) (R.remaining (watched_inner reader.new)) result }
     ensures memory { result ≡ Err Fault.Memory → reader.new ≡ reader.old }
     ensures read { (result ≡ Err Fault.Read) ↔ (is_marked reader.new ≡ true) }
     ensures no_write { result ≢ Err Fault.Write }
 {
-    match ring_pair(alloc, limits) {
-        Ok((mut pair, mut path)) => run_cover(alloc, reader, limits, &mut pair, &mut path, seen),
+    match ring_pair(alloc, &task.limits) {
+        Ok((mut pair, mut path)) => run_cover(alloc, reader, task, &mut pair, &mut path, seen),
         Err(_) => Err(Fault::Memory),
     }
 }

@@ -14,3 +14,4 @@ mod LaterSteps
 mod NormalForms
 mod Sums
 mod Walks
+mod Shards

@@ -79,3 +79,17 @@ pub record AreWalked (lines : List VerdictLine) (states symbols : ℕ) : Type 0 
 abbrev pub WalksAreInNormalForm : Type 0
 WalksAreInNormalForm = (lines : List VerdictLine) (states symbols : ℕ) → AreWalked lines states symbols
     → IsInNormalForm lines states symbols
+
+-- the lines of a walk through the first machines, and then those of one through the second
+pub record AreTwoWalks (first second : List Table) (lines : List VerdictLine) : Type 0 where
+  pub before : List VerdictLine
+  pub after : List VerdictLine
+  pub joined : lines ≡ before ++ after
+  pub walk_before : IsWalk first before
+  pub walk_after : IsWalk second after
+
+-- walks compose: a walk that has still to visit the machines of two lists is one through those of the first,
+-- and then one through those of the second
+abbrev pub WalksCompose : Type 0
+WalksCompose = (first second : List Table) (lines : List VerdictLine)
+    → IsWalk (first ++ second) lines ↔ AreTwoWalks first second lines

@@ -8,7 +8,7 @@ ghost use Rattle.laws_of_verdicts.specs.Found.{CyclersAreFound};
 ghost use Rattle.laws_of_verdicts.specs.UndefinedEntry.{FilledEntriesHaltNext, UndefinedEntriesKeepHalts};
 ghost use Rattle.laws_of_verdicts.specs.LaterSteps.{CyclersComeAgain, TranslatedCyclersMoveOn};
 ghost use Rattle.laws_of_verdicts.specs.NormalForm.{NormalFormCovers};
-ghost use Rattle.laws_of_verdicts.specs.Walk.{WalksAreInNormalForm};
+ghost use Rattle.laws_of_verdicts.specs.Walk.{WalksAreInNormalForm, WalksCompose};
 
 use bb_cert::claims::laws::agreeing_records_go_on;
 
@@ -78,6 +78,12 @@ pub fn covers_settle()
 pub fn normal_form_covers()
     ensures covers { NormalFormCovers }
     ensures walks { WalksAreInNormalForm }
+{}
+
+/// Walks compose. The lines of a walk from two lists of machines are those of a walk from the first, followed by
+/// those of a walk from the second, and the other way round. So a walk can be checked in shards.
+pub fn walks_compose()
+    ensures { WalksCompose }
 {}
 
 /// Deciding with cyclers on finds each cycler confirmed by the checker, from any source. It needs three times

@@ -1,6 +1,6 @@
-use Rattle.std.proofs.Common.{◌∙◌, ap, inl, inr}
-use Rattle.std.proofs.lemmas.Result.{err_from_is_err_and}
-use Rattle.bb_command.specs.Command.{list_bounds}
+use Rattle.std.proofs.Common.{◌∙◌, ap, codes, inl, inr}
+use Rattle.bb_command.specs.Command.{is_given, list_bounds}
+use Rattle.cover.specs.CommandLine.{form_by}
 use Rattle.cover.proofs.CommandLines.{rows_given, stopped, taken}
 use Rattle.cover.proofs.command.ask.Goals as goal
 
@@ -8,21 +8,28 @@ pub returns-in-Err-clause-stop : goal.returns-in-Err-clause-stop
 returns-in-Err-clause-stop c = inl (stopped _ c.in_ok-program.ensures _ c.in-Err.error
     c.in-Err.ensures.kinds _ c.in_ok-stop_of-in-Err.ensures)
 
+pub returns-in-Err-limits_of-clause-stop : goal.returns-in-Err-limits_of-clause-stop
+returns-in-Err-limits_of-clause-stop c =
+    let rows = rows_given _ c.in_ok-program.ensures _ _ c.in-Ok.ensures.matches in
+    inr (
+      taken _ c.in_ok-program.ensures _ c.in-Ok.ensures.kinds,
+      rw rows at c.in-Err-limits_of.ensures.stop,
+    )
+
+pub returns-in-Err-below_of-clause-stop : goal.returns-in-Err-below_of-clause-stop
+returns-in-Err-below_of-clause-stop c =
+    let rows = rows_given _ c.in_ok-program.ensures _ _ c.in-Ok.ensures.matches in (
+      taken _ c.in_ok-program.ensures _ c.in-Ok.ensures.kinds,
+      rw rows at c.in-Err-below_of.ensures.refused,
+    )
+
 pub returns-clause-asked : goal.returns-clause-asked
 returns-clause-asked c =
     let rows = rows_given _ c.in_ok-program.ensures _ _ c.in-Ok.ensures.matches in
     record {
       no_fault = taken _ c.in_ok-program.ensures _ c.in-Ok.ensures.kinds;
-      limits = c.in_ok-limits.ensures.ok ∙ ap list_bounds rows;
+      limits = c.in-Ok-limits_of.ensures.ok ∙ ap list_bounds rows;
+      below = rw rows at c.in-Ok-below_of.ensures.ok;
+      form = c.form_of-form.ensures ∙ ap (λ found. form_by (is_given (codes "skeleton") found)) rows;
       file = rw rows at c.in_ok-file.ensures;
     }
-
-pub returns-in_err-limits-clause-stop : goal.returns-in_err-limits-clause-stop
-returns-in_err-limits-clause-stop c =
-    let p = err_from_is_err_and c.from_residual-in_err-limits.result
-    c.from_residual-in_err-limits.ensures.1 in
-    let rows = rows_given _ c.in_ok-program.ensures _ _ c.in-Ok.ensures.matches in
-    rw (p.1, p.2) (inr (
-      taken _ c.in_ok-program.ensures _ c.in-Ok.ensures.kinds,
-      rw rows at c.in_err-limits.ensures.stop,
-    ))

@@ -8,5 +8,7 @@ returns c =
     let two = with_arg c.in_ok-arg-2.ensures one c.limit-2.ensures.rule c.limit-2.ensures.local in
     let three = with_arg c.in_ok-arg-3.ensures two c.limit-3.ensures.rule c.limit-3.ensures.local in
     let four = with_arg c.in_ok-arg-4.ensures three c.limit-4.ensures.rule c.limit-4.ensures.local in
-    IfOk-weaker c.arg-5.result _ _
-    (λ command adds. with_arg adds four c.file.ensures.rule c.file.ensures.local) c.arg-5.ensures
+    let five = with_arg c.in_ok-arg-5.ensures four c.below.ensures.rule c.below.ensures.local in
+    let six = with_arg c.in_ok-arg-6.ensures five c.skeleton.ensures.rule c.skeleton.ensures.local in
+    IfOk-weaker c.arg-7.result _ _
+    (λ command adds. with_arg adds six c.file.ensures.rule c.file.ensures.local) c.arg-7.ensures

@@ -1,6 +1,7 @@
 use Rattle.std.proofs.Common.{◌≡◌, Bool, false, inl, refl, sym, ◌∙◌}
 use Rattle.std.specs.Prelude.{IsTrue}
 use Rattle.bb_cover.specs.declared.found.Why.TheVariants.{Unread, NotNext, Refused}
+use Rattle.bb_cover.proofs.Contents.{fine_content, refused_content}
 use Rattle.bb_cover.proofs.Reasons.{not_next_first, refused_first, unread_first}
 use Rattle.bb_cover.proofs.Steps.{stops, took}
 use Rattle.bb_cover.proofs.list.CheckerLineSink.accept_line.Goals as goal
@@ -11,32 +12,33 @@ not_true is not = cc
 pub returns-in_default-clause-took : goal.returns-in_default-clause-took
 returns-in_default-clause-took g c = (
   refl,
-  stops c.args.self.now.limits c.args.self.now.progress.now c.args.line.now c.stop_for-in_default.new.self Unread
-      (sym c.is_some.ensures ∙ c.if-is_some.false)
+  stops c.args.self.now.task.now c.args.self.now.progress.now c.args.line.now c.stop_for-in_default.new.self
+      Unread (sym c.is_some.ensures ∙ c.if-is_some.false)
       (unread_first _ _ _ _ (λ done. not_true (c.is_done.ensures.1 done) c.if-is_done.false)
-      (rw c.in_default.is at c.read_verdict.ensures.none))
+      (rw c.in_default.is at c.read_content.ensures.none))
       c.stop_for-in_default.ensures,
 )
 
 pub returns-then-not-asks-clause-took : goal.returns-then-not-asks-clause-took
 returns-then-not-asks-clause-took g c = (
   refl,
-  stops c.args.self.now.limits c.args.self.now.progress.now c.args.line.now c.stop_for-then-not-asks.new.self
-      NotNext (sym c.is_some.ensures ∙ c.if-is_some.false)
+  stops c.args.self.now.task.now c.args.self.now.progress.now c.args.line.now
+      c.stop_for-then-not-asks.new.self NotNext (sym c.is_some.ensures ∙ c.if-is_some.false)
       (not_next_first _ _ _ _ (λ done. not_true (c.is_done.ensures.1 done) c.if-is_done.false)
-      (record { table = c.read_verdict.new.machine; verdict = c.in-Some.verdict }) c.in-Some.ensures.found
+      (record { table = c.read_content.new.machine; content = c.in-Some.content }) c.in-Some.ensures.found
       (c.if-not-asks.ensures.only refl))
       c.stop_for-then-not-asks.ensures,
 )
 
 pub returns-in-Ok-Fine-clause-took : goal.returns-in-Ok-Fine-clause-took
 returns-in-Ok-Fine-clause-took g c =
-    let judged = rw c.in-Ok-Fine.field-0-is at c.in-Ok-Fine.ensures.judged in (
+    let judged = fine_content c.args.self.now.task.now.limits c.read_content.new.machine c.in-Some.content
+    c.in-Ok-Fine.undefined (rw c.in-Ok-Fine.field-0-is at c.in-Ok-Fine.ensures.judged) in (
       refl,
-      took c.args.self.now.limits c.args.self.now.progress.now c.args.line.now c.visit.new.self
+      took c.args.self.now.task.now c.args.self.now.progress.now c.args.line.now c.visit.new.self
           (sym c.is_some.ensures ∙ c.if-is_some.false)
           (λ _. inl (record {
-            line = record { table = c.read_verdict.new.machine; verdict = c.in-Some.verdict };
+            item = record { table = c.read_content.new.machine; content = c.in-Some.content };
             is_true = record { is_line = c.in-Some.ensures.found; is_fine = judged.0 };
             undefined = c.in-Ok-Fine.undefined;
             to_fill = judged.1;
@@ -47,13 +49,15 @@ returns-in-Ok-Fine-clause-took g c =
 
 pub returns-in-Ok-Refused-clause-took : goal.returns-in-Ok-Refused-clause-took
 returns-in-Ok-Refused-clause-took g c =
-    let judged = rw c.in-Ok-Refused.field-0-is at c.in-Ok-Refused.ensures.judged in
+    let claim = refused_content c.args.self.now.task.now.form c.args.self.now.task.now.limits
+    c.read_content.new.machine c.in-Some.content c.args.line.now c.in-Ok-Refused.answer
+    c.in-Some.ensures.found (rw c.in-Ok-Refused.field-0-is at c.in-Ok-Refused.ensures.judged) in
     let asked = c.if-not-asks.ensures.next refl in (
       refl,
-      stops c.args.self.now.limits c.args.self.now.progress.now c.args.line.now c.stop_for-in-Ok-Refused.new.self
-          (Refused c.in-Ok-Refused.answer) (sym c.is_some.ensures ∙ c.if-is_some.false)
+      stops c.args.self.now.task.now c.args.self.now.progress.now c.args.line.now
+          c.stop_for-in-Ok-Refused.new.self (Refused c.in-Ok-Refused.answer)
+          (sym c.is_some.ensures ∙ c.if-is_some.false)
           (refused_first _ _ _ _ (λ done. not_true (c.is_done.ensures.1 done) c.if-is_done.false)
-          (record { table = c.read_verdict.new.machine; verdict = c.in-Some.verdict })
-          c.in-Some.ensures.found asked.0 asked.1 c.in-Ok-Refused.answer judged)
+          c.read_content.new.machine claim.0 claim.1 asked.0 asked.1 c.in-Ok-Refused.answer claim.2)
           c.stop_for-in-Ok-Refused.ensures,
     )

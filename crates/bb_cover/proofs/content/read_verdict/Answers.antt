@@ -1,6 +1,6 @@
 use Rattle.bb_cert.specs.declared.verdict.reader.Line.TheVariants.{Claim}
 use Rattle.bb_cover.proofs.Steps.{never_both}
-use Rattle.bb_cover.proofs.list.read_verdict.Goals as goal
+use Rattle.bb_cover.proofs.content.read_verdict.Goals as goal
 
 pub returns-in-Some-Refusal-clause-none : goal.returns-in-Some-Refusal-clause-none
 returns-in-Some-Refusal-clause-none c table verdict of =

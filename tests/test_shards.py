@@ -1,0 +1,221 @@
+"""Lists checked whole in shards: `cover --below`, `cover --skeleton`, and the lists made for them."""
+
+from __future__ import annotations
+
+import hashlib
+import random
+import re
+import subprocess
+from typing import Callable, NamedTuple
+
+import pytest
+from support import TOP
+from support.program import CommandResult, as_lines, options, run_command
+
+# Each machine of these lists that leads to others halts within so many steps.
+STEPS = 200
+LIMITS = options((STEPS, 512, 40, 1_000))
+ListMachines = Callable[..., list[str]]
+Changed = tuple[list[str], int]
+Change = Callable[[list[str], int], Changed]
+
+
+class Sharded(NamedTuple):
+    """A list in one piece and in shards, with the lines of each shard by its machine."""
+
+    lines: list[str]
+    skeleton: list[str]
+    shards: dict[str, list[str]]
+
+
+Shard = Callable[[int, int, int], Sharded]
+
+
+def shard_line(machine: str, lines: list[str]) -> str:
+    """Return the line that stands for a shard in a skeleton."""
+    undecided = [line for line in lines if " undecided " in line]
+    wide = sum(line.count("---") > 1 for line in undecided)
+    digest = hashlib.sha256(as_lines(lines)).hexdigest()
+    return "%s below %d %d %d %s" % (machine, len(lines), len(undecided), wide, digest)
+
+
+@pytest.fixture(scope="module")
+def shard(bb: str, list_machines: ListMachines) -> Shard:
+    """A function that shards a list of so many states and symbols at the machines with so many entries."""
+    made: dict[tuple[int, int, int], Sharded] = {}
+
+    def decide(machines: list[str]) -> list[str]:
+        return run_command([bb, "decide", *LIMITS], as_lines(machines)).output.decode().splitlines()
+
+    def shard_size(states: int, symbols: int, entries: int) -> Sharded:
+        size = (states, symbols, entries)
+        if size not in made:
+            words = ("--symbols", str(symbols), "--steps", str(STEPS))
+            items = list_machines(states, *words, "--shards", str(entries))
+            roots = [item.split(" ")[0] for item in items if item.endswith(" below")]
+            below = {root: list_machines(states, "--steps", str(STEPS), "--below", root) for root in roots}
+            shards = {root: decide(machines) for root, machines in below.items()}
+            verdicts = iter(decide([item for item in items if " " not in item]))
+            skeleton = [
+                shard_line(root, shards[root]) if root in shards else next(verdicts)
+                for root in (item.split(" ")[0] for item in items)
+            ]
+            made[size] = Sharded(decide(list_machines(states, *words)), skeleton, shards)
+        return made[size]
+
+    return shard_size
+
+
+def counts_of(cover: str, words: list[str], lines: list[str]) -> str:
+    """Return what `cover` prints of a list that passes, from its counts on."""
+    status, output, error = run_command([cover, *LIMITS, *words], as_lines(lines))
+    assert (status, error) == (0, b"")
+    return output.decode().split(": ")[1]
+
+
+@pytest.mark.parametrize("states, symbols, entries", [(2, 2, 1), (3, 2, 2), (3, 2, 3), (2, 3, 2)])
+def test_skeleton_counts_as_the_list_in_one_piece(
+    cover: str, shard: Shard, states: int, symbols: int, entries: int
+) -> None:
+    made = shard(states, symbols, entries)
+    whole = counts_of(cover, [], made.lines)
+    status, output, error = run_command([cover, "--skeleton", *LIMITS], as_lines(made.skeleton))
+    count = len(made.shards)
+    word = "shard" if count == 1 else "shards"
+    start = "covers %d states %d symbols, given %d %s: " % (states, symbols, count, word)
+    assert (status, output.decode(), error) == (0, start + whole, b"")
+    assert count and sum(map(len, made.shards.values())) < len(made.lines)
+
+
+def test_shards_are_stretches_of_the_list(shard: Shard) -> None:
+    made = shard(3, 2, 2)
+    for machine, lines in made.shards.items():
+        start = next(at for at, line in enumerate(made.lines) if line.startswith(machine + " "))
+        assert made.lines[start : start + len(lines)] == lines
+
+
+def test_each_shard_is_a_walk_below_its_machine(cover: str, shard: Shard) -> None:
+    made = shard(3, 2, 2)
+    stated = {line.split(" ")[0]: line.split(" ") for line in made.skeleton if " below " in line}
+    for machine, lines in made.shards.items():
+        end = "%s lines, %s undecided, %s of them with more than one undefined transition\n"
+        expected = "covers below %s: " % machine + end % tuple(stated[machine][2:5])
+        done = run_command([cover, "--below", machine, *LIMITS], as_lines(lines))
+        assert done == CommandResult(0, expected.encode(), b"")
+
+
+def test_skeleton_below_a_machine(cover: str, list_machines: ListMachines, shard: Shard) -> None:
+    """A shard may be given as a skeleton itself."""
+    outer, inner = shard(3, 2, 2), shard(3, 2, 3)
+    stated = {line.split(" ")[0]: line for line in [*inner.lines, *inner.skeleton]}
+    for machine, lines in outer.shards.items():
+        items = list_machines(3, "--steps", str(STEPS), "--below", machine, "--shards", "3")
+        skeleton = [stated[item.split(" ")[0]] for item in items]
+        words = ["--below", machine]
+        assert counts_of(cover, [*words, "--skeleton"], skeleton) == counts_of(cover, words, lines)
+
+
+def lose(lines: list[str], at: int) -> Changed:
+    return lines[:at] + lines[at + 1 :], at + 1
+
+
+def double(lines: list[str], at: int) -> Changed:
+    return lines[: at + 1] + lines[at:], at + 2
+
+
+def swap(lines: list[str], at: int) -> Changed:
+    other = (at + 7) % len(lines)
+    changed = list(lines)
+    changed[at], changed[other] = changed[other], changed[at]
+    return changed, min(at, other) + 1
+
+
+def resize(lines: list[str], at: int) -> Changed:
+    """Give the machine one state more; the first line gives the size, so the next one is wrong there."""
+    machine, rest = lines[at].split(" ", 1)
+    return [*lines[:at], machine + "_------ " + rest, *lines[at + 1 :]], max(at + 1, 2)
+
+
+@pytest.mark.parametrize("change", [lose, double, swap, resize])
+def test_changed_skeletons_are_refused_at_their_line(cover: str, shard: Shard, change: Change) -> None:
+    lines = shard(3, 2, 2).skeleton
+    for at in range(len(lines)):
+        changed, line = change(lines, at)
+        status, output, error = run_command([cover, "--skeleton", *LIMITS], as_lines(changed))
+        assert (status, error) == (1, b"") and output.startswith(b"line %d: " % line)
+
+
+def test_cut_and_misspelt_shards_are_no_lines(cover: str, shard: Shard) -> None:
+    lines = shard(3, 2, 2).skeleton
+    at = next(at for at, line in enumerate(lines) if " below " in line)
+    spelt = lines[at]
+    wrong = [
+        spelt[:-1],
+        spelt + "0",
+        spelt + " ",
+        spelt.upper(),
+        spelt.replace(" below ", " below  "),
+        re.sub(r" below (\d+)", r" below 0\1", spelt),
+        re.sub(r" below (\d+)", r" below +\1", spelt),
+        re.sub(r" below (\d+)", r" below 18446744073709551616", spelt),
+        re.sub(r" below (\d+) (\d+)", r" below \1", spelt),
+        spelt.replace(" below ", " beneath "),
+    ]
+    for line in wrong:
+        done = run_command([cover, "--skeleton", *LIMITS], as_lines([*lines[:at], line, *lines[at + 1 :]]))
+        assert done == (1, b"line %d: it is no verdict line and no shard\n" % (at + 1), b""), line
+
+
+def test_shards_are_refused_in_lists_of_verdicts(cover: str, shard: Shard) -> None:
+    lines = shard(3, 2, 2).skeleton
+    at = next(at for at, line in enumerate(lines) if " below " in line)
+    assert run_command([cover, *LIMITS], as_lines(lines)) == (
+        1,
+        b"line %d: it is no verdict line\n" % (at + 1),
+        b"",
+    )
+
+
+@pytest.mark.parametrize("count", [100, pytest.param(1_000, marks=pytest.mark.slow)])
+def test_a_shard_without_one_of_its_lines_is_refused(
+    cover: str, shard: Shard, rng: random.Random, count: int
+) -> None:
+    made = shard(4, 2, 4) if count > 100 else shard(3, 2, 2)
+    machines = [machine for machine, lines in made.shards.items() for _ in lines]
+    for machine in rng.choices(machines, k=count):
+        changed, line = lose(made.shards[machine], rng.randrange(len(made.shards[machine])))
+        status, output, error = run_command([cover, "--below", machine, *LIMITS], as_lines(changed))
+        assert (status, error) == (1, b"") and output.startswith(b"line %d: " % line)
+
+
+def test_shard_of_another_machine_is_refused(cover: str, shard: Shard) -> None:
+    (one, _), (two, lines) = list(shard(3, 2, 2).shards.items())[:2]
+    done = run_command([cover, "--below", one, *LIMITS], as_lines(lines))
+    assert done == (1, b"line 1: %s expected, found %s\n" % (one.encode(), two.encode()), b"")
+    nothing = run_command([cover, "--below", one, *LIMITS])
+    assert nothing == (1, b"line 1: %s expected, the list ends\n" % one.encode(), b"")
+
+
+@pytest.mark.parametrize("text", ["1RB", "", "1RB1LB_1LA1RC", "1RB---_------ ", "x"])
+def test_text_that_is_no_machine(bb: str, cover: str, text: str) -> None:
+    column = run_command([bb, "decide"], as_lines([text])).output.decode().split(" ")[1]
+    error = "cover: the text of --below is no machine: refused at column " + column
+    assert run_command([cover, "--below", text]) == (2, b"", error.encode())
+
+
+@pytest.mark.parametrize(
+    "words, error",
+    [
+        (["--below", "1RB"], "--below is 1RB, but must be a machine without Z"),
+        (["--below", "1RB1LB_1LA1RZ"], "--below is 1RB1LB_1LA1RZ, but must be a machine without Z"),
+        (["--below", "------", "--states", "2"], "--states isn't the size of --below's machine"),
+        (["--below", "------", "--part", "1/2"], "--part doesn't go with --below or --shards"),
+        (["--states", "2", "--every", "2", "--shards", "1"], "--every doesn't go with --below or --shards"),
+        (["--states", "2", "--shards", "0"], "--shards is 0, but must be a whole number from 1 to 256"),
+    ],
+)
+def test_refused_words_of_the_lister(list_machines: ListMachines, words: list[str], error: str) -> None:
+    list_machines(1)
+    program = str(TOP / "tools" / "out" / "tree_normal_form")
+    done = subprocess.run([program, *words], capture_output=True, text=True)
+    assert (done.returncode, done.stdout) == (2, "") and error in done.stderr
