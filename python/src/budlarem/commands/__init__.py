@@ -21,6 +21,7 @@ from .check_publish import add_check, add_publish
 from .lists import add_claims, add_judge
 from .machines import add_machines, add_runs
 from .run import add_command as add_run
+from .shards import add_shards
 
 # Errors without a file name that standard output has.
 _OUTPUT_ERRORS = (errno.ENOSPC, errno.EFBIG, errno.EDQUOT, errno.EIO)
@@ -31,7 +32,7 @@ def build_parser() -> argparse.ArgumentParser:
     parser = argparse.ArgumentParser(prog="budlarem", description="Works on lists of machines and verdicts.")
     parser.add_argument("--version", action="version", version="budlarem " + VERSION)
     commands = parser.add_subparsers(required=True, metavar="COMMAND")
-    for add in (add_machines, add_check, add_claims, add_judge, add_runs, add_publish, add_run):
+    for add in (add_machines, add_check, add_claims, add_judge, add_runs, add_publish, add_run, add_shards):
         add(commands)
     asked = commands.add_parser("help", help="print the help of a command, as its --help")
     asked.add_argument("command", nargs="?", metavar="COMMAND", choices=list(commands.choices))

@@ -1,0 +1,164 @@
+"""`budlarem shards` and `budlarem shard` as processes, beside `cover` over the list in one piece."""
+
+from __future__ import annotations
+
+import os
+import pathlib
+import signal
+import subprocess
+import sys
+import time
+from typing import Callable
+
+import pytest
+from support import build, require
+from support.clusters import cluster
+from support.program import as_lines, run_command
+
+Run = Callable[..., "subprocess.CompletedProcess[str]"]
+PLAN = ["--states", "3", "--entries", "2"]
+
+
+@pytest.fixture(scope="module")
+def programs(bb: str, cover: str, tmp_path_factory: pytest.TempPathFactory) -> pathlib.Path:
+    """A folder with the three programs."""
+    require("rustc")
+    folder = tmp_path_factory.mktemp("programs")
+    for path in (bb, cover, str(build("lister", "tools/out/tree_normal_form"))):
+        (folder / os.path.basename(path)).symlink_to(path)
+    return folder
+
+
+@pytest.fixture
+def run(programs: pathlib.Path) -> Run:
+    """A function that runs a command of `budlarem` with the programs in its PATH."""
+
+    def run_words(*words: object, path: pathlib.Path = programs) -> subprocess.CompletedProcess[str]:
+        command = [sys.executable, "-m", "budlarem", *map(str, words)]
+        environment = {**os.environ, "PATH": "%s:%s" % (path, os.environ["PATH"])}
+        return subprocess.run(command, capture_output=True, text=True, env=environment)
+
+    return run_words
+
+
+@pytest.fixture(scope="module")
+def whole(bb: str, cover: str, list_machines: Callable[..., list[str]]) -> Callable[[int], str]:
+    """A function that returns what `cover` counts in the list of so many states in one piece."""
+
+    def counts(states: int) -> str:
+        verdicts = run_command([bb, "decide"], as_lines(list_machines(states))).output
+        return run_command([cover], verdicts).output.decode().split(": ")[1]
+
+    return counts
+
+
+def counts_of(done: subprocess.CompletedProcess[str]) -> str:
+    assert (done.returncode, done.stderr) == (0, ""), done.stderr
+    return done.stdout.split(": ")[1]
+
+
+def test_shards_count_as_the_list_in_one_piece(
+    run: Run, whole: Callable[[int], str], tmp_path: pathlib.Path
+) -> None:
+    done = run("shards", tmp_path / "out", *PLAN)
+    assert counts_of(done) == whole(3)
+    assert done.stdout.startswith("covers 3 states 2 symbols, given 13 shards: ")
+    assert run("shards", tmp_path / "out").stdout == done.stdout
+
+
+def test_array_jobs(run: Run, whole: Callable[[int], str], tmp_path: pathlib.Path) -> None:
+    """Each shard is a job of its own, and prints its line, also the second time."""
+    folder = tmp_path / "out"
+    assert run("shards", folder, *PLAN, "--plan").stdout == ""
+    machines = run("shards", folder, "--pending").stdout.splitlines()
+    lines = [run("shard", folder, machine).stdout for machine in machines]
+    assert [line.split(" ")[:2] for line in lines] == [[machine, "below"] for machine in machines]
+    assert run("shard", folder, machines[0]).stdout == lines[0]
+    assert run("shards", folder, "--pending").stdout == ""
+    cut = folder / "shards" / machines[1]
+    cut.write_text(lines[1][:-2])
+    assert run("shards", folder, "--pending").stdout == machines[1] + "\n"
+    assert counts_of(run("shards", folder)) == whole(3) and cut.read_text() == lines[1]
+
+
+def test_interruption(programs: pathlib.Path, run: Run, tmp_path: pathlib.Path) -> None:
+    """SIGINT ends the run; the same command goes on after the finished shards."""
+    folder, words = tmp_path / "out", ["--states", "4", "--entries", "4", "--threads", "1"]
+    environment = {**os.environ, "PATH": "%s:%s" % (programs, os.environ["PATH"])}
+    command = [sys.executable, "-m", "budlarem", "shards", str(folder), *words]
+    with subprocess.Popen(
+        command, stdout=subprocess.PIPE, stderr=subprocess.PIPE, env=environment
+    ) as process:
+        while len(list((folder / "shards").glob("*"))) < 3 and process.poll() is None:
+            time.sleep(0.01)
+        process.send_signal(signal.SIGINT)
+        output, _ = process.communicate(timeout=60)
+    assert (process.returncode, output) == (130, b"")
+    finished = set(os.listdir(folder / "shards"))
+    pending = run("shards", folder, "--pending").stdout.splitlines()
+    assert len(finished) >= 3 and pending and not finished & set(pending)
+    assert run("shard", folder, pending[0]).returncode == 0
+
+
+def test_shards_over_dask(
+    run: Run, programs: pathlib.Path, whole: Callable[[int], str], tmp_path: pathlib.Path
+) -> None:
+    require(modules=("distributed",))
+    with cluster(0, tmp_path) as made:
+        made.start_worker({"PATH": "%s:%s" % (programs, os.environ["PATH"])}, threads=2)
+        done = run("shards", tmp_path / "out", *PLAN, "--scheduler", made.address)
+    assert done.returncode == 0 and done.stdout.split(": ")[1] == whole(3)
+
+
+def test_another_plan_is_refused(run: Run, tmp_path: pathlib.Path) -> None:
+    run("shards", tmp_path / "out", *PLAN, "--plan")
+    done = run("shards", tmp_path / "out", "--states", "3", "--entries", "1")
+    assert (done.returncode, done.stdout) == (2, "")
+    assert "has another plan" in done.stderr
+    assert run("shards", tmp_path / "none").returncode == 3
+
+
+@pytest.mark.parametrize(
+    "words, error",
+    [
+        (["--states", "3", "--entries", "7"], "--entries is 7, but must be 1 to 6"),
+        (["--states", "3", "--threads", "0"], "--threads is 0, but must be 1 or more"),
+        (["--states", "3", "--cells", "0"], "cells is 0, but may be 1 to 67,108,864"),
+    ],
+)
+def test_refused_options(run: Run, tmp_path: pathlib.Path, words: list[str], error: str) -> None:
+    done = run("shards", tmp_path / "out", *words)
+    assert (done.returncode, done.stdout) == (2, "") and error in done.stderr
+
+
+def test_shard_whose_list_ends_too_soon(run: Run, tmp_path: pathlib.Path) -> None:
+    """The list is made with fewer steps than it is decided with: `cover` misses what a later halt leads to."""
+    done = run("shards", tmp_path / "out", *PLAN, "--list-steps", "3")
+    assert (done.returncode, done.stdout) == (1, "")
+    assert "budlarem: cover refuses " in done.stderr and " expected, " in done.stderr
+
+
+@pytest.mark.parametrize(
+    "body, sentence", [("kill -9 $$", "bb ended by signal 9"), ("exit 3", "bb ended with status 3")]
+)
+def test_program_that_fails(
+    run: Run, programs: pathlib.Path, tmp_path: pathlib.Path, body: str, sentence: str
+) -> None:
+    """No shard is stored, and the run goes on once the program works."""
+    broken = tmp_path / "broken"
+    broken.mkdir()
+    for name in ("cover", "tree_normal_form"):
+        (broken / name).symlink_to((programs / name).resolve())
+    (broken / "bb").write_text("#!/bin/sh\n%s\n" % body)
+    (broken / "bb").chmod(0o755)
+    done = run("shards", tmp_path / "out", *PLAN, path=broken)
+    assert (done.returncode, done.stdout) == (3, "") and sentence in done.stderr
+    assert not os.listdir(tmp_path / "out" / "shards")
+    assert run("shards", tmp_path / "out").returncode == 0
+
+
+def test_program_that_is_missing(tmp_path: pathlib.Path) -> None:
+    command = [sys.executable, "-m", "budlarem", "shards", str(tmp_path / "out"), *PLAN]
+    environment = {**os.environ, "PATH": str(tmp_path)}
+    done = subprocess.run(command, capture_output=True, text=True, env=environment)
+    assert done.returncode == 3 and "tree_normal_form isn't in the PATH" in done.stderr
