@@ -4,9 +4,9 @@ use bb_cert::Answer;
 /// The reason for stopping at a line.
 #[derive(Clone, Copy, Debug, PartialEq, Eq)]
 pub enum Why {
-    /// It is no line of a machine and a verdict.
+    /// It is no line of a machine and a verdict, and in a skeleton no line of a shard.
     Unread,
-    /// Its machine isn't the next one; for the first line, an empty machine of some size.
+    /// Its machine isn't the next one; for the first line, the machine at which the walk begins.
     NotNext,
     /// The checker's answer to its claim is this one, `bad` or `over`.
     Refused(Answer),
@@ -19,7 +19,7 @@ pub enum Why {
 /// The line at which the walk stops.
 #[derive(Clone, Copy, Debug, PartialEq, Eq)]
 pub struct Stop {
-    /// The line's number, from 1; one past the last at the end of the list. It saturates at 2^64 - 1.
+    /// The line's number in the list itself, from 1; one past the last at the end of the list. It saturates at 2^64 - 1.
     pub line: u64,
     pub why: Why,
 }
@@ -27,7 +27,8 @@ pub struct Stop {
 /// The result of a walk along a list.
 #[derive(Clone, Copy, Debug, PartialEq, Eq)]
 pub enum Found {
-    /// The list covers the machines of so many states and symbols.
+    /// The list covers the machines of so many states and symbols; below a machine of that size, the list is
+    /// its shard.
     Covers { states: u8, symbols: u8 },
     /// The list isn't complete.
     Stops(Stop),

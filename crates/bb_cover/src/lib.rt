@@ -1,5 +1,6 @@
 //! Checks whether a list of verdicts settles every machine of a size: its lines are those of a walk in depth
-//! through all of them, each with a claim confirmed by the checker.
+//! through all of them, each with a claim confirmed by the checker. A list may be a shard, the walk below one
+//! machine, or a skeleton, with lines that stand for shards.
 #![tactic(auto)]
 
 mod asked;
