@@ -9,7 +9,7 @@ import queue
 import threading
 import time
 from concurrent.futures import Future
-from typing import Any, Callable, Deque, Generic, Iterable, Iterator, Protocol, TypeVar, Union
+from typing import Any, Callable, Generic, Iterable, Iterator, Protocol, TypeVar, Union
 from typing import runtime_checkable
 
 from ._fork import forbid_fork
@@ -115,7 +115,7 @@ def map_in_order(
     """Each batch and the reply to the call that `work` makes for it, in order. At most one more batch than
     threads is in flight. An error of the batches is raised after those before it."""
     pool = WorkerPool(work, threads, pace)
-    waiting: Deque[tuple[Given, Future[ReplyBuffer]]] = collections.deque()
+    waiting: collections.deque[tuple[Given, Future[ReplyBuffer]]] = collections.deque()
     errors: list[Exception] = []
     is_whole = False
     try:

@@ -7,7 +7,7 @@ import collections
 import contextlib
 import dataclasses
 import re
-from typing import Counter, Iterable, Iterator
+from typing import Iterable, Iterator
 
 from ._text import Words, quote
 from .numbers import number_of, numbers_in
@@ -73,7 +73,7 @@ class Claims(Iterator[Claim]):
     def __init__(
         self, lines: Iterator[Numbered], form: ListForm, words: dict[str, Word] | None = None
     ) -> None:
-        self.skipped: Counter[Skipped] = collections.Counter()
+        self.skipped: collections.Counter[Skipped] = collections.Counter()
         self._words = WORDS if words is None else words
         self._claims = self._read_claims(lines, form)
 
@@ -238,7 +238,7 @@ def read_words(path: str) -> dict[str, Word]:
 class Translation:
     """The count of each word of a column, by its meaning."""
 
-    counts: dict[str, Counter[str]]
+    counts: dict[str, collections.Counter[str]]
 
     def __str__(self) -> str:
         return "\n".join(self.lines)
@@ -258,7 +258,7 @@ class Translation:
 def translation_of(claims: Iterable[Claim], layout: Layout, words: dict[str, Word]) -> Translation:
     """The translation of the words in a table's column of verdicts. Whole verdicts in it are no words."""
     column = layout.columns["verdict"]
-    counts: dict[str, Counter[str]] = {name: collections.Counter() for name in MEANINGS}
+    counts: dict[str, collections.Counter[str]] = {name: collections.Counter() for name in MEANINGS}
     for claim in claims:
         row = claim.reading.row
         if row is None or claim.reading.machine is None or not row[column]:

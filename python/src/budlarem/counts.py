@@ -4,7 +4,7 @@ from __future__ import annotations
 
 import collections
 import re
-from typing import Any, Counter, Sequence
+from typing import Any, Sequence
 
 KINDS = ("halt", "cycler", "translated", "backward", "undecided steps", "undecided cells", "refused")
 UNDECIDED = ("undecided steps", "undecided cells")
@@ -35,7 +35,7 @@ class VerdictCounts:
     verdict."""
 
     def __init__(self, is_distinct: bool = False) -> None:
-        self.kinds: Counter[str] = collections.Counter()
+        self.kinds: collections.Counter[str] = collections.Counter()
         self.greatest: dict[str, tuple[int, str]] = {}
         self.longest: dict[str, list[tuple[int, str]]] = {}
         self._is_distinct = is_distinct

@@ -6,7 +6,7 @@ import collections
 import dataclasses
 import itertools
 import time
-from typing import Callable, Counter, Deque, Iterable, Iterator, TypeVar
+from typing import Callable, Iterable, Iterator, TypeVar
 
 from ._text import Words, escape_controls, quote
 from .claims import WORDS, Claim, Claims, Translation, Word, translation_of
@@ -183,7 +183,7 @@ class JudgedList:
         self._source, self._claims = source, claims
 
     @property
-    def skipped(self) -> Counter[Skipped]:
+    def skipped(self) -> collections.Counter[Skipped]:
         return self._claims.skipped + collections.Counter({Skipped.EMPTY: self._source.empty})
 
     @property
@@ -195,7 +195,7 @@ def _decide_claims(
     claims: Iterator[Claim], limits: Limits, plan: Plan, threads: int
 ) -> Iterator[tuple[Claim, Verdict | None]]:
     """Each claim with our verdict on its machine, if it has one."""
-    waiting: Deque[Claim] = collections.deque()
+    waiting: collections.deque[Claim] = collections.deque()
 
     def machines() -> Iterator[str]:
         for claim in claims:

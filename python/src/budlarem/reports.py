@@ -15,7 +15,7 @@ import os
 import pathlib
 import re
 import string
-from typing import Any, Counter, Iterable, Iterator, Sequence
+from typing import Any, Iterable, Iterator, Sequence
 
 from ._files import FileTarget, write_blocks
 from .counts import KINDS, VerdictCounts
@@ -64,7 +64,7 @@ class Statistics(VerdictCounts):
 
     def __init__(self, verdicts: Iterable[str | Verdict], most: int) -> None:
         super().__init__()
-        self.bins: dict[str, Counter[int]] = collections.defaultdict(collections.Counter)
+        self.bins: dict[str, collections.Counter[int]] = collections.defaultdict(collections.Counter)
         self.smallest: list[tuple[int, str]] = []
         self._most = most
         for verdict in verdicts_of(verdicts, "verdicts"):
@@ -104,7 +104,7 @@ def _import_matplotlib() -> tuple[Any, Any, Any]:
     return rc_context, Figure, MaxNLocator
 
 
-def plot(counts: Counter[int], name: str) -> str:
+def plot(counts: collections.Counter[int], name: str) -> str:
     """A distribution as an SVG image."""
     rc_context, figure_of, locator_of = _import_matplotlib()
     with rc_context({"svg.hashsalt": name, "svg.fonttype": "none", "font.size": 9, "text.color": _INK}):

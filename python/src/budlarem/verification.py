@@ -5,7 +5,7 @@ from __future__ import annotations
 import collections
 import dataclasses
 import io
-from typing import Counter, Iterator, Sequence
+from typing import Iterator, Sequence
 
 from ._calls import BinaryReader
 from .engine import check_file, decide
@@ -20,7 +20,7 @@ _FEW_CELLS = 65_536
 class CheckSummary:
     """The count of each answer so far, and number, text and answer of the first unconfirmed line."""
 
-    counts: Counter[Answer] = dataclasses.field(default_factory=collections.Counter)
+    counts: collections.Counter[Answer] = dataclasses.field(default_factory=collections.Counter)
     first: tuple[int, str, Answer] | None = None
 
 

@@ -11,7 +11,7 @@ import random
 import re
 import subprocess
 import sys
-from typing import Callable, Counter, Iterator
+from typing import Callable, Iterator
 
 import pytest
 from support import TOP
@@ -131,7 +131,7 @@ def test_forged_lines(bb: str, count: int, rng: random.Random) -> None:
     printed = run_command([bb, "check", *options(LIMITS)], given).output.split(b"\n")[:-1]
     _, answers, _ = run_recheck("--steps", str(STEPS), "--nodes", str(NODES), given=given)
     assert len(lines) == len(printed) == len(answers)
-    counts: Counter[bytes] = collections.Counter(printed)
+    counts: collections.Counter[bytes] = collections.Counter(printed)
     assert len(counts) == 5 and min(counts.values()) >= 20, counts
     assert not [row for row in zip(lines, printed, answers) if not is_right(*row)]
     print("%d lines compared" % len(lines))

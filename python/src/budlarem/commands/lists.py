@@ -7,7 +7,7 @@ import collections
 import contextlib
 import os
 import sys
-from typing import BinaryIO, Counter, Iterator
+from typing import BinaryIO, Iterator
 
 from ..claims import WORDS, Claims, read_words
 from ..comparison import Agreement, compare
@@ -72,7 +72,7 @@ def do_compare(asked: argparse.Namespace) -> int:
     """Compares two files of verdict lines by machine, in any order."""
     if asked.first == "-" == asked.second:
         raise ValueError("A and B can't both be standard input")
-    counts: Counter[Agreement] = collections.Counter()
+    counts: collections.Counter[Agreement] = collections.Counter()
     first, second = ClaimReader(asked.first, asked), ClaimReader(asked.second, asked)
     for found in compare(first.verdicts(), second.verdicts(), undefined_steps=asked.undefined_steps):
         counts[found.agreement] += 1
@@ -169,7 +169,7 @@ def do_judge(asked: argparse.Namespace) -> int:
     reader.print_form(theirs.form)
     reader.print_translation(theirs.translation)
     reader.print_unused_words(theirs.form, asked.words)
-    counts: Counter[Judgement] = collections.Counter()
+    counts: collections.Counter[Judgement] = collections.Counter()
     for judged in judging:
         counts[judged.judgement] += 1
         reader.print_rewritten(judged.claim.reading)

@@ -8,7 +8,7 @@ import itertools
 import os
 import stat
 import tempfile
-from typing import IO, Any, Counter, Iterator
+from typing import IO, Any, Iterator
 
 from ..verdicts import is_machine
 from .files import Lines, Numbered, Source
@@ -108,7 +108,7 @@ class Readings(Iterator[Reading]):
         self._given = form, columns
         self._form: ListForm | None = None
         self._ahead: list[Numbered] = []
-        self._skipped: Counter[Skipped] = collections.Counter()
+        self._skipped: collections.Counter[Skipped] = collections.Counter()
         self._readings = self._read()
 
     @property
@@ -119,7 +119,7 @@ class Readings(Iterator[Reading]):
         return self._form
 
     @property
-    def skipped(self) -> Counter[Skipped]:
+    def skipped(self) -> collections.Counter[Skipped]:
         """The number of skipped lines of each kind so far."""
         return self._skipped + collections.Counter({Skipped.EMPTY: self._source.empty})
 

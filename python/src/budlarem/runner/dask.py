@@ -19,7 +19,7 @@ import time
 import uuid
 import warnings
 from concurrent.futures import CancelledError, Future
-from typing import Any, Callable, Deque, Mapping
+from typing import Any, Callable, Mapping
 
 from .chunks import Job, Numbers, Task, bisect_job
 from .errors import RunError
@@ -73,11 +73,11 @@ class DaskBackend(ExecutorBackend):
         self._lock = threading.RLock()
         # Jobs that dask has, and jobs to submit again.
         self._submissions: dict[Job, Submission] = {}
-        self._lost: Deque[Job] = collections.deque()
+        self._lost: collections.deque[Job] = collections.deque()
         # Jobs whose workers died, and their halves. One half at a time is submitted: dask blames all tasks of
         # a dead worker, and only one killed it.
-        self._killed: Deque[Job] = collections.deque()
-        self._halves: Deque[Job] = collections.deque()
+        self._killed: collections.deque[Job] = collections.deque()
+        self._halves: collections.deque[Job] = collections.deque()
         self._suspect: Job | None = None
         self._workers, self._threads, self._next = 0, 0, 0.0
         self._missing = ""

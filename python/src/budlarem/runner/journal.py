@@ -17,7 +17,7 @@ import stat
 import threading
 import zlib
 from concurrent.futures import Future, ThreadPoolExecutor
-from typing import Deque, Iterator, Sequence
+from typing import Iterator, Sequence
 
 from .._files import Checksum, Directory, Pin, id_of, name_errors, write_all
 from ..counts import KINDS
@@ -279,7 +279,7 @@ class PassFolder:
     def read_chunks(self) -> Iterator[tuple[int, bytes]]:
         """The output of each chunk, with the number of lines before it. Raises RunError for one that doesn't
         match its record."""
-        ahead: Deque[Future[tuple[int, bytes]]] = collections.deque()
+        ahead: collections.deque[Future[tuple[int, bytes]]] = collections.deque()
         with ThreadPoolExecutor(_READERS, "budlarem read") as readers:
             for index in range(self.chunks):
                 ahead.append(readers.submit(self._read_chunk, index))

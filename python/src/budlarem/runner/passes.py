@@ -10,7 +10,7 @@ import datetime
 import json
 import threading
 import time
-from typing import Any, Callable, Counter, Iterator, NamedTuple, NoReturn, Protocol, Sequence
+from typing import Any, Callable, Iterator, NamedTuple, NoReturn, Protocol, Sequence
 
 from .._files import Checksum
 from ..counts import KINDS, UNDECIDED
@@ -247,7 +247,7 @@ class PassResult:
     milliseconds: int = 0
     is_checked: bool = True
     checksum: Checksum = Checksum()
-    counts: Counter[str] = dataclasses.field(default_factory=collections.Counter)
+    counts: collections.Counter[str] = dataclasses.field(default_factory=collections.Counter)
 
     def add(self, record: Record) -> None:
         self.lines += record.lines
@@ -440,12 +440,12 @@ class Outcome:
     """The lines of a list, and the count of each kind."""
 
     lines: int
-    counts: Counter[str]
+    counts: collections.Counter[str]
 
     @classmethod
     def of(cls, results: Sequence[PassResult]) -> Outcome:
         """The outcome of all passes."""
-        counts: Counter[str] = collections.Counter()
+        counts: collections.Counter[str] = collections.Counter()
         for result in results:
             for kind in UNDECIDED:
                 counts[kind] = 0
