@@ -69,10 +69,8 @@ class Pin:
 
 def write_blocks(number: int, blocks: Iterable[bytes]) -> None:
     """Writes all bytes to an open file. Raises OSError."""
-    for block in blocks:
-        rest = memoryview(block)
-        while rest:
-            rest = rest[os.write(number, rest) :]
+    with open(number, "wb", closefd=False) as file:
+        file.writelines(blocks)
 
 
 def write_all(number: int, data: bytes, place: int) -> None:

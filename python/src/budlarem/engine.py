@@ -228,9 +228,6 @@ class Trace(Iterator[Configuration]):
         self._visited = start + 1
         self._held: Iterator[bytes] = iter(())
 
-    def __iter__(self) -> Trace:
-        return self
-
     def __next__(self) -> Configuration:
         line = next(self._held, None)
         while line is None:

@@ -230,9 +230,6 @@ class Judging(Iterator[Judged]):
         self._checker, self._threads = checker, threads
         self._held: Iterator[Judged] = iter(())
 
-    def __iter__(self) -> Judging:
-        return self
-
     def __next__(self) -> Judged:
         judged = next(self._held, None)
         if judged is None:

@@ -70,7 +70,7 @@ class ArchivedFile:
         with contextlib.closing(ListFile(self.path)) as source:
             if not source.is_regular:
                 raise PublishError("%s is read more than once, so it has to be a file" % source.name)
-            for block in source.blocks():
+            for block in source.blocks:
                 checksum = checksum.add_bytes(block)
                 digest.update(block)
                 yield block

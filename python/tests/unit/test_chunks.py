@@ -64,7 +64,7 @@ def test_gzip_and_empty_lists(case: RunCase) -> None:
         for written in (given, gzip.compress(given) + gzip.compress(b"")):
             path.write_bytes(written)
             listed = input.ListFile(str(path))
-            assert b"".join(listed.blocks()) == given
+            assert b"".join(listed.blocks) == given
             listed.close()
 
 
@@ -77,7 +77,7 @@ def test_a_cut_gzip_file(case: RunCase) -> None:
 def test_a_list_that_changes(case: RunCase) -> None:
     listed = input.ListFile(str(case.list))
     case.callback(listed.close)
-    blocks = listed.blocks()
+    blocks = listed.blocks
     next(blocks)
     case.list.write_bytes(LIST + KINDS)
     with pytest.raises(RunError, match="changed while it was read"):

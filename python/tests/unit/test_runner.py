@@ -681,7 +681,7 @@ def test_what_is_refused(case: RunCase) -> None:
 def test_a_terminal() -> None:
     shown = KeptProgress()
     shown._is_terminal = True
-    shown.start(1, 2, lambda lines: 88_664_064)
+    shown.start(1, 2, lambda: 88_664_064)
     shown.add_decided(20_000)
     shown._next = 0.0
     shown.tick("3 workers")
@@ -694,7 +694,7 @@ def test_a_terminal() -> None:
 
 def test_a_long_pass_is_announced_once() -> None:
     shown = KeptProgress()
-    shown.start(2, 2, lambda lines: 10**9)
+    shown.start(2, 2, lambda: 10**9)
     shown._started -= 10
     shown.add_decided(5)
     for _ in range(2):

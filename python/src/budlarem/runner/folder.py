@@ -3,6 +3,7 @@ never changes foreign files."""
 
 from __future__ import annotations
 
+import collections
 import contextlib
 import dataclasses
 import errno
@@ -98,10 +99,11 @@ def require_own(top: Directory, known_passes: int | None) -> None:
     without a configuration, when each file has to show that it is a run's."""
     names = top.names()
     passes = [name for name in names if PASS.fullmatch(name)]
-    if known_passes is None:
-        foreign = next(_foreign_names(top, names, bool(passes)), None)
-        if foreign is not None:
-            raise _foreign_error(top, foreign)
+    checked = (README, VERDICTS, SUMMARY, LOCK) if passes else (LOCK,)
+    for name in names if known_passes is None else ():
+        is_own = name == RUN or name in passes or (name in checked and _has_start(top, name, name))
+        if not (is_own or _is_leftover(top, name)):
+            raise _foreign_error(top, name)
     require_regular(top, (*FILES, LOCK))
     for name in passes:
         if known_passes is None:
@@ -113,14 +115,6 @@ def require_own(top: Directory, known_passes: int | None) -> None:
 
 def _foreign_error(directory: Directory, name: str) -> FolderError:
     return FolderError(f"{directory.path} has other files in it, as {name}; give an empty folder")
-
-
-def _foreign_names(top: Directory, names: Sequence[str], has_passes: bool) -> Iterator[str]:
-    checked = (README, VERDICTS, SUMMARY, LOCK) if has_passes else (LOCK,)
-    for name in names:
-        is_own = name in checked and _has_start(top, name, name)
-        if not (is_own or name == RUN or PASS.fullmatch(name) or _is_leftover(top, name)):
-            yield name
 
 
 def require_own_pass(top: Directory, name: str) -> None:
@@ -142,24 +136,19 @@ def require_own_pass(top: Directory, name: str) -> None:
 
 
 def require_other_list(top: Directory, listed: FileId | None) -> None:
-    """Raises FolderError if the list is one of the run's files here."""
-    for name in top.names() if listed is not None else ():
-        if name in (*FILES, LOCK) or _PART.fullmatch(name):
-            _require_other(top, name, listed)
-            continue
-        status = top.status(name) if PASS.fullmatch(name) else None
+    """Raises FolderError if the list is one of the run's files here, by a link too."""
+    names = top.names() if listed is not None else []
+    own = [name for name in names if name in (*FILES, LOCK) or _PART.fullmatch(name)]
+    for name in filter(PASS.fullmatch, names):
+        status = top.status(name)
         if status is not None and stat.S_ISDIR(status.st_mode):
             with _open_pass(top, name) as inside:
-                for inner in inside.names():
-                    _require_other(inside, inner, listed)
-
-
-def _require_other(directory: Directory, name: str, listed: FileId | None) -> None:
-    """Raises FolderError if a name leads to the list, by a link too."""
-    with contextlib.suppress(OSError):
-        if id_of(os.stat(name, dir_fd=directory.handle)) == listed:
-            path = directory.at(name)
-            raise FolderError(f"the list is {path}, which a run in that folder writes; give another")
+                own += (os.path.join(name, inner) for inner in inside.names())
+    for name in own:
+        with contextlib.suppress(OSError):
+            if id_of(os.stat(name, dir_fd=top.handle)) == listed:
+                what = "which a run in that folder writes; give another"
+                raise FolderError(f"the list is {top.at(name)}, {what}")
 
 
 def require_separate_list(path: str, list_id: FileId | None) -> None:
@@ -321,11 +310,7 @@ class Folder:
         """Raises MovedError if its path leads elsewhere, RunError if its lock is lost."""
         self._top.require_named()
         if self._locked and self._top.id_at(LOCK) != id_of(os.fstat(self._locked[0])):
-            raise RunError("%s was removed or replaced while the run worked" % self.at(LOCK))
-
-    def at(self, name: str) -> str:
-        """The path of a file in it, for messages."""
-        return self._top.at(name)
+            raise RunError("%s was removed or replaced while the run worked" % self._top.at(LOCK))
 
     def read_config(self) -> RunConfig | None:
         """Its configuration; None if missing or truncated. Raises FolderError if it was changed, is no file,
@@ -339,7 +324,7 @@ class Folder:
             try:
                 return RunConfig.read(file.read())
             except FolderError as error:
-                raise FolderError("%s: %s" % (self.at(RUN), error)) from None
+                raise FolderError("%s: %s" % (self._top.at(RUN), error)) from None
 
     def require_free(self, numbers: Iterable[int]) -> None:
         """Raises FolderError if the folder of a new pass has foreign files."""
@@ -371,7 +356,7 @@ class Folder:
             yield
         except FileExistsError:
             why = "was made or replaced by another process while the run worked, and stays as it is"
-            raise RunError(f"{self.at(name)} {why}; take it away") from None
+            raise RunError(f"{self._top.at(name)} {why}; take it away") from None
 
     def write_verdicts(self, only: PassFolder) -> None:
         """Writes the verdicts of a run of one pass. Raises RunError, OSError."""
@@ -496,33 +481,32 @@ class FinishedRun:
 
     def _require_records(self, number: int, one: PassSummary, journal: Journal) -> None:
         """Raises FolderError unless the records of a pass add up to its summary."""
-        lines, checksum, counts, why = 0, Checksum(), dict.fromkeys(KINDS, 0), ""
+        name = os.path.join(pass_name(number), JOURNAL)
+        lines, checksum, counts = 0, Checksum(), collections.Counter(dict.fromkeys(KINDS, 0))
         for index in range(one.chunks):
             record = journal.read(index)
             if record is None or record.first != lines:
                 why = "chunk %d isn't of the run in the summary" % (index + 1)
-                break
+                raise self._mismatch_error(name, SUMMARY, why)
             lines += record.lines
             checksum = checksum.add(Checksum(*record.kept))
-            for kind, count in record.counts_by_kind().items():
-                counts[kind] += count
-        if not why and (lines, counts) != (one.lines, one.counts):
+            counts.update(record.counts_by_kind())
+        if (lines, dict(counts)) != (one.lines, one.counts):
             why = "it has %d lines, and the summary has %d" % (lines, one.lines)
-        elif not why and one.checksum not in (None, checksum):
-            why = "its chunks aren't those of the summary"
-        self._require_match(os.path.join(pass_name(number), JOURNAL), SUMMARY, why)
+            raise self._mismatch_error(name, SUMMARY, why)
+        if one.checksum not in (None, checksum):
+            raise self._mismatch_error(name, SUMMARY, "its chunks aren't those of the summary")
 
-    def _require_match(self, name: str, other: str, why: str) -> None:
-        """Raises FolderError if there is a reason why two files don't match."""
-        if why:
-            text = "%s doesn't match %s: %s; run that folder's command again, which writes both"
-            raise FolderError(text % (self._top.at(name), other, why))
+    def _mismatch_error(self, name: str, other: str, why: str) -> FolderError:
+        text = "%s doesn't match %s: %s; run that folder's command again, which writes both"
+        return FolderError(text % (self._top.at(name), other, why))
 
-    def require_verdicts(self, checksum: Checksum, counts: dict[str, int]) -> None:
+    def require_verdicts(self, checksum: Checksum, counts: collections.Counter[str]) -> None:
         """Raises FolderError unless verdicts with this checksum and these counts are those of the summary."""
         for kind, known in self.summary.counts.items():
-            why = "it counts %d %s, and there are %d" % (known, kind, counts.get(kind, 0))
-            self._require_match(SUMMARY, VERDICTS, why if known != counts.get(kind, 0) else "")
-        is_same = self.summary.checksum in (None, checksum)
-        self._require_match(SUMMARY, VERDICTS, "" if is_same else "the bytes differ")
+            if known != counts[kind]:
+                why = "it counts %d %s, and there are %d" % (known, kind, counts[kind])
+                raise self._mismatch_error(SUMMARY, VERDICTS, why)
+        if self.summary.checksum not in (None, checksum):
+            raise self._mismatch_error(SUMMARY, VERDICTS, "the bytes differ")
         self._top.require_named()

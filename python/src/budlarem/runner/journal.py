@@ -402,15 +402,11 @@ def _merge_lines(verdicts: bytes, lines: StreamLines) -> bytes:
 def list_line_number(before: Sequence[PassFolder], line: int) -> int:
     """The number in the list, from 1 on, of the line with index `line` in the pass after `before`."""
     for folder in reversed(before):
-        line = _line_of_holdout(folder, line)
+        # The line is the undecided one with this index in the pass before.
+        for first, verdicts in folder.read_chunks():
+            starts = [start for start, _, _ in _spans(verdicts)]
+            if line < len(starts):
+                line = first + verdicts.count(b"\n", 0, starts[line])
+                break
+            line -= len(starts)
     return line + 1
-
-
-def _line_of_holdout(folder: PassFolder, holdout: int) -> int:
-    """The index in a pass of the undecided line with index `holdout` among these."""
-    for first, verdicts in folder.read_chunks():
-        starts = [start for start, _, _ in _spans(verdicts)]
-        if holdout < len(starts):
-            return first + verdicts.count(b"\n", 0, starts[holdout])
-        holdout -= len(starts)
-    return holdout

@@ -7,6 +7,8 @@ import collections
 import contextlib
 import dataclasses
 import datetime
+import functools
+import itertools
 import json
 import threading
 import time
@@ -18,7 +20,7 @@ from ..limits import Limits, words_of
 from .chunks import Counts, Identity, Retention, validate_answers, validate_verdicts
 from .errors import CheckError, FolderError, ReplyError
 from .folder import README, SUMMARY, Folder, RunConfig
-from .input import LineSource, ListFile, StreamLines
+from .input import ListFile, StreamLines
 from .journal import PassFolder, Record, holdouts_of, list_line_number
 from .progress import Progress
 
@@ -92,17 +94,16 @@ class Chunker:
         self._most_bytes = most.bytes
         self.pace = ChunkPace(most.lines)
 
-    def chunks(self, lines: LineSource) -> Iterator[Chunk]:
+    def chunks(self, lines: StreamLines) -> Iterator[Chunk]:
         """The chunks. Raises FolderError if they aren't those of the journal, RunError, OSError."""
-        index, first = 0, 0
-        while True:
+        for index in itertools.count():
+            first = lines.lines_taken
             record = self._folder.journal.read(index)
             if record is not None and record.first != first:
                 record = None
             count, size, is_fixed = self._room_of(record, index, first)
-            before = lines.lines_taken
             given = lines.take(count, size)
-            found = lines.lines_taken - before
+            found = lines.lines_taken - first
             if (record is not None and not record.fits(given)) or (is_fixed and found != count):
                 self._raise_mismatch(first, count, found)
             known = self._known
@@ -111,7 +112,6 @@ class Chunker:
             if not given:
                 return
             yield Chunk(index, first, given, found, record)
-            index, first = index + 1, first + found
 
     def _room_of(self, record: Record | None, index: int, first: int) -> tuple[int, int, bool]:
         """The lines and bytes of the next chunk, and whether there must be so many lines."""
@@ -272,7 +272,7 @@ class PassResult:
 class Backend(Protocol):
     """Decides the chunks of a pass."""
 
-    def run_pass(self, task: Pass, lines: LineSource) -> PassResult:
+    def run_pass(self, task: Pass, lines: StreamLines) -> PassResult:
         """Raises FolderError if the lines aren't those of the journal, CheckError, RunError, OSError."""
 
 
@@ -324,7 +324,7 @@ class PassRun:
         self._result = PassResult(task.limits)
         self._next = 0.0
 
-    def run(self, lines: LineSource) -> PassResult:
+    def run(self, lines: StreamLines) -> PassResult:
         """Decides the lines of all chunks that aren't stored. Raises what `Backend.run_pass` does."""
         with contextlib.ExitStack() as stack:
             for end in (self._sync, self._writer.close, self._stop):
@@ -334,7 +334,7 @@ class PassRun:
         self._result.checksum = self._folder.checksum()
         return self._result
 
-    def _decide(self, lines: LineSource) -> None:
+    def _decide(self, lines: StreamLines) -> None:
         """Decides and stores each chunk."""
         raise NotImplementedError
 
@@ -480,9 +480,10 @@ def _run_passes(folder: Folder, source: ListFile, passes: Sequence[Limits], opti
             folder.require_named()
             found = folder.open_pass(passes[:number], options.keep, options.identity)
             stack.callback(found.close)
-            lines: LineSource = StreamLines(holdouts_of(folders[-1])) if results else source.lines()
+            lines = StreamLines(holdouts_of(folders[-1])) if results else source.lines()
             known = sum(results[-1].counts[kind] for kind in UNDECIDED) if results else config.list_lines
-            options.progress.start(number, len(passes), _total_estimator(source, lines, known))
+            total = functools.partial(_estimate_total, source, lines, known)
+            options.progress.start(number, len(passes), total)
             task = Pass(found, limits, options, tuple(folders), known)
             results.append(options.backend.run_pass(task, lines))
             folders.append(found)
@@ -503,16 +504,12 @@ def _run_passes(folder: Folder, source: ListFile, passes: Sequence[Limits], opti
     return outcome
 
 
-def _total_estimator(source: ListFile, lines: LineSource, known: int | None) -> Callable[[int], float | None]:
-    """A function that estimates the total number of lines from those done."""
-
-    def total(done: int) -> float | None:
-        if known is not None:
-            return known
-        fraction = source.fraction(lines.bytes_taken)
-        return lines.lines_taken / fraction if fraction else None
-
-    return total
+def _estimate_total(source: ListFile, lines: StreamLines, known: int | None) -> float | None:
+    """The estimated number of all lines, if that isn't known."""
+    if known is not None:
+        return known
+    fraction = source.fraction(lines.bytes_taken)
+    return lines.lines_taken / fraction if fraction else None
 
 
 def start_or_resume(
