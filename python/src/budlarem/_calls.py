@@ -4,12 +4,11 @@ caller's thread can be interrupted."""
 from __future__ import annotations
 
 import collections
-import dataclasses
 import queue
 import threading
 import time
 from concurrent.futures import Future
-from typing import Any, Callable, Generic, Iterable, Iterator, Protocol, TypeVar, Union
+from typing import Any, Callable, Generic, Iterable, Iterator, NamedTuple, Protocol, TypeVar, Union
 from typing import runtime_checkable
 
 from ._fork import forbid_fork
@@ -150,8 +149,7 @@ class BinaryReader(Protocol):
 Blocks = Union[bytes, bytearray, memoryview, BinaryReader, Iterable[bytes]]
 
 
-@dataclasses.dataclass
-class Batch:
+class Batch(NamedTuple):
     """Some items of a list: their texts and the texts' lines."""
 
     texts: list[str]

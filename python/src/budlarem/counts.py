@@ -88,11 +88,8 @@ class VerdictCounts:
             if numbers.get(name, -1) > self.greatest.get(key, (-1, ""))[0]:
                 self.greatest[key] = (numbers[name], line)
         steps = numbers.get("steps", numbers.get("second"))
-        if steps is not None:
-            self._add_long(kind, steps, line)
-
-    def _add_long(self, kind: str, steps: int, line: str) -> None:
-        """Keeps a line that is among the longest of its kind, the most steps first."""
+        if steps is None:
+            return
         runs = self.longest.setdefault(kind, [])
         if len(runs) == LONGEST and steps <= runs[-1][0]:
             return

@@ -10,14 +10,14 @@ import signal
 import sys
 from types import FrameType
 
-from .._text import LONGEST_SHOWN, escape_controls
+from .._text import escape_controls
 from ..limits import GREATEST, limits_of
 from ..publishing import UnconfirmedError, publish
 from ..reading.files import BytesFile
 from ..runner.errors import RunError
 from ..runner.progress import TerminalLine, short_count
 from ..verdicts import Answer
-from ..verification import CheckSummary, answer_blocks, explain
+from ..verification import CheckSummary, answer_blocks
 from .shared import Subcommands, add_command, add_file, add_greatest_limits, add_number, add_passes
 from .shared import counts_text, greatest_limits, source_of
 
@@ -43,9 +43,7 @@ def do_check(asked: argparse.Namespace) -> int:
     print(escape_controls("%s: %s" % (file.name, ", ".join(counts))), file=sys.stderr)
     if summary.first is None:
         return 0
-    number, line, answer = summary.first
-    parts = (file.name, number, answer, LONGEST_SHOWN, line, explain(line, answer, limits))
-    print(escape_controls("%s:%d: %s: %.*s: %s" % parts), file=sys.stderr)
+    print(escape_controls(summary.first.sentence(file.name, limits)), file=sys.stderr)
     return 1
 
 

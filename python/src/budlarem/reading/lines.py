@@ -166,7 +166,7 @@ def _read_text(text: Text) -> list[Read] | Reason:
         return [(text, read_arrays(text.arrays))]
     if len(text.words) == 1:
         return _ambiguous_dots(text.words[0]) or [(text, read_words(text.words))]
-    if text.is_of_entries:
+    if all(len(word.text) == 3 for word in text.words):
         return [(text, read_entries(text.words))]
     words = [Text((word,), word.begin, word.end) for word in text.words]
     alone = [(word, read_words(word.words)) for word in words]

@@ -60,11 +60,6 @@ class Text:
     def is_lone_entry(self) -> bool:
         return len(self.words) == 1 and len(self.words[0].text) == 3
 
-    @property
-    def is_of_entries(self) -> bool:
-        """Whether each of several words is one entry."""
-        return len(self.words) > 1 and all(len(word.text) == 3 for word in self.words)
-
 
 @dataclasses.dataclass(frozen=True)
 class Parts:
@@ -86,7 +81,8 @@ def parts_of(line: str) -> Parts:
         token = Word(match.start(), match.group())
         if match.group("address") is not None:
             addresses += _texts_in_address(token)
-            rows += _row_in_address(token)
+            last = token.text.rpartition("/")[2]
+            rows += [Word(token.end - len(last), last)] if _ROW.fullmatch(last) else []
         elif _ROW.fullmatch(token.text):
             rows.append(token)
         elif _has_entries(_without_stop(token).text):
@@ -132,13 +128,6 @@ def _texts_in_address(address: Word) -> Iterator[Text]:
         part = _without_stop(Word(address.begin + match.start(), match.group()))
         if _has_entries(part.text):
             yield Text((part,), address.begin, address.end, True, match.start() >= last)
-
-
-def _row_in_address(address: Word) -> list[Word]:
-    """The row that is the last part of an address."""
-    begin = address.text.rfind("/") + 1
-    last = Word(address.begin + begin, address.text[begin:])
-    return [last] if _ROW.fullmatch(last.text) else []
 
 
 def _has_entries(text: str) -> bool:

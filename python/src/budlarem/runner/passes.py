@@ -81,10 +81,6 @@ class Chunk:
     is_confirmed: bool = False
     counts: Counts = dataclasses.field(default_factory=dict)
 
-    def drop(self) -> None:
-        """Drops its bytes once they are stored."""
-        self.given, self.written, self.kept = b"", None, None
-
 
 class Chunker:
     """Cuts the lines of a pass as its journal did, else by the pace. `known` is their number, if known."""
@@ -227,7 +223,7 @@ class Writer:
             for chunk in due:
                 if chunk.kept is not None and chunk.record is not None:
                     self._folder.write(chunk.record.place, chunk.kept)
-                chunk.drop()
+                chunk.given, chunk.written, chunk.kept = b"", None, None
         finally:
             with self._changed:
                 self._writing -= 1
