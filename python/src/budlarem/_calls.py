@@ -192,22 +192,16 @@ def batch_texts(texts: Iterable[str], name: str, pace: BatchPace) -> Iterator[Ba
         yield _batch(name, before, held)
 
 
-def _slices(held: bytes | bytearray | memoryview) -> Iterator[bytes]:
-    """Bytes in memory, cut between lines where possible."""
-    view = memoryview(held).cast("B")
-    start = 0
-    while start < len(view):
-        end = min(start + MOST_BYTES, len(view))
-        if end < len(view) and not isinstance(held, memoryview):
-            end = held.rfind(b"\n", start, end) + 1 or end
-        yield bytes(view[start:end])
-        start = end
-
-
 def _iter_blocks(blocks: Blocks) -> Iterator[bytes]:
-    """The bytes, cut anywhere. Raises TypeError."""
+    """The bytes, cut anywhere; those in memory between lines where possible. Raises TypeError."""
     if isinstance(blocks, (bytes, bytearray, memoryview)):
-        yield from _slices(blocks)
+        view, start = memoryview(blocks).cast("B"), 0
+        while start < len(view):
+            end = min(start + MOST_BYTES, len(view))
+            if end < len(view) and not isinstance(blocks, memoryview):
+                end = blocks.rfind(b"\n", start, end) + 1 or end
+            yield bytes(view[start:end])
+            start = end
         return
     if isinstance(blocks, str):
         raise TypeError("bytes, a file of bytes or blocks of bytes, not a str")

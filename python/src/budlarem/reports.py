@@ -125,23 +125,19 @@ def plot(counts: collections.Counter[int], name: str) -> str:
         axes.set_xlim(starts[0] if max(counts) <= 10 else -0.5, ends[-1])
         axes.set_xlabel(name)
         axes.set_ylabel("machines")
-        _colour(axes)
+        # Everything but the bars has the colour of the page's text.
+        axes.tick_params(which="both", colors=_INK)
+        for label in (axes.xaxis.label, axes.yaxis.label):
+            label.set_color(_INK)
+        for side, spine in axes.spines.items():
+            spine.set_color(_INK)
+            spine.set_visible(side in ("left", "bottom"))
         file = io.StringIO()
         figure.savefig(file, format="svg", transparent=True, metadata={"Date": None, "Creator": None})
     text = file.getvalue()
     text = re.sub("<metadata>.*?</metadata>", "", text[text.index("<svg") :], flags=re.DOTALL)
     text = text.replace(_INK, "var(--ink)").replace(_BAR, "var(--bar)")
     return text.replace("<svg ", '<svg role="img" aria-label="Distribution of %s" ' % html.escape(name), 1)
-
-
-def _colour(axes: Any) -> None:
-    """Gives everything but the bars the colour of the page's text."""
-    axes.tick_params(which="both", colors=_INK)
-    axes.xaxis.label.set_color(_INK)
-    axes.yaxis.label.set_color(_INK)
-    for side, spine in axes.spines.items():
-        spine.set_color(_INK)
-        spine.set_visible(side in ("left", "bottom"))
 
 
 def diagram(rows: Sequence[Configuration]) -> bytes:

@@ -14,7 +14,7 @@ import re
 import shutil
 import unittest.mock
 import zlib
-from concurrent.futures import Executor, Future
+from concurrent.futures import Future
 from typing import Any, Callable, Sequence
 
 import budlarem
@@ -26,13 +26,21 @@ from support.runner import KINDS, LIST, MIDDLE, PASSES, SMALL, Answering, KeptPr
 from support.runner import PoolBackend, act, answer_with, counts_of, expected_verdicts, reseal
 
 
+def require_verdicts(
+    case: RunCase, executor: Any = None, limits: Sequence[Limits] = PASSES, **how: Any
+) -> passes.Outcome:
+    """A run has the verdicts of its list."""
+    outcome = case.run_over(executor, limits, **how)
+    assert case.verdicts() == expected_verdicts(case.list.read_bytes(), limits)
+    return outcome
+
+
 def test_lists_and_passes(case: RunCase) -> None:
     lists = (b"", b"\n", KINDS[:-1], LIST, b"1RZ---\n" * 100, b"x" * 5_000 + b"\n" + KINDS)
     for place, (given, limits) in enumerate(itertools.product(lists, (PASSES, [SMALL], [MIDDLE, SMALL]))):
         case.list.write_bytes(given)
         case.out = case.top / str(place)
-        outcome = case.run_over(limits=limits)
-        assert case.verdicts() == expected_verdicts(given, limits)
+        outcome = require_verdicts(case, limits=limits)
         lines = case.verdicts().count(b"\n")
         assert (outcome.lines, sum(outcome.counts.values())) == (lines, lines)
 
@@ -65,8 +73,7 @@ def test_whole_passes_are_added(case: RunCase) -> None:
     case.run_over(limits=[SMALL])
     before = case.records([SMALL])
     executor = Answering()
-    case.run_over(executor)
-    assert case.verdicts() == expected_verdicts(LIST)
+    require_verdicts(case, executor)
     assert case.records([SMALL]) == before
     assert executor.count == len(case.records(PASSES))
 
@@ -87,8 +94,7 @@ def test_the_same_list_compressed(case: RunCase) -> None:
     case.run_over(limits=[SMALL])
     path = case.top / "list.txt.gz"
     path.write_bytes(gzip.compress(LIST))
-    case.run_over(path=str(path))
-    assert case.verdicts() == expected_verdicts(LIST)
+    require_verdicts(case, path=str(path))
 
 
 def test_another_list(case: RunCase) -> None:
@@ -101,8 +107,7 @@ def test_another_list(case: RunCase) -> None:
             with pytest.raises(FolderError, match="isn't the list that"):
                 case.run_over(path=str(path))
     case.list.write_bytes(LIST)
-    case.run_over()
-    assert case.verdicts() == expected_verdicts(LIST)
+    require_verdicts(case)
 
 
 def test_changed_passes_and_libraries(case: RunCase) -> None:
@@ -198,15 +203,14 @@ def test_chunks_that_are_missing_in_the_middle(case: RunCase) -> None:
             for place in (0, count // 3, count // 3 + 1, count // 2, count - 1):
                 data[place * journal.WIDTH : (place + 1) * journal.WIDTH] = bytes(journal.WIDTH)
             path.write_bytes(data)
-        case.run_over(most=most)
-        assert case.verdicts() == expected_verdicts(LIST)
+        require_verdicts(case, most=most)
 
 
 def test_a_changed_chunk_while_passes_are_merged(case: RunCase) -> None:
     case.run_over(limits=[SMALL])
     with pytest.raises(RunError, match="was cut or changed"):
         case.run_over(act(lambda: os.truncate(case.out / "verdicts.txt", 100)))
-    require_resumed(case)
+    require_verdicts(case)
 
 
 def test_a_folder_of_an_older_version(case: RunCase) -> None:
@@ -228,8 +232,7 @@ def test_one_pass_is_written_once(case: RunCase) -> None:
     assert "decided again" not in case.progress.kept.getvalue()
     executor = Answering()
     for _ in range(2):
-        case.run_over(executor, limits=[SMALL], check=True)
-        assert case.verdicts() == expected_verdicts(LIST, [SMALL])
+        require_verdicts(case, executor, limits=[SMALL], check=True)
         assert (chunks.exists(), verdicts.stat().st_ino) == (False, first.st_ino)
     assert executor.count == len(case.records([SMALL]))
     assert sorted(case.out.rglob("*.part")) == []
@@ -247,8 +250,7 @@ def test_verdicts_share_no_bytes_with_a_later_run(case: RunCase) -> None:
         for path in case.out.rglob("*"):
             if path.is_file() and (is_moved or path.name == "journal"):
                 path.unlink()
-        case.run_over(limits=[SMALL], most=3)
-        assert case.verdicts() == expected_verdicts(LIST, [SMALL])
+        require_verdicts(case, limits=[SMALL], most=3)
         assert not kept_lines.samefile(case.out / "verdicts.txt")
         assert kept_lines.read_bytes() == expected_verdicts(LIST, [SMALL])
 
@@ -261,8 +263,7 @@ def test_another_run_over_the_passes_of_one(case: RunCase) -> None:
         if path.is_file():
             path.unlink()
     case.list.write_bytes(KINDS * 20)
-    case.run_over(limits=[MIDDLE])
-    assert case.verdicts() == expected_verdicts(KINDS * 20, [MIDDLE])
+    require_verdicts(case, limits=[MIDDLE])
     assert (case.top / "kept").read_bytes() == expected_verdicts(LIST, [SMALL])
 
 
@@ -271,8 +272,7 @@ def test_a_pass_is_added_to_verdicts_that_were_renamed(case: RunCase) -> None:
     kept_lines = case.top / "kept"
     os.link(case.out / "verdicts.txt", kept_lines)
     executor = Answering()
-    case.run_over(executor, limits=PASSES)
-    assert case.verdicts() == expected_verdicts(LIST)
+    require_verdicts(case, executor, limits=PASSES)
     for path in (kept_lines, case.out / "pass-1" / "pieces"):
         assert path.read_bytes() == expected_verdicts(LIST, [SMALL])
     assert executor.count == len(case.records(PASSES))
@@ -283,8 +283,7 @@ def test_a_pass_is_added_to_verdicts_that_were_renamed(case: RunCase) -> None:
 
 def test_verdicts_that_are_moved_away_while_a_pass_is_added(case: RunCase) -> None:
     case.run_over(limits=[SMALL])
-    case.run_over(act(lambda: os.rename(case.out / "verdicts.txt", case.top / "kept"), 0))
-    assert case.verdicts() == expected_verdicts(LIST)
+    require_verdicts(case, act(lambda: os.rename(case.out / "verdicts.txt", case.top / "kept"), 0))
     for name in ("kept", "out/pass-1/pieces"):
         assert (case.top / name).read_bytes() == expected_verdicts(LIST, [SMALL])
 
@@ -293,11 +292,9 @@ def test_verdicts_that_were_changed_in_place(case: RunCase) -> None:
     case.run_over(limits=[SMALL])
     with open(case.out / "verdicts.txt", "r+b") as file:
         file.write(b"x" * 100)
-    case.run_over(limits=[SMALL])
+    require_verdicts(case, limits=[SMALL])
     assert "is decided again: it was cut or changed" in case.progress.kept.getvalue()
-    assert case.verdicts() == expected_verdicts(LIST, [SMALL])
-    case.run_over(limits=[SMALL])
-    assert case.verdicts() == expected_verdicts(LIST, [SMALL])
+    require_verdicts(case, limits=[SMALL])
 
 
 def test_a_folder_whose_verdicts_are_a_second_name(case: RunCase) -> None:
@@ -332,8 +329,7 @@ def test_a_folder_that_is_moved_removed_or_replaced(case: RunCase) -> None:
     assert {path.name: path.read_text() for path in case.out.iterdir()} == others
     case.out = case.top / "moved"
     executor = Answering()
-    case.run_over(executor)
-    assert case.verdicts() == expected_verdicts(LIST)
+    require_verdicts(case, executor)
     assert executor.count < len(case.records([SMALL])) + len(case.records(PASSES))
 
 
@@ -343,24 +339,23 @@ def test_a_folder_that_is_removed(case: RunCase) -> None:
     assert not case.out.exists()
 
 
-@pytest.mark.parametrize("name", ["verdicts.txt", "summary.json"])
+@pytest.mark.parametrize("name", ["verdicts.txt", "summary.json", "README.txt"])
 def test_a_file_that_another_makes_meanwhile(case: RunCase, name: str) -> None:
-    with pytest.raises(RunError, match=name + " was made or replaced by another"):
-        case.run_over(act(lambda: (case.out / name).write_text("mine")))
-    assert (case.out / name).read_text() == "mine"
-    (case.out / name).unlink()
-    require_resumed(case)
-
-
-def test_a_page_that_another_makes_meanwhile(case: RunCase) -> None:
-    page = case.out / "README.txt"
+    """It stays as it is, and ends a run that has yet to write it."""
+    path = case.out / name
 
     def replace() -> None:
-        page.unlink(missing_ok=True)
-        page.write_text("mine")
+        path.unlink(missing_ok=True)
+        path.write_text("mine")
 
-    case.run_over(act(replace))
-    assert (page.read_text(), case.verdicts()) == ("mine", expected_verdicts(LIST))
+    if name == "README.txt":
+        require_verdicts(case, act(replace))
+    else:
+        with pytest.raises(RunError, match=name + " was made or replaced by another"):
+            case.run_over(act(replace))
+    assert path.read_text() == "mine"
+    path.unlink()
+    require_verdicts(case)
 
 
 def test_a_link_to_the_folder_that_is_pointed_elsewhere(case: RunCase) -> None:
@@ -416,40 +411,25 @@ class WriterCase:
         return not os.path.exists(self.folder.kept)
 
 
-@pytest.fixture
-def writer(case: RunCase) -> WriterCase:
-    return WriterCase(case)
+ANY_ORDER = random.Random(3).sample(range(200), 200)
+REFUSED = unittest.mock.Mock(side_effect=OSError(errno.EPERM, "it can't"))
+# The order of chunks, the most bytes that wait, whether the file is in order then, and what is patched.
+ORDERS: dict[str, tuple[list[int], int, bool, tuple[object, str, Any]]] = {
+    "a little out of order": ([2, 0, 1, 5, 4, 3, 6, 8, 7, 9], 50, True, (passes, "_SOON", 1.0)),
+    "one that comes last": ([*range(1, 30), 0], 20, False, (passes, "_SOON", 1.0)),
+    "one that comes late": ([1, 0, 2, 3], 20, False, (passes, "_SOON", 0.0)),
+    "any order where the system can't copy": (ANY_ORDER, 30, False, (os, "copy_file_range", REFUSED)),
+    "no second name": (list(range(20)), 20, True, (os, "link", REFUSED)),
+    "nothing": ([], 20, False, (passes, "_SOON", 1.0)),
+}
 
 
-@pytest.mark.parametrize(
-    "order, most, is_in_order", [([2, 0, 1, 5, 4, 3, 6, 8, 7, 9], 50, True), ([*range(1, 30), 0], 20, False)]
-)
-def test_chunks_out_of_order(writer: WriterCase, order: list[int], most: int, is_in_order: bool) -> None:
-    """A little out of order, and one that comes last."""
-    assert writer.whole(order, most) == is_in_order
-
-
-def test_one_that_comes_late(writer: WriterCase) -> None:
-    with unittest.mock.patch.object(passes, "_SOON", 0.0):
-        assert not writer.whole([1, 0, 2, 3], 20)
-
-
-def test_any_order_where_the_system_cannot_copy(writer: WriterCase) -> None:
-    order = list(range(200))
-    random.Random(3).shuffle(order)
-    refused = unittest.mock.Mock(side_effect=OSError("it can't"))
-    with unittest.mock.patch.object(os, "copy_file_range", refused):
-        assert not writer.whole(order, 30)
-
-
-def test_no_second_name(writer: WriterCase) -> None:
-    refused = unittest.mock.Mock(side_effect=OSError(errno.EPERM, "it can't"))
-    with unittest.mock.patch.object(os, "link", refused):
-        assert writer.whole(list(range(20)), 20)
-
-
-def test_nothing(writer: WriterCase) -> None:
-    assert not writer.whole([], 20)
+@pytest.mark.parametrize("order, most, is_in_order, patched", ORDERS.values(), ids=ORDERS)
+def test_chunks_in_some_order(
+    case: RunCase, order: list[int], most: int, is_in_order: bool, patched: tuple[object, str, Any]
+) -> None:
+    with unittest.mock.patch.object(*patched):
+        assert WriterCase(case).whole(order, most) == is_in_order
 
 
 def kept_lines(limits: Sequence[Limits], halts: int) -> bytes:
@@ -515,12 +495,6 @@ def test_words() -> None:
             chunks.parse_retention(wrong)
 
 
-def require_resumed(case: RunCase) -> None:
-    """A run again, by threads, has the right bytes."""
-    case.run_over()
-    assert case.verdicts() == expected_verdicts(LIST)
-
-
 def test_wrong_answers_now_and_then(case: RunCase) -> None:
     answers: list[Callable[[chunks.ChunkReply], Any]] = [
         lambda reply: None,
@@ -536,8 +510,7 @@ def test_wrong_answers_now_and_then(case: RunCase) -> None:
     for place, answer in enumerate(answers):
         case.out = case.top / str(place)
         executor = Answering(lambda reply, before: answer(reply) if before in (1, 30) else reply)
-        case.run_over(executor)
-        assert case.verdicts() == expected_verdicts(LIST)
+        require_verdicts(case, executor)
         assert "trying again" in case.progress.kept.getvalue()
 
 
@@ -548,20 +521,19 @@ def test_wrong_answers_each_time(case: RunCase) -> None:
         with pytest.raises(RunError, match="pass [12], lines? .* tried 3 times"):
             case.run_over(executor)
         assert not (case.out / "verdicts.txt").exists()
-        require_resumed(case)
+        require_verdicts(case)
 
 
 def test_the_line_is_named(case: RunCase) -> None:
     with pytest.raises(RunError, match="pass 1, line [0-9]*9: '0RB1LD_0RC1RD_0RD---_1LA0RB unknown steps'"):
         case.run_over(answer_with(b"_0RD---_1LA0RB undecided", b"_0RD---_1LA0RB unknown"))
-    require_resumed(case)
+    require_verdicts(case)
 
 
 def test_late_answers_in_another_order(case: RunCase) -> None:
     given = b"".join(KINDS.splitlines(keepends=True)[:8])
     case.list.write_bytes(given)
-    case.run_over(Late(4), most=1, limits=[SMALL])
-    assert case.verdicts() == expected_verdicts(given, [SMALL])
+    require_verdicts(case, Late(4), most=1, limits=[SMALL])
     assert len(case.records([SMALL])) == 8
 
 
@@ -575,25 +547,20 @@ def test_one_answer_for_two_chunks(case: RunCase) -> None:
 
     with pytest.raises(RunError, match="pass 1, lines? .* tried 3 times|one future"):
         case.run_over(Same(lambda reply, before: reply))
-    require_resumed(case)
+    require_verdicts(case)
 
 
 def test_an_executor_that_takes_or_answers_nothing(case: RunCase) -> None:
-    class Closed(Executor):
-        def submit(self, function: Any, /, *given: Any, **named: Any) -> Any:
-            raise RuntimeError("it was closed")
+    def cancel(*given: Any) -> Future[Any]:
+        future: Future[Any] = Future()
+        future.cancel()
+        return future
 
-    class Cancelling(Executor):
-        def submit(self, function: Any, /, *given: Any, **named: Any) -> Any:
-            future: Future[Any] = Future()
-            future.cancel()
-            return future
-
-    with pytest.raises(RunError, match="it was closed"):
-        case.run_over(Closed())
-    with pytest.raises(RunError, match="it was cancelled; tried 3 times"):
-        case.run_over(Cancelling())
-    require_resumed(case)
+    closed, sentence = RuntimeError("it was closed"), "it was cancelled; tried 3 times"
+    for submit, text in ((unittest.mock.Mock(side_effect=closed), "it was closed"), (cancel, sentence)):
+        with pytest.raises(RunError, match=text):
+            case.run_over(unittest.mock.Mock(submit=submit))
+    require_verdicts(case)
 
 
 def test_a_verdict_that_the_checker_refuses(case: RunCase) -> None:
@@ -602,7 +569,7 @@ def test_a_verdict_that_the_checker_refuses(case: RunCase) -> None:
         case.out = case.top / str(len(limits))
         with pytest.raises(CheckError, match="^line (5|15|25): the checker answers bad: 1RB1LC_1RC1RB"):
             case.run_over(executor, limits=limits, check=True)
-    require_resumed(case)
+    require_verdicts(case)
 
 
 def test_a_lying_worker_is_found_here(case: RunCase) -> None:
@@ -627,8 +594,7 @@ def test_a_lying_worker_is_found_here(case: RunCase) -> None:
         status, said = case.call("--pass", "steps=30,cells=16,depth=3,nodes=5", "--check-here")
     assert status == 1
     assert re.search("^budlarem: line (5|15|25): the checker answers bad: 1RB1LC_1RC1RB", said, re.M)
-    case.run_over(Answering(), limits=[SMALL], check=True, here=True)
-    assert case.verdicts() == expected_verdicts(LIST, [SMALL])
+    require_verdicts(case, Answering(), limits=[SMALL], check=True, here=True)
 
 
 def test_answers_to_other_verdicts(case: RunCase) -> None:
@@ -641,14 +607,13 @@ def test_answers_to_other_verdicts(case: RunCase) -> None:
 
     with pytest.raises(RunError, match="answers other lines; tried 3 times"):
         case.run_over(Answering(swap), check=True)
-    require_resumed(case)
+    require_verdicts(case)
 
 
 def test_seconds_that_did_not_pass(case: RunCase) -> None:
     for seconds in (1e9, 1e308):
         case.out = case.top / str(seconds)
-        case.run_over(Answering(lambda reply, before: (reply[0], seconds, *reply[2:])), most=1_000)
-        assert case.verdicts() == expected_verdicts(LIST)
+        require_verdicts(case, Answering(lambda reply, before: (reply[0], seconds, *reply[2:])), most=1_000)
         assert len(case.records([SMALL])) < 20
         summary = json.loads((case.out / "summary.json").read_text())
         assert summary["passes"][0]["work_seconds"] < 600

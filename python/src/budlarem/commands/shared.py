@@ -79,14 +79,6 @@ class ListReader:
         place = "" if number is None else ":%d" % number
         print("%s%s: %s" % (self.name, place, escape_controls(text)), file=sys.stderr)
 
-    def print_reading(self, reading: Reading) -> None:
-        """Prints a rewritten or refused line, and counts it."""
-        if reading.machine is None:
-            self.refuse(reading.number, str(reading))
-        else:
-            self.taken += 1
-            self.print_rewritten(reading)
-
     def print_form(self, form: ListForm) -> None:
         """Prints the form of the list if it was detected."""
         if form.is_found:
@@ -136,7 +128,11 @@ class _PrintedReadings(Readings):
     def __iter__(self) -> Iterator[Reading]:
         self._reader.print_form(self.form)
         for reading in super().__iter__():
-            self._reader.print_reading(reading)
+            if reading.machine is None:
+                self._reader.refuse(reading.number, str(reading))
+            else:
+                self._reader.taken += 1
+                self._reader.print_rewritten(reading)
             yield reading
         self._reader.print_skipped(self.skipped, self.undecoded)
 
