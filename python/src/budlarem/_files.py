@@ -262,20 +262,14 @@ class FileTarget:
     def __init__(self, path: str) -> None:
         self._path = path
         folder, self._name = os.path.split(path)
-        with _name_path(path):
-            self._directory = Directory.open(folder or os.curdir)
-        self.over: Pin | None = None
-        try:
+        with contextlib.ExitStack() as stack:
+            with _name_path(path):
+                self._directory = stack.enter_context(contextlib.closing(Directory.open(folder or os.curdir)))
             self.over = self._directory.pin(self._name)
+            if self.over is not None:
+                stack.callback(self.over.close)
             self._directory.require_kind(self._directory.status(self._name), self._name, stat.S_IFREG)
-        except BaseException:
-            self.close()
-            raise
-
-    def close(self) -> None:
-        if self.over is not None:
-            self.over.close()
-        self._directory.close()
+            self.close = stack.pop_all().close
 
     def write(self, fill: Callable[[int], None]) -> None:
         """Writes the file whole or not at all: `fill` writes to the open file. Raises FileExistsError if

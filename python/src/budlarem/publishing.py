@@ -24,7 +24,7 @@ from .counts import VerdictCounts
 from .engine import check_call, decide_bytes
 from .limits import GREATEST, Limits, in_range, words_of
 from .reading.files import BlockReader
-from .runner.chunks import Identity, Retention, identity
+from .runner.chunks import Identity, identity
 from .runner.errors import FolderError
 from .runner.folder import FinishedRun
 from .runner.input import ListFile, StreamLines
@@ -327,8 +327,8 @@ def publish(
             return _write_new(out, contents_of(given, passes))
         with contextlib.closing(FinishedRun(given)) as run:
             _require_whole(run)
-            decided = (one.limits for one in run.summary.passes)
-            contents = contents_of(run.verdicts, decided, run.summary.identity)
+            decided = (one.limits for one in run.passes)
+            contents = contents_of(run.verdicts, decided, run.identity)
             run.require_verdicts(contents.verdicts.checksum, contents.counts.kinds)
             return _write_new(out, contents)
     except FolderError as error:
@@ -339,8 +339,8 @@ def publish(
 
 def _require_whole(run: FinishedRun) -> None:
     """Raises PublishError if a run kept only some verdicts, FolderError if its journals don't match."""
-    if run.summary.kept != str(Retention()):
-        what = f"has only the verdicts that --keep {run.summary.kept} kept, and all are published"
+    if run.keep.only_holdouts:
+        what = f"has only the verdicts that --keep {run.keep} kept, and all are published"
         advice = "decide the list without --keep, in another folder"
         raise PublishError(f"{os.path.dirname(run.verdicts)} {what}; {advice}")
     run.require_journals()

@@ -282,8 +282,8 @@ def test_a_summary_has_the_checksum_of_the_verdicts(case: RunCase) -> None:
         case.out = case.top / str(len(limits))
         case.run_over(limits=limits)
         with contextlib.closing(folder.FinishedRun(str(case.out))) as found:
-            assert found.summary.checksum == _files.Checksum().add_bytes(case.verdicts())
-            assert (found.summary.identity, found.summary.lines) == (chunks.identity(), 370)
+            assert found.checksum == _files.Checksum().add_bytes(case.verdicts())
+            assert (found.identity, found.lines) == (chunks.identity(), 370)
             found.require_journals()
 
 

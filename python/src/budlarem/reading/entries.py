@@ -82,28 +82,20 @@ def read_arrays(groups: Sequence[Sequence[Word]]) -> Outcome:
 def _entries_of_groups(groups: Sequence[Word]) -> list[Group] | Reason:
     """The entries of each group, or why a group has others."""
     entries: list[Group] = []
-    for place, group in enumerate(groups):
-        found = _entries_of(group, sum(map(len, entries)), place, place + 1 < len(groups))
-        if isinstance(found, Reason):
-            return found
-        entries.append(found)
-    return entries
-
-
-def _entries_of(group: Word, before: int, place: int, is_followed: bool) -> Group | Reason:
-    """The entries of a group behind so many entries and groups; `is_followed`: a `_` or a space follows."""
-    if not group.text:
-        return Reason("empty-group", "group %d is empty" % (place + 1), group.begin + 1)
-    entries: Group = []
-    for at in range(0, len(group.text), 3):
-        entry = group.text[at : at + 3]
-        if not _ENTRY.fullmatch(entry):
-            return _no_entry(entry, before + len(entries) + 1, group.begin + at + 1, is_followed)
-        entries.append((group.begin + at, entry))
+    for place, group in enumerate(groups, 1):
+        if not group.text:
+            return Reason("empty-group", "group %d is empty" % place, group.begin + 1)
+        entries.append([])
+        for at in range(0, len(group.text), 3):
+            entry = group.text[at : at + 3]
+            if not _ENTRY.fullmatch(entry):
+                return _no_entry(entry, sum(map(len, entries)) + 1, group.begin + at + 1, place < len(groups))
+            entries[-1].append((group.begin + at, entry))
     return entries
 
 
 def _no_entry(text: str, number: int, place: int, is_followed: bool) -> Reason:
+    """Why a text is no entry; `is_followed`: a `_` or a space follows its group."""
     whole = text + "_" if len(text) == 2 and is_followed else text
     if _LOST.fullmatch(whole):
         what = f"entry {number} is {whole}: the {whole[0]} that it writes would be lost"

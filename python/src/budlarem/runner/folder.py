@@ -413,43 +413,18 @@ class PassSummary:
     checksum: Checksum | None
 
 
-@dataclasses.dataclass(frozen=True)
-class RunSummary:
-    """The summary of a run. `checksum` covers the verdicts."""
-
-    passes: tuple[PassSummary, ...]
-    identity: Identity
-    kept: str
-    lines: int
-    counts: Counts
-    checksum: Checksum | None
-
-    @classmethod
-    def read(cls, text: str) -> RunSummary:
-        """The summary of a text. Raises ValueError, KeyError, TypeError."""
-        fields = json.loads(text)
-        pairs = ((Limits(**one["limits"]), one) for one in fields["passes"])
-        passes = tuple(PassSummary(limits, int(one["pieces"]), *_figures_of(one)) for limits, one in pairs)
-        kept = str(parse_retention([fields["kept"]]))
-        return cls(passes, Identity.of_fields(fields), kept, *_figures_of(fields))
-
-
 class FinishedRun:
-    """The folder of a finished run, by the handle of the opened directory. Raises FolderError, OSError."""
+    """The folder of a finished run, by the handle of the opened directory: the path of its verdicts, and its
+    summary, in which `checksum` covers the verdicts. Raises FolderError, OSError."""
 
     def __init__(self, path: str) -> None:
-        self._top = Directory.open(path)
-        try:
+        with contextlib.ExitStack() as stack:
+            self._top = stack.enter_context(contextlib.closing(Directory.open(path)))
             self.verdicts = self._top.at(VERDICTS)
-            self.summary = self._read()
-        except BaseException:
-            self._top.close()
-            raise
+            self._read_summary()
+            self.close = stack.pop_all().close
 
-    def close(self) -> None:
-        self._top.close()
-
-    def _read(self) -> RunSummary:
+    def _read_summary(self) -> None:
         path = self._top.path
         if self._top.status(RUN) is None:
             raise FolderError(f"{path} is a folder, but not of `budlarem run`; give a file of verdict lines")
@@ -459,7 +434,13 @@ class FinishedRun:
         try:
             os.close(self._top.open_file(VERDICTS, os.O_RDONLY))
             with open(self._top.open_file(SUMMARY, os.O_RDONLY), encoding="utf-8") as file:
-                return RunSummary.read(file.read())
+                fields = json.load(file)
+            pairs = ((Limits(**one["limits"]), one) for one in fields["passes"])
+            self.passes = [
+                PassSummary(limits, int(one["pieces"]), *_figures_of(one)) for limits, one in pairs
+            ]
+            self.keep, self.identity = parse_retention([fields["kept"]]), Identity.of_fields(fields)
+            self.lines, self.counts, self.checksum = _figures_of(fields)
         except KindError as error:
             raise FolderError(str(error)) from None
         except (ValueError, KeyError, TypeError) as error:
@@ -468,12 +449,11 @@ class FinishedRun:
 
     def require_journals(self) -> None:
         """Raises FolderError if the journal of a pass is there, and isn't of this run; OSError."""
-        for number, one in enumerate(self.summary.passes, 1):
+        for number, one in enumerate(self.passes, 1):
             name = pass_name(number)
             if self._top.status(name) is None:
                 continue
-            limits = [before.limits for before in self.summary.passes[:number]]
-            key = key_of(limits, parse_retention([self.summary.kept]), self.summary.identity.library)
+            key = key_of([one.limits for one in self.passes[:number]], self.keep, self.identity.library)
             with contextlib.closing(self._top.subdirectory(name)) as inside:
                 if inside.status(JOURNAL) is not None:
                     with contextlib.closing(Journal(inside, key, is_read_only=True)) as journal:
@@ -503,10 +483,10 @@ class FinishedRun:
 
     def require_verdicts(self, checksum: Checksum, counts: collections.Counter[str]) -> None:
         """Raises FolderError unless verdicts with this checksum and these counts are those of the summary."""
-        for kind, known in self.summary.counts.items():
+        for kind, known in self.counts.items():
             if known != counts[kind]:
                 why = "it counts %d %s, and there are %d" % (known, kind, counts[kind])
                 raise self._mismatch_error(SUMMARY, VERDICTS, why)
-        if self.summary.checksum not in (None, checksum):
+        if self.checksum not in (None, checksum):
             raise self._mismatch_error(SUMMARY, VERDICTS, "the bytes differ")
         self._top.require_named()
