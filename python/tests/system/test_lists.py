@@ -196,15 +196,14 @@ def test_check(bb: str, rng: random.Random, tmp_path: pathlib.Path) -> None:
             words = asked if row is GREATEST else [*asked, *options(row)]
             status, output, error = command("check", *words, given=more)
             assert (status, output) == right[:2]
-            require_counts(lines, right.output.decode().splitlines(), error.decode())
-
-
-def require_counts(lines: list[str], answers: list[str], printed: str) -> None:
-    """Standard error has the counts and the first line that isn't confirmed."""
-    words = ("ok", "bad", "over", "open", "unread")
-    assert ", ".join("%s %d" % (word, answers.count(word)) for word in words) in printed
-    place = next(place for place, answer in enumerate(answers) if answer not in ("ok", "open"))
-    assert (":%d: %s: %s" % (place + 1, answers[place], lines[place][:150])) in printed
+            # Standard error has the counts and the first line that isn't confirmed.
+            answers, printed = right.output.decode().splitlines(), error.decode()
+            counts = (
+                "%s %d" % (word, answers.count(word)) for word in ("ok", "bad", "over", "open", "unread")
+            )
+            assert ", ".join(counts) in printed
+            place = next(place for place, answer in enumerate(answers) if answer not in ("ok", "open"))
+            assert (":%d: %s: %s" % (place + 1, answers[place], lines[place][:150])) in printed
 
 
 def test_trace(bb: str) -> None:

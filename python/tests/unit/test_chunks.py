@@ -58,7 +58,7 @@ def test_chunks_are_as_large_as_may_be() -> None:
     assert [len(chunk) for chunk in take_all(iter([given]), 300, 1_002)] == [1000] * 4
 
 
-def test_gzip_and_empty_lists(case: RunCase) -> None:
+def test_gzip_and_empty_lists_and_a_cut_one(case: RunCase) -> None:
     for given in (b"", b"\n", b"1RZ---", LIST):
         path = case.top / "list"
         for written in (given, gzip.compress(given) + gzip.compress(b"")):
@@ -66,9 +66,6 @@ def test_gzip_and_empty_lists(case: RunCase) -> None:
             listed = input.ListFile(str(path))
             assert b"".join(listed.blocks) == given
             listed.close()
-
-
-def test_a_cut_gzip_file(case: RunCase) -> None:
     case.list.write_bytes(gzip.compress(LIST)[:-20])
     with pytest.raises(RunError, match="can't be read as gzip"):
         case.run_over()
@@ -119,22 +116,19 @@ def test_records_come_back(journals: JournalCase) -> None:
     assert not (journals.known[3].fits(KINDS[1:]) or journals.known[3].has(b"xx"))
 
 
-def test_a_gap(journals: JournalCase) -> None:
+def test_gaps(journals: JournalCase) -> None:
     assert journals.journal.find_gap(2, 20) == (2, 20)
     assert journals.journal.find_gap(2, 39) == (3, 11)
     assert journals.journal.find_gap(6, 60) is None
     assert [journals.journal.find_gap(2, 20), journals.journal.find_gap(3, 30)] == [(2, 20), (1, 10)]
-
-
-def test_gaps_of_a_foreign_journal(journals: JournalCase) -> None:
-    """Each line is read once, however often is asked what comes."""
+    # Each line is read once, however often is asked what comes.
     foreign = journals.open_journal("other")
     with unittest.mock.patch.object(foreign, "read", wraps=foreign.read) as read:
         assert [foreign.find_gap(index, index) for index in range(6)] == [None] * 6
     assert read.call_count <= 6
 
 
-def test_each_changed_byte_is_seen(journals: JournalCase) -> None:
+def test_changed_cut_and_moved_records(journals: JournalCase) -> None:
     data = journals.path.read_bytes()
     for place in range(journal.WIDTH):
         changed = bytearray(data)
@@ -142,9 +136,6 @@ def test_each_changed_byte_is_seen(journals: JournalCase) -> None:
         journals.path.write_bytes(changed)
         assert journals.journal.read(0) is None
         assert journals.journal.read(1) == journals.known[1]
-
-
-def test_cut_moved_and_other_keys(journals: JournalCase) -> None:
     data = journals.path.read_bytes()
     journals.path.write_bytes(data[journal.WIDTH :])
     assert [journals.journal.read(place) for place in range(6)] == [None] * 6
@@ -169,7 +160,7 @@ def require_refusal(given: bytes, verdicts: bytes) -> None:
         chunks.validate_verdicts(given, verdicts)
 
 
-def test_what_is_wrong() -> None:
+def test_wrong_verdict_lines() -> None:
     good = expected_verdicts(KINDS)
     chunks.validate_verdicts(KINDS, good)
     lines = good.splitlines(keepends=True)
@@ -178,9 +169,6 @@ def test_what_is_wrong() -> None:
     for place, line in itertools.product(range(len(lines)), lines):
         if line != lines[place]:
             require_refusal(KINDS, b"".join([*lines[:place], line, *lines[place + 1 :]]))
-
-
-def test_lines_that_are_no_verdict_lines() -> None:
     machine = b"1RB1LB_1LA1RZ"
     for text in (b"halt 6", b"halt 06 4", b"halt 6 4 ", b" halt 6 4", b"", b"open", b"\x00"):
         require_refusal(machine + b"\n", machine + b" " + text + b"\n")

@@ -80,7 +80,7 @@ def test_links_and_pipes_are_no_files(place: DirectoryCase) -> None:
     assert (place.top / "other").read_text() == "mine"
 
 
-def test_a_file_of_another_is_not_replaced(place: DirectoryCase) -> None:
+def test_files_and_parts_of_others_stay(place: DirectoryCase) -> None:
     place.write("a", b"1")
     known = place.directory.pin("a")
     assert known is not None
@@ -91,9 +91,6 @@ def test_a_file_of_another_is_not_replaced(place: DirectoryCase) -> None:
         _files.write_atomically(place.directory, "a", lambda number: None, known)
     assert raised.value.filename == str(place.inside / "a")
     assert contents(place.top) == {str(place.inside / "a"): b"mine"}
-
-
-def test_parts_of_others_stay(place: DirectoryCase) -> None:
     for name in ("a.part", "a.2.part"):
         (place.inside / name).write_bytes(b"mine")
     place.write("a", b"1")
@@ -101,17 +98,7 @@ def test_parts_of_others_stay(place: DirectoryCase) -> None:
     assert sorted(contents(place.top).values()) == [b"2", b"mine", b"mine"]
 
 
-def test_where_there_are_no_links(place: DirectoryCase) -> None:
-    refused = unittest.mock.Mock(side_effect=OSError(errno.EPERM, "it can't"))
-    with unittest.mock.patch.object(os, "link", refused):
-        place.write("a", b"1")
-        assert list(contents(place.top).values()) == [b"1"]
-        place.directory.create_file("b.part")
-        with pytest.raises(FileExistsError):
-            place.directory.install("b.part", "a", None)
-
-
-def test_nothing_is_left_after_an_error(place: DirectoryCase) -> None:
+def test_errors_and_file_systems_without_links(place: DirectoryCase) -> None:
     def fail(number: int) -> None:
         os.write(number, b"half")
         raise OSError(errno.ENOSPC, "No space left on device")
@@ -119,6 +106,13 @@ def test_nothing_is_left_after_an_error(place: DirectoryCase) -> None:
     with pytest.raises(OSError) as raised:
         _files.write_atomically(place.directory, "a", fail, None)
     assert (raised.value.filename, contents(place.top)) == (str(place.inside / "a"), {})
+    refused = unittest.mock.Mock(side_effect=OSError(errno.EPERM, "it can't"))
+    with unittest.mock.patch.object(os, "link", refused):
+        place.write("a", b"1")
+        assert list(contents(place.top).values()) == [b"1"]
+        place.directory.create_file("b.part")
+        with pytest.raises(FileExistsError):
+            place.directory.install("b.part", "a", None)
 
 
 def test_a_target_whose_folder_is_moved(place: DirectoryCase) -> None:
