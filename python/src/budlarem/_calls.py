@@ -222,8 +222,7 @@ def batch_bytes(blocks: Blocks, pace: BatchPace) -> Iterator[bytes]:
             if end < 0:
                 continue
             block, is_cut = block[end:], False
-        whole = block.rfind(b"\n") + 1
-        if whole:
+        if whole := block.rfind(b"\n") + 1:
             yield from _slice(rest, block, whole, pace)
             rest = b""
         rest += block[whole:]

@@ -41,8 +41,7 @@ class LibraryError(OSError):
 def candidate_paths() -> list[pathlib.Path]:
     """The paths of the library: that of the variable BB_LIBRARY alone, if set; else beside this package, then the
     output of `make library` in the repository."""
-    named = os.environ.get(VARIABLE)
-    if named:
+    if named := os.environ.get(VARIABLE):
         return [pathlib.Path(named)]
     built = [top / "crates" / "bb_c" / "out" / "libbb.so" for top in list(_HERE.parents)[2:3]]
     return [_HERE / "libbb.so", *built]
@@ -52,8 +51,7 @@ def candidate_paths() -> list[pathlib.Path]:
 def load_library() -> ctypes.CDLL:
     """The library. Raises LibraryError."""
     candidates = candidate_paths()
-    path = next((place for place in candidates if place.is_file()), None)
-    if path is None:
+    if (path := next((place for place in candidates if place.is_file()), None)) is None:
         places = " nor at ".join(map(str, candidates))
         how = f"install the wheel, build it by `make library`, or set the variable {VARIABLE} to its path"
         raise LibraryError(f"libbb.so isn't at {places}; {how}")

@@ -66,27 +66,17 @@ class Claim:
     unjudged: tuple[str, ...] = ()
 
 
-class Claims(Iterator[Claim]):
+class Claims(Iterable[Claim]):
     """The claims of the lines of a list. `skipped` counts the skipped lines by kind; `words` translates the
     words of a table."""
 
-    def __init__(
-        self, lines: Iterator[Numbered], form: ListForm, words: dict[str, Word] | None = None
-    ) -> None:
+    def __init__(self, lines: Iterator[Numbered], form: ListForm, words: dict[str, Word]) -> None:
+        self._lines, self._form, self._words = lines, form, words
         self.skipped: collections.Counter[Skipped] = collections.Counter()
-        self._words = WORDS if words is None else words
-        self._claims = self._read_claims(lines, form)
 
     def __iter__(self) -> Iterator[Claim]:
-        return self._claims
-
-    def __next__(self) -> Claim:
-        return next(self._claims)
-
-    def _read_claims(self, lines: Iterator[Numbered], form: ListForm) -> Iterator[Claim]:
-        for number, line in lines:
-            claim = _claim_of(number, line, form, self._words)
-            if claim is not None:
+        for number, line in self._lines:
+            if (claim := _claim_of(number, line, self._form, self._words)) is not None:
                 yield claim
             else:
                 self.skipped[skip_kind(line)] += 1
@@ -165,8 +155,7 @@ def _verdict_in(machine: str, text: str) -> Verdict:
 def _of_row(reading: Reading, layout: Layout, words: dict[str, Word]) -> Claim:
     assert reading.machine is not None and reading.row is not None
     cells = {role: reading.row[place] for role, place in layout.columns.items()}
-    cell = cells.get("verdict", "")
-    if not cell:
+    if not (cell := cells.get("verdict", "")):
         return Claim(reading, trouble="no word says whether it halts")
     word, verdict = words.get(plain_word(cell)), None
     if word is None:

@@ -87,8 +87,7 @@ class VerdictCounts:
             key = "%s %s" % (kind, name)
             if numbers.get(name, -1) > self.greatest.get(key, (-1, ""))[0]:
                 self.greatest[key] = (numbers[name], line)
-        steps = numbers.get("steps", numbers.get("second"))
-        if steps is None:
+        if (steps := numbers.get("steps", numbers.get("second"))) is None:
             return
         runs = self.longest.setdefault(kind, [])
         if len(runs) == LONGEST and steps <= runs[-1][0]:

@@ -102,10 +102,8 @@ class ListOverlap:
     def _others(self, machines: Iterable[str], those: dict[str, _Item]) -> Iterator[str]:
         """The machines that aren't among those, in any form."""
         rest = [machine for machine in machines if machine not in those]
-        forms: set[str] = set()
-        if rest:
-            compared = count_progress(those, "compared by form", self._progress)
-            forms.update(canonical_form(machine).text for machine in compared)
+        compared = count_progress(those if rest else (), "compared by form", self._progress)
+        forms = {canonical_form(machine).text for machine in compared}
         found = count_progress(rest, "compared by form", self._progress)
         return (machine for machine in found if canonical_form(machine).text not in forms)
 
@@ -192,7 +190,7 @@ class JudgedList:
 
 
 def _decide_claims(
-    claims: Iterator[Claim], limits: Limits, plan: Plan, threads: int
+    claims: Iterable[Claim], limits: Limits, plan: Plan, threads: int
 ) -> Iterator[tuple[Claim, Verdict | None]]:
     """Each claim with our verdict on its machine, if it has one."""
     waiting: collections.deque[Claim] = collections.deque()
@@ -231,8 +229,7 @@ class Judging(Iterator[Judged]):
         self._held: Iterator[Judged] = iter(())
 
     def __next__(self) -> Judged:
-        judged = next(self._held, None)
-        if judged is None:
+        if (judged := next(self._held, None)) is None:
             self._held = iter(self._judge_batch())
             judged = next(self._held)
         return judged
@@ -347,14 +344,12 @@ def counts_undefined_steps(claims: Iterable[Claim], limits: Limits, checker: Lim
     verdicts = (claim.verdict or _complete_halt(claim, limits) for claim in claims)
     halts = (verdict for verdict in verdicts if isinstance(verdict, Halt) and "---" in verdict.machine)
     is_counted = False
-    while True:
-        batch = list(itertools.islice(halts, _TOGETHER))
-        if not batch:
-            return is_counted
-        for counted in _counts_steps(batch, limits, checker, threads):
-            if not counted:
-                return False
-            is_counted = True
+    while batch := list(itertools.islice(halts, _TOGETHER)):
+        found = _counts_steps(batch, limits, checker, threads)
+        if not all(found):
+            return False
+        is_counted = is_counted or bool(found)
+    return is_counted
 
 
 def _complete_halt(claim: Claim, limits: Limits) -> Halt | None:

@@ -250,8 +250,7 @@ def _count_beside(machines: ArchivedFile, verdicts: ArchivedFile) -> VerdictCoun
         if line is None or verdict is None:
             short, other = (machines, verdicts) if line is None else (verdicts, machines)
             raise PublishError("%s has %d lines, and %s has more" % (short.path, number - 1, other.path))
-        machine = counts.add(verdict.decode())
-        if not machine:
+        if not (machine := counts.add(verdict.decode())):
             refused.append((number, line, verdict))
         elif machine.encode() != line:
             _raise_mismatch(machines, verdicts, number, line)

@@ -73,8 +73,7 @@ class Statistics(VerdictCounts):
     def _add_numbers(self, kind: str, numbers: dict[str, int], line: str) -> None:
         super()._add_numbers(kind, numbers, line)
         for name, number in numbers.items():
-            plot = _PLOTTED.get("%s %s" % (kind, name))
-            if plot is not None:
+            if (plot := _PLOTTED.get("%s %s" % (kind, name))) is not None:
                 self.bins[plot][bin_of(number)] += 1
         if kind == "undecided":
             machine = line.partition(" ")[0]

@@ -177,14 +177,6 @@ def test_scheduler(many: Given, tmp_path: pathlib.Path, is_late: bool) -> None:
         require_end(case, status, right)
 
 
-def collect_garbage(tmp_path: pathlib.Path) -> dict[str, str]:
-    """The environment of a run that collects garbage all the time, so that nothing is kept by chance."""
-    site = tmp_path / "site"
-    site.mkdir()
-    (site / "sitecustomize.py").write_text(COLLECTS, encoding="utf-8")
-    return {"PYTHONPATH": os.pathsep.join([str(site), os.environ["PYTHONPATH"]])}
-
-
 @pytest.mark.slow
 @pytest.mark.parametrize("what", WRONG_WORKERS)
 def test_wrong_worker(few: Given, tmp_path: pathlib.Path, what: str) -> None:
@@ -197,7 +189,11 @@ def test_wrong_worker(few: Given, tmp_path: pathlib.Path, what: str) -> None:
             wrong = changed_package(found.top, file, CHANGES[what])
         found.start_worker(wrong)
         case = case_of(found, "wrong", given)
-        case.require_error(3, WRONG_WORKERS[what], variables=collect_garbage(found.top))
+        # The run collects garbage all the time, so that nothing is kept by chance.
+        (found.top / "site").mkdir()
+        (found.top / "site" / "sitecustomize.py").write_text(COLLECTS, encoding="utf-8")
+        places = os.pathsep.join([str(found.top / "site"), os.environ["PYTHONPATH"]])
+        case.require_error(3, WRONG_WORKERS[what], variables={"PYTHONPATH": places})
         assert "resumes" in case.output() and "Traceback" not in case.output(), case.output()
         found.kill_workers()
         found.start_worker()

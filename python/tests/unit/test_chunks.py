@@ -145,7 +145,7 @@ def test_changed_cut_and_moved_records(journals: JournalCase) -> None:
     assert journals.open_journal("other").read(4) is None
 
 
-def test_verdicts_of_a_list() -> None:
+def test_right_and_wrong_verdict_lines() -> None:
     for limits in PASSES:
         verdicts = expected_verdicts(LIST, [limits])
         counts = chunks.validate_verdicts(LIST, verdicts)
@@ -153,14 +153,6 @@ def test_verdicts_of_a_list() -> None:
         assert sum(counts.values()) == LIST.count(b"\n")
         for kind in ("halt", "cycler", "translated", "refused"):
             assert counts[kind] > 0
-
-
-def require_refusal(given: bytes, verdicts: bytes) -> None:
-    with pytest.raises(ReplyError):
-        chunks.validate_verdicts(given, verdicts)
-
-
-def test_wrong_verdict_lines() -> None:
     good = expected_verdicts(KINDS)
     chunks.validate_verdicts(KINDS, good)
     lines = good.splitlines(keepends=True)
@@ -179,6 +171,11 @@ def test_wrong_verdict_lines() -> None:
     require_refusal(b"1RZ---\n", b"refused 7\n")
     require_refusal(b"refused\n", b"refused 5\n")
     chunks.validate_verdicts(b"refused\n", b"refused 1\n")
+
+
+def require_refusal(given: bytes, verdicts: bytes) -> None:
+    with pytest.raises(ReplyError):
+        chunks.validate_verdicts(given, verdicts)
 
 
 def test_answers() -> None:

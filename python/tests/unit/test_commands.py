@@ -84,7 +84,7 @@ def test_comparisons_of_lists() -> None:
         list(budlarem.compare([], ["refused 1", "x"]))
 
 
-def test_normal_forms_and_duplicates() -> None:
+def test_normal_forms_duplicates_and_other_texts() -> None:
     form = budlarem.normal("1LC1RZ_1RB---_1RA1LA")
     assert (form.normal, form.states, form.mirrored) == ("1RB1LZ_1LA1RA_1LC---", "ACB", True)
     for machine in (CHAMPION, "------", "1RZ---", "---1LA"):
@@ -92,9 +92,6 @@ def test_normal_forms_and_duplicates() -> None:
         assert (form.normal, form.mirrored) == (machine, False)
     machines = [CHAMPION, "1LB1RB_1RA1LZ", "1RA1RA", CHAMPION]
     assert [first for _, first in budlarem.distinct(machines)] == [None, CHAMPION, None, CHAMPION]
-
-
-def test_no_machine() -> None:
     with pytest.raises(budlarem.MachineError):
         budlarem.normal("1RB")
     with pytest.raises(budlarem.MachineError, match=r"^machines\[1\]: no machine, from column 4 on: '1RB'"):
@@ -138,7 +135,7 @@ def test_rows_are_those_of_the_whole_trace() -> None:
         assert chosen == rows[::every] and len(chosen) <= 20 and (every == 1 or len(chosen) > 10)
 
 
-def test_it_is_shown_and_saved(tmp_path: pathlib.Path) -> None:
+def test_pictures_are_saved_scaled_or_cut(tmp_path: pathlib.Path) -> None:
     picture = budlarem.picture(CHAMPION, 6)
     assert picture._repr_png_().startswith(b"\x89PNG")
     with pytest.raises(budlarem.PictureError, match="^x.jpg: a picture is a PNG file"):
@@ -146,6 +143,13 @@ def test_it_is_shown_and_saved(tmp_path: pathlib.Path) -> None:
     path = tmp_path / "picture.png"
     picture.save(path)
     assert path.read_bytes() == picture.png
+    words = ("picture", "1RA1RA", "--upto", "3000", "--out", str(path))
+    status, _, said = run_with(*words)
+    assert (status, path.read_bytes()[:4]) == (0, b"\x89PNG")
+    assert "a pixel has the mean colour of 2 cells" in said
+    status, _, said = run_with(*words, "--left", "3", "--columns", "10")
+    assert "positions 3 to 12" in said
+    assert "mean colour" not in said
 
 
 LINES = [CHAMPION + " halt 6 4", "1RA1RA translated R 1 2 1 1", UNDECIDED + " undecided steps", "refused 2"]
@@ -199,9 +203,11 @@ def run_with(*words: str, given: str = "") -> tuple[int, list[str], str]:
     return status, output.decode().splitlines(), error.decode()
 
 
-def test_fields_are_carried() -> None:
+def test_carried_fields_and_normal_forms() -> None:
     status, lines, _ = run_with("decide", given="1RZ---, a b\r\n%s\n# c\nx;y\n" % CHAMPION)
     assert (status, lines) == (1, ["1RZ--- halt 1 1\ta b", CHAMPION + " halt 6 4", "refused 1"])
+    given = "%s\n1LB1RB_1RA1LZ\n" % CHAMPION
+    assert run_with("normal", "--distinct", given=given)[1] == ["%s\t%s\tAB\tR" % (CHAMPION, CHAMPION)]
 
 
 def test_a_refused_line_is_named_and_passed_over(tmp_path: pathlib.Path) -> None:
@@ -227,7 +233,7 @@ def test_a_full_disk_is_named_with_what_was_written() -> None:
     assert re.search("(?m)^budlarem: standard output: .*No space left on device\n$", ended.stderr.decode())
 
 
-def test_files_and_statuses(tmp_path: pathlib.Path) -> None:
+def test_files_statuses_and_refused_words(tmp_path: pathlib.Path) -> None:
     path = tmp_path / "verdicts.txt"
     path.write_text(CHAMPION + " halt 6 4\n", encoding="utf-8")
     assert run_with("compare", str(path), str(path))[:2] == (0, [])
@@ -237,25 +243,6 @@ def test_files_and_statuses(tmp_path: pathlib.Path) -> None:
     path.unlink()
     status, _, said = run_with("compare", str(path), str(path))
     assert status == 3 and "verdicts.txt" in said
-
-
-def test_words_and_limits_that_are_refused() -> None:
     for words in ((), ("decide", "--cells", "4"), ("decide", "--steps", "x"), ("normal", "--nowhere")):
         assert run_with(*words)[0] == 2, words
     assert "depth is 300" in run_with("decide", "--cells", "4")[2]
-
-
-def test_pictures_are_scaled_or_cut(tmp_path: pathlib.Path) -> None:
-    path = str(tmp_path / "picture.png")
-    words = ("picture", "1RA1RA", "--upto", "3000", "--out", path)
-    status, _, said = run_with(*words)
-    assert (status, pathlib.Path(path).read_bytes()[:4]) == (0, b"\x89PNG")
-    assert "a pixel has the mean colour of 2 cells" in said
-    status, _, said = run_with(*words, "--left", "3", "--columns", "10")
-    assert "positions 3 to 12" in said
-    assert "mean colour" not in said
-
-
-def test_normal_forms() -> None:
-    given = "%s\n1LB1RB_1RA1LZ\n" % CHAMPION
-    assert run_with("normal", "--distinct", given=given)[1] == ["%s\t%s\tAB\tR" % (CHAMPION, CHAMPION)]

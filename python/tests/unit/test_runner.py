@@ -619,7 +619,12 @@ def test_seconds_that_did_not_pass(case: RunCase) -> None:
         assert summary["passes"][0]["work_seconds"] < 600
 
 
-def test_statuses(case: RunCase) -> None:
+def test_refusals_and_statuses(case: RunCase) -> None:
+    limits = ("steps=1,steps=2", "step=1", "", "steps=-1", "cells=0", "depth=300,cells=10")
+    for words in (*(["--pass", value] for value in limits), ["--threads", "0"], ["--piece", "0"]):
+        status, said = case.call(*words)
+        assert (status, case.out.exists()) == (2, False), words
+        assert said.startswith("budlarem: ")
     small = "steps=30,cells=16,depth=3,nodes=5"
     assert case.call("--pass", small)[0] == 1
     assert case.verdicts() == expected_verdicts(LIST, [SMALL])
@@ -635,15 +640,7 @@ def test_statuses(case: RunCase) -> None:
     assert case.call()[0] == 3
 
 
-def test_what_is_refused(case: RunCase) -> None:
-    limits = ("steps=1,steps=2", "step=1", "", "steps=-1", "cells=0", "depth=300,cells=10")
-    for words in (*(["--pass", value] for value in limits), ["--threads", "0"], ["--piece", "0"]):
-        status, said = case.call(*words)
-        assert (status, case.out.exists()) == (2, False), words
-        assert said.startswith("budlarem: ")
-
-
-def test_a_terminal() -> None:
+def test_progress_of_a_pass() -> None:
     shown = KeptProgress()
     shown._is_terminal = True
     shown.start(1, 2, lambda: 88_664_064)
@@ -655,9 +652,6 @@ def test_a_terminal() -> None:
     assert re.match(r"\rpass 1 of 2, 1 chunks, " + figures, text) and len(text) < 81
     shown.print_line("a sentence")
     assert shown.kept.getvalue().endswith("\rbudlarem: a sentence\n")
-
-
-def test_a_long_pass_is_announced_once() -> None:
     shown = KeptProgress()
     shown.start(2, 2, lambda: 10**9)
     shown._started -= 10

@@ -2,9 +2,8 @@
 
 from __future__ import annotations
 
-import dataclasses
 import re
-from typing import Sequence, Union
+from typing import NamedTuple, Sequence, Union
 
 from .._text import pluralize, first_hidden, code_point
 from ..verdicts import MOST_SYMBOLS, STATES, is_machine
@@ -16,8 +15,7 @@ _ENTRY = re.compile(r"[0-9][LRlr][A-Za-z]|---|\.\.\.")
 _LOST = re.compile(r"[0-9][LRlr][-_]")
 
 
-@dataclasses.dataclass(frozen=True)
-class Word:
+class Word(NamedTuple):
     """A word of a line, and its index."""
 
     begin: int
@@ -28,8 +26,7 @@ class Word:
         return self.begin + len(self.text)
 
 
-@dataclasses.dataclass(frozen=True)
-class Found:
+class Found(NamedTuple):
     """A machine as `bb` reads it, and the rewritings."""
 
     machine: str
@@ -100,8 +97,7 @@ def _no_entry(text: str, number: int, place: int, is_followed: bool) -> Reason:
     if _LOST.fullmatch(whole):
         what = f"entry {number} is {whole}: the {whole[0]} that it writes would be lost"
         return Reason("lost", what, place)
-    hidden = first_hidden(text)
-    if hidden is not None:
+    if (hidden := first_hidden(text)) is not None:
         code = code_point(text[hidden])
         return Reason("hidden", f"entry {number} has {code}, a character that doesn't show", place + hidden)
     return Reason("entry", f"entry {number} is no entry: {text}", place)
@@ -136,8 +132,7 @@ def _divide(entries: Group, rewritten: set[Rewriting]) -> Outcome:
 
 
 def _machine(groups: Sequence[Group], rewritten: set[Rewriting]) -> Outcome:
-    wrong = _wrong_size(groups)
-    if wrong is not None:
+    if (wrong := _wrong_size(groups)) is not None:
         return wrong
     letters = {entry[2].upper() for group in groups for _, entry in group}
     halts_by_h = "H" in letters and "Z" not in letters and len(groups) <= MOST_BEFORE_H

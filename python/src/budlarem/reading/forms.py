@@ -8,7 +8,8 @@ import itertools
 import os
 import stat
 import tempfile
-from typing import IO, Any, Iterator
+import weakref
+from typing import IO, Any, Iterable, Iterator
 
 from ..verdicts import is_machine
 from .files import Lines, Numbered, Source
@@ -33,7 +34,7 @@ class ListForm:
         return "form %s" % self.form if self.layout is None else "form %s: %s" % (self.form, self.layout)
 
 
-def find_form(lines: Iterator[Numbered], ahead: list[Numbered]) -> Form | None:
+def find_form(lines: Iterable[Numbered], ahead: list[Numbered]) -> Form | None:
     """The form of the first lines, which are added to `ahead`; None if there are none."""
     alone: list[str] = []
     verdicts = 0
@@ -73,7 +74,7 @@ def _is_alone(number: int, bare: str) -> bool:
 
 
 def form_of(
-    lines: Iterator[Numbered], ahead: list[Numbered], form: Form | None, columns: Columns
+    lines: Iterable[Numbered], ahead: list[Numbered], form: Form | None, columns: Columns
 ) -> ListForm:
     """The form of a list: the given one, a table if a column is given, or that of its first lines. Raises
     ValueError if the layout of a table isn't known."""
@@ -81,8 +82,7 @@ def form_of(
     if form is None and columns != Columns():
         form = Form.TABLE
     if form is None:
-        form = find_form(lines, ahead)
-        if form is None:
+        if (form := find_form(lines, ahead)) is None:
             return ListForm(Form.TEXT)
     if form is not Form.TABLE:
         if columns != Columns():
@@ -137,8 +137,7 @@ class Readings(Iterator[Reading]):
     def _read(self) -> Iterator[Reading]:
         form = self.form
         for number, line in itertools.chain(self._ahead, self._source):
-            reading = reading_of(number, line, form)
-            if reading is not None:
+            if (reading := reading_of(number, line, form)) is not None:
                 yield reading
             else:
                 self._skipped[skip_kind(line)] += 1
@@ -164,11 +163,6 @@ class RereadableList:
         self._is_started = False
         self.form: ListForm = form_of(self._lines, self._ahead, form, columns)
 
-    def __del__(self) -> None:
-        copy = getattr(self, "_copy", None)
-        if copy is not None:
-            copy.close()
-
     @property
     def empty(self) -> int:
         """The number of empty lines read so far."""
@@ -193,6 +187,7 @@ class RereadableList:
             return
         if self._copy is None:
             self._copy = tempfile.SpooledTemporaryFile(_MOST_BUFFERED)
+            weakref.finalize(self, self._copy.close)
             for number, line in itertools.chain(self._ahead, self._lines):
                 self._copy.write(b"%d %s\n" % (number, line.encode("utf-8", "surrogatepass")))
         self._copy.seek(0)

@@ -136,8 +136,7 @@ def _state_line(line: str, text: Text) -> Reason | None:
     """Why a text behind the letter of a state is no machine: it is the line of that state."""
     if "_" in text.written or text.arrays or text.is_address:
         return None
-    letter = _STATE.search(line[: text.begin])
-    if letter is None:
+    if (letter := _STATE.search(line[: text.begin])) is None:
         return None
     group = letter.lastindex or 0
     if group == 2 and text.written == text.written.upper():

@@ -199,8 +199,7 @@ def read_row(number: int, line: str, layout: Layout) -> Reading | None:
         return Reading(number, line, None, reason=wrong, row=row)
     column = layout.columns["machine"]
     found = _machine_in(number, row[column])
-    reason = found.reason
-    if reason is not None:
+    if (reason := found.reason) is not None:
         reason = dataclasses.replace(reason, place=max(line.find(row[column]), 0) + reason.place)
     before, behind = (layout.separator.join(part) for part in (row[:column], row[column + 1 :]))
     return Reading(number, line, found.machine, found.rewritten, before, behind, reason, row)

@@ -3,9 +3,8 @@ skipped lines: comments, code fences, and the rules and headers of tables."""
 
 from __future__ import annotations
 
-import dataclasses
 import re
-from typing import Iterator
+from typing import Iterator, NamedTuple
 
 from .entries import Word
 from .readings import Skipped
@@ -40,8 +39,7 @@ _PART = re.compile(r"[^/?#&=]+")
 _TOGETHER = " \u00a0"
 
 
-@dataclasses.dataclass(frozen=True)
-class Text:
+class Text(NamedTuple):
     """Words with only spaces between them. `begin` and `end` are its place in the line, with an address around
     it; `is_last`: it is the last part of that address. `arrays` has the entries of each group of arrays."""
 
@@ -61,8 +59,7 @@ class Text:
         return len(self.words) == 1 and len(self.words[0].text) == 3
 
 
-@dataclasses.dataclass(frozen=True)
-class Parts:
+class Parts(NamedTuple):
     """The candidates of a line, and its rows of dashes or dots."""
 
     texts: list[Text]
@@ -203,10 +200,9 @@ def skip_reason(bare: str) -> Skipped | None:
         return Skipped.EMPTY
     if bare.startswith(_COMMENT):
         return None if is_comment_of_machine(bare) else Skipped.COMMENT
-    if _FENCE.fullmatch(bare):
-        return None if parts_of(bare).texts else Skipped.FENCE
-    if _RULE.fullmatch(bare):
-        return None if parts_of(bare).texts else Skipped.RULE
+    for pattern, kind in ((_FENCE, Skipped.FENCE), (_RULE, Skipped.RULE)):
+        if pattern.fullmatch(bare):
+            return None if parts_of(bare).texts else kind
     return Skipped.HEADER if _is_header(bare) else None
 
 

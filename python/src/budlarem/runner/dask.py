@@ -83,8 +83,7 @@ class DaskBackend(ExecutorBackend):
         self._missing = ""
         self._client: Any = None
         self._executor: Any = None
-        error = self._connect()
-        if error is not None:
+        if (error := self._connect()) is not None:
             raise RunError("no scheduler answers at %s: %s" % (address, error))
         try:
             self._report("dask's page is at %s" % self._client.dashboard_link)

@@ -15,7 +15,7 @@ import re
 import shlex
 import stat
 import string
-from typing import Any, Callable, Iterable, Iterator, Sequence
+from typing import Any, Callable, Iterable, Iterator, NamedTuple, Sequence
 
 from .._files import Checksum, Directory, FileId, KindError, Pin, id_of, kind_of, write_atomically
 from .._files import write_blocks
@@ -402,8 +402,7 @@ def _figures_of(fields: dict[str, Any]) -> tuple[int, Counts, Checksum | None]:
     return int(fields["lines"]), {kind: int(fields["counts"][kind]) for kind in KINDS}, checksum
 
 
-@dataclasses.dataclass(frozen=True)
-class PassSummary:
+class PassSummary(NamedTuple):
     """A pass in a summary. `checksum` covers the output of its chunks."""
 
     limits: Limits

@@ -39,11 +39,9 @@ class StreamLines:
     def take(self, lines: int, size: int) -> bytes:
         """The next lines: at most so many, of at most so many bytes, but one at least; none at the end."""
         end, missing = _end_of(self._held, self._start, lines)
-        while end is None and len(self._held) - self._start < size:
-            batch = next(self._batches, None)
-            if batch is None:
+        while end is None and (known := len(self._held) - self._start) < size:
+            if (batch := next(self._batches, None)) is None:
                 break
-            known = len(self._held) - self._start
             self._held, self._start = self._held[self._start :] + batch, 0
             end, missing = _end_of(self._held, known, missing)
         start = self._start
@@ -90,8 +88,7 @@ def _whole_lines(blocks: Iterator[bytes]) -> Iterator[bytes]:
     """A stream in whole lines, none longer than LONGEST_GIVEN bytes and its newline."""
     rest = b""
     for block in blocks:
-        whole = block.rfind(b"\n") + 1
-        if whole:
+        if whole := block.rfind(b"\n") + 1:
             yield truncate_lines(rest + block[:whole])
             rest = block[whole:][:LONGEST_GIVEN]
         else:
@@ -167,8 +164,7 @@ class ListFile:
         held: list[bytes] = []
         count, size, is_paused = 0, 0, False
         while count < most and size < most * LONGEST_GIVEN and not is_paused:
-            block = next(self.blocks, b"")
-            if not block:
+            if not (block := next(self.blocks, b"")):
                 break
             held.append(block)
             count, size = count + block.count(b"\n"), size + len(block)
@@ -233,8 +229,7 @@ def require_form(source: ListFile) -> None:
 
 def refusal_reason(number: int, line: str) -> str:
     """Why `bb` refuses a line, in words."""
-    reading = read_line(number, line)
-    if reading is None:
+    if (reading := read_line(number, line)) is None:
         return "it has no machine"
     if reading.reason is not None:
         return str(reading.reason)

@@ -141,8 +141,7 @@ class Journal:
         self.sync()
 
     def clear_rename_mark(self) -> None:
-        index = self.rename_mark()
-        if index is not None:
+        if (index := self.rename_mark()) is not None:
             self._write(index, bytes(WIDTH))
             self.sync()
 
@@ -290,14 +289,12 @@ class PassFolder:
 
     def _read_chunk(self, index: int) -> tuple[int, bytes]:
         record = self._record(index)
-        kept = self.read(record)
-        if kept is None:
+        if (kept := self.read(record)) is None:
             raise self._changed_error(index)
         return record.first, kept
 
     def _record(self, index: int) -> Record:
-        record = self.journal.read(index)
-        if record is None:
+        if (record := self.journal.read(index)) is None:
             raise self._changed_error(index)
         return record
 

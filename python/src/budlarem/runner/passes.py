@@ -113,8 +113,7 @@ class Chunker:
         """The lines and bytes of the next chunk, and whether there must be so many lines."""
         if record is not None:
             return record.lines, _ANY_SIZE, True
-        gap = self._folder.journal.find_gap(index, first)
-        if gap is None:
+        if (gap := self._folder.journal.find_gap(index, first)) is None:
             return self.pace.now, self._most_bytes, False
         chunks, count = gap
         return -(-count // chunks), _ANY_SIZE, True
@@ -513,8 +512,7 @@ def start_or_resume(
 ) -> RunConfig:
     """The configuration of a folder, maybe with more passes. Raises FolderError if it has another one."""
     size = None if source.is_compressed else source.size
-    config = folder.read_config()
-    if config is None:
+    if (config := folder.read_config()) is None:
         config = RunConfig(list(passes), options.keep, options.identity, source.name, size)
         folder.write_config(config)
         return config
