@@ -182,11 +182,11 @@ class JudgedList:
 
     @property
     def skipped(self) -> collections.Counter[Skipped]:
-        return self._claims.skipped + collections.Counter({Skipped.EMPTY: self._source.empty})
+        return self._claims.skipped + collections.Counter({Skipped.EMPTY: self._source.counted.empty})
 
     @property
     def undecoded(self) -> int:
-        return self._source.undecoded
+        return self._source.counted.undecoded
 
 
 def _decide_claims(

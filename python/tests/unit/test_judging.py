@@ -205,9 +205,9 @@ def test_each_reading_has_the_same_lines(tmp_path: pathlib.Path) -> None:
             with mock.patch.object(forms, "_MOST_BUFFERED", kept):
                 twice = forms.RereadableList(source)
                 assert [list(twice.lines()), list(twice.lines())] == [right, right]
-                assert (list(twice.once()), twice.empty) == (right, 80)
+                assert (list(twice.once()), twice.counted.empty) == (right, 80)
     once = forms.RereadableList(path)
-    assert (list(once.once()), once.empty) == (right, 80)
+    assert (list(once.once()), once.counted.empty) == (right, 80)
 
 
 def test_canonical_forms() -> None:

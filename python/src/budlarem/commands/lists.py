@@ -12,9 +12,8 @@ from typing import BinaryIO, Iterator
 
 from ..claims import WORDS, Claims, read_words
 from ..comparison import Agreement, compare
-from ..judging import Judgement, judge, translation_in
+from ..judging import JudgedList, Judgement, judge, translation_in
 from ..limits import GREATEST, Limits
-from ..reading import Skipped
 from ..reading.forms import RereadableList
 from ..reports import report
 from ..runner.progress import TerminalLine, short_count
@@ -64,8 +63,8 @@ class ClaimReader(ListReader):
             else:
                 why = claim.trouble or "no verdict of %s" % claim.reading.machine
                 self.refuse(claim.reading.number, "refused: %s" % why)
-        skipped = claims.skipped + collections.Counter({Skipped.EMPTY: source.empty})
-        self.print_skipped(skipped, source.undecoded)
+        theirs = JudgedList(source, claims, translation)
+        self.print_skipped(theirs.skipped, theirs.undecoded)
 
 
 def do_compare(asked: argparse.Namespace) -> int:

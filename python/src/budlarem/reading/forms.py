@@ -153,42 +153,33 @@ _MOST_BUFFERED = 8_000_000
 
 
 class RereadableList:
-    """The non-empty lines of a list, to be read more than once. `form` is the list's."""
+    """The non-empty lines of a list, to be read more than once. `form` is the list's; `counted` are the lines of
+    the last reading, with the counts so far."""
 
     def __init__(self, source: Source, form: Form | None = None, columns: Columns = Columns()) -> None:
         self._source: Any = source
-        self._lines = Lines(source)
+        self.counted = Lines(source)
         self._ahead: list[Numbered] = []
         self._copy: IO[bytes] | None = None
         self._is_started = False
-        self.form: ListForm = form_of(self._lines, self._ahead, form, columns)
-
-    @property
-    def empty(self) -> int:
-        """The number of empty lines read so far."""
-        return self._lines.empty
-
-    @property
-    def undecoded(self) -> int:
-        """The number of lines read so far that aren't UTF-8."""
-        return self._lines.undecoded
+        self.form: ListForm = form_of(self.counted, self._ahead, form, columns)
 
     def once(self) -> Iterator[Numbered]:
         """The lines, for the last time."""
-        return self.lines() if self._is_started else itertools.chain(self._ahead, self._lines)
+        return self.lines() if self._is_started else itertools.chain(self._ahead, self.counted)
 
     def lines(self) -> Iterator[Numbered]:
         """The lines, from the first on. Raises OSError."""
         self._is_started = True
         is_path = isinstance(self._source, (str, os.PathLike))
         if is_path and stat.S_ISREG(os.stat(self._source).st_mode):
-            self._lines = Lines(self._source)
-            yield from self._lines
+            self.counted = Lines(self._source)
+            yield from self.counted
             return
         if self._copy is None:
             self._copy = tempfile.SpooledTemporaryFile(_MOST_BUFFERED)
             weakref.finalize(self, self._copy.close)
-            for number, line in itertools.chain(self._ahead, self._lines):
+            for number, line in itertools.chain(self._ahead, self.counted):
                 self._copy.write(b"%d %s\n" % (number, line.encode("utf-8", "surrogatepass")))
         self._copy.seek(0)
         for record in self._copy:

@@ -52,7 +52,11 @@ def read_line(number: int, line: str, form: Form = Form.TEXT) -> Reading | None:
     if skip_reason(bare) is not None:
         return None
     reading = _read_plain(number, line)
-    return _require_alone(reading, bare) if form is Form.MACHINES else reading
+    has_more = reading.before or reading.behind or not OF_MACHINES.issuperset(bare)
+    if form is Form.MACHINES and reading.machine is not None and has_more:
+        reason = Reason("beside", f"the line has more than the machine {quote(reading.machine)}", 1)
+        return Reading(number, line, None, reason=reason)
+    return reading
 
 
 def verdict_in(bare: str) -> Verdict | None:
@@ -72,15 +76,6 @@ def _read_verdict(number: int, line: str, bare: str) -> Reading | None:
     text = ("verdict", "this is no verdict line") if verdict is None else ("none", "no machine in this line")
     reason = Reason(*text, len(line) - len(line.lstrip(SPACES)) + 1)
     return Reading(number, line, None, reason=reason)
-
-
-def _require_alone(reading: Reading, bare: str) -> Reading:
-    """The reading of a line whose machine has to stand alone, without signs around it."""
-    has_more = reading.before or reading.behind or not OF_MACHINES.issuperset(bare)
-    if reading.machine is None or not has_more:
-        return reading
-    reason = Reason("beside", f"the line has more than the machine {quote(reading.machine)}", 1)
-    return Reading(reading.number, reading.line, None, reason=reason)
 
 
 def _read_plain(number: int, line: str) -> Reading:

@@ -105,7 +105,11 @@ def find_layout(lines: Sequence[Numbered], columns: Columns) -> Layout:
     if len(fitting) > 1:
         names = " or ".join(_SEPARATOR_NAMES[one] for one in fitting)
         raise ValueError("the separator may be %s: write the cells in quotes" % names)
-    return _layout_by_position(records, fitting[0], columns)
+    row = cells_of(first, fitting[0])
+    if _machine_in(0, row[_place_of(columns.machine or "", row)]).machine is None:
+        return _with_header(records[0], fitting[0], columns)
+    named = ((role, given) for role, given in dataclasses.asdict(columns).items() if given is not None)
+    return Layout(fitting[0], len(row), (), {role: _place_of(given, row) for role, given in named})
 
 
 def _fits(records: Sequence[Numbered], separator: str, columns: Columns) -> bool:
@@ -124,16 +128,6 @@ def _fits(records: Sequence[Numbered], separator: str, columns: Columns) -> bool
         return False
     found = [_machine_in(0, row[place]) for row in rows if len(row) == len(rows[0])]
     return any(one.machine is not None and not (one.before or one.behind) for one in found)
-
-
-def _layout_by_position(records: Sequence[Numbered], separator: str, columns: Columns) -> Layout:
-    """The layout of a table without a header that names the machines. Raises ValueError."""
-    row = cells_of(records[0][1], separator)
-    place = _place_of(columns.machine or "", row)
-    if _machine_in(0, row[place]).machine is None:
-        return _with_header(records[0], separator, columns)
-    named = ((role, given) for role, given in dataclasses.asdict(columns).items() if given is not None)
-    return Layout(separator, len(row), (), {role: _place_of(given, row) for role, given in named})
 
 
 def _with_header(header: Numbered, separator: str, columns: Columns) -> Layout:

@@ -179,7 +179,13 @@ class DaskBackend(ExecutorBackend):
             self._connect()
         if self._client.status == "running":
             self._count_workers()
-            self._requeue_stale()
+            # dask never ends jobs of another connection whose replies were in transit.
+            connection = self._connection()
+            with self._lock:
+                for job in [
+                    job for job, one in self._submissions.items() if one.connection is not connection
+                ]:
+                    self._requeue(job)
             self._fetch_stuck()
             for _ in range(len(self._lost)):
                 self._submit(self._lost.popleft())
@@ -208,13 +214,6 @@ class DaskBackend(ExecutorBackend):
         if text != self._missing:
             self._missing, self._workers = text, 0
             self._report(text)
-
-    def _requeue_stale(self) -> None:
-        """Requeues jobs of another connection: dask never ends those whose replies were in transit."""
-        connection = self._connection()
-        with self._lock:
-            for job in [job for job, one in self._submissions.items() if one.connection is not connection]:
-                self._requeue(job)
 
     def _fetch_stuck(self) -> None:
         """Fetches replies that dask has and its executor doesn't give: it never ends a future whose reply it

@@ -231,18 +231,15 @@ class PassFolder:
         """Reserves a place for some bytes behind all others."""
         with self._lock:
             if not self._is_writable:
-                self._make_writable()
+                # It gets a file of its own that ends behind the stored chunks.
+                status = os.fstat(self._file)
+                if self.is_renamed or status.st_nlink > 1:
+                    self._copy_chunks()
+                elif status.st_size > self._end:
+                    os.ftruncate(self._file, self._end)
+                self._is_writable = True
             place, self._end = self._end, self._end + size
         return place
-
-    def _make_writable(self) -> None:
-        """Gets a file of its own that ends behind the stored chunks."""
-        status = os.fstat(self._file)
-        if self.is_renamed or status.st_nlink > 1:
-            self._copy_chunks()
-        elif status.st_size > self._end:
-            os.ftruncate(self._file, self._end)
-        self._is_writable = True
 
     def _copy_chunks(self) -> None:
         """Copies the chunks into a new file of this folder, and uses that one."""
@@ -377,23 +374,17 @@ def holdouts_of(folder: PassFolder) -> Iterator[bytes]:
 
 def merge_passes(passes: Sequence[PassFolder]) -> Iterator[bytes]:
     """The verdict lines of all passes: the line of the next pass on the same machine replaces each undecided
-    line, which is dropped if that one isn't kept. Raises RunError, OSError."""
-    lines = StreamLines(merge_passes(passes[1:])) if len(passes) > 1 else None
+    line, which is dropped if that one isn't kept. A machine has one verdict wherever it stands in a list. Raises
+    RunError, OSError."""
+    lines = StreamLines(merge_passes(passes[1:]) if len(passes) > 1 else iter(()))
     for _, verdicts in passes[0].read_chunks():
-        yield verdicts if lines is None else _merge_lines(verdicts, lines)
-
-
-def _merge_lines(verdicts: bytes, lines: StreamLines) -> bytes:
-    """Verdict lines, each undecided one replaced by the next of `lines` if that is on the same machine, and
-    dropped otherwise. A machine has one verdict wherever it stands in a list."""
-    parts: list[bytes] = []
-    done = 0
-    for start, place, end in _spans(verdicts):
-        parts.append(verdicts[done:start])
-        if lines.peek().startswith(verdicts[start : place + 1]):
-            parts.append(lines.take(1, 1))
-        done = end
-    return b"".join(parts) + verdicts[done:]
+        parts, done = [b""], 0
+        for start, place, end in _spans(verdicts) if len(passes) > 1 else ():
+            parts.append(verdicts[done:start])
+            if lines.peek().startswith(verdicts[start : place + 1]):
+                parts.append(lines.take(1, 1))
+            done = end
+        yield b"".join(parts) + verdicts[done:]
 
 
 def list_line_number(before: Sequence[PassFolder], line: int) -> int:

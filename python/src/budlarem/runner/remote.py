@@ -124,7 +124,11 @@ class RemoteRun(PassRun):
         except CancelledError:
             error = ReplyError("it was cancelled")
         if isinstance(error, FatalLineError):
-            self._skip(chunk, error)
+            # The run fails once all other chunks are stored.
+            where = self._describe_lines(chunk.first + error.line)
+            line = quote_line(chunk.given.split(b"\n")[error.line])
+            self._skipped.append("pass %d, %s: %s: %s" % (self._folder.number, where, error, line))
+            self._options.progress.print_line(self._skipped[-1])
         elif error is not None:
             self._retry(chunk, error)
         else:
@@ -183,10 +187,3 @@ class RemoteRun(PassRun):
             raise RunError("%s; tried %d times" % (text, TRIES)) from error
         self._options.progress.print_line("%s; trying again" % text)
         self._submit(chunk)
-
-    def _skip(self, chunk: Chunk, error: FatalLineError) -> None:
-        """Skips a chunk that can't be decided. The run fails once all others are stored."""
-        where = self._describe_lines(chunk.first + error.line)
-        line = quote_line(chunk.given.split(b"\n")[error.line])
-        self._skipped.append("pass %d, %s: %s: %s" % (self._folder.number, where, error, line))
-        self._options.progress.print_line(self._skipped[-1])
