@@ -213,32 +213,38 @@ def _iter_blocks(blocks: Blocks) -> Iterator[bytes]:
         yield bytes(block)
 
 
-def batch_bytes(blocks: Blocks, pace: BatchPace) -> Iterator[bytes]:
-    """The bytes in batches of whole lines; a line longer than LONGEST_GIVEN is cut."""
-    rest, is_cut = b"", False
-    for block in _iter_blocks(blocks):
-        if is_cut:
-            end = block.find(b"\n")
-            if end < 0:
-                continue
-            block, is_cut = block[end:], False
+def whole_lines(blocks: Iterable[bytes]) -> Iterator[bytes]:
+    """Blocks of bytes in whole lines, each cut to LONGEST_GIVEN bytes; the last one gets a newline."""
+    rest = b""
+    for block in blocks:
         if whole := block.rfind(b"\n") + 1:
-            yield from _slice(rest, block, whole, pace)
-            rest = b""
-        rest += block[whole:]
-        if len(rest) > LONGEST_GIVEN:
-            rest, is_cut = rest[:LONGEST_GIVEN], True
+            yield _truncate_lines(rest + block[:whole])
+            rest = block[whole:][:LONGEST_GIVEN]
+        else:
+            rest = (rest + block)[:LONGEST_GIVEN]
     if rest:
-        yield rest
+        yield rest + b"\n"
 
 
-def _slice(rest: bytes, block: bytes, whole: int, pace: BatchPace) -> Iterator[bytes]:
-    """The start of a line and the block with its end, up to `whole`, the end of a line: in batches of bounded
-    bytes; the last may have half as many more."""
+def _truncate_lines(lines: bytes) -> bytes:
+    """Whole lines, each cut to LONGEST_GIVEN bytes."""
     start = 0
-    while start < whole:
-        end = whole
-        if whole - start > 1.5 * pace.now:
-            end = block.find(b"\n", start + pace.now - 1) + 1
-        yield rest + block[start:end]
-        start, rest = end, b""
+    while len(lines) - start > LONGEST_GIVEN:
+        last = lines.rfind(b"\n", start, start + LONGEST_GIVEN + 1)
+        if last < 0:
+            return b"\n".join(line[:LONGEST_GIVEN] for line in lines.split(b"\n"))
+        start = last + 1
+    return lines
+
+
+def batch_bytes(blocks: Blocks, pace: BatchPace) -> Iterator[bytes]:
+    """The bytes in batches of whole lines, each cut to LONGEST_GIVEN bytes. The last batch of a block may have
+    half as many bytes more."""
+    for lines in whole_lines(_iter_blocks(blocks)):
+        start = 0
+        while start < len(lines):
+            end = len(lines)
+            if end - start > 1.5 * pace.now:
+                end = lines.find(b"\n", start + pace.now - 1) + 1
+            yield lines[start:end]
+            start = end

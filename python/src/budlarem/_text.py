@@ -58,11 +58,6 @@ def is_hidden(character: str) -> bool:
     return character in _BLANK or unicodedata.category(character) in _CATEGORIES
 
 
-def first_hidden(text: str) -> int | None:
-    """The index of the first invisible character, if any."""
-    return next((place for place, character in enumerate(text) if is_hidden(character)), None)
-
-
 def code_point(character: str) -> str:
     """The code point of a character, as `U+200B`."""
     return "U+%04X" % ord(character)

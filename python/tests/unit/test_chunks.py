@@ -178,7 +178,7 @@ def require_refusal(given: bytes, verdicts: bytes) -> None:
         chunks.validate_verdicts(given, verdicts)
 
 
-def test_answers() -> None:
+def test_answers_and_replies() -> None:
     verdicts = expected_verdicts(KINDS)
     chunks.validate_answers(verdicts, b"ok\n" * 9 + b"open\n")
     for answers in (b"", b"ok\n" * 9, b"ok\n" * 10 + b"\n", b"fine\n" * 10):
@@ -188,9 +188,6 @@ def test_answers() -> None:
     with pytest.raises(ReplyError, match="bad") as raised:
         chunks.validate_answers(verdicts, b"ok\n" * 4 + b"bad\n" + b"over\n" * 5)
     assert raised.value.line == 4
-
-
-def test_replies() -> None:
     ours = chunks.identity()
     reply = chunks.decide_chunk(KINDS, SMALL.numbers())
     asked = chunks.describe_task(chunks.DECIDE, SMALL.numbers())

@@ -31,7 +31,7 @@ def agreement(first: str, second: str, undefined_steps: bool = False) -> Agreeme
     return comparison.agreement(*pair, undefined_steps)
 
 
-def test_what_goes_together() -> None:
+def test_agreements() -> None:
     for first, second, found in (
         ("halt 6 4", "halt 6 4", "agree"),
         ("halt 6 4", "halt 5 4", "contradict"),
@@ -49,9 +49,6 @@ def test_what_goes_together() -> None:
         ("cycler 1 2", "undecided cells", "first-decides"),
     ):
         assert str(agreement("%s %s" % (CHAMPION, first), "%s %s" % (CHAMPION, second))) == found
-
-
-def test_steps_counted_for_undefined_entries() -> None:
     for machine, other, asked, found in (
         ("1RB---_1LA1RZ", "halt 6 4", True, "agree"),
         ("1RB---_1LA1RZ", "halt 6 5", True, "agree"),

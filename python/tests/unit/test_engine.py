@@ -26,7 +26,7 @@ def decide_lines(machines: Any, *given: Any, **more: Any) -> list[str]:
     return [str(verdict) for verdict in budlarem.decide(machines, *given, **more)]
 
 
-def test_lists_of_any_kind_and_refusals() -> None:
+def test_lists_and_texts_of_any_kind() -> None:
     for machines in (MACHINES, tuple(MACHINES), iter(MACHINES), dict.fromkeys(MACHINES)):
         assert decide_lines(machines) == LINES
     assert decide_lines([]) == []
@@ -35,6 +35,9 @@ def test_lists_of_any_kind_and_refusals() -> None:
     (verdict,) = budlarem.decide(["x y"])
     assert verdict == budlarem.Refused(1)
     assert verdict.machine == "x y"
+    texts = ["\u00e9", "\ud800", "\0", "1RA1RA\0", "1RA1RA\r", " ", "1RA1RA ", "9" * 3_000_000]
+    columns = [1, 1, 1, 7, 7, 1, 7, 2]
+    assert decide_lines(texts) == ["refused %d" % column for column in columns]
 
 
 def test_limits_and_plans() -> None:
@@ -90,12 +93,6 @@ def test_wrong_arguments_at_once() -> None:
         budlarem.decide([], threads=0)
 
 
-def test_texts_of_all_kinds() -> None:
-    texts = ["\u00e9", "\ud800", "\0", "1RA1RA\0", "1RA1RA\r", " ", "1RA1RA ", "9" * 3_000_000]
-    columns = [1, 1, 1, 7, 7, 1, 7, 2]
-    assert decide_lines(texts) == ["refused %d" % column for column in columns]
-
-
 def test_lines_and_verdicts() -> None:
     given: list[Any] = [LINES[0], budlarem.Halt(CHAMPION, 6, 5), "x", budlarem.Refused(3), LINES[2]]
     assert list(budlarem.check(given)) == [Answer.OK, Answer.BAD, Answer.UNREAD, Answer.OPEN, Answer.OK]
@@ -125,7 +122,7 @@ def test_an_item_of_another_type(text: str) -> None:
         list(budlarem.check([LINES[0], WRONG[text]]))
 
 
-def test_blocks_of_any_kind() -> None:
+def test_blocks_of_any_kind_and_lines_without_a_newline() -> None:
     given, expected = as_lines(MACHINES), as_lines(LINES)
     cut = [given[k : k + 3] for k in range(0, len(given), 3)]
     kinds: list[Any] = [given, bytearray(given), memoryview(given), io.BytesIO(given), cut, iter([given])]
@@ -133,9 +130,10 @@ def test_blocks_of_any_kind() -> None:
         assert b"".join(budlarem.decide_bytes(blocks)) == expected
     assert b"".join(budlarem.check_bytes(expected)) == b"ok\nok\nok\nopen\nopen\n"
     assert b"".join(budlarem.decide_bytes(b"")) == b""
-
-
-def test_lines_without_a_newline() -> None:
+    wrong: Any
+    for wrong in ("1RZ---", ["1RZ---"], [1], 7, None):
+        with pytest.raises(TypeError):
+            list(budlarem.decide_bytes(wrong))
     assert b"".join(budlarem.decide_bytes(b"\n1RZ---")) == b"refused 1\n1RZ--- halt 1 1\n"
     noise = (b"1RZ------" * 100_000 for _ in range(20))
     assert b"".join(budlarem.decide_bytes(noise)) == b"refused 31\n"
@@ -163,13 +161,6 @@ def test_lists_of_many_batches() -> None:
     for blocks in (lines, bytearray(lines), view, io.BytesIO(lines), cut):
         found = b"".join(budlarem.decide_bytes(blocks, Limits(steps=0)))  # type: ignore[arg-type]
         assert found == expected
-
-
-def test_what_are_no_bytes() -> None:
-    for wrong in ("1RZ---", ["1RZ---"], [1], 7, None):
-        given: Any = wrong
-        with pytest.raises(TypeError):
-            list(budlarem.decide_bytes(given))
 
 
 def test_traces() -> None:

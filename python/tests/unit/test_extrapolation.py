@@ -81,14 +81,11 @@ def test_refusals(line: str, step: int, error: str) -> None:
         at(parse(line), step)
 
 
-def test_too_few_cells() -> None:
+def test_too_few_cells_and_wrong_arguments() -> None:
     verdict = Translated("1RA1RA", "R", 9, 10, Extent(1, 1))
     assert at(verdict, 20, cells=11) == Place(20, "A", 20)
     with pytest.raises(ValueError, match="needs more than 10 cells"):
         at(verdict, 20, cells=10)
-
-
-def test_wrong_arguments() -> None:
     halt = parse(CHAMPION + " halt 6 4")
     wrong: Any
     for wrong in (CHAMPION + " halt 6 4", None, 7):

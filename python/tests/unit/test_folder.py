@@ -234,12 +234,19 @@ def test_what_a_killed_run_left_is_removed(case: RunCase) -> None:
     assert case.verdicts() == expected_verdicts(LIST)
 
 
-def test_a_copy_of_the_chunks_that_was_begun(case: RunCase) -> None:
+def test_copies_that_were_begun_and_folders_that_are_not_asked_for(case: RunCase) -> None:
     case.run_over(limits=[SMALL])
     for name in ("pieces.part", "pieces.2.part"):
         (case.out / "pass-1" / name).write_bytes(expected_verdicts(LIST)[:100])
     case.run_over(limits=[SMALL])
     assert os.listdir(case.out / "pass-1") == ["journal"]
+    case.run_over(limits=[SMALL])
+    (case.out / "pass-7").mkdir()
+    (case.out / "pass-7" / "notes").write_text("mine")
+    case.run_over(limits=[SMALL])
+    case.run_over(limits=PASSES)
+    assert case.verdicts() == expected_verdicts(LIST)
+    assert (case.out / "pass-7" / "notes").read_text() == "mine"
 
 
 def test_chunks_and_passes_that_are_replaced_meanwhile(case: RunCase) -> None:
@@ -259,16 +266,6 @@ def test_chunks_and_passes_that_are_replaced_meanwhile(case: RunCase) -> None:
     with pytest.raises(MovedError):
         case.run_over(act(replace_pass, 3), limits=[SMALL])
     assert (case.out / "pass-1" / "pieces").read_text() == "mine"
-
-
-def test_folders_of_passes_that_are_not_asked_for(case: RunCase) -> None:
-    case.run_over(limits=[SMALL])
-    (case.out / "pass-7").mkdir()
-    (case.out / "pass-7" / "notes").write_text("mine")
-    case.run_over(limits=[SMALL])
-    case.run_over(limits=PASSES)
-    assert case.verdicts() == expected_verdicts(LIST)
-    assert (case.out / "pass-7" / "notes").read_text() == "mine"
 
 
 def test_a_summary_has_the_checksum_of_the_verdicts(case: RunCase) -> None:

@@ -83,7 +83,7 @@ def command(*given: str) -> subprocess.CompletedProcess[str]:
             feeder.kill()
 
 
-def test_commands(tmp_path: pathlib.Path) -> None:
+def test_commands_over_an_endless_line(tmp_path: pathlib.Path) -> None:
     every = [["read"], ["decide"], ["normal"], ["judge", "-"], ["compare", "/dev/null", "-"]]
     every.append(["check", "--cells", "1000"])
     if importlib.util.find_spec("matplotlib") is not None:
@@ -93,9 +93,6 @@ def test_commands(tmp_path: pathlib.Path) -> None:
         assert ended.returncode == 2, ended.stderr
         assert "standard input: line 301 has more than 268,435,456 bytes" in ended.stderr
         assert "Traceback" not in ended.stderr
-
-
-def test_a_run(tmp_path: pathlib.Path) -> None:
     ended = command("run", "-", "--out", str(tmp_path / "out"))
     assert ended.returncode == 3, ended.stderr
     assert "a line of more than 268,435,456 bytes and no newline" in ended.stderr

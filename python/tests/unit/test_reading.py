@@ -124,7 +124,7 @@ def test_a_line_is_read_when_it_is_needed() -> None:
     assert next(budlarem.read(many)).number == 1
 
 
-def test_what_is_no_list() -> None:
+def test_what_is_no_list_and_a_cut_gzip() -> None:
     for source, error, text in (
         (b"1RA1RA\n", TypeError, "BytesIO"),
         ("1RA1RA\n1RA1RA", ValueError, "splitlines"),
@@ -136,9 +136,6 @@ def test_what_is_no_list() -> None:
     ):
         with pytest.raises(error, match=text):
             list(budlarem.read(source))  # type: ignore[arg-type]
-
-
-def test_a_gzip_that_is_cut() -> None:
     whole = gzip.compress(b"1RA1RA\n" * 1_000)
     for content in (whole[:30], whole[:-4], whole[:-8] + bytes(8)):
         with pytest.raises(OSError, match="can't be read as gzip"):
@@ -157,7 +154,7 @@ def test_skipped_lines_are_counted() -> None:
     assert readings.skipped[Skipped.EMPTY] == 2_000_002
 
 
-def test_tables() -> None:
+def test_tables_and_their_layouts() -> None:
     for lines, columns, machines in (
         (["machine,x", "1ra1ra,1", '"1RA1RA","a, b"'], Columns(), ["1RA1RA", "1RA1RA"]),
         (["# machine\tx", "1RA1RA\t1", "------\t2"], Columns(), ["1RA1RA", "------"]),
@@ -169,9 +166,6 @@ def test_tables() -> None:
         assert [reading.machine for reading in readings] == machines, lines
     reasons = [reading.reason for reading in budlarem.read(["1;1RA1RA", "2;x", "3"], None, Columns("2"))]
     assert [reason.kind for reason in reasons if reason] == ["none", "row"]
-
-
-def test_tables_whose_layout_is_not_known() -> None:
     for lines, form, columns, text in (
         (["1RA1RA,1"], Form.TABLE, Columns(), "give it by --machine"),
         (["1RA1RA,1"], None, Columns("3"), "no separator"),

@@ -68,7 +68,7 @@ def test_pauses_of_a_pipe() -> None:
         assert all_lines(listed) == MACHINE * 2
 
 
-def test_more_than_half(case: RunCase) -> None:
+def test_lists_in_another_form(case: RunCase) -> None:
     case.list.write_bytes((b"`1RB1LB_1LA1RZ`\n" + MACHINE) * 3)
     with contextlib.closing(input.ListFile(str(case.list))) as listed:
         input.require_form(listed)
@@ -76,16 +76,10 @@ def test_more_than_half(case: RunCase) -> None:
     with contextlib.closing(input.ListFile(str(case.list))) as listed:
         with pytest.raises(errors.FolderError, match="4 of the first 7 lines .* line 2: .*budlarem read"):
             input.require_form(listed)
-
-
-def test_nothing_is_begun(case: RunCase) -> None:
     case.list.write_bytes(b"1RB1LB_1LA1RZ halt 6 4\n")
     status, said = case.call(*SMALL)
     assert (status, case.out.exists()) == (2, False)
     assert "budlarem read" in said
-
-
-def test_a_run_s_own_file_is_named_before_its_form(case: RunCase) -> None:
     case.list.write_bytes(MACHINE)
     assert case.call(*SMALL)[0] == 0
     status, said = call_command("run", str(case.out / "verdicts.txt"), "--out", str(case.out), *SMALL)

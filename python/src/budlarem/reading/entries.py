@@ -5,7 +5,7 @@ from __future__ import annotations
 import re
 from typing import NamedTuple, Sequence, Union
 
-from .._text import pluralize, first_hidden, code_point
+from .._text import code_point, is_hidden, pluralize
 from ..verdicts import MOST_SYMBOLS, STATES, is_machine
 from .readings import Reason, Rewriting
 
@@ -97,7 +97,8 @@ def _no_entry(text: str, number: int, place: int, is_followed: bool) -> Reason:
     if _LOST.fullmatch(whole):
         what = f"entry {number} is {whole}: the {whole[0]} that it writes would be lost"
         return Reason("lost", what, place)
-    if (hidden := first_hidden(text)) is not None:
+    hidden = next((at for at, character in enumerate(text) if is_hidden(character)), None)
+    if hidden is not None:
         code = code_point(text[hidden])
         return Reason("hidden", f"entry {number} has {code}, a character that doesn't show", place + hidden)
     return Reason("entry", f"entry {number} is no entry: {text}", place)

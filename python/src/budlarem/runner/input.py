@@ -13,6 +13,7 @@ import stat
 import zlib
 from typing import Iterator
 
+from .._calls import whole_lines
 from .._text import LONGEST_GIVEN, LONGEST_SHOWN, LONGEST_UNENDED, LONGEST_VALUE
 from ..engine import column_of
 from ..reading.files import BLOCK, GZIP, BlockReader
@@ -32,7 +33,7 @@ class StreamLines:
     many, which changes no reply; a last line without a newline gets one."""
 
     def __init__(self, blocks: Iterator[bytes]) -> None:
-        self._batches = _whole_lines(blocks)
+        self._batches = whole_lines(blocks)
         self._held, self._start = b"", 0
         self.bytes_taken, self.lines_taken = 0, 0
 
@@ -82,30 +83,6 @@ def _end_of(held: bytes, start: int, lines: int) -> tuple[int | None, int]:
             return None, lines
         start, lines = end, lines - 1
     return (start, 0) if start <= len(held) else (None, 0)
-
-
-def _whole_lines(blocks: Iterator[bytes]) -> Iterator[bytes]:
-    """A stream in whole lines, none longer than LONGEST_GIVEN bytes and its newline."""
-    rest = b""
-    for block in blocks:
-        if whole := block.rfind(b"\n") + 1:
-            yield truncate_lines(rest + block[:whole])
-            rest = block[whole:][:LONGEST_GIVEN]
-        else:
-            rest = (rest + block)[:LONGEST_GIVEN]
-    if rest:
-        yield rest + b"\n"
-
-
-def truncate_lines(lines: bytes) -> bytes:
-    """Whole lines, each cut to LONGEST_GIVEN bytes."""
-    start = 0
-    while len(lines) - start > LONGEST_GIVEN:
-        last = lines.rfind(b"\n", start, start + LONGEST_GIVEN + 1)
-        if last < 0:
-            return b"\n".join(line[:LONGEST_GIVEN] for line in lines.split(b"\n"))
-        start = last + 1
-    return lines
 
 
 def _poll(number: int, milliseconds: float | None = None) -> bool:
