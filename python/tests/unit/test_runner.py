@@ -35,6 +35,12 @@ def require_verdicts(
     return outcome
 
 
+def require_error(case: RunCase, error: type[Exception], text: str, executor: Any = None, **how: Any) -> None:
+    """A run ends with an error and a sentence."""
+    with pytest.raises(error, match=text):
+        case.run_over(executor, **how)
+
+
 def test_lists_and_passes(case: RunCase) -> None:
     lists = (b"", b"\n", KINDS[:-1], LIST, b"1RZ---\n" * 100, b"x" * 5_000 + b"\n" + KINDS)
     for place, (given, limits) in enumerate(itertools.product(lists, (PASSES, [SMALL], [MIDDLE, SMALL]))):
@@ -98,8 +104,7 @@ def test_the_same_list_and_others(case: RunCase) -> None:
     for given in (other, LIST + KINDS, LIST[: -len(KINDS)], b"", KINDS + LIST):
         for path, written in ((case.list, given), (packed, gzip.compress(given))):
             path.write_bytes(written)
-            with pytest.raises(FolderError, match="isn't the list that"):
-                case.run_over(path=str(path))
+            require_error(case, FolderError, "isn't the list that", path=str(path))
     case.list.write_bytes(LIST)
     require_verdicts(case)
 
@@ -107,20 +112,17 @@ def test_the_same_list_and_others(case: RunCase) -> None:
 def test_changed_passes_and_libraries(case: RunCase) -> None:
     case.run_over()
     for limits in ([SMALL], [MIDDLE, SMALL], [MIDDLE], [SMALL, SMALL, MIDDLE]):
-        with pytest.raises(FolderError, match="started with other passes"):
-            case.run_over(limits=limits)
+        require_error(case, FolderError, "started with other passes", limits=limits)
     path = case.out / "run.json"
     written = path.read_text()
     config = folder.RunConfig.read(written)
     assert config is not None
     other = dataclasses.replace(config.identity, library="0" * 64)
     path.write_text(dataclasses.replace(config, identity=other).text())
-    with pytest.raises(FolderError, match="another library"):
-        case.run_over()
+    require_error(case, FolderError, "another library")
     for text in (written.replace('"format": 3', '"format": 1'), '{"format": 1, "passes": []}\n'):
         path.write_text(text)
-        with pytest.raises(FolderError, match="run.json: it has format 1, which another version"):
-            case.run_over()
+        require_error(case, FolderError, "run.json: it has format 1, which another version")
 
 
 def test_what_a_folder_was_begun_with() -> None:
@@ -143,8 +145,7 @@ def test_what_a_folder_was_begun_with() -> None:
 def test_locks_and_lists_that_would_be_overwritten(case: RunCase) -> None:
     with contextlib.closing(folder.Folder(str(case.out))):
         assert list(case.out.iterdir()) == [], "the folder itself is locked"
-        with pytest.raises(FolderError, match="another run works in"):
-            case.run_over()
+        require_error(case, FolderError, "another run works in")
     case.run_over()
     case.run_over()
     for path in ("verdicts.txt", "summary.json", "run.json", "pass-2/journal"):
@@ -207,8 +208,7 @@ def test_a_changed_chunk_while_passes_are_merged(case: RunCase) -> None:
 def test_a_folder_of_an_older_version(case: RunCase) -> None:
     (case.out / "pass-1").mkdir(parents=True)
     (case.out / "pass-1" / "000000001.txt").write_text("kept")
-    with pytest.raises(FolderError, match="another version of this package wrote"):
-        case.run_over()
+    require_error(case, FolderError, "another version of this package wrote")
 
 
 def test_one_pass_is_written_once(case: RunCase) -> None:
@@ -315,8 +315,7 @@ def test_a_folder_that_is_moved_removed_or_replaced(case: RunCase) -> None:
         for name, text in others.items():
             (case.out / name).write_text(text)
 
-    with pytest.raises(MovedError, match="isn't the folder that was opened any more"):
-        case.run_over(act(replace, 5))
+    require_error(case, MovedError, "isn't the folder that was opened any more", act(replace, 5))
     assert {path.name: path.read_text() for path in case.out.iterdir()} == others
     case.out = case.top / "moved"
     executor = Answering()
@@ -325,8 +324,7 @@ def test_a_folder_that_is_moved_removed_or_replaced(case: RunCase) -> None:
 
 
 def test_a_folder_that_is_removed(case: RunCase) -> None:
-    with pytest.raises(MovedError):
-        case.run_over(act(lambda: shutil.rmtree(case.out, ignore_errors=True)))
+    require_error(case, MovedError, "", act(lambda: shutil.rmtree(case.out, ignore_errors=True)))
     assert not case.out.exists()
 
 
@@ -342,8 +340,7 @@ def test_a_file_that_another_makes_meanwhile(case: RunCase, name: str) -> None:
     if name == "README.txt":
         require_verdicts(case, act(replace))
     else:
-        with pytest.raises(RunError, match=name + " was made or replaced by another"):
-            case.run_over(act(replace))
+        require_error(case, RunError, name + " was made or replaced by another", act(replace))
     assert path.read_text() == "mine"
     path.unlink()
     require_verdicts(case)
@@ -359,8 +356,7 @@ def test_a_link_to_the_folder_that_is_pointed_elsewhere(case: RunCase) -> None:
         case.out.unlink()
         case.out.symlink_to(elsewhere)
 
-    with pytest.raises(MovedError):
-        case.run_over(act(point_elsewhere, 5))
+    require_error(case, MovedError, "", act(point_elsewhere, 5))
     assert list(elsewhere.iterdir()) == []
 
 
@@ -441,8 +437,7 @@ def test_what_is_kept(case: RunCase) -> None:
         assert (summary["lines"], summary["kept"]) == (370, str(keep))
         with pytest.raises(FolderError, match="dropped before they were checked"):
             case.run_over(limits=limits, keep=keep, check=True)
-        with pytest.raises(FolderError, match="started with --keep left"):
-            case.run_over(limits=limits)
+        require_error(case, FolderError, "started with --keep left", limits=limits)
 
 
 def test_all_are_seen_before_they_are_dropped(case: RunCase) -> None:
@@ -462,8 +457,7 @@ def test_keep_passes_are_added(case: RunCase) -> None:
     assert case.verdicts() == kept_lines(PASSES, 10**12)
     other = LIST.replace(b"------", b"1RZ---", 1)
     case.list.write_bytes(other)
-    with pytest.raises(FolderError, match="isn't the list that"):
-        case.run_over(keep=keep)
+    require_error(case, FolderError, "isn't the list that", keep=keep)
 
 
 def test_a_line_of_a_later_pass_is_named(case: RunCase) -> None:
@@ -509,8 +503,7 @@ def test_wrong_answers_each_time(case: RunCase) -> None:
     for begin in (0, 5, 60):
         case.out = case.top / str(begin)
         executor = Answering(lambda reply, before: reply if before < begin else (b"x\n", *reply[1:]))
-        with pytest.raises(RunError, match="pass [12], lines? .* tried 3 times"):
-            case.run_over(executor)
+        require_error(case, RunError, "pass [12], lines? .* tried 3 times", executor)
         assert not (case.out / "verdicts.txt").exists()
         require_verdicts(case)
 
@@ -549,8 +542,7 @@ def test_an_executor_that_takes_or_answers_nothing(case: RunCase) -> None:
 
     closed, sentence = RuntimeError("it was closed"), "it was cancelled; tried 3 times"
     for submit, text in ((unittest.mock.Mock(side_effect=closed), "it was closed"), (cancel, sentence)):
-        with pytest.raises(RunError, match=text):
-            case.run_over(unittest.mock.Mock(submit=submit))
+        require_error(case, RunError, text, unittest.mock.Mock(submit=submit))
     require_verdicts(case)
 
 
@@ -596,8 +588,7 @@ def test_answers_to_other_verdicts(case: RunCase) -> None:
         is_check = reply[6].startswith(chunks.CHECK)
         return next(one for one in replies if one[6] == reply[6]) if is_check else reply
 
-    with pytest.raises(RunError, match="answers other lines; tried 3 times"):
-        case.run_over(Answering(swap), check=True)
+    require_error(case, RunError, "answers other lines; tried 3 times", Answering(swap), check=True)
     require_verdicts(case)
 
 
