@@ -58,7 +58,14 @@ def test_chunks_are_as_large_as_may_be() -> None:
     assert [len(chunk) for chunk in take_all(iter([given]), 300, 1_002)] == [1000] * 4
 
 
-def test_gzip_and_empty_lists_and_a_cut_one(case: RunCase) -> None:
+def test_lists_that_change_and_gzips(case: RunCase) -> None:
+    listed = input.ListFile(str(case.list))
+    case.callback(listed.close)
+    blocks = listed.blocks
+    next(blocks)
+    case.list.write_bytes(LIST + KINDS)
+    with pytest.raises(RunError, match="changed while it was read"):
+        list(blocks)
     for given in (b"", b"\n", b"1RZ---", LIST):
         path = case.top / "list"
         for written in (given, gzip.compress(given) + gzip.compress(b"")):
@@ -69,16 +76,6 @@ def test_gzip_and_empty_lists_and_a_cut_one(case: RunCase) -> None:
     case.list.write_bytes(gzip.compress(LIST)[:-20])
     with pytest.raises(RunError, match="can't be read as gzip"):
         case.run_over()
-
-
-def test_a_list_that_changes(case: RunCase) -> None:
-    listed = input.ListFile(str(case.list))
-    case.callback(listed.close)
-    blocks = listed.blocks
-    next(blocks)
-    case.list.write_bytes(LIST + KINDS)
-    with pytest.raises(RunError, match="changed while it was read"):
-        list(blocks)
 
 
 class JournalCase:

@@ -98,7 +98,7 @@ def test_normal_forms_duplicates_and_other_texts() -> None:
         list(budlarem.distinct(wrong))
 
 
-def test_growths_of_counts_and_of_runs() -> None:
+def test_growths_of_counts_runs_and_halts() -> None:
     counts = [(5, 5, 5), (5, 9, 9), (10, 13, 16), (10, 32, 100), (10, 100, 1_000)]
     kinds = [growth.classify_growth(visited) for visited in counts]
     assert kinds == [Growth.STAYS, Growth.STAYS, Growth.LOGARITHM, Growth.ROOT, Growth.LINE]
@@ -109,15 +109,12 @@ def test_growths_of_counts_and_of_runs() -> None:
     assert (found.steps, found.visited) == (1_000, (11, 101, 1_001))
     assert growth._last_step("1RA1RA", 100_000, 778) == 777
     assert growth._last_step(CHAMPION, 100_000, 65_536) == 6
-
-
-def test_a_halt_comes_with_its_steps_and_cells() -> None:
     for machine, steps in (("------", 0), ("1RZ---", 1), (CHAMPION, 6), (FOUR_STATES, 107)):
         rows = list(budlarem.trace(machine, steps))
-        counts = tuple(len(rows[step].cells) for step in (steps // 100, steps // 10, steps))
+        visited = tuple(len(rows[step].cells) for step in (steps // 100, steps // 10, steps))
         for limit in (107, 108, 199, 250, 1_000_000):
             found = measure_growth(machine, limit)
-            assert (found.steps, found.visited, found.growth) == (steps, counts, Growth.HALTS), limit
+            assert (found.steps, found.visited, found.growth) == (steps, visited, Growth.HALTS), limit
     assert measure_growth(FOUR_STATES, 106).growth is Growth.ROOT
 
 

@@ -268,7 +268,7 @@ def test_chunks_and_passes_that_are_replaced_meanwhile(case: RunCase) -> None:
     assert (case.out / "pass-1" / "pieces").read_text() == "mine"
 
 
-def test_a_summary_has_the_checksum_of_the_verdicts(case: RunCase) -> None:
+def test_checksums_and_journals_of_a_summary(case: RunCase) -> None:
     for limits in (PASSES, [SMALL]):
         case.out = case.top / str(len(limits))
         case.run_over(limits=limits)
@@ -276,6 +276,12 @@ def test_a_summary_has_the_checksum_of_the_verdicts(case: RunCase) -> None:
             assert found.checksum == _files.Checksum().add_bytes(case.verdicts())
             assert (found.identity, found.lines) == (chunks.identity(), 370)
             found.require_journals()
+    case.run_over()
+    whole = (case.out / "pass-2" / "journal").read_bytes()
+    for change in (whole[:200], whole.replace(b"decided", b"checked", 1), b""):
+        (case.out / "pass-2" / "journal").write_bytes(change)
+        with pytest.raises(budlarem.PublishError, match="pass-2/journal doesn't match summary.json"):
+            publish(case.top / "new.tar", case.out)
 
 
 def test_a_summary_of_an_earlier_version(case: RunCase) -> None:
@@ -290,15 +296,6 @@ def test_a_summary_of_an_earlier_version(case: RunCase) -> None:
     (case.out / "verdicts.txt").write_bytes(b"".join(lines[:-1]))
     with pytest.raises(budlarem.PublishError, match="doesn't match verdicts.txt: it counts"):
         publish(case.top / "cut.tar", case.out)
-
-
-def test_journals_that_do_not_go_with_a_summary(case: RunCase) -> None:
-    case.run_over()
-    whole = (case.out / "pass-2" / "journal").read_bytes()
-    for change in (whole[:200], whole.replace(b"decided", b"checked", 1), b""):
-        (case.out / "pass-2" / "journal").write_bytes(change)
-        with pytest.raises(budlarem.PublishError, match="pass-2/journal doesn't match summary.json"):
-            publish(case.top / "new.tar", case.out)
 
 
 def test_all_names_are_there() -> None:

@@ -149,7 +149,7 @@ class Writer:
         self._next, self._since = 0, time.monotonic()
         self._ahead: set[int] = set()
         # Chunks written and not yet synced; the threads that are writing.
-        self._written: list[Chunk] = []
+        self._written: collections.deque[Chunk] = collections.deque()
         self._writing, self._is_closed = 0, False
 
     def add(self, chunk: Chunk) -> None:
@@ -188,9 +188,7 @@ class Writer:
 
     def pop_written(self) -> list[Chunk]:
         """The chunks written since the last call."""
-        with self._changed:
-            chunks, self._written = self._written, []
-        return chunks
+        return [self._written.popleft() for _ in range(len(self._written))]
 
     def _pop_ready(self) -> list[Chunk]:
         """The chunks whose turn it is, with places."""
@@ -223,12 +221,11 @@ class Writer:
                 if chunk.kept is not None and chunk.record is not None:
                     self._folder.write(chunk.record.place, chunk.kept)
                 chunk.given, chunk.written, chunk.kept = b"", None, None
+            self._written.extend(due)
         finally:
             with self._changed:
                 self._writing -= 1
                 self._changed.notify_all()
-        with self._changed:
-            self._written += due
 
 
 @dataclasses.dataclass
