@@ -63,17 +63,12 @@ def code_point(character: str) -> str:
     return "U+%04X" % ord(character)
 
 
-def name_hidden(text: str) -> str:
-    r"""The text with invisible characters by name: controls as `\x1b`, others as `U+200B`."""
-    if text.isascii() and text.isprintable():
-        return text
-    pairs = ((one, escape_controls(one)) for one in text)
-    return "".join(code_point(one) if one == other and is_hidden(one) else other for one, other in pairs)
-
-
 def quote(text: str) -> str:
-    """A text for a message: invisible characters by name, a long text cut."""
-    text = name_hidden(text)
+    r"""A text for a message: invisible characters by name, controls as `\x1b`, others as `U+200B`; a long text
+    cut."""
+    if not (text.isascii() and text.isprintable()):
+        pairs = ((one, escape_controls(one)) for one in text)
+        text = "".join(code_point(one) if one == other and is_hidden(one) else other for one, other in pairs)
     return text if len(text) <= LONGEST_QUOTED else text[: LONGEST_QUOTED - 2] + ".."
 
 

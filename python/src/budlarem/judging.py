@@ -60,8 +60,6 @@ class Judged:
         return "%s\t%d\t%s\t%s" % (self.judgement, self.number, ours, self.reason)
 
 
-# The number of a line, and its machine.
-NumberedMachine = tuple[int, str]
 # Called with a description of the work, and the lines done.
 ProgressCallback = Callable[[str, int], None]
 _Item = TypeVar("_Item")
@@ -90,12 +88,12 @@ class ListOverlap:
         if reading.machine is not None:
             self._theirs.setdefault(reading.machine, []).append(reading.number)
 
-    def missing(self) -> list[NumberedMachine]:
+    def missing(self) -> list[tuple[int, str]]:
         """The machines of the list without a line of theirs, each with its first line's number."""
         return [(self._listed[machine], machine) for machine in self._others(self._listed, self._theirs)]
 
-    def foreign(self) -> list[NumberedMachine]:
-        """Their lines with machines missing from the list."""
+    def foreign(self) -> list[tuple[int, str]]:
+        """Their lines with machines missing from the list: number and machine."""
         found = self._others(self._theirs, self._listed)
         return sorted((number, machine) for machine in found for number in self._theirs[machine])
 

@@ -180,10 +180,7 @@ def whole_number(word: str) -> int:
     return int(word)
 
 
-Reader = Callable[[str], int]
-
-
-def verdict_of(machine: str, words: str, number: Reader = int) -> Verdict:
+def verdict_of(machine: str, words: str, number: Callable[[str], int] = int) -> Verdict:
     """The verdict on a machine with these words; `number` reads the numbers. Raises ValueError."""
     kind, *others = words.split(" ")
     if kind == "translated":

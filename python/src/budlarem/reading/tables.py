@@ -10,6 +10,7 @@ from typing import Sequence
 
 from .._text import pluralize, quote
 from ..verdicts import is_machine
+from .files import Numbered
 from .lines import read_line
 from .readings import Skipped, Reading, Reason
 from .tokens import MACHINE_NAMES, SPACES, skip_reason, plain_name
@@ -23,8 +24,6 @@ _NAMES: dict[str, frozenset[str]] = {
     "score": frozenset("score ones sigma".split()),
 }
 _SEPARATOR_NAMES = {"\t": "tab", ",": "comma", ";": "semicolon", "|": "|", " ": "space", "": "none"}
-# A line's number, from 1 on, and its text.
-Numbered = tuple[int, str]
 
 
 @dataclasses.dataclass(frozen=True)

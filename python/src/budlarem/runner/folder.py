@@ -332,9 +332,6 @@ class Folder:
             if self._top.status(name) is not None:
                 require_own_pass(self._top, name)
 
-    def write_config(self, config: RunConfig) -> None:
-        self.write(RUN, config.text())
-
     def write(self, name: str, text: str) -> None:
         """Writes one of its files atomically."""
         remove_leftovers(self._top)

@@ -19,7 +19,7 @@ from ..counts import KINDS, UNDECIDED
 from ..limits import Limits, words_of
 from .chunks import Counts, Identity, Retention, validate_answers, validate_verdicts
 from .errors import CheckError, FolderError, ReplyError
-from .folder import README, SUMMARY, Folder, RunConfig
+from .folder import README, RUN, SUMMARY, Folder, RunConfig
 from .input import ListFile, StreamLines
 from .journal import PassFolder, Record, holdouts_of, list_line_number
 from .progress import Progress
@@ -481,7 +481,7 @@ def _run_passes(folder: Folder, source: ListFile, passes: Sequence[Limits], opti
             folders.append(found)
             if config.list_lines is None:
                 config.list_lines = results[0].lines
-                folder.write_config(config)
+                folder.write(RUN, config.text())
         folder.require_named()
         checksum = results[0].checksum
         if len(folders) == 1:
@@ -511,7 +511,7 @@ def start_or_resume(
     size = None if source.is_compressed else source.size
     if (config := folder.read_config()) is None:
         config = RunConfig(list(passes), options.keep, options.identity, source.name, size)
-        folder.write_config(config)
+        folder.write(RUN, config.text())
         return config
     _require_same(folder, config, passes, options)
     if size is not None and config.list_bytes not in (None, size):
@@ -520,7 +520,7 @@ def start_or_resume(
     folder.require_free(range(len(config.passes) + 1, len(passes) + 1))
     if list(passes) != config.passes:
         config.passes = list(passes)
-        folder.write_config(config)
+        folder.write(RUN, config.text())
     return config
 
 
