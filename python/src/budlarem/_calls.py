@@ -214,11 +214,12 @@ def _iter_blocks(blocks: Blocks) -> Iterator[bytes]:
 
 
 def whole_lines(blocks: Iterable[bytes]) -> Iterator[bytes]:
-    """Blocks of bytes in whole lines, each cut to LONGEST_GIVEN bytes; the last one gets a newline."""
+    """Blocks of bytes in whole lines; the last one gets a newline. Of a line without an end at most LONGEST_GIVEN
+    bytes are held."""
     rest = b""
     for block in blocks:
         if whole := block.rfind(b"\n") + 1:
-            yield _truncate_lines(rest + block[:whole])
+            yield rest + block[:whole]
             rest = block[whole:][:LONGEST_GIVEN]
         else:
             rest = (rest + block)[:LONGEST_GIVEN]
@@ -226,20 +227,9 @@ def whole_lines(blocks: Iterable[bytes]) -> Iterator[bytes]:
         yield rest + b"\n"
 
 
-def _truncate_lines(lines: bytes) -> bytes:
-    """Whole lines, each cut to LONGEST_GIVEN bytes."""
-    start = 0
-    while len(lines) - start > LONGEST_GIVEN:
-        last = lines.rfind(b"\n", start, start + LONGEST_GIVEN + 1)
-        if last < 0:
-            return b"\n".join(line[:LONGEST_GIVEN] for line in lines.split(b"\n"))
-        start = last + 1
-    return lines
-
-
 def batch_bytes(blocks: Blocks, pace: BatchPace) -> Iterator[bytes]:
-    """The bytes in batches of whole lines, each cut to LONGEST_GIVEN bytes. The last batch of a block may have
-    half as many bytes more."""
+    """The bytes in batches of whole lines; a line longer than LONGEST_GIVEN may be cut. The last batch of a block
+    may have half as many bytes more."""
     for lines in whole_lines(_iter_blocks(blocks)):
         start = 0
         while start < len(lines):

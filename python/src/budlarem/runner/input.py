@@ -33,7 +33,7 @@ class StreamLines:
     many, which changes no reply; a last line without a newline gets one."""
 
     def __init__(self, blocks: Iterator[bytes]) -> None:
-        self._batches = whole_lines(blocks)
+        self._batches = map(_truncate_lines, whole_lines(blocks))
         self._held, self._start = b"", 0
         self.bytes_taken, self.lines_taken = 0, 0
 
@@ -83,6 +83,17 @@ def _end_of(held: bytes, start: int, lines: int) -> tuple[int | None, int]:
             return None, lines
         start, lines = end, lines - 1
     return (start, 0) if start <= len(held) else (None, 0)
+
+
+def _truncate_lines(lines: bytes) -> bytes:
+    """Whole lines, each cut to LONGEST_GIVEN bytes."""
+    start = 0
+    while len(lines) - start > LONGEST_GIVEN:
+        last = lines.rfind(b"\n", start, start + LONGEST_GIVEN + 1)
+        if last < 0:
+            return b"\n".join(line[:LONGEST_GIVEN] for line in lines.split(b"\n"))
+        start = last + 1
+    return lines
 
 
 def _poll(number: int, milliseconds: float | None = None) -> bool:
