@@ -8,6 +8,8 @@ with those that it is compared with; `processor` marks processor time. Run it on
 cores: it takes a quarter of an hour. The status is 1 where a figure doesn't hold its bar.
 """
 
+from __future__ import annotations
+
 import collections
 import contextlib
 import functools
@@ -16,7 +18,7 @@ import subprocess
 import sys
 import tempfile
 import time
-from typing import Any, Callable, Iterator, Optional
+from typing import Any, Callable, Iterator
 
 sys.path.insert(0, str(pathlib.Path(__file__).resolve().parents[1]))
 
@@ -147,7 +149,7 @@ def measure_calls(bench: Bench) -> None:
 
 
 @contextlib.contextmanager
-def open_page(bench: Bench, cores: Optional[int] = None) -> Iterator[Any]:
+def open_page(bench: Bench, cores: int | None = None) -> Iterator[Any]:
     """The page in a browser of its own."""
     with Page(TOP / "web" / "out" / "bb.html", bench.folder, cores=cores) as page:
         page.open()
@@ -279,7 +281,7 @@ def measure_python(bench: Bench) -> None:
     claims, texts = given.replace(b"\n", b" halt 6 4\n"), given.decode().splitlines()
     short.write_bytes(given)
     claimed.write_bytes(claims)
-    ways: list[tuple[str, str, pathlib.Path, Optional[float], Callable[[], Iterator[object]]]] = [
+    ways: list[tuple[str, str, pathlib.Path, float | None, Callable[[], Iterator[object]]]] = [
         ("decide_bytes", "decide", short, 1.1, lambda: budlarem.decide_bytes(given)),
         ("decide", "decide", short, None, lambda: budlarem.decide(texts)),
         ("check_bytes", "check", claimed, 1.1, lambda: budlarem.check_bytes(claims)),

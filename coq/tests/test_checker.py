@@ -4,7 +4,7 @@ from __future__ import annotations
 
 import random
 import subprocess
-from typing import Callable, Iterator, List, Tuple
+from typing import Callable, Iterator
 
 import pytest
 from support.program import GREATEST, run_command, options
@@ -18,11 +18,11 @@ LINES = (
     "--steps, --steps x, --steps 0x10, --steps 1_000, --steps=, --steps -1, --steps 1 --steps 2, --leaps 5, "
     "--no-cyclers, -x, /no/such/file, /dev/null /dev/null, -- /dev/null, -- --steps, /, -, /dev/null, --help"
 )
-WORDS: List[List[str]] = [options(GREATEST), [""], *(line.split(" ") for line in LINES.split(", "))]
+WORDS: list[list[str]] = [options(GREATEST), [""], *(line.split(" ") for line in LINES.split(", "))]
 
 
 @pytest.mark.parametrize("words", WORDS, ids=" ".join)
-def test_words_end_both_checkers_alike(bb: str, checker: str, words: List[str]) -> None:
+def test_words_end_both_checkers_alike(bb: str, checker: str, words: list[str]) -> None:
     ours, theirs = run_command([bb, "check", *words], GIVEN), run_command([checker, *words], GIVEN)
     assert ours.status == theirs.status
     assert ours.status > 1 or "--help" in words or ours.output == theirs.output
@@ -40,9 +40,9 @@ def test_failed_write_ends_both_checkers_alike(bb: str, checker: str) -> None:
 def test_lines_are_answered_alike(
     bb: str,
     checker: str,
-    list_machines: Callable[..., List[str]],
+    list_machines: Callable[..., list[str]],
     rng: random.Random,
-    claims: Callable[..., Iterator[Tuple[str, Claims]]],
+    claims: Callable[..., Iterator[tuple[str, Claims]]],
 ) -> None:
     for what, batch in claims(bb, list_machines, rng):
         compare_answers(bb, checker, what, batch)

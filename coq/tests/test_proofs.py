@@ -7,7 +7,7 @@ import random
 import re
 import shutil
 import subprocess
-from typing import Callable, List, NamedTuple, Tuple
+from typing import Callable, NamedTuple
 
 import pytest
 from support.program import run_command
@@ -126,7 +126,7 @@ def test_copy_is_built_and_checked_elsewhere(tmp_path: pathlib.Path) -> None:
 
 
 @pytest.fixture(scope="module")
-def batches(bb: str, list_machines: Callable[..., List[str]]) -> List[Tuple[Claims, bytes]]:
+def batches(bb: str, list_machines: Callable[..., list[str]]) -> list[tuple[Claims, bytes]]:
     """Lines under their limits, and the program's answers."""
     claims = [batch for _, batch in quick_claims(bb, list_machines, random.Random(1))]
     return [(batch, answer([bb, "check"], batch).output) for batch in claims]
@@ -149,7 +149,7 @@ def build_without_proofs(folder: pathlib.Path) -> str:
 @pytest.mark.needs("coqc", "coqchk", "ocamlfind")
 @pytest.mark.parametrize("edit", WRONG, ids=[edit.name for edit in WRONG])
 def test_wrong_checker_is_noticed(
-    tmp_path: pathlib.Path, batches: List[Tuple[Claims, bytes]], edit: Edit
+    tmp_path: pathlib.Path, batches: list[tuple[Claims, bytes]], edit: Edit
 ) -> None:
     """A proof fails; built without its proofs, it answers some line otherwise."""
     folder = copy_folder(tmp_path)

@@ -5,7 +5,6 @@ from __future__ import annotations
 import pathlib
 import random
 import subprocess
-from typing import List
 
 import pytest
 from support.machines import CHAMPION, mixed_machines
@@ -17,7 +16,7 @@ LINES = 1_000
 HOLDS, FAILS = "accepts that it holds", "accepts that it doesn't hold"
 
 
-def require_end(folder: pathlib.Path, words: List[str], status: int, sentence: str) -> None:
+def require_end(folder: pathlib.Path, words: list[str], status: int, sentence: str) -> None:
     """Require `coq/theorem` to end with a status and a sentence; a file is kept where the claim holds."""
     made = folder / "Made.v"
     done = subprocess.run(
@@ -29,7 +28,7 @@ def require_end(folder: pathlib.Path, words: List[str], status: int, sentence: s
 
 
 @pytest.fixture(scope="module")
-def claims(bb: str, checker: str) -> List[str]:
+def claims(bb: str, checker: str) -> list[str]:
     """Verdicts of random machines that claim something; the proofs are built."""
     lines = decide(bb, LIMITS, list(mixed_machines(4 * LINES, 1)))
     return random.Random(1).sample([line for line in lines if kind_of(line) != "undecided"], LINES)
@@ -44,7 +43,7 @@ def test_tree_that_the_kernel_cannot_walk_is_refused_at_once(numbers: str) -> No
 
 
 @pytest.mark.parametrize("kind", ["halt", "cycler", "translated", "backward"])
-def test_theorem_of_a_line(claims: List[str], tmp_path: pathlib.Path, kind: str) -> None:
+def test_theorem_of_a_line(claims: list[str], tmp_path: pathlib.Path, kind: str) -> None:
     line = next(line for line in claims if kind_of(line) == kind)
     require_end(tmp_path, [line], 0, HOLDS)
     rest, _, number = line.rpartition(" ")
@@ -66,7 +65,7 @@ def test_theorem_of_the_champion(tmp_path: pathlib.Path) -> None:
     require_end(tmp_path, [CHAMPION + " halt 47176870 4098"], 0, HOLDS)
 
 
-def test_theorem_of_many_lines(claims: List[str], tmp_path: pathlib.Path) -> None:
+def test_theorem_of_many_lines(claims: list[str], tmp_path: pathlib.Path) -> None:
     listed = tmp_path / "lines.txt"
     listed.write_text("".join(line + "\n" for line in [*claims, "refused 3"]))
     require_end(tmp_path, ["--list", str(listed)], 0, "%d lines: coqc accepts that all hold" % LINES)

@@ -11,14 +11,14 @@ a time. Without the wheel, after `make library`, the package is found by `PYTHON
 import itertools
 import os
 import sys
-from typing import Iterator, Tuple
+from typing import Iterator
 
 import budlarem
 
 LIMITS = budlarem.Limits(steps=1_000, cells=200, depth=60)
 
 
-def check_verdicts(machines: Iterator[str]) -> Iterator[Tuple[budlarem.Answer, budlarem.Verdict]]:
+def check_verdicts(machines: Iterator[str]) -> Iterator[tuple[budlarem.Answer, budlarem.Verdict]]:
     """The checker's answer to each verdict, and the verdict."""
     verdicts = budlarem.decide(machines, LIMITS, threads=os.cpu_count() or 1)
     kept, given = itertools.tee(verdicts)

@@ -4,12 +4,11 @@ caller's thread can be interrupted."""
 from __future__ import annotations
 
 import collections
-import dataclasses
 import queue
 import threading
 import time
 from concurrent.futures import Future
-from typing import Any, Callable, Deque, Generic, Iterable, Iterator, Protocol, TypeVar, Union
+from typing import Any, Callable, Generic, Iterable, Iterator, NamedTuple, Protocol, TypeVar, Union
 from typing import runtime_checkable
 
 from ._fork import forbid_fork
@@ -115,7 +114,7 @@ def map_in_order(
     """Each batch and the reply to the call that `work` makes for it, in order. At most one more batch than
     threads is in flight. An error of the batches is raised after those before it."""
     pool = WorkerPool(work, threads, pace)
-    waiting: Deque[tuple[Given, Future[ReplyBuffer]]] = collections.deque()
+    waiting: collections.deque[tuple[Given, Future[ReplyBuffer]]] = collections.deque()
     errors: list[Exception] = []
     is_whole = False
     try:
@@ -150,8 +149,7 @@ class BinaryReader(Protocol):
 Blocks = Union[bytes, bytearray, memoryview, BinaryReader, Iterable[bytes]]
 
 
-@dataclasses.dataclass
-class Batch:
+class Batch(NamedTuple):
     """Some items of a list: their texts and the texts' lines."""
 
     texts: list[str]
@@ -194,22 +192,16 @@ def batch_texts(texts: Iterable[str], name: str, pace: BatchPace) -> Iterator[Ba
         yield _batch(name, before, held)
 
 
-def _slices(held: bytes | bytearray | memoryview) -> Iterator[bytes]:
-    """Bytes in memory, cut between lines where possible."""
-    view = memoryview(held).cast("B")
-    start = 0
-    while start < len(view):
-        end = min(start + MOST_BYTES, len(view))
-        if end < len(view) and not isinstance(held, memoryview):
-            end = held.rfind(b"\n", start, end) + 1 or end
-        yield bytes(view[start:end])
-        start = end
-
-
 def _iter_blocks(blocks: Blocks) -> Iterator[bytes]:
-    """The bytes, cut anywhere. Raises TypeError."""
+    """The bytes, cut anywhere; those in memory between lines where possible. Raises TypeError."""
     if isinstance(blocks, (bytes, bytearray, memoryview)):
-        yield from _slices(blocks)
+        view, start = memoryview(blocks).cast("B"), 0
+        while start < len(view):
+            end = min(start + MOST_BYTES, len(view))
+            if end < len(view) and not isinstance(blocks, memoryview):
+                end = blocks.rfind(b"\n", start, end) + 1 or end
+            yield bytes(view[start:end])
+            start = end
         return
     if isinstance(blocks, str):
         raise TypeError("bytes, a file of bytes or blocks of bytes, not a str")
@@ -221,33 +213,28 @@ def _iter_blocks(blocks: Blocks) -> Iterator[bytes]:
         yield bytes(block)
 
 
-def batch_bytes(blocks: Blocks, pace: BatchPace) -> Iterator[bytes]:
-    """The bytes in batches of whole lines; a line longer than LONGEST_GIVEN is cut."""
-    rest, is_cut = b"", False
-    for block in _iter_blocks(blocks):
-        if is_cut:
-            end = block.find(b"\n")
-            if end < 0:
-                continue
-            block, is_cut = block[end:], False
-        whole = block.rfind(b"\n") + 1
-        if whole:
-            yield from _slice(rest, block, whole, pace)
-            rest = b""
-        rest += block[whole:]
-        if len(rest) > LONGEST_GIVEN:
-            rest, is_cut = rest[:LONGEST_GIVEN], True
+def whole_lines(blocks: Iterable[bytes]) -> Iterator[bytes]:
+    """Blocks of bytes in whole lines; the last one gets a newline. Of a line without an end at most LONGEST_GIVEN
+    bytes are held."""
+    rest = b""
+    for block in blocks:
+        if whole := block.rfind(b"\n") + 1:
+            yield rest + block[:whole]
+            rest = block[whole:][:LONGEST_GIVEN]
+        else:
+            rest = (rest + block)[:LONGEST_GIVEN]
     if rest:
-        yield rest
+        yield rest + b"\n"
 
 
-def _slice(rest: bytes, block: bytes, whole: int, pace: BatchPace) -> Iterator[bytes]:
-    """The start of a line and the block with its end, up to `whole`, the end of a line: in batches of bounded
-    bytes; the last may have half as many more."""
-    start = 0
-    while start < whole:
-        end = whole
-        if whole - start > 1.5 * pace.now:
-            end = block.find(b"\n", start + pace.now - 1) + 1
-        yield rest + block[start:end]
-        start, rest = end, b""
+def batch_bytes(blocks: Blocks, pace: BatchPace) -> Iterator[bytes]:
+    """The bytes in batches of whole lines; a line longer than LONGEST_GIVEN may be cut. The last batch of a block
+    may have half as many bytes more."""
+    for lines in whole_lines(_iter_blocks(blocks)):
+        start = 0
+        while start < len(lines):
+            end = len(lines)
+            if end - start > 1.5 * pace.now:
+                end = lines.find(b"\n", start + pace.now - 1) + 1
+            yield lines[start:end]
+            start = end

@@ -69,10 +69,8 @@ class Pin:
 
 def write_blocks(number: int, blocks: Iterable[bytes]) -> None:
     """Writes all bytes to an open file. Raises OSError."""
-    for block in blocks:
-        rest = memoryview(block)
-        while rest:
-            rest = rest[os.write(number, rest) :]
+    with open(number, "wb", closefd=False) as file:
+        file.writelines(blocks)
 
 
 def write_all(number: int, data: bytes, place: int) -> None:
@@ -264,20 +262,14 @@ class FileTarget:
     def __init__(self, path: str) -> None:
         self._path = path
         folder, self._name = os.path.split(path)
-        with _name_path(path):
-            self._directory = Directory.open(folder or os.curdir)
-        self.over: Pin | None = None
-        try:
+        with contextlib.ExitStack() as stack:
+            with _name_path(path):
+                self._directory = stack.enter_context(contextlib.closing(Directory.open(folder or os.curdir)))
             self.over = self._directory.pin(self._name)
+            if self.over is not None:
+                stack.callback(self.over.close)
             self._directory.require_kind(self._directory.status(self._name), self._name, stat.S_IFREG)
-        except BaseException:
-            self.close()
-            raise
-
-    def close(self) -> None:
-        if self.over is not None:
-            self.over.close()
-        self._directory.close()
+            self.close = stack.pop_all().close
 
     def write(self, fill: Callable[[int], None]) -> None:
         """Writes the file whole or not at all: `fill` writes to the open file. Raises FileExistsError if

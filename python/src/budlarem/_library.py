@@ -38,22 +38,14 @@ class LibraryError(OSError):
     """The library `libbb.so` is missing, truncated, or can't be loaded. The text has the paths."""
 
 
-def candidate_paths() -> list[pathlib.Path]:
-    """The paths of the library: that of the variable BB_LIBRARY alone, if set; else beside this package, then the
-    output of `make library` in the repository."""
-    named = os.environ.get(VARIABLE)
-    if named:
-        return [pathlib.Path(named)]
-    built = [top / "crates" / "bb_c" / "out" / "libbb.so" for top in list(_HERE.parents)[2:3]]
-    return [_HERE / "libbb.so", *built]
-
-
 @functools.lru_cache(maxsize=None)
 def load_library() -> ctypes.CDLL:
-    """The library. Raises LibraryError."""
-    candidates = candidate_paths()
-    path = next((place for place in candidates if place.is_file()), None)
-    if path is None:
+    """The library at the path of the variable BB_LIBRARY, if set; else beside this package, or that of `make
+    library` in the repository. Raises LibraryError."""
+    built = [top / "crates" / "bb_c" / "out" / "libbb.so" for top in list(_HERE.parents)[2:3]]
+    named = os.environ.get(VARIABLE)
+    candidates = [pathlib.Path(named)] if named else [_HERE / "libbb.so", *built]
+    if (path := next((place for place in candidates if place.is_file()), None)) is None:
         places = " nor at ".join(map(str, candidates))
         how = f"install the wheel, build it by `make library`, or set the variable {VARIABLE} to its path"
         raise LibraryError(f"libbb.so isn't at {places}; {how}")
@@ -133,32 +125,28 @@ class Reply(NamedTuple):
 
 
 class ReplyBuffer:
-    """A buffer for replies. Untouched pages take no memory, so it may be much larger than they are."""
+    """A buffer for replies; `status` is that of the last call. Untouched pages take no memory, so it may be much
+    larger than they are."""
 
     def __init__(self) -> None:
         self._make(mmap.PAGESIZE)
-        self._status, self._length = CLEAN, 0
+        self.status, self._length = CLEAN, 0
 
     def _make(self, size: int) -> None:
         self._bytes = mmap.mmap(-1, size, mmap.MAP_PRIVATE | mmap.MAP_ANONYMOUS)
         self._address: Any = (ctypes.c_char * size).from_buffer(self._bytes)
 
-    @property
-    def status(self) -> int:
-        """The status of the last call."""
-        return self._status
-
     def reply(self) -> Reply:
         """The reply of the last call."""
-        return Reply(self._status, self._length, self._bytes[: 0 if self._status == SHORT else self._length])
+        return Reply(self.status, self._length, self._bytes[: 0 if self.status == SHORT else self._length])
 
     def call(self, name: str, asked: Sequence[int], given: bytes, room: int) -> None:
         """Makes a call with these numbers over these bytes, twice if the reply exceeds `room` bytes. Raises
         LibraryError, MemoryError."""
         self.call_once(name, asked, given, room)
-        if self._status == SHORT:
+        if self.status == SHORT:
             self.call_once(name, asked, given, self._length)
-        if self._status == SHORT:
+        if self.status == SHORT:
             raise AssertionError("%s with %r asks for %d bytes, and then for more" % (name, asked, room))
 
     def call_once(self, name: str, asked: Sequence[int], given: bytes, room: int) -> None:
@@ -173,4 +161,4 @@ class ReplyBuffer:
             raise MemoryError(why + "; lower the limit of cells")
         if status == LIMITS:
             raise AssertionError("%s refused the limits %r" % (name, asked))
-        self._status, self._length = status, count.value
+        self.status, self._length = status, count.value

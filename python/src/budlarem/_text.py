@@ -58,27 +58,17 @@ def is_hidden(character: str) -> bool:
     return character in _BLANK or unicodedata.category(character) in _CATEGORIES
 
 
-def first_hidden(text: str) -> int | None:
-    """The index of the first invisible character, if any."""
-    return next((place for place, character in enumerate(text) if is_hidden(character)), None)
-
-
 def code_point(character: str) -> str:
     """The code point of a character, as `U+200B`."""
     return "U+%04X" % ord(character)
 
 
-def name_hidden(text: str) -> str:
-    r"""The text with invisible characters by name: controls as `\x1b`, others as `U+200B`."""
-    if text.isascii() and text.isprintable():
-        return text
-    pairs = ((one, escape_controls(one)) for one in text)
-    return "".join(code_point(one) if one == other and is_hidden(one) else other for one, other in pairs)
-
-
 def quote(text: str) -> str:
-    """A text for a message: invisible characters by name, a long text cut."""
-    text = name_hidden(text)
+    r"""A text for a message: invisible characters by name, controls as `\x1b`, others as `U+200B`; a long text
+    cut."""
+    if not (text.isascii() and text.isprintable()):
+        pairs = ((one, escape_controls(one)) for one in text)
+        text = "".join(code_point(one) if one == other and is_hidden(one) else other for one, other in pairs)
     return text if len(text) <= LONGEST_QUOTED else text[: LONGEST_QUOTED - 2] + ".."
 
 

@@ -7,7 +7,7 @@ import collections
 import contextlib
 import dataclasses
 import re
-from typing import Counter, Iterable, Iterator
+from typing import Iterable, Iterator
 
 from ._text import Words, quote
 from .numbers import number_of, numbers_in
@@ -66,27 +66,17 @@ class Claim:
     unjudged: tuple[str, ...] = ()
 
 
-class Claims(Iterator[Claim]):
+class Claims(Iterable[Claim]):
     """The claims of the lines of a list. `skipped` counts the skipped lines by kind; `words` translates the
     words of a table."""
 
-    def __init__(
-        self, lines: Iterator[Numbered], form: ListForm, words: dict[str, Word] | None = None
-    ) -> None:
-        self.skipped: Counter[Skipped] = collections.Counter()
-        self._words = WORDS if words is None else words
-        self._claims = self._read_claims(lines, form)
+    def __init__(self, lines: Iterator[Numbered], form: ListForm, words: dict[str, Word]) -> None:
+        self._lines, self._form, self._words = lines, form, words
+        self.skipped: collections.Counter[Skipped] = collections.Counter()
 
     def __iter__(self) -> Iterator[Claim]:
-        return self._claims
-
-    def __next__(self) -> Claim:
-        return next(self._claims)
-
-    def _read_claims(self, lines: Iterator[Numbered], form: ListForm) -> Iterator[Claim]:
-        for number, line in lines:
-            claim = _claim_of(number, line, form, self._words)
-            if claim is not None:
+        for number, line in self._lines:
+            if (claim := _claim_of(number, line, self._form, self._words)) is not None:
                 yield claim
             else:
                 self.skipped[skip_kind(line)] += 1
@@ -165,8 +155,7 @@ def _verdict_in(machine: str, text: str) -> Verdict:
 def _of_row(reading: Reading, layout: Layout, words: dict[str, Word]) -> Claim:
     assert reading.machine is not None and reading.row is not None
     cells = {role: reading.row[place] for role, place in layout.columns.items()}
-    cell = cells.get("verdict", "")
-    if not cell:
+    if not (cell := cells.get("verdict", "")):
         return Claim(reading, trouble="no word says whether it halts")
     word, verdict = words.get(plain_word(cell)), None
     if word is None:
@@ -238,7 +227,7 @@ def read_words(path: str) -> dict[str, Word]:
 class Translation:
     """The count of each word of a column, by its meaning."""
 
-    counts: dict[str, Counter[str]]
+    counts: dict[str, collections.Counter[str]]
 
     def __str__(self) -> str:
         return "\n".join(self.lines)
@@ -258,7 +247,7 @@ class Translation:
 def translation_of(claims: Iterable[Claim], layout: Layout, words: dict[str, Word]) -> Translation:
     """The translation of the words in a table's column of verdicts. Whole verdicts in it are no words."""
     column = layout.columns["verdict"]
-    counts: dict[str, Counter[str]] = {name: collections.Counter() for name in MEANINGS}
+    counts: dict[str, collections.Counter[str]] = {name: collections.Counter() for name in MEANINGS}
     for claim in claims:
         row = claim.reading.row
         if row is None or claim.reading.machine is None or not row[column]:

@@ -78,8 +78,7 @@ class _Side:
 
     def take(self, machine: str) -> MachineVerdict | None:
         """Removes and returns the first waiting verdict on a machine."""
-        found = self.waiting.get(machine)
-        if found is None:
+        if (found := self.waiting.get(machine)) is None:
             return None
         verdict = found.pop(0)
         if not found:
@@ -112,12 +111,10 @@ def compare(
     is_open = [True, True]
     while any(is_open):
         for here, side in enumerate(sides):
-            verdict = next(side.items, None)
-            if verdict is None:
+            if (verdict := next(side.items, None)) is None:
                 is_open[here] = False
                 continue
-            other = sides[1 - here].take(verdict.machine)
-            if other is None:
+            if (other := sides[1 - here].take(verdict.machine)) is None:
                 side.waiting.setdefault(verdict.machine, []).append(verdict)
                 continue
             pair = (verdict, other) if here == 0 else (other, verdict)
@@ -135,8 +132,7 @@ def _compare_by_form(
         waiting[form.text].append((other, form.mirrored))
     for verdict in first:
         form = canonical_form(verdict.machine)
-        found = waiting.get(form.text)
-        if not found:
+        if not (found := waiting.get(form.text)):
             yield Comparison(Agreement.ONLY_FIRST, verdict.machine, verdict, None)
             continue
         other, mirrored = found.pop(0)

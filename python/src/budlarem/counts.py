@@ -4,7 +4,7 @@ from __future__ import annotations
 
 import collections
 import re
-from typing import Any, Counter, Sequence
+from typing import Any, Sequence
 
 KINDS = ("halt", "cycler", "translated", "backward", "undecided steps", "undecided cells", "refused")
 UNDECIDED = ("undecided steps", "undecided cells")
@@ -35,7 +35,7 @@ class VerdictCounts:
     verdict."""
 
     def __init__(self, is_distinct: bool = False) -> None:
-        self.kinds: Counter[str] = collections.Counter()
+        self.kinds: collections.Counter[str] = collections.Counter()
         self.greatest: dict[str, tuple[int, str]] = {}
         self.longest: dict[str, list[tuple[int, str]]] = {}
         self._is_distinct = is_distinct
@@ -87,12 +87,8 @@ class VerdictCounts:
             key = "%s %s" % (kind, name)
             if numbers.get(name, -1) > self.greatest.get(key, (-1, ""))[0]:
                 self.greatest[key] = (numbers[name], line)
-        steps = numbers.get("steps", numbers.get("second"))
-        if steps is not None:
-            self._add_long(kind, steps, line)
-
-    def _add_long(self, kind: str, steps: int, line: str) -> None:
-        """Keeps a line that is among the longest of its kind, the most steps first."""
+        if (steps := numbers.get("steps", numbers.get("second"))) is None:
+            return
         runs = self.longest.setdefault(kind, [])
         if len(runs) == LONGEST and steps <= runs[-1][0]:
             return

@@ -4,7 +4,7 @@ from __future__ import annotations
 
 import collections
 import dataclasses
-from typing import Deque, Iterable, Iterator
+from typing import Iterable, Iterator
 
 from ._text import escape_controls
 from .engine import decide
@@ -56,7 +56,7 @@ def decide_readings(
     readings: Iterable[Reading], limits: Limits = Limits(), plan: Plan = Plan(), *, threads: int = 1
 ) -> Iterator[Carried]:
     """The verdict of each reading."""
-    waiting: Deque[Reading] = collections.deque()
+    waiting: collections.deque[Reading] = collections.deque()
 
     def machines() -> Iterator[str]:
         for reading in readings:

@@ -148,15 +148,12 @@ def check(lines: Iterable[str | Verdict], limits: Limits = Limits(), *, threads:
     >>> [answer.name for answer in check(["1RB1LB_1LA1RZ halt 6 4", "1RB1LB_1LA1RZ halt 6 5", "x"])]
     ['OK', 'BAD', 'UNREAD']
     """
-    threads, pace = _prepare(limits, Plan(), threads), _check_pace(MOST_LINES, limits)
+    threads = _prepare(limits, Plan(), threads)
+    pace = BatchPace(MOST_LINES, is_steady=limits.cells >= _LARGE_TAPES)
     _require_list("lines", lines)
     batches = batch_texts(_lines_of(lines), "lines", pace)
     pairs = _reply_lines(batches, check_call(limits), threads, pace)
     return (_ANSWERS[answer] for _, answer in pairs)
-
-
-def _check_pace(most: int, limits: Limits) -> BatchPace:
-    return BatchPace(most, is_steady=limits.cells >= _LARGE_TAPES)
 
 
 def _replies(blocks: Blocks, call: Call, threads: int, pace: BatchPace) -> Iterator[bytes]:
@@ -186,7 +183,8 @@ def check_bytes(blocks: Blocks, limits: Limits = Limits(), *, threads: int = 1) 
     b'ok\\n'
     """
     threads = _prepare(limits, Plan(), threads)
-    return _replies(blocks, check_call(limits), threads, _check_pace(MOST_BYTES, limits))
+    pace = BatchPace(MOST_BYTES, is_steady=limits.cells >= _LARGE_TAPES)
+    return _replies(blocks, check_call(limits), threads, pace)
 
 
 def check_file(file: BinaryReader, limits: Limits, *, threads: int = 1) -> Iterator[tuple[bytes, bytes]]:
@@ -227,9 +225,6 @@ class Trace(Iterator[Configuration]):
         # The most cells visited at the last line so far.
         self._visited = start + 1
         self._held: Iterator[bytes] = iter(())
-
-    def __iter__(self) -> Trace:
-        return self
 
     def __next__(self) -> Configuration:
         line = next(self._held, None)

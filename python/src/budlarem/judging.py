@@ -6,7 +6,7 @@ import collections
 import dataclasses
 import itertools
 import time
-from typing import Callable, Counter, Deque, Iterable, Iterator, TypeVar
+from typing import Callable, Iterable, Iterator, TypeVar
 
 from ._text import Words, escape_controls, quote
 from .claims import WORDS, Claim, Claims, Translation, Word, translation_of
@@ -60,8 +60,6 @@ class Judged:
         return "%s\t%d\t%s\t%s" % (self.judgement, self.number, ours, self.reason)
 
 
-# The number of a line, and its machine.
-NumberedMachine = tuple[int, str]
 # Called with a description of the work, and the lines done.
 ProgressCallback = Callable[[str, int], None]
 _Item = TypeVar("_Item")
@@ -90,22 +88,20 @@ class ListOverlap:
         if reading.machine is not None:
             self._theirs.setdefault(reading.machine, []).append(reading.number)
 
-    def missing(self) -> list[NumberedMachine]:
+    def missing(self) -> list[tuple[int, str]]:
         """The machines of the list without a line of theirs, each with its first line's number."""
         return [(self._listed[machine], machine) for machine in self._others(self._listed, self._theirs)]
 
-    def foreign(self) -> list[NumberedMachine]:
-        """Their lines with machines missing from the list."""
+    def foreign(self) -> list[tuple[int, str]]:
+        """Their lines with machines missing from the list: number and machine."""
         found = self._others(self._theirs, self._listed)
         return sorted((number, machine) for machine in found for number in self._theirs[machine])
 
     def _others(self, machines: Iterable[str], those: dict[str, _Item]) -> Iterator[str]:
         """The machines that aren't among those, in any form."""
         rest = [machine for machine in machines if machine not in those]
-        forms: set[str] = set()
-        if rest:
-            compared = count_progress(those, "compared by form", self._progress)
-            forms.update(canonical_form(machine).text for machine in compared)
+        compared = count_progress(those if rest else (), "compared by form", self._progress)
+        forms = {canonical_form(machine).text for machine in compared}
         found = count_progress(rest, "compared by form", self._progress)
         return (machine for machine in found if canonical_form(machine).text not in forms)
 
@@ -183,19 +179,19 @@ class JudgedList:
         self._source, self._claims = source, claims
 
     @property
-    def skipped(self) -> Counter[Skipped]:
-        return self._claims.skipped + collections.Counter({Skipped.EMPTY: self._source.empty})
+    def skipped(self) -> collections.Counter[Skipped]:
+        return self._claims.skipped + collections.Counter({Skipped.EMPTY: self._source.counted.empty})
 
     @property
     def undecoded(self) -> int:
-        return self._source.undecoded
+        return self._source.counted.undecoded
 
 
 def _decide_claims(
-    claims: Iterator[Claim], limits: Limits, plan: Plan, threads: int
+    claims: Iterable[Claim], limits: Limits, plan: Plan, threads: int
 ) -> Iterator[tuple[Claim, Verdict | None]]:
     """Each claim with our verdict on its machine, if it has one."""
-    waiting: Deque[Claim] = collections.deque()
+    waiting: collections.deque[Claim] = collections.deque()
 
     def machines() -> Iterator[str]:
         for claim in claims:
@@ -230,12 +226,8 @@ class Judging(Iterator[Judged]):
         self._checker, self._threads = checker, threads
         self._held: Iterator[Judged] = iter(())
 
-    def __iter__(self) -> Judging:
-        return self
-
     def __next__(self) -> Judged:
-        judged = next(self._held, None)
-        if judged is None:
+        if (judged := next(self._held, None)) is None:
             self._held = iter(self._judge_batch())
             judged = next(self._held)
         return judged
@@ -350,14 +342,12 @@ def counts_undefined_steps(claims: Iterable[Claim], limits: Limits, checker: Lim
     verdicts = (claim.verdict or _complete_halt(claim, limits) for claim in claims)
     halts = (verdict for verdict in verdicts if isinstance(verdict, Halt) and "---" in verdict.machine)
     is_counted = False
-    while True:
-        batch = list(itertools.islice(halts, _TOGETHER))
-        if not batch:
-            return is_counted
-        for counted in _counts_steps(batch, limits, checker, threads):
-            if not counted:
-                return False
-            is_counted = True
+    while batch := list(itertools.islice(halts, _TOGETHER)):
+        found = _counts_steps(batch, limits, checker, threads)
+        if not all(found):
+            return False
+        is_counted = is_counted or bool(found)
+    return is_counted
 
 
 def _complete_halt(claim: Claim, limits: Limits) -> Halt | None:

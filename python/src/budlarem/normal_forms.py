@@ -144,19 +144,17 @@ class _Walk:
             if written == "-":
                 continue
             if written not in self._symbols:
-                ahead += self._name_symbol(written)
+                ahead += self._name(written)
             if after not in self._states:
-                ahead += self._name_state(after)
+                ahead += self._name(after)
 
-    def _name_symbol(self, symbol: str) -> list[tuple[str, str]]:
-        """Gives a symbol the next name; returns the entries met with it."""
-        self._symbols[symbol] = str(len(self._symbols))
-        return [(state, symbol) for state in self._states if state != "Z"]
-
-    def _name_state(self, state: str) -> list[tuple[str, str]]:
-        """Gives a state the next name; returns the entries met with it."""
-        self._states[state] = STATES[len(self._states) - 1]
-        return [(state, symbol) for symbol in self._symbols]
+    def _name(self, one: str) -> list[tuple[str, str]]:
+        """Gives a state or symbol the next name; returns the entries met with it."""
+        if one in self._rows:
+            self._states[one] = STATES[len(self._states) - 1]
+            return [(one, symbol) for symbol in self._symbols]
+        self._symbols[one] = str(len(self._symbols))
+        return [(state, one) for state in self._states if state != "Z"]
 
     def _name_others(self) -> None:
         """Names the states and symbols that weren't met: the one of least colour first, and then everything met
@@ -168,8 +166,7 @@ class _Walk:
                 return
             others = states or symbols
             colours = self._colours(states, symbols) if len(others) > 1 else {others[0]: 0}
-            least = min(others, key=colours.__getitem__)
-            self._go(self._name_state(least) if states else self._name_symbol(least))
+            self._go(self._name(min(others, key=colours.__getitem__)))
 
     def _colours(self, states: list[str], symbols: list[str]) -> dict[str, int]:
         """A colour for each of these, equal for indistinguishable ones and independent of old names. Colours are
@@ -208,6 +205,6 @@ class _Walk:
     def text(self) -> str:
         """The machine in new names."""
         states = sorted((new, old) for old, new in self._states.items() if old != "Z")
-        symbols = [old for old, _ in sorted(self._symbols.items(), key=lambda pair: pair[1])]
+        symbols = sorted(self._symbols, key=self._symbols.__getitem__)
         groups = ("".join(self._rename(self._entry(old, symbol)) for symbol in symbols) for _, old in states)
         return "_".join(groups)

@@ -155,16 +155,6 @@ def png(rows: Sequence[bytes], scale: int) -> bytes:
     return _png(len(rows[0]) * scale, len(rows) * scale, 3, palette, b"".join(lines))
 
 
-def _refuse_large(rows: int, columns: int, scale: int) -> None:
-    pixels = rows * columns * scale**2
-    if pixels > MOST_PIXELS:
-        size = f"{rows:,} rows and {columns:,} columns at scale {scale:,} are {pixels:,} pixels"
-        largest = math.isqrt(MOST_PIXELS // (rows * columns))
-        advice = f"lower scale to {largest} or less, or rows or columns"
-        advice = advice if largest else "lower rows or columns"
-        raise PictureError(f"{size}, more than {MOST_PIXELS:,}; {advice}")
-
-
 def _draw(
     chosen: list[Configuration], every: int, is_cut: bool, scale: int, columns: int | None, *sides: int | None
 ) -> Picture:
@@ -175,8 +165,12 @@ def _draw(
     if last < first:
         raise PictureError("no position to show")
     across = 1 if columns is not None else -(-(last - first + 1) // MOST_WIDE)
-    wide = -(-(last - first + 1) // across)
-    _refuse_large(len(chosen), wide, scale)
+    wide, high = -(-(last - first + 1) // across), len(chosen)
+    pixels, largest = wide * high * scale**2, math.isqrt(MOST_PIXELS // (wide * high))
+    if pixels > MOST_PIXELS:
+        size = f"{high:,} rows and {wide:,} columns at scale {scale:,} are {pixels:,} pixels"
+        advice = f"lower scale to {largest} or less, or rows" if largest else "lower rows"
+        raise PictureError(f"{size}, more than {MOST_PIXELS:,}; {advice} or columns")
     rows = (row_colours(row, first, first + wide * across - 1, across == 1) for row in chosen)
     if across == 1:
         data = png(list(rows), scale)
@@ -184,7 +178,7 @@ def _draw(
         means = (mean_colours(row, across) for row in rows)
         wider = (b"".join(row[k : k + 3] * scale for k in range(0, len(row), 3)) for row in means)
         scaled = (row for row in wider for _ in range(scale))
-        data = png_of_colours(wide * scale, len(chosen) * scale, scaled)
+        data = png_of_colours(wide * scale, high * scale, scaled)
     return Picture(data, every, chosen[-1].step, first, last, is_cut, is_part, across)
 
 

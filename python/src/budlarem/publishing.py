@@ -24,12 +24,11 @@ from .counts import VerdictCounts
 from .engine import check_call, decide_bytes
 from .limits import GREATEST, Limits, in_range, words_of
 from .reading.files import BlockReader
-from .runner.chunks import Identity, Retention, identity
+from .runner.chunks import Identity, identity
 from .runner.errors import FolderError
 from .runner.folder import FinishedRun
 from .runner.input import ListFile, StreamLines
-from .verdicts import Answer
-from .verification import explain
+from .verification import find_unconfirmed
 
 Path = Union[str, "os.PathLike[str]"]
 _FILES = {
@@ -70,7 +69,7 @@ class ArchivedFile:
         with contextlib.closing(ListFile(self.path)) as source:
             if not source.is_regular:
                 raise PublishError("%s is read more than once, so it has to be a file" % source.name)
-            for block in source.blocks():
+            for block in source.blocks:
                 checksum = checksum.add_bytes(block)
                 digest.update(block)
                 yield block
@@ -175,21 +174,16 @@ class Contents:
         folder = "verdicts-" + hashlib.sha256(small[SUMS]).hexdigest()[:_DIGITS]
         with tarfile.open(fileobj=file, mode="w", format=tarfile.PAX_FORMAT) as archive:
             for name in [*names, SUMS]:
-                size = inputs[name].checksum.size if name in inputs else len(small[name])
-                member = _member("%s/%s" % (folder, name), size)
+                # The entry has no traces of this computer.
+                member = tarfile.TarInfo("%s/%s" % (folder, name))
+                member.size = inputs[name].checksum.size if name in inputs else len(small[name])
+                member.mtime, member.mode = _TIME, 0o644
                 blocks = inputs[name].blocks() if name in inputs else iter([small[name]])
                 reader = io.BufferedReader(BlockReader(lambda size: next(blocks, b"")), _BYTES)
                 archive.addfile(member, reader)
                 # The end of a file is read too, where its sha256 is compared.
                 if reader.read(1):
                     raise PublishError(_CHANGED % name)
-
-
-def _member(name: str, size: int) -> tarfile.TarInfo:
-    """The entry of a file, without traces of this computer."""
-    member = tarfile.TarInfo(name)
-    member.size, member.mtime, member.mode = size, _TIME, 0o644
-    return member
 
 
 def _write_new(path: str, contents: Contents) -> Published:
@@ -238,23 +232,13 @@ def _confirm_all(
     UnconfirmedError."""
     confirmed, free = 0, 0
     # Each call makes its tapes, which takes a tenth of a second for large ones; so the batches are large.
-    for _, reply in map_in_order(check_call(limits), verdicts.batches(), threads, BatchPace(1)):
-        answers = reply.text
-        lines, ok, open_ = (answers.count(word) for word in (b"\n", b"ok\n", b"open\n"))
-        if ok + open_ < lines:
-            _raise_unconfirmed(verdicts, confirmed + free, answers.decode().split("\n"), limits)
-        confirmed, free = confirmed + ok, free + open_
+    for lines, reply in map_in_order(check_call(limits), verdicts.batches(), threads, BatchPace(1)):
+        unconfirmed = find_unconfirmed(lines, reply.text, confirmed + free)
+        if unconfirmed is not None:
+            raise UnconfirmedError(unconfirmed.sentence(verdicts.path, limits))
+        confirmed, free = confirmed + reply.text.count(b"ok\n"), free + reply.text.count(b"open\n")
         progress(confirmed + free)
     return confirmed, free
-
-
-def _raise_unconfirmed(verdicts: ArchivedFile, before: int, answers: list[str], limits: Limits) -> NoReturn:
-    """Raises the error for the first of these answers that confirms nothing."""
-    place = next(place for place, answer in enumerate(answers) if answer not in ("ok", "open"))
-    number, answer = before + place, Answer(answers[place])
-    line = next(itertools.islice(verdicts.lines(), number, None), b"").decode("utf-8", "surrogateescape")
-    parts = (verdicts.path, number + 1, answer, LONGEST_SHOWN, line, explain(line, answer, limits))
-    raise UnconfirmedError("%s:%d: %s: %.*s: %s" % parts)
 
 
 def _count_beside(machines: ArchivedFile, verdicts: ArchivedFile) -> VerdictCounts:
@@ -266,8 +250,7 @@ def _count_beside(machines: ArchivedFile, verdicts: ArchivedFile) -> VerdictCoun
         if line is None or verdict is None:
             short, other = (machines, verdicts) if line is None else (verdicts, machines)
             raise PublishError("%s has %d lines, and %s has more" % (short.path, number - 1, other.path))
-        machine = counts.add(verdict.decode())
-        if not machine:
+        if not (machine := counts.add(verdict.decode())):
             refused.append((number, line, verdict))
         elif machine.encode() != line:
             _raise_mismatch(machines, verdicts, number, line)
@@ -343,8 +326,8 @@ def publish(
             return _write_new(out, contents_of(given, passes))
         with contextlib.closing(FinishedRun(given)) as run:
             _require_whole(run)
-            decided = (one.limits for one in run.summary.passes)
-            contents = contents_of(run.verdicts, decided, run.summary.identity)
+            decided = (one.limits for one in run.passes)
+            contents = contents_of(run.verdicts, decided, run.identity)
             run.require_verdicts(contents.verdicts.checksum, contents.counts.kinds)
             return _write_new(out, contents)
     except FolderError as error:
@@ -355,8 +338,8 @@ def publish(
 
 def _require_whole(run: FinishedRun) -> None:
     """Raises PublishError if a run kept only some verdicts, FolderError if its journals don't match."""
-    if run.summary.kept != str(Retention()):
-        what = f"has only the verdicts that --keep {run.summary.kept} kept, and all are published"
+    if run.keep.only_holdouts:
+        what = f"has only the verdicts that --keep {run.keep} kept, and all are published"
         advice = "decide the list without --keep, in another folder"
         raise PublishError(f"{os.path.dirname(run.verdicts)} {what}; {advice}")
     run.require_journals()

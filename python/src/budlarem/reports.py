@@ -15,7 +15,7 @@ import os
 import pathlib
 import re
 import string
-from typing import Any, Counter, Iterable, Iterator, Sequence
+from typing import Any, Iterable, Iterator, Sequence
 
 from ._files import FileTarget, write_blocks
 from .counts import KINDS, VerdictCounts
@@ -64,7 +64,7 @@ class Statistics(VerdictCounts):
 
     def __init__(self, verdicts: Iterable[str | Verdict], most: int) -> None:
         super().__init__()
-        self.bins: dict[str, Counter[int]] = collections.defaultdict(collections.Counter)
+        self.bins: dict[str, collections.Counter[int]] = collections.defaultdict(collections.Counter)
         self.smallest: list[tuple[int, str]] = []
         self._most = most
         for verdict in verdicts_of(verdicts, "verdicts"):
@@ -73,8 +73,7 @@ class Statistics(VerdictCounts):
     def _add_numbers(self, kind: str, numbers: dict[str, int], line: str) -> None:
         super()._add_numbers(kind, numbers, line)
         for name, number in numbers.items():
-            plot = _PLOTTED.get("%s %s" % (kind, name))
-            if plot is not None:
+            if (plot := _PLOTTED.get("%s %s" % (kind, name))) is not None:
                 self.bins[plot][bin_of(number)] += 1
         if kind == "undecided":
             machine = line.partition(" ")[0]
@@ -104,7 +103,7 @@ def _import_matplotlib() -> tuple[Any, Any, Any]:
     return rc_context, Figure, MaxNLocator
 
 
-def plot(counts: Counter[int], name: str) -> str:
+def plot(counts: collections.Counter[int], name: str) -> str:
     """A distribution as an SVG image."""
     rc_context, figure_of, locator_of = _import_matplotlib()
     with rc_context({"svg.hashsalt": name, "svg.fonttype": "none", "font.size": 9, "text.color": _INK}):
@@ -125,23 +124,19 @@ def plot(counts: Counter[int], name: str) -> str:
         axes.set_xlim(starts[0] if max(counts) <= 10 else -0.5, ends[-1])
         axes.set_xlabel(name)
         axes.set_ylabel("machines")
-        _colour(axes)
+        # Everything but the bars has the colour of the page's text.
+        axes.tick_params(which="both", colors=_INK)
+        for label in (axes.xaxis.label, axes.yaxis.label):
+            label.set_color(_INK)
+        for side, spine in axes.spines.items():
+            spine.set_color(_INK)
+            spine.set_visible(side in ("left", "bottom"))
         file = io.StringIO()
         figure.savefig(file, format="svg", transparent=True, metadata={"Date": None, "Creator": None})
     text = file.getvalue()
     text = re.sub("<metadata>.*?</metadata>", "", text[text.index("<svg") :], flags=re.DOTALL)
     text = text.replace(_INK, "var(--ink)").replace(_BAR, "var(--bar)")
     return text.replace("<svg ", '<svg role="img" aria-label="Distribution of %s" ' % html.escape(name), 1)
-
-
-def _colour(axes: Any) -> None:
-    """Gives everything but the bars the colour of the page's text."""
-    axes.tick_params(which="both", colors=_INK)
-    axes.xaxis.label.set_color(_INK)
-    axes.yaxis.label.set_color(_INK)
-    for side, spine in axes.spines.items():
-        spine.set_color(_INK)
-        spine.set_visible(side in ("left", "bottom"))
 
 
 def diagram(rows: Sequence[Configuration]) -> bytes:

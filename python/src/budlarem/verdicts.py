@@ -5,7 +5,7 @@ from __future__ import annotations
 import dataclasses
 import functools
 import re
-from typing import Callable, ClassVar, Iterable, Iterator, Pattern, Union
+from typing import Callable, ClassVar, Iterable, Iterator, Union
 
 from ._text import LONGEST_SHOWN, LONGEST_VALUE, Words
 from .limits import whole
@@ -146,7 +146,7 @@ def require_field_types(name: str, verdict: Verdict | Extent) -> None:
 
 
 @functools.lru_cache(maxsize=None)
-def _shape(states: int, symbols: int) -> Pattern[str]:
+def _shape(states: int, symbols: int) -> re.Pattern[str]:
     """The pattern of all machines of so many states and symbols."""
     entry = "(?:[0-%d][LR][%sZ]|---)" % (symbols - 1, STATES[:states])
     group = entry + "{%d}" % symbols
@@ -180,10 +180,7 @@ def whole_number(word: str) -> int:
     return int(word)
 
 
-Reader = Callable[[str], int]
-
-
-def verdict_of(machine: str, words: str, number: Reader = int) -> Verdict:
+def verdict_of(machine: str, words: str, number: Callable[[str], int] = int) -> Verdict:
     """The verdict on a machine with these words; `number` reads the numbers. Raises ValueError."""
     kind, *others = words.split(" ")
     if kind == "translated":

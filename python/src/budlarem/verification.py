@@ -5,9 +5,10 @@ from __future__ import annotations
 import collections
 import dataclasses
 import io
-from typing import Counter, Iterator, Sequence
+from typing import Iterator, NamedTuple, Sequence
 
 from ._calls import BinaryReader
+from ._text import LONGEST_SHOWN
 from .engine import check_file, decide
 from .limits import Limits, Plan
 from .verdicts import Answer, Backward, Cycler, Halt, Translated, Verdict, parse
@@ -16,33 +17,46 @@ from .verdicts import Answer, Backward, Cycler, Halt, Translated, Verdict, parse
 _FEW_CELLS = 65_536
 
 
+class Unconfirmed(NamedTuple):
+    """A line that the checker doesn't confirm: its number, text and answer."""
+
+    number: int
+    line: str
+    answer: Answer
+
+    def sentence(self, name: str, limits: Limits) -> str:
+        """The line in a file, and why it isn't confirmed under these limits."""
+        parts = (name, self.number, self.answer, LONGEST_SHOWN, self.line)
+        return "%s:%d: %s: %.*s: %s" % (*parts, explain(self.line, self.answer, limits))
+
+
 @dataclasses.dataclass
 class CheckSummary:
-    """The count of each answer so far, and number, text and answer of the first unconfirmed line."""
+    """The count of each answer so far, and the first unconfirmed line."""
 
-    counts: Counter[Answer] = dataclasses.field(default_factory=collections.Counter)
-    first: tuple[int, str, Answer] | None = None
+    counts: collections.Counter[Answer] = dataclasses.field(default_factory=collections.Counter)
+    first: Unconfirmed | None = None
 
 
 def answer_blocks(file: BinaryReader, limits: Limits, threads: int, summary: CheckSummary) -> Iterator[bytes]:
     """The bytes that `bb check` writes for a file, in blocks, counted in `summary`."""
     for lines, answers in check_file(file, limits, threads=threads):
         if summary.first is None:
-            summary.first = _first_unconfirmed(lines, answers, sum(summary.counts.values()))
+            summary.first = find_unconfirmed(lines, answers, sum(summary.counts.values()))
         for answer in Answer:
             # No answer ends as another.
             summary.counts[answer] += answers.count(b"%s\n" % str(answer).encode())
         yield answers
 
 
-def _first_unconfirmed(lines: bytes, answers: bytes, before: int) -> tuple[int, str, Answer] | None:
+def find_unconfirmed(lines: bytes, answers: bytes, before: int) -> Unconfirmed | None:
     """The first line that is neither `ok` nor `open`, with `before` lines before these."""
     words = answers.split(b"\n")[:-1]
     if words.count(b"ok") + words.count(b"open") == len(words):
         return None
     place = next(place for place, word in enumerate(words) if word not in (b"ok", b"open"))
     line = lines.split(b"\n")[place].decode("utf-8", "surrogateescape")
-    return before + place + 1, line, Answer(words[place].decode())
+    return Unconfirmed(before + place + 1, line, Answer(words[place].decode()))
 
 
 def explain(line: str, answer: Answer, limits: Limits) -> str:

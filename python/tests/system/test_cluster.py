@@ -31,20 +31,14 @@ def collect():
         gc.collect()
 threading.Thread(target=collect, daemon=True).start()
 """
-# Workers that can't decide anything rightly: what the run says of them, and what is changed in their package.
-WRONG_WORKERS = {
-    "nothing": "No module named 'budlarem'",
-    "another version": "it was decided by version 9.",
-    "garbage": "came back for",
-    "a reply that can't be read": "AttributeError: ",
-}
-CHANGES = {
-    "another version": [('VERSION = "', 'VERSION = "9.')],
-    "garbage": [("buffer.reply().text", 'b"x\\n"')],
-    "a reply that can't be read": [
-        ("_thread_state = ", "class Odd: pass\n_thread_state = "),
-        ("return (written,", "return (Odd(),"),
-    ],
+# Workers that can't decide anything rightly: what the run says of them, and the file of their package that is
+# changed, with the texts; they have none where no file is named.
+ODD = [("_thread_state = ", "class Odd: pass\n_thread_state = "), ("return (written,", "return (Odd(),")]
+WRONG_WORKERS: dict[str, tuple[str, str, list[tuple[str, str]]]] = {
+    "nothing": ("No module named 'budlarem'", "", []),
+    "another version": ("it was decided by version 9.", "_version.py", [('VERSION = "', 'VERSION = "9.')]),
+    "garbage": ("came back for", "runner/chunks.py", [("buffer.reply().text", 'b"x\\n"')]),
+    "a reply that can't be read": ("AttributeError: ", "runner/chunks.py", ODD),
 }
 # A list, and the verdicts of one process for each pass.
 Given = tuple[bytes, bytes]
@@ -177,27 +171,21 @@ def test_scheduler(many: Given, tmp_path: pathlib.Path, is_late: bool) -> None:
         require_end(case, status, right)
 
 
-def collect_garbage(tmp_path: pathlib.Path) -> dict[str, str]:
-    """The environment of a run that collects garbage all the time, so that nothing is kept by chance."""
-    site = tmp_path / "site"
-    site.mkdir()
-    (site / "sitecustomize.py").write_text(COLLECTS, encoding="utf-8")
-    return {"PYTHONPATH": os.pathsep.join([str(site), os.environ["PYTHONPATH"]])}
-
-
 @pytest.mark.slow
 @pytest.mark.parametrize("what", WRONG_WORKERS)
 def test_wrong_worker(few: Given, tmp_path: pathlib.Path, what: str) -> None:
     """A worker that can't decide anything rightly ends the run; by a right one it goes on."""
     given, right = few
+    sentence, file, edits = WRONG_WORKERS[what]
     with cluster(0, tmp_path) as found:
-        wrong = {"PYTHONPATH": str(found.top)}
-        if what in CHANGES:
-            file = "_version.py" if what == "another version" else "runner/chunks.py"
-            wrong = changed_package(found.top, file, CHANGES[what])
-        found.start_worker(wrong)
+        changed = changed_package(found.top, file, edits) if file else {"PYTHONPATH": str(found.top)}
+        found.start_worker(changed)
         case = case_of(found, "wrong", given)
-        case.require_error(3, WRONG_WORKERS[what], variables=collect_garbage(found.top))
+        # The run collects garbage all the time, so that nothing is kept by chance.
+        (found.top / "site").mkdir()
+        (found.top / "site" / "sitecustomize.py").write_text(COLLECTS, encoding="utf-8")
+        places = os.pathsep.join([str(found.top / "site"), os.environ["PYTHONPATH"]])
+        case.require_error(3, sentence, variables={"PYTHONPATH": places})
         assert "resumes" in case.output() and "Traceback" not in case.output(), case.output()
         found.kill_workers()
         found.start_worker()

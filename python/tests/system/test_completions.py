@@ -41,16 +41,6 @@ def help_of(command: Sequence[str]) -> str:
     return subprocess.run([*command, "--help"], stdout=subprocess.PIPE, text=True, env=variables).stdout
 
 
-def commands_of(program: str, command: Sequence[str]) -> set[str]:
-    page = help_of(command).partition("Commands:" if program == "bb" else "COMMAND\n")[2].partition("\n\n")[0]
-    return {*re.findall(r"^ {2,4}([a-z]+) ", page, re.MULTILINE), "help"}
-
-
-def options_of(command: Sequence[str]) -> set[str]:
-    """The long options that a command's help begins a line with."""
-    return set(re.findall(r"^ +(?:-\w(?: [\w=,]+)?, +)?(--[a-z-]+)", help_of(command), re.MULTILINE))
-
-
 class Shell:
     """A shell that is asked what may stand at the end of a command line."""
 
@@ -91,12 +81,16 @@ def test_commands_and_options(bb: str, shell: Shell, program: str) -> None:
     done = subprocess.run([shell.name, "-n", file], capture_output=True, text=True)
     assert done.returncode == 0 and not done.stderr
     command = [bb] if program == "bb" else [sys.executable, "-m", "budlarem"]
-    names = commands_of(program, command)
+    page = help_of(command).partition("Commands:" if program == "bb" else "COMMAND\n")[2].partition("\n\n")[0]
+    names = {*re.findall(r"^ {2,4}([a-z]+) ", page, re.MULTILINE), "help"}
     assert len(names) > 3
     assert shell.words_at(program, "") - {"--help", "--version"} == names
+    # The long options that begin a line of the help.
+    option = re.compile(r"^ +(?:-\w(?: [\w=,]+)?, +)?(--[a-z-]+)", re.MULTILINE)
     for name in names:
-        options = options_of([*command, name]) if (program, name) != ("bb", "help") else set()
-        assert {row for row in shell.words_at(program, name, "--") if row.startswith("--")} == options, name
+        page = help_of([*command, name]) if (program, name) != ("bb", "help") else ""
+        found = {row for row in shell.words_at(program, name, "--") if row.startswith("--")}
+        assert found == set(option.findall(page)), name
 
 
 def test_files(shell: Shell) -> None:

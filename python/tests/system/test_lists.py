@@ -196,15 +196,14 @@ def test_check(bb: str, rng: random.Random, tmp_path: pathlib.Path) -> None:
             words = asked if row is GREATEST else [*asked, *options(row)]
             status, output, error = command("check", *words, given=more)
             assert (status, output) == right[:2]
-            require_counts(lines, right.output.decode().splitlines(), error.decode())
-
-
-def require_counts(lines: list[str], answers: list[str], printed: str) -> None:
-    """Standard error has the counts and the first line that isn't confirmed."""
-    words = ("ok", "bad", "over", "open", "unread")
-    assert ", ".join("%s %d" % (word, answers.count(word)) for word in words) in printed
-    place = next(place for place, answer in enumerate(answers) if answer not in ("ok", "open"))
-    assert (":%d: %s: %s" % (place + 1, answers[place], lines[place][:150])) in printed
+            # Standard error has the counts and the first line that isn't confirmed.
+            answers, printed = right.output.decode().splitlines(), error.decode()
+            counts = (
+                "%s %d" % (word, answers.count(word)) for word in ("ok", "bad", "over", "open", "unread")
+            )
+            assert ", ".join(counts) in printed
+            place = next(place for place, answer in enumerate(answers) if answer not in ("ok", "open"))
+            assert (":%d: %s: %s" % (place + 1, answers[place], lines[place][:150])) in printed
 
 
 def test_trace(bb: str) -> None:
@@ -289,14 +288,6 @@ def test_forms_of_machines() -> None:
     assert len(forms) > len(machines) / 2
 
 
-def run_on_terminal(*asked: str) -> tuple[list[str], str]:
-    """The texts of progress that a command showed on a terminal, and what was left there."""
-    with open(os.devnull, "wb") as output:
-        shown = on_terminal([sys.executable, "-m", "budlarem", *asked], b"", output)[1]
-    rows = [row.split("\r") for row in shown.split("\n")]
-    return [text for row in rows for text in row[:-1] if text.strip()], "\n".join(row[-1] for row in rows)
-
-
 def test_progress(tmp_path: pathlib.Path) -> None:
     """On a terminal the commands that take long tell how far they are, and leave nothing of it there."""
     lines = [CHAMPION + " halt 47176870 4098", "`1ra1ra` halts"]
@@ -309,7 +300,12 @@ def test_progress(tmp_path: pathlib.Path) -> None:
         given = tmp_path / (name + ".txt")
         given.write_bytes(as_lines(lines) * 100 if name == "judge" else as_lines(lines[:1]) * 10)
         words = [word.replace("out.tar", str(tmp_path / "out.tar")) for word in more]
-        texts, left = run_on_terminal(name, *words, str(given))
+        with open(os.devnull, "wb") as output:
+            asked = [sys.executable, "-m", "budlarem", name, *words, str(given)]
+            rows = [row.split("\r") for row in on_terminal(asked, b"", output)[1].split("\n")]
+        # The texts of progress, and what was left behind them.
+        texts = [text for row in rows for text in row[:-1] if text.strip()]
+        left = "\n".join(row[-1] for row in rows)
         assert any(word in text for text in texts) and max(map(len, texts)) < 80, (name, texts[:5])
         lines_left = left.count("\n") if name != "judge" else left.count("small letters read as capital ones")
         assert lines_left == {"judge": 100, "check": 1, "publish": 0}[name]

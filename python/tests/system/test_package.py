@@ -63,16 +63,6 @@ def test_rows_of_limits(bb: str, row: Row) -> None:
         require_deciding(bb, row, off, list_of(300), 1)
 
 
-def require_claims(bb: str, lines: list[str], row: Row, source: random.Random) -> None:
-    """The answers to claims of which half are forged, and what `parse` takes of them."""
-    claims = [*lines[::2], *forge(source, lines, len(lines) // 2)]
-    expected = output_of(bb, ["check", *options(row)], as_lines(claims))
-    assert b"".join(budlarem.check_bytes(as_lines(claims), Limits(*row))) == expected
-    answers = [str(answer) for answer in budlarem.check(claims, Limits(*row), threads=2)]
-    assert answers == expected.decode().splitlines()
-    require_parse(claims, answers)
-
-
 def require_parse(lines: Sequence[str], answers: Sequence[str]) -> None:
     """`parse` refuses just what the checker calls unread, and `str` gives back what it takes."""
     right = [None if answer == "unread" else line for line, answer in zip(lines, answers)]
@@ -95,7 +85,12 @@ def test_random_limits(bb: str, rng: random.Random, count: int) -> None:
     for begin in range(0, count, 1_000):
         row, threads = random_row(rng), rng.choice((1, 4))
         lines = require_deciding(bb, row, rng.choice(PLANS), lists[begin : begin + 1_000], threads)
-        require_claims(bb, lines, row, rng)
+        # Half of the claims are forged.
+        claims = [*lines[::2], *forge(rng, lines, len(lines) // 2)]
+        expected = output_of(bb, ["check", *options(row)], as_lines(claims))
+        assert b"".join(budlarem.check_bytes(as_lines(claims), Limits(*row))) == expected
+        assert as_lines(map(str, budlarem.check(claims, Limits(*row), threads=2))) == expected
+        require_parse(claims, expected.decode().splitlines())
 
 
 def noise(source: random.Random, count: int) -> Iterator[str]:

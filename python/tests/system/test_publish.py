@@ -57,12 +57,6 @@ class Place:
         return sorted(set(os.listdir(self.top)) - {"list.txt", "verdicts.txt"})
 
 
-def unpack(path: pathlib.Path, into: pathlib.Path) -> pathlib.Path:
-    subprocess.run(["tar", "-x", "-f", str(path), "-C", str(into)], check=True)
-    (made,) = into.iterdir()
-    return made
-
-
 def commands_of(readme: str) -> list[list[str]]:
     """The commands of a README, those of each numbered way together."""
     ways: list[list[str]] = []
@@ -139,7 +133,9 @@ def archive_of(bb: str, top: pathlib.Path) -> tuple[Place, Ways]:
     assert done.stdout == "%s  %s\n" % (hashlib.sha256(place.out.read_bytes()).hexdigest(), place.out)
     assert place.left() == ["out.tar"]
     (top / "unpacked").mkdir()
-    return place, Ways(bb, unpack(place.out, top / "unpacked"), top / "programs")
+    subprocess.run(["tar", "-x", "-f", str(place.out), "-C", str(top / "unpacked")], check=True)
+    (folder,) = (top / "unpacked").iterdir()
+    return place, Ways(bb, folder, top / "programs")
 
 
 @pytest.mark.parametrize("count", [100, pytest.param(1_000, marks=pytest.mark.slow)])

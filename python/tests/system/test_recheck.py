@@ -11,7 +11,7 @@ import random
 import re
 import subprocess
 import sys
-from typing import Callable, Counter, Iterator
+from typing import Callable
 
 import pytest
 from support import TOP
@@ -102,13 +102,6 @@ def test_verdicts_on_four_states(bb: str, list_machines: Callable[..., list[str]
     print("%d lines compared" % len(lines))
 
 
-def machines_of(count: int, source: random.Random) -> Iterator[str]:
-    """Random machines: of all sizes, and those of 3 and 4 symbols that halt seldom."""
-    yield from mixed_machines(count // 2, source.randrange(1 << 30))
-    for _ in range(count - count // 2):
-        yield seldom_halting(source, source.randint(1, 4), source.randint(2, 4))
-
-
 def is_right(line: bytes, printed: bytes, answer: bytes) -> bool:
     """Whether recheck.py answers a line as the program does. It has no bound on levels: a tree never has more
     of them than nodes."""
@@ -120,8 +113,12 @@ def is_right(line: bytes, printed: bytes, answer: bytes) -> bool:
 @pytest.mark.parametrize("count", [4_000, pytest.param(40_000, marks=pytest.mark.slow)])
 def test_forged_lines(bb: str, count: int, rng: random.Random) -> None:
     """Verdicts on random machines, and what is forged of them, are answered as by the program."""
-    machines = as_lines(machines_of(count, rng))
-    verdicts = run_command([bb, "decide", *options(LIMITS)], machines).output.decode().splitlines()
+    # Machines of all sizes, and those of 3 and 4 symbols that halt seldom.
+    machines = list(mixed_machines(count // 2, rng.randrange(1 << 30)))
+    while len(machines) < count:
+        machines.append(seldom_halting(rng, rng.randint(1, 4), rng.randint(2, 4)))
+    decided = run_command([bb, "decide", *options(LIMITS)], as_lines(machines))
+    verdicts = decided.output.decode().splitlines()
     texts = [*verdicts, *forge(rng, verdicts, count), "refused 775", "refused 776", ""]
     texts += (re.sub(r" \d+", lambda found: rng.choice([found[0], *FAR]), line) for line in verdicts)
     for line, word in itertools.product(verdicts[::20], ("steps", "cells", "nodes")):
@@ -131,7 +128,7 @@ def test_forged_lines(bb: str, count: int, rng: random.Random) -> None:
     printed = run_command([bb, "check", *options(LIMITS)], given).output.split(b"\n")[:-1]
     _, answers, _ = run_recheck("--steps", str(STEPS), "--nodes", str(NODES), given=given)
     assert len(lines) == len(printed) == len(answers)
-    counts: Counter[bytes] = collections.Counter(printed)
+    counts: collections.Counter[bytes] = collections.Counter(printed)
     assert len(counts) == 5 and min(counts.values()) >= 20, counts
     assert not [row for row in zip(lines, printed, answers) if not is_right(*row)]
     print("%d lines compared" % len(lines))

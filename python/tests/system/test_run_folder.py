@@ -18,7 +18,6 @@ QUICK_PASS = (50, 64, 3, 10)
 TWO_PASSES = [QUICK_PASS, (60, 64, 3, 10)]
 SLOWLY = ["--threads", "1", "--piece", "20"]
 LINES = 60_000
-MOVED = "isn't the folder that was opened any more"
 MACHINE = b"1RB1LB_1LA1RZ\n"
 
 
@@ -51,13 +50,6 @@ def slow_case(tmp_path: pathlib.Path, name: str, seed: int, passes: int = 1) -> 
     return case
 
 
-def require_moved_error(case: Case, status: int, before: dict[str, bytes]) -> None:
-    """The run ended with status 3 and a sentence, and what stands at its path is as it was."""
-    said = case.output()
-    assert status == 3 and MOVED in said, said
-    assert (snapshot(case.out) if case.out.exists() else {}) == before
-
-
 @pytest.mark.parametrize("passes", [1, pytest.param(2, marks=pytest.mark.slow)])
 def test_moved(bb: str, tmp_path: pathlib.Path, passes: int) -> None:
     """The folder is moved and another run begins in a new one; the first goes on in its folder later."""
@@ -69,7 +61,9 @@ def test_moved(bb: str, tmp_path: pathlib.Path, passes: int) -> None:
         os.rename(case.out, moved)
         second.require_verdicts(expected_verdicts(bb, second.list.read_bytes(), limits))
         before = snapshot(case.out)
-    require_moved_error(case, process.returncode, before)
+    moved_error = "isn't the folder that was opened any more"
+    assert process.returncode == 3 and moved_error in case.output(), case.output()
+    assert snapshot(case.out) == before
     assert not (moved / "verdicts.txt").exists()
     shutil.rmtree(case.out)
     os.rename(moved, case.out)
@@ -231,12 +225,6 @@ def command(*more: str, given: pathlib.Path | None = None) -> tuple[int, str]:
     return done.returncode, done.stdout.decode("utf-8", "replace")
 
 
-def require_refusal(archive: pathlib.Path, folder: pathlib.Path, text: str) -> None:
-    """A folder isn't published, with a sentence."""
-    status, said = command("publish", str(archive), "--verdicts", str(folder))
-    assert status == 2 and text in said and not archive.exists(), said
-
-
 @pytest.mark.parametrize("passes", [1, pytest.param(2, marks=pytest.mark.slow)])
 def test_mixed(tmp_path: pathlib.Path, passes: int) -> None:
     """A summary, verdicts or journals of another run over as many machines of each kind are refused."""
@@ -256,7 +244,9 @@ def test_mixed(tmp_path: pathlib.Path, passes: int) -> None:
             shutil.copytree(second / name, mixed / name)
         else:
             shutil.copyfile(second / name, mixed / name)
-        require_refusal(tmp_path / ("mixed-%d-%s.tar" % (passes, name)), mixed, "doesn't match")
+        archive = tmp_path / ("mixed-%d-%s.tar" % (passes, name))
+        status, said = command("publish", str(archive), "--verdicts", str(mixed))
+        assert status == 2 and "doesn't match" in said and not archive.exists(), said
     out = tmp_path / ("whole-%d.tar" % passes)
     status, said = command("publish", str(out), "--verdicts", str(first), "--list", str(cases[0].list))
     assert status == 0, said

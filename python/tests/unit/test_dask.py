@@ -156,11 +156,17 @@ def double(monkeypatch: pytest.MonkeyPatch) -> ClusterCase:
     return ClusterCase(package)
 
 
-def test_a_reply_comes_back(double: ClusterCase) -> None:
+def test_replies_and_errors_come_back(double: ClusterCase) -> None:
     future = double.submit()
     double.answer_all(future)
     assert double.sentences[1:] == ["dask's page is at http://page"]
     assert double.place._submissions == {}
+    future = double.submit()
+    double.client.given.pop().future.set_exception(ModuleNotFoundError("No module named 'budlarem'"))
+    assert isinstance(future.exception(0), ModuleNotFoundError)
+    double.dask.refuses = OSError("nobody there")
+    with pytest.raises(RunError, match="no scheduler answers at tcp://there:1: nobody there"):
+        dask.DaskBackend("tcp://there:1", {}, double.sentences.append)
 
 
 def test_what_was_cancelled_is_handed_over_again(double: ClusterCase) -> None:
@@ -207,12 +213,6 @@ def test_a_closed_client_is_made_anew(double: ClusterCase) -> None:
     assert len(double.client.given) == 2
     double.answer_all(future, waiting)
     assert "has 1 workers" in double.sentences[-1]
-
-
-def test_no_scheduler_at_all(double: ClusterCase) -> None:
-    double.dask.refuses = OSError("nobody there")
-    with pytest.raises(RunError, match="no scheduler answers at tcp://there:1: nobody there"):
-        dask.DaskBackend("tcp://there:1", {}, double.sentences.append)
 
 
 def test_workers_that_go_and_come(double: ClusterCase) -> None:
@@ -311,13 +311,7 @@ def test_a_reply_that_comes_late(double: ClusterCase, monkeypatch: pytest.Monkey
     double.require_reply(future)
 
 
-def test_what_a_task_raises_comes_back(double: ClusterCase) -> None:
-    future = double.submit()
-    double.client.given.pop().future.set_exception(ModuleNotFoundError("No module named 'budlarem'"))
-    assert isinstance(future.exception(0), ModuleNotFoundError)
-
-
-def test_replies_that_do_not_go_together() -> None:
+def test_merged_replies_and_errors() -> None:
     good = reply_to(LINES, LIMITS)
     other = (*good[:4], "another library", *good[5:])
     odd = reply_to(LINES[:-7], LIMITS)
@@ -333,9 +327,6 @@ def test_replies_that_do_not_go_together() -> None:
     ]
     for replies, joined in cases:
         assert chunks.merge_replies([LINES, LINES], replies) == joined
-
-
-def test_an_error_of_a_half_is_that_of_the_whole() -> None:
     for place in (0, 1):
         job = chunks.Job(reply_to, LINES, LIMITS)
         both = chunks.bisect_job(job)
@@ -349,15 +340,12 @@ def place(*words: str) -> Any:
     return command._make_backend(asked, progress.Progress(io.StringIO()))
 
 
-def test_words_that_do_not_go_together() -> None:
+def test_options_and_a_missing_dask() -> None:
     with pytest.raises(ValueError, match="give one of them"):
         place("--scheduler", "there", "--threads", "2")
     for name in command.TLS:
         with pytest.raises(ValueError, match="which isn't given"):
             place("--" + name, "file")
-
-
-def test_options_of_tls() -> None:
     double = Dask()
     words = [word for name in command.TLS for word in ("--" + name, __file__)]
     with unittest.mock.patch.object(dask, "import_distributed", lambda: double):
@@ -367,9 +355,6 @@ def test_options_of_tls() -> None:
     files: dict[str, Any] = {name: __file__ for name in ("tls_ca_file", "tls_client_cert", "tls_client_key")}
     assert double.clients[0].how["security"] == {**files, "require_encryption": True}
     assert len(double.clients) == 1
-
-
-def test_dask_is_not_installed() -> None:
     with unittest.mock.patch.dict("sys.modules", {"distributed": None}):
         status, printed = call_command("run", "list", "--out", "folder", "--scheduler", "there:8786")
     assert status == 3 and "dask isn't installed" in printed

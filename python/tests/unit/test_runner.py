@@ -14,7 +14,7 @@ import re
 import shutil
 import unittest.mock
 import zlib
-from concurrent.futures import Executor, Future
+from concurrent.futures import Future
 from typing import Any, Callable, Sequence
 
 import budlarem
@@ -26,13 +26,27 @@ from support.runner import KINDS, LIST, MIDDLE, PASSES, SMALL, Answering, KeptPr
 from support.runner import PoolBackend, act, answer_with, counts_of, expected_verdicts, reseal
 
 
+def require_verdicts(
+    case: RunCase, executor: Any = None, limits: Sequence[Limits] = PASSES, **how: Any
+) -> passes.Outcome:
+    """A run has the verdicts of its list."""
+    outcome = case.run_over(executor, limits, **how)
+    assert case.verdicts() == expected_verdicts(case.list.read_bytes(), limits)
+    return outcome
+
+
+def require_error(case: RunCase, error: type[Exception], text: str, executor: Any = None, **how: Any) -> None:
+    """A run ends with an error and a sentence."""
+    with pytest.raises(error, match=text):
+        case.run_over(executor, **how)
+
+
 def test_lists_and_passes(case: RunCase) -> None:
     lists = (b"", b"\n", KINDS[:-1], LIST, b"1RZ---\n" * 100, b"x" * 5_000 + b"\n" + KINDS)
     for place, (given, limits) in enumerate(itertools.product(lists, (PASSES, [SMALL], [MIDDLE, SMALL]))):
         case.list.write_bytes(given)
         case.out = case.top / str(place)
-        outcome = case.run_over(limits=limits)
-        assert case.verdicts() == expected_verdicts(given, limits)
+        outcome = require_verdicts(case, limits=limits)
         lines = case.verdicts().count(b"\n")
         assert (outcome.lines, sum(outcome.counts.values())) == (lines, lines)
 
@@ -61,17 +75,13 @@ def test_lines_keep_their_numbers(case: RunCase) -> None:
     assert journal.list_line_number([], 7) == 8
 
 
-def test_whole_passes_are_added(case: RunCase) -> None:
+def test_passes_are_added_and_what_stands_stays(case: RunCase) -> None:
     case.run_over(limits=[SMALL])
     before = case.records([SMALL])
     executor = Answering()
-    case.run_over(executor)
-    assert case.verdicts() == expected_verdicts(LIST)
+    require_verdicts(case, executor)
     assert case.records([SMALL]) == before
     assert executor.count == len(case.records(PASSES))
-
-
-def test_what_stands_is_not_decided_again(case: RunCase) -> None:
     case.run_over()
     executor = Answering()
     (case.out / "verdicts.txt").write_bytes(b"changed")
@@ -83,45 +93,36 @@ def test_what_stands_is_not_decided_again(case: RunCase) -> None:
         assert executor.count == count
 
 
-def test_the_same_list_compressed(case: RunCase) -> None:
+def test_the_same_list_and_others(case: RunCase) -> None:
     case.run_over(limits=[SMALL])
     path = case.top / "list.txt.gz"
     path.write_bytes(gzip.compress(LIST))
-    case.run_over(path=str(path))
-    assert case.verdicts() == expected_verdicts(LIST)
-
-
-def test_another_list(case: RunCase) -> None:
+    require_verdicts(case, path=str(path))
     case.run_over()
     packed = case.top / "list.gz"
     other = LIST.replace(b"------", b"1RZ---", 1)
     for given in (other, LIST + KINDS, LIST[: -len(KINDS)], b"", KINDS + LIST):
         for path, written in ((case.list, given), (packed, gzip.compress(given))):
             path.write_bytes(written)
-            with pytest.raises(FolderError, match="isn't the list that"):
-                case.run_over(path=str(path))
+            require_error(case, FolderError, "isn't the list that", path=str(path))
     case.list.write_bytes(LIST)
-    case.run_over()
-    assert case.verdicts() == expected_verdicts(LIST)
+    require_verdicts(case)
 
 
 def test_changed_passes_and_libraries(case: RunCase) -> None:
     case.run_over()
     for limits in ([SMALL], [MIDDLE, SMALL], [MIDDLE], [SMALL, SMALL, MIDDLE]):
-        with pytest.raises(FolderError, match="started with other passes"):
-            case.run_over(limits=limits)
+        require_error(case, FolderError, "started with other passes", limits=limits)
     path = case.out / "run.json"
     written = path.read_text()
     config = folder.RunConfig.read(written)
     assert config is not None
     other = dataclasses.replace(config.identity, library="0" * 64)
     path.write_text(dataclasses.replace(config, identity=other).text())
-    with pytest.raises(FolderError, match="another library"):
-        case.run_over()
+    require_error(case, FolderError, "another library")
     for text in (written.replace('"format": 3', '"format": 1'), '{"format": 1, "passes": []}\n'):
         path.write_text(text)
-        with pytest.raises(FolderError, match="run.json: it has format 1, which another version"):
-            case.run_over()
+        require_error(case, FolderError, "run.json: it has format 1, which another version")
 
 
 def test_what_a_folder_was_begun_with() -> None:
@@ -141,15 +142,11 @@ def test_what_a_folder_was_begun_with() -> None:
             folder.RunConfig.read(other)
 
 
-def test_two_runs_in_a_folder(case: RunCase) -> None:
+def test_locks_and_lists_that_would_be_overwritten(case: RunCase) -> None:
     with contextlib.closing(folder.Folder(str(case.out))):
         assert list(case.out.iterdir()) == [], "the folder itself is locked"
-        with pytest.raises(FolderError, match="another run works in"):
-            case.run_over()
+        require_error(case, FolderError, "another run works in")
     case.run_over()
-
-
-def test_a_list_that_would_be_overwritten(case: RunCase) -> None:
     case.run_over()
     for path in ("verdicts.txt", "summary.json", "run.json", "pass-2/journal"):
         other = case.top / "another_name"
@@ -198,22 +195,20 @@ def test_chunks_that_are_missing_in_the_middle(case: RunCase) -> None:
             for place in (0, count // 3, count // 3 + 1, count // 2, count - 1):
                 data[place * journal.WIDTH : (place + 1) * journal.WIDTH] = bytes(journal.WIDTH)
             path.write_bytes(data)
-        case.run_over(most=most)
-        assert case.verdicts() == expected_verdicts(LIST)
+        require_verdicts(case, most=most)
 
 
 def test_a_changed_chunk_while_passes_are_merged(case: RunCase) -> None:
     case.run_over(limits=[SMALL])
     with pytest.raises(RunError, match="was cut or changed"):
         case.run_over(act(lambda: os.truncate(case.out / "verdicts.txt", 100)))
-    require_resumed(case)
+    require_verdicts(case)
 
 
 def test_a_folder_of_an_older_version(case: RunCase) -> None:
     (case.out / "pass-1").mkdir(parents=True)
     (case.out / "pass-1" / "000000001.txt").write_text("kept")
-    with pytest.raises(FolderError, match="another version of this package wrote"):
-        case.run_over()
+    require_error(case, FolderError, "another version of this package wrote")
 
 
 def test_one_pass_is_written_once(case: RunCase) -> None:
@@ -228,8 +223,7 @@ def test_one_pass_is_written_once(case: RunCase) -> None:
     assert "decided again" not in case.progress.kept.getvalue()
     executor = Answering()
     for _ in range(2):
-        case.run_over(executor, limits=[SMALL], check=True)
-        assert case.verdicts() == expected_verdicts(LIST, [SMALL])
+        require_verdicts(case, executor, limits=[SMALL], check=True)
         assert (chunks.exists(), verdicts.stat().st_ino) == (False, first.st_ino)
     assert executor.count == len(case.records([SMALL]))
     assert sorted(case.out.rglob("*.part")) == []
@@ -247,8 +241,7 @@ def test_verdicts_share_no_bytes_with_a_later_run(case: RunCase) -> None:
         for path in case.out.rglob("*"):
             if path.is_file() and (is_moved or path.name == "journal"):
                 path.unlink()
-        case.run_over(limits=[SMALL], most=3)
-        assert case.verdicts() == expected_verdicts(LIST, [SMALL])
+        require_verdicts(case, limits=[SMALL], most=3)
         assert not kept_lines.samefile(case.out / "verdicts.txt")
         assert kept_lines.read_bytes() == expected_verdicts(LIST, [SMALL])
 
@@ -261,8 +254,7 @@ def test_another_run_over_the_passes_of_one(case: RunCase) -> None:
         if path.is_file():
             path.unlink()
     case.list.write_bytes(KINDS * 20)
-    case.run_over(limits=[MIDDLE])
-    assert case.verdicts() == expected_verdicts(KINDS * 20, [MIDDLE])
+    require_verdicts(case, limits=[MIDDLE])
     assert (case.top / "kept").read_bytes() == expected_verdicts(LIST, [SMALL])
 
 
@@ -271,8 +263,7 @@ def test_a_pass_is_added_to_verdicts_that_were_renamed(case: RunCase) -> None:
     kept_lines = case.top / "kept"
     os.link(case.out / "verdicts.txt", kept_lines)
     executor = Answering()
-    case.run_over(executor, limits=PASSES)
-    assert case.verdicts() == expected_verdicts(LIST)
+    require_verdicts(case, executor, limits=PASSES)
     for path in (kept_lines, case.out / "pass-1" / "pieces"):
         assert path.read_bytes() == expected_verdicts(LIST, [SMALL])
     assert executor.count == len(case.records(PASSES))
@@ -283,8 +274,7 @@ def test_a_pass_is_added_to_verdicts_that_were_renamed(case: RunCase) -> None:
 
 def test_verdicts_that_are_moved_away_while_a_pass_is_added(case: RunCase) -> None:
     case.run_over(limits=[SMALL])
-    case.run_over(act(lambda: os.rename(case.out / "verdicts.txt", case.top / "kept"), 0))
-    assert case.verdicts() == expected_verdicts(LIST)
+    require_verdicts(case, act(lambda: os.rename(case.out / "verdicts.txt", case.top / "kept"), 0))
     for name in ("kept", "out/pass-1/pieces"):
         assert (case.top / name).read_bytes() == expected_verdicts(LIST, [SMALL])
 
@@ -293,11 +283,9 @@ def test_verdicts_that_were_changed_in_place(case: RunCase) -> None:
     case.run_over(limits=[SMALL])
     with open(case.out / "verdicts.txt", "r+b") as file:
         file.write(b"x" * 100)
-    case.run_over(limits=[SMALL])
+    require_verdicts(case, limits=[SMALL])
     assert "is decided again: it was cut or changed" in case.progress.kept.getvalue()
-    assert case.verdicts() == expected_verdicts(LIST, [SMALL])
-    case.run_over(limits=[SMALL])
-    assert case.verdicts() == expected_verdicts(LIST, [SMALL])
+    require_verdicts(case, limits=[SMALL])
 
 
 def test_a_folder_whose_verdicts_are_a_second_name(case: RunCase) -> None:
@@ -327,40 +315,35 @@ def test_a_folder_that_is_moved_removed_or_replaced(case: RunCase) -> None:
         for name, text in others.items():
             (case.out / name).write_text(text)
 
-    with pytest.raises(MovedError, match="isn't the folder that was opened any more"):
-        case.run_over(act(replace, 5))
+    require_error(case, MovedError, "isn't the folder that was opened any more", act(replace, 5))
     assert {path.name: path.read_text() for path in case.out.iterdir()} == others
     case.out = case.top / "moved"
     executor = Answering()
-    case.run_over(executor)
-    assert case.verdicts() == expected_verdicts(LIST)
+    require_verdicts(case, executor)
     assert executor.count < len(case.records([SMALL])) + len(case.records(PASSES))
 
 
 def test_a_folder_that_is_removed(case: RunCase) -> None:
-    with pytest.raises(MovedError):
-        case.run_over(act(lambda: shutil.rmtree(case.out, ignore_errors=True)))
+    require_error(case, MovedError, "", act(lambda: shutil.rmtree(case.out, ignore_errors=True)))
     assert not case.out.exists()
 
 
-@pytest.mark.parametrize("name", ["verdicts.txt", "summary.json"])
+@pytest.mark.parametrize("name", ["verdicts.txt", "summary.json", "README.txt"])
 def test_a_file_that_another_makes_meanwhile(case: RunCase, name: str) -> None:
-    with pytest.raises(RunError, match=name + " was made or replaced by another"):
-        case.run_over(act(lambda: (case.out / name).write_text("mine")))
-    assert (case.out / name).read_text() == "mine"
-    (case.out / name).unlink()
-    require_resumed(case)
-
-
-def test_a_page_that_another_makes_meanwhile(case: RunCase) -> None:
-    page = case.out / "README.txt"
+    """It stays as it is, and ends a run that has yet to write it."""
+    path = case.out / name
 
     def replace() -> None:
-        page.unlink(missing_ok=True)
-        page.write_text("mine")
+        path.unlink(missing_ok=True)
+        path.write_text("mine")
 
-    case.run_over(act(replace))
-    assert (page.read_text(), case.verdicts()) == ("mine", expected_verdicts(LIST))
+    if name == "README.txt":
+        require_verdicts(case, act(replace))
+    else:
+        require_error(case, RunError, name + " was made or replaced by another", act(replace))
+    assert path.read_text() == "mine"
+    path.unlink()
+    require_verdicts(case)
 
 
 def test_a_link_to_the_folder_that_is_pointed_elsewhere(case: RunCase) -> None:
@@ -373,8 +356,7 @@ def test_a_link_to_the_folder_that_is_pointed_elsewhere(case: RunCase) -> None:
         case.out.unlink()
         case.out.symlink_to(elsewhere)
 
-    with pytest.raises(MovedError):
-        case.run_over(act(point_elsewhere, 5))
+    require_error(case, MovedError, "", act(point_elsewhere, 5))
     assert list(elsewhere.iterdir()) == []
 
 
@@ -416,40 +398,25 @@ class WriterCase:
         return not os.path.exists(self.folder.kept)
 
 
-@pytest.fixture
-def writer(case: RunCase) -> WriterCase:
-    return WriterCase(case)
+ANY_ORDER = random.Random(3).sample(range(200), 200)
+REFUSED = unittest.mock.Mock(side_effect=OSError(errno.EPERM, "it can't"))
+# The order of chunks, the most bytes that wait, whether the file is in order then, and what is patched.
+ORDERS: dict[str, tuple[list[int], int, bool, tuple[object, str, Any]]] = {
+    "a little out of order": ([2, 0, 1, 5, 4, 3, 6, 8, 7, 9], 50, True, (passes, "_SOON", 1.0)),
+    "one that comes last": ([*range(1, 30), 0], 20, False, (passes, "_SOON", 1.0)),
+    "one that comes late": ([1, 0, 2, 3], 20, False, (passes, "_SOON", 0.0)),
+    "any order where the system can't copy": (ANY_ORDER, 30, False, (os, "copy_file_range", REFUSED)),
+    "no second name": (list(range(20)), 20, True, (os, "link", REFUSED)),
+    "nothing": ([], 20, False, (passes, "_SOON", 1.0)),
+}
 
 
-@pytest.mark.parametrize(
-    "order, most, is_in_order", [([2, 0, 1, 5, 4, 3, 6, 8, 7, 9], 50, True), ([*range(1, 30), 0], 20, False)]
-)
-def test_chunks_out_of_order(writer: WriterCase, order: list[int], most: int, is_in_order: bool) -> None:
-    """A little out of order, and one that comes last."""
-    assert writer.whole(order, most) == is_in_order
-
-
-def test_one_that_comes_late(writer: WriterCase) -> None:
-    with unittest.mock.patch.object(passes, "_SOON", 0.0):
-        assert not writer.whole([1, 0, 2, 3], 20)
-
-
-def test_any_order_where_the_system_cannot_copy(writer: WriterCase) -> None:
-    order = list(range(200))
-    random.Random(3).shuffle(order)
-    refused = unittest.mock.Mock(side_effect=OSError("it can't"))
-    with unittest.mock.patch.object(os, "copy_file_range", refused):
-        assert not writer.whole(order, 30)
-
-
-def test_no_second_name(writer: WriterCase) -> None:
-    refused = unittest.mock.Mock(side_effect=OSError(errno.EPERM, "it can't"))
-    with unittest.mock.patch.object(os, "link", refused):
-        assert writer.whole(list(range(20)), 20)
-
-
-def test_nothing(writer: WriterCase) -> None:
-    assert not writer.whole([], 20)
+@pytest.mark.parametrize("order, most, is_in_order, patched", ORDERS.values(), ids=ORDERS)
+def test_chunks_in_some_order(
+    case: RunCase, order: list[int], most: int, is_in_order: bool, patched: tuple[object, str, Any]
+) -> None:
+    with unittest.mock.patch.object(*patched):
+        assert WriterCase(case).whole(order, most) == is_in_order
 
 
 def kept_lines(limits: Sequence[Limits], halts: int) -> bytes:
@@ -470,8 +437,7 @@ def test_what_is_kept(case: RunCase) -> None:
         assert (summary["lines"], summary["kept"]) == (370, str(keep))
         with pytest.raises(FolderError, match="dropped before they were checked"):
             case.run_over(limits=limits, keep=keep, check=True)
-        with pytest.raises(FolderError, match="started with --keep left"):
-            case.run_over(limits=limits)
+        require_error(case, FolderError, "started with --keep left", limits=limits)
 
 
 def test_all_are_seen_before_they_are_dropped(case: RunCase) -> None:
@@ -491,8 +457,7 @@ def test_keep_passes_are_added(case: RunCase) -> None:
     assert case.verdicts() == kept_lines(PASSES, 10**12)
     other = LIST.replace(b"------", b"1RZ---", 1)
     case.list.write_bytes(other)
-    with pytest.raises(FolderError, match="isn't the list that"):
-        case.run_over(keep=keep)
+    require_error(case, FolderError, "isn't the list that", keep=keep)
 
 
 def test_a_line_of_a_later_pass_is_named(case: RunCase) -> None:
@@ -515,12 +480,6 @@ def test_words() -> None:
             chunks.parse_retention(wrong)
 
 
-def require_resumed(case: RunCase) -> None:
-    """A run again, by threads, has the right bytes."""
-    case.run_over()
-    assert case.verdicts() == expected_verdicts(LIST)
-
-
 def test_wrong_answers_now_and_then(case: RunCase) -> None:
     answers: list[Callable[[chunks.ChunkReply], Any]] = [
         lambda reply: None,
@@ -536,8 +495,7 @@ def test_wrong_answers_now_and_then(case: RunCase) -> None:
     for place, answer in enumerate(answers):
         case.out = case.top / str(place)
         executor = Answering(lambda reply, before: answer(reply) if before in (1, 30) else reply)
-        case.run_over(executor)
-        assert case.verdicts() == expected_verdicts(LIST)
+        require_verdicts(case, executor)
         assert "trying again" in case.progress.kept.getvalue()
 
 
@@ -545,23 +503,21 @@ def test_wrong_answers_each_time(case: RunCase) -> None:
     for begin in (0, 5, 60):
         case.out = case.top / str(begin)
         executor = Answering(lambda reply, before: reply if before < begin else (b"x\n", *reply[1:]))
-        with pytest.raises(RunError, match="pass [12], lines? .* tried 3 times"):
-            case.run_over(executor)
+        require_error(case, RunError, "pass [12], lines? .* tried 3 times", executor)
         assert not (case.out / "verdicts.txt").exists()
-        require_resumed(case)
+        require_verdicts(case)
 
 
 def test_the_line_is_named(case: RunCase) -> None:
     with pytest.raises(RunError, match="pass 1, line [0-9]*9: '0RB1LD_0RC1RD_0RD---_1LA0RB unknown steps'"):
         case.run_over(answer_with(b"_0RD---_1LA0RB undecided", b"_0RD---_1LA0RB unknown"))
-    require_resumed(case)
+    require_verdicts(case)
 
 
 def test_late_answers_in_another_order(case: RunCase) -> None:
     given = b"".join(KINDS.splitlines(keepends=True)[:8])
     case.list.write_bytes(given)
-    case.run_over(Late(4), most=1, limits=[SMALL])
-    assert case.verdicts() == expected_verdicts(given, [SMALL])
+    require_verdicts(case, Late(4), most=1, limits=[SMALL])
     assert len(case.records([SMALL])) == 8
 
 
@@ -575,25 +531,19 @@ def test_one_answer_for_two_chunks(case: RunCase) -> None:
 
     with pytest.raises(RunError, match="pass 1, lines? .* tried 3 times|one future"):
         case.run_over(Same(lambda reply, before: reply))
-    require_resumed(case)
+    require_verdicts(case)
 
 
 def test_an_executor_that_takes_or_answers_nothing(case: RunCase) -> None:
-    class Closed(Executor):
-        def submit(self, function: Any, /, *given: Any, **named: Any) -> Any:
-            raise RuntimeError("it was closed")
+    def cancel(*given: Any) -> Future[Any]:
+        future: Future[Any] = Future()
+        future.cancel()
+        return future
 
-    class Cancelling(Executor):
-        def submit(self, function: Any, /, *given: Any, **named: Any) -> Any:
-            future: Future[Any] = Future()
-            future.cancel()
-            return future
-
-    with pytest.raises(RunError, match="it was closed"):
-        case.run_over(Closed())
-    with pytest.raises(RunError, match="it was cancelled; tried 3 times"):
-        case.run_over(Cancelling())
-    require_resumed(case)
+    closed, sentence = RuntimeError("it was closed"), "it was cancelled; tried 3 times"
+    for submit, text in ((unittest.mock.Mock(side_effect=closed), "it was closed"), (cancel, sentence)):
+        require_error(case, RunError, text, unittest.mock.Mock(submit=submit))
+    require_verdicts(case)
 
 
 def test_a_verdict_that_the_checker_refuses(case: RunCase) -> None:
@@ -602,7 +552,7 @@ def test_a_verdict_that_the_checker_refuses(case: RunCase) -> None:
         case.out = case.top / str(len(limits))
         with pytest.raises(CheckError, match="^line (5|15|25): the checker answers bad: 1RB1LC_1RC1RB"):
             case.run_over(executor, limits=limits, check=True)
-    require_resumed(case)
+    require_verdicts(case)
 
 
 def test_a_lying_worker_is_found_here(case: RunCase) -> None:
@@ -627,8 +577,7 @@ def test_a_lying_worker_is_found_here(case: RunCase) -> None:
         status, said = case.call("--pass", "steps=30,cells=16,depth=3,nodes=5", "--check-here")
     assert status == 1
     assert re.search("^budlarem: line (5|15|25): the checker answers bad: 1RB1LC_1RC1RB", said, re.M)
-    case.run_over(Answering(), limits=[SMALL], check=True, here=True)
-    assert case.verdicts() == expected_verdicts(LIST, [SMALL])
+    require_verdicts(case, Answering(), limits=[SMALL], check=True, here=True)
 
 
 def test_answers_to_other_verdicts(case: RunCase) -> None:
@@ -639,22 +588,25 @@ def test_answers_to_other_verdicts(case: RunCase) -> None:
         is_check = reply[6].startswith(chunks.CHECK)
         return next(one for one in replies if one[6] == reply[6]) if is_check else reply
 
-    with pytest.raises(RunError, match="answers other lines; tried 3 times"):
-        case.run_over(Answering(swap), check=True)
-    require_resumed(case)
+    require_error(case, RunError, "answers other lines; tried 3 times", Answering(swap), check=True)
+    require_verdicts(case)
 
 
 def test_seconds_that_did_not_pass(case: RunCase) -> None:
     for seconds in (1e9, 1e308):
         case.out = case.top / str(seconds)
-        case.run_over(Answering(lambda reply, before: (reply[0], seconds, *reply[2:])), most=1_000)
-        assert case.verdicts() == expected_verdicts(LIST)
+        require_verdicts(case, Answering(lambda reply, before: (reply[0], seconds, *reply[2:])), most=1_000)
         assert len(case.records([SMALL])) < 20
         summary = json.loads((case.out / "summary.json").read_text())
         assert summary["passes"][0]["work_seconds"] < 600
 
 
-def test_statuses(case: RunCase) -> None:
+def test_refusals_and_statuses(case: RunCase) -> None:
+    limits = ("steps=1,steps=2", "step=1", "", "steps=-1", "cells=0", "depth=300,cells=10")
+    for words in (*(["--pass", value] for value in limits), ["--threads", "0"], ["--piece", "0"]):
+        status, said = case.call(*words)
+        assert (status, case.out.exists()) == (2, False), words
+        assert said.startswith("budlarem: ")
     small = "steps=30,cells=16,depth=3,nodes=5"
     assert case.call("--pass", small)[0] == 1
     assert case.verdicts() == expected_verdicts(LIST, [SMALL])
@@ -670,18 +622,10 @@ def test_statuses(case: RunCase) -> None:
     assert case.call()[0] == 3
 
 
-def test_what_is_refused(case: RunCase) -> None:
-    limits = ("steps=1,steps=2", "step=1", "", "steps=-1", "cells=0", "depth=300,cells=10")
-    for words in (*(["--pass", value] for value in limits), ["--threads", "0"], ["--piece", "0"]):
-        status, said = case.call(*words)
-        assert (status, case.out.exists()) == (2, False), words
-        assert said.startswith("budlarem: ")
-
-
-def test_a_terminal() -> None:
+def test_progress_of_a_pass() -> None:
     shown = KeptProgress()
     shown._is_terminal = True
-    shown.start(1, 2, lambda lines: 88_664_064)
+    shown.start(1, 2, lambda: 88_664_064)
     shown.add_decided(20_000)
     shown._next = 0.0
     shown.tick("3 workers")
@@ -690,11 +634,8 @@ def test_a_terminal() -> None:
     assert re.match(r"\rpass 1 of 2, 1 chunks, " + figures, text) and len(text) < 81
     shown.print_line("a sentence")
     assert shown.kept.getvalue().endswith("\rbudlarem: a sentence\n")
-
-
-def test_a_long_pass_is_announced_once() -> None:
     shown = KeptProgress()
-    shown.start(2, 2, lambda lines: 10**9)
+    shown.start(2, 2, lambda: 10**9)
     shown._started -= 10
     shown.add_decided(5)
     for _ in range(2):

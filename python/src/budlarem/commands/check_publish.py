@@ -10,14 +10,14 @@ import signal
 import sys
 from types import FrameType
 
-from .._text import LONGEST_SHOWN, escape_controls
-from ..limits import GREATEST, Limits, limits_of
+from .._text import escape_controls
+from ..limits import GREATEST, limits_of
 from ..publishing import UnconfirmedError, publish
 from ..reading.files import BytesFile
 from ..runner.errors import RunError
 from ..runner.progress import TerminalLine, short_count
 from ..verdicts import Answer
-from ..verification import CheckSummary, answer_blocks, explain
+from ..verification import CheckSummary, answer_blocks
 from .shared import Subcommands, add_command, add_file, add_greatest_limits, add_number, add_passes
 from .shared import counts_text, greatest_limits, source_of
 
@@ -32,9 +32,7 @@ The tapes of each thread then take 134 MB. Pass --steps against claims of 10^12 
 
 def do_check(asked: argparse.Namespace) -> int:
     """Writes the checker's answers."""
-    limits, progress = greatest_limits(asked), TerminalLine()
-    name = "standard input" if asked.file in (None, "-") else asked.file
-    summary = CheckSummary()
+    limits, progress, summary = greatest_limits(asked), TerminalLine(), CheckSummary()
     with contextlib.closing(BytesFile(source_of(asked.file))) as file:
         for answers in answer_blocks(file, limits, asked.threads, summary):
             progress.show(lambda: counts_text(summary.counts, Answer))
@@ -42,12 +40,10 @@ def do_check(asked: argparse.Namespace) -> int:
     progress.clear()
     sys.stdout.flush()
     counts = ("%s %d" % (answer, summary.counts[answer]) for answer in Answer)
-    print(escape_controls("%s: %s" % (name, ", ".join(counts))), file=sys.stderr)
+    print(escape_controls("%s: %s" % (file.name, ", ".join(counts))), file=sys.stderr)
     if summary.first is None:
         return 0
-    number, line, answer = summary.first
-    parts = (name, number, answer, LONGEST_SHOWN, line, explain(line, answer, limits))
-    print(escape_controls("%s:%d: %s: %.*s: %s" % parts), file=sys.stderr)
+    print(escape_controls(summary.first.sentence(file.name, limits)), file=sys.stderr)
     return 1
 
 
@@ -119,5 +115,5 @@ def add_publish(commands: Subcommands) -> None:
     add("--list", metavar="LIST", help="the machines, one a line, in the order of the verdicts")
     help = "limits by which the verdicts were decided, for the readers; a run's folder has them"
     add_passes(parser, help)
-    add_number(parser, "--steps", "the most steps of a claim", Limits.RANGES["steps"][1])
+    add_number(parser, "--steps", "the most steps of a claim", GREATEST.steps)
     add_number(parser, "--threads", "cores used (default: all)")

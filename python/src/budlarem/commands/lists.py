@@ -5,22 +5,21 @@ from __future__ import annotations
 import argparse
 import collections
 import contextlib
+import dataclasses
 import os
 import sys
-from typing import BinaryIO, Counter, Iterator
+from typing import BinaryIO, Iterator
 
 from ..claims import WORDS, Claims, read_words
 from ..comparison import Agreement, compare
-from ..judging import Judgement, judge, translation_in
+from ..judging import JudgedList, Judgement, judge, translation_in
 from ..limits import GREATEST, Limits
-from ..numbers import option_number
-from ..reading import Skipped
 from ..reading.forms import RereadableList
 from ..reports import report
 from ..runner.progress import TerminalLine, short_count
 from ..verdicts import Verdict
 from .shared import ListReader, Subcommands, add_claims_form, add_command, add_file, add_limits, add_number
-from .shared import columns_of, counts_text, form_of, limits_of
+from .shared import counts_text, limits_of
 
 _CLAIMS = """A list has one of the forms of `budlarem help read`: verdict lines; a table with a column of
 verdicts, or of words for halting beside columns of steps and scores, by a translation that is printed first; a
@@ -41,7 +40,7 @@ class ClaimReader(ListReader):
     skipped lines on standard error."""
 
     def __init__(self, path: str | None, asked: argparse.Namespace) -> None:
-        super().__init__(path, None, form_of(asked), columns_of(asked))
+        super().__init__(path, asked)
         self.words = WORDS if asked.words is None else read_words(asked.words)
         self._word_file: str | None = asked.words
 
@@ -49,11 +48,11 @@ class ClaimReader(ListReader):
         """The verdict of each line that has one. Raises OSError, ValueError."""
         source = RereadableList(self.source, self.form, self.columns)
         self.print_form(source.form)
-        self.print_unused_words(source.form, self._word_file)
         try:
-            self.print_translation(translation_in(source, self.words, lambda what, lines: None))
+            translation = translation_in(source, self.words, lambda what, lines: None)
         except ValueError as error:
             raise ValueError("%s: %s" % (self.name, error)) from None
+        self.print_words(source.form, translation, self._word_file)
         claims = Claims(source.once(), source.form, self.words)
         for claim in claims:
             if claim.verdict is not None:
@@ -64,15 +63,15 @@ class ClaimReader(ListReader):
             else:
                 why = claim.trouble or "no verdict of %s" % claim.reading.machine
                 self.refuse(claim.reading.number, "refused: %s" % why)
-        skipped = claims.skipped + collections.Counter({Skipped.EMPTY: source.empty})
-        self.print_skipped(skipped, source.undecoded)
+        theirs = JudgedList(source, claims, translation)
+        self.print_skipped(theirs.skipped, theirs.undecoded)
 
 
 def do_compare(asked: argparse.Namespace) -> int:
     """Compares two files of verdict lines by machine, in any order."""
     if asked.first == "-" == asked.second:
         raise ValueError("A and B can't both be standard input")
-    counts: Counter[Agreement] = collections.Counter()
+    counts: collections.Counter[Agreement] = collections.Counter()
     first, second = ClaimReader(asked.first, asked), ClaimReader(asked.second, asked)
     for found in compare(first.verdicts(), second.verdicts(), undefined_steps=asked.undefined_steps):
         counts[found.agreement] += 1
@@ -150,14 +149,12 @@ def do_judge(asked: argparse.Namespace) -> int:
     if asked.theirs == "-" == asked.list:
         raise ValueError("THEIRS and LIST can't both be standard input")
     progress = TerminalLine()
-    reader = ListReader(asked.theirs, progress, form_of(asked), columns_of(asked))
-    highest = asked.check_steps
-    checker = GREATEST if highest is None else Limits(highest, *GREATEST.numbers()[1:])
+    reader = ListReader(asked.theirs, asked, progress)
     judging = judge(
         reader.source,
-        None if asked.list is None else ListReader(asked.list, progress).readings(),
+        None if asked.list is None else ListReader(asked.list, None, progress).readings(),
         limits=limits_of(asked),
-        checker=checker,
+        checker=dataclasses.replace(GREATEST, steps=asked.check_steps),
         undefined_steps=True if asked.undefined_steps else None,
         threads=asked.threads,
         progress=lambda what, lines: progress.show(lambda: "%s lines %s" % (short_count(lines), what)),
@@ -167,9 +164,8 @@ def do_judge(asked: argparse.Namespace) -> int:
     )
     theirs = judging.theirs
     reader.print_form(theirs.form)
-    reader.print_translation(theirs.translation)
-    reader.print_unused_words(theirs.form, asked.words)
-    counts: Counter[Judgement] = collections.Counter()
+    reader.print_words(theirs.form, theirs.translation, asked.words)
+    counts: collections.Counter[Judgement] = collections.Counter()
     for judged in judging:
         counts[judged.judgement] += 1
         reader.print_rewritten(judged.claim.reading)
@@ -206,7 +202,5 @@ def add_judge(commands: Subcommands) -> None:
     add_claims_form(judging)
     judging.add_argument("--undefined-steps", action="store_true", help="they count a step for ---")
     add_limits(judging, Limits.RANGES)
-    highest = Limits.RANGES["steps"][1]
-    help = "the most steps of a claim (default: {:,})".format(highest)
-    judging.add_argument("--check-steps", type=option_number, metavar="N", help=help)
+    add_number(judging, "--check-steps", "the most steps of a claim", GREATEST.steps)
     add_number(judging, "--threads", "cores used", 1)

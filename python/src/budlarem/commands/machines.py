@@ -12,7 +12,7 @@ from ..normal_forms import distinct
 from ..numbers import option_number
 from ..pictures import picture
 from .shared import LIST_HELP, ListReader, Subcommands, add_command, add_file, add_form, add_limits
-from .shared import add_number, columns_of, form_of, limits_of
+from .shared import add_number, limits_of
 
 _READ = "Writes the machine of each line of a list, as bb reads it.\n\n%s Status 1 if a line was refused."
 _DECIDE = """Decides the machine of each line of a list, and copies the other fields of the line.
@@ -24,14 +24,9 @@ mirrored so that the first move is to the right.
 %s Status 1 if a line was refused."""
 
 
-def reader_of(asked: argparse.Namespace) -> ListReader:
-    """The reader of the list that the command line names."""
-    return ListReader(asked.file, None, form_of(asked), columns_of(asked))
-
-
 def do_read(asked: argparse.Namespace) -> int:
     """Writes the machines of a list."""
-    reader = reader_of(asked)
+    reader = ListReader(asked.file, asked)
     for machine in reader.machines():
         sys.stdout.write("%s\n" % machine)
     sys.stdout.flush()
@@ -43,7 +38,7 @@ def do_read(asked: argparse.Namespace) -> int:
 def do_decide(asked: argparse.Namespace) -> int:
     """Decides the machine of each line."""
     plan = Plan(not asked.no_cyclers, not asked.no_translated, not asked.no_backward)
-    reader = reader_of(asked)
+    reader = ListReader(asked.file, asked)
     for found in decide_readings(reader.readings(), limits_of(asked), plan, threads=asked.threads):
         sys.stdout.write("%s\n" % found)
     return reader.status
@@ -51,7 +46,7 @@ def do_decide(asked: argparse.Namespace) -> int:
 
 def do_normal(asked: argparse.Namespace) -> int:
     """Writes the normal form of each machine."""
-    reader = reader_of(asked)
+    reader = ListReader(asked.file, asked)
     for form, before in distinct(reader.machines(), steps=asked.steps, cells=asked.cells):
         if before is None or not asked.distinct:
             sys.stdout.write("%s\n" % form)

@@ -51,19 +51,16 @@ def source_of(path: str | None) -> str | BinaryIO:
 
 
 class ListReader:
-    """Reads a list. Prints its form, its rewritten and refused lines, and the number of skipped lines on
-    standard error."""
+    """Reads a list, in the form and with the columns of the options, if any. Prints its form, its rewritten and
+    refused lines, and the number of skipped lines on standard error."""
 
     def __init__(
-        self,
-        path: str | None,
-        progress: TerminalLine | None = None,
-        form: Form | None = None,
-        columns: Columns = Columns(),
+        self, path: str | None, asked: argparse.Namespace | None, progress: TerminalLine | None = None
     ) -> None:
         self.name = "standard input" if path is None or path == "-" else path
         self.source = source_of(path)
-        self.form, self.columns = form, columns
+        self.form = None if asked is None or asked.form is None else Form(asked.form)
+        self.columns = Columns(**{role: getattr(asked, "column_" + role, None) for role in _ROLES})
         self._progress = progress
         self.taken, self.rewritten, self.refused = 0, 0, 0
 
@@ -82,28 +79,17 @@ class ListReader:
         place = "" if number is None else ":%d" % number
         print("%s%s: %s" % (self.name, place, escape_controls(text)), file=sys.stderr)
 
-    def print_reading(self, reading: Reading) -> None:
-        """Prints a rewritten or refused line, and counts it."""
-        if reading.machine is None:
-            self.refuse(reading.number, str(reading))
-        else:
-            self.taken += 1
-            self.print_rewritten(reading)
-
     def print_form(self, form: ListForm) -> None:
         """Prints the form of the list if it was detected."""
         if form.is_found:
             is_given = self.form is not None or self.columns != Columns()
             self.print_line(str(form) if is_given else "%s; --form overrides it" % form)
 
-    def print_translation(self, translation: Translation | None) -> None:
-        """Prints the translation of a table's words, if there are any."""
+    def print_words(self, form: ListForm, translation: Translation | None, given: str | None) -> None:
+        """Prints the translation of a table's words, or that the file of `--words` isn't used in this form."""
         for line in translation.lines if translation is not None else ():
             self.print_line(line)
-
-    def print_unused_words(self, form: ListForm, words: str | None) -> None:
-        """Prints that the file of `--words` isn't used, if the list is no table."""
-        if words is not None and form.layout is None:
+        if given is not None and form.layout is None:
             self.print_line("--words is for tables; nothing is translated in the form %s" % form.form)
 
     def print_skipped(self, skipped: Mapping[Skipped, int], undecoded: int) -> None:
@@ -142,19 +128,13 @@ class _PrintedReadings(Readings):
     def __iter__(self) -> Iterator[Reading]:
         self._reader.print_form(self.form)
         for reading in super().__iter__():
-            self._reader.print_reading(reading)
+            if reading.machine is None:
+                self._reader.refuse(reading.number, str(reading))
+            else:
+                self._reader.taken += 1
+                self._reader.print_rewritten(reading)
             yield reading
         self._reader.print_skipped(self.skipped, self.undecoded)
-
-
-def form_of(asked: argparse.Namespace) -> Form | None:
-    """The form of `--form`, or None."""
-    return None if asked.form is None else Form(asked.form)
-
-
-def columns_of(asked: argparse.Namespace) -> Columns:
-    """The columns of the options of a table."""
-    return Columns(**{role: getattr(asked, "column_" + role, None) for role in _ROLES})
 
 
 def add_form(parser: argparse.ArgumentParser, roles: Iterable[str] = ("machine",)) -> None:

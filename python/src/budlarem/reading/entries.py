@@ -2,11 +2,10 @@
 
 from __future__ import annotations
 
-import dataclasses
 import re
-from typing import Sequence, Union
+from typing import NamedTuple, Sequence, Union
 
-from .._text import pluralize, first_hidden, code_point
+from .._text import code_point, is_hidden, pluralize
 from ..verdicts import MOST_SYMBOLS, STATES, is_machine
 from .readings import Reason, Rewriting
 
@@ -16,8 +15,7 @@ _ENTRY = re.compile(r"[0-9][LRlr][A-Za-z]|---|\.\.\.")
 _LOST = re.compile(r"[0-9][LRlr][-_]")
 
 
-@dataclasses.dataclass(frozen=True)
-class Word:
+class Word(NamedTuple):
     """A word of a line, and its index."""
 
     begin: int
@@ -28,8 +26,7 @@ class Word:
         return self.begin + len(self.text)
 
 
-@dataclasses.dataclass(frozen=True)
-class Found:
+class Found(NamedTuple):
     """A machine as `bb` reads it, and the rewritings."""
 
     machine: str
@@ -82,33 +79,25 @@ def read_arrays(groups: Sequence[Sequence[Word]]) -> Outcome:
 def _entries_of_groups(groups: Sequence[Word]) -> list[Group] | Reason:
     """The entries of each group, or why a group has others."""
     entries: list[Group] = []
-    for place, group in enumerate(groups):
-        found = _entries_of(group, sum(map(len, entries)), place, place + 1 < len(groups))
-        if isinstance(found, Reason):
-            return found
-        entries.append(found)
-    return entries
-
-
-def _entries_of(group: Word, before: int, place: int, is_followed: bool) -> Group | Reason:
-    """The entries of a group behind so many entries and groups; `is_followed`: a `_` or a space follows."""
-    if not group.text:
-        return Reason("empty-group", "group %d is empty" % (place + 1), group.begin + 1)
-    entries: Group = []
-    for at in range(0, len(group.text), 3):
-        entry = group.text[at : at + 3]
-        if not _ENTRY.fullmatch(entry):
-            return _no_entry(entry, before + len(entries) + 1, group.begin + at + 1, is_followed)
-        entries.append((group.begin + at, entry))
+    for place, group in enumerate(groups, 1):
+        if not group.text:
+            return Reason("empty-group", "group %d is empty" % place, group.begin + 1)
+        entries.append([])
+        for at in range(0, len(group.text), 3):
+            entry = group.text[at : at + 3]
+            if not _ENTRY.fullmatch(entry):
+                return _no_entry(entry, sum(map(len, entries)) + 1, group.begin + at + 1, place < len(groups))
+            entries[-1].append((group.begin + at, entry))
     return entries
 
 
 def _no_entry(text: str, number: int, place: int, is_followed: bool) -> Reason:
+    """Why a text is no entry; `is_followed`: a `_` or a space follows its group."""
     whole = text + "_" if len(text) == 2 and is_followed else text
     if _LOST.fullmatch(whole):
         what = f"entry {number} is {whole}: the {whole[0]} that it writes would be lost"
         return Reason("lost", what, place)
-    hidden = first_hidden(text)
+    hidden = next((at for at, character in enumerate(text) if is_hidden(character)), None)
     if hidden is not None:
         code = code_point(text[hidden])
         return Reason("hidden", f"entry {number} has {code}, a character that doesn't show", place + hidden)
@@ -144,8 +133,7 @@ def _divide(entries: Group, rewritten: set[Rewriting]) -> Outcome:
 
 
 def _machine(groups: Sequence[Group], rewritten: set[Rewriting]) -> Outcome:
-    wrong = _wrong_size(groups)
-    if wrong is not None:
+    if (wrong := _wrong_size(groups)) is not None:
         return wrong
     letters = {entry[2].upper() for group in groups for _, entry in group}
     halts_by_h = "H" in letters and "Z" not in letters and len(groups) <= MOST_BEFORE_H

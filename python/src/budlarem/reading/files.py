@@ -82,10 +82,7 @@ class BlockReader(io.RawIOBase):
 
     def first(self, size: int) -> bytes:
         """The first bytes, fewer only at the end. They are read again."""
-        while len(self.held) < size:
-            block = self._more(size - len(self.held))
-            if not block:
-                break
+        while len(self.held) < size and (block := self._more(size - len(self.held))):
             self.held += block
         return self.held[:size]
 
@@ -96,7 +93,7 @@ class BlockReader(io.RawIOBase):
         return count
 
 
-class Lines(Iterator[Numbered]):
+class Lines(Iterable[Numbered]):
     """The lines of a list that aren't empty, as texts without newlines, numbered from 1 on. `empty` counts the
     others so far, `undecoded` those that aren't UTF-8.
 
@@ -118,9 +115,6 @@ class Lines(Iterator[Numbered]):
 
     def __iter__(self) -> Iterator[Numbered]:
         return self._lines
-
-    def __next__(self) -> Numbered:
-        return next(self._lines)
 
     def _of_items(self, items: Iterator[Any]) -> Iterator[Numbered]:
         """The lines of an iterable. Raises TypeError, ValueError."""
@@ -150,8 +144,7 @@ class Lines(Iterator[Numbered]):
         """The lines of a file, each cut to BYTES_KEPT bytes. Raises EncodingError, EndlessLineError."""
         number, rest, unended = 1, b"", 0
         block = file.first(4)
-        encoding = find_encoding(block)
-        if encoding is not None:
+        if (encoding := find_encoding(block)) is not None:
             raise EncodingError(file.name, encoding)
         while block:
             if not rest and not block.strip(b"\n"):
@@ -215,10 +208,7 @@ class BytesFile:
     def first(self, size: int) -> bytes:
         """The first bytes: `size` or more, fewer only at the end."""
         block = self.read1(BLOCK)
-        while 0 < len(block) < size:
-            more = self.read1(BLOCK)
-            if not more:
-                break
+        while 0 < len(block) < size and (more := self.read1(BLOCK)):
             block += more
         return block
 

@@ -8,7 +8,8 @@ import itertools
 import os
 import stat
 import tempfile
-from typing import IO, Any, Counter, Iterator
+import weakref
+from typing import IO, Any, Iterable, Iterator
 
 from ..verdicts import is_machine
 from .files import Lines, Numbered, Source
@@ -33,7 +34,7 @@ class ListForm:
         return "form %s" % self.form if self.layout is None else "form %s: %s" % (self.form, self.layout)
 
 
-def find_form(lines: Iterator[Numbered], ahead: list[Numbered]) -> Form | None:
+def find_form(lines: Iterable[Numbered], ahead: list[Numbered]) -> Form | None:
     """The form of the first lines, which are added to `ahead`; None if there are none."""
     alone: list[str] = []
     verdicts = 0
@@ -73,7 +74,7 @@ def _is_alone(number: int, bare: str) -> bool:
 
 
 def form_of(
-    lines: Iterator[Numbered], ahead: list[Numbered], form: Form | None, columns: Columns
+    lines: Iterable[Numbered], ahead: list[Numbered], form: Form | None, columns: Columns
 ) -> ListForm:
     """The form of a list: the given one, a table if a column is given, or that of its first lines. Raises
     ValueError if the layout of a table isn't known."""
@@ -81,8 +82,7 @@ def form_of(
     if form is None and columns != Columns():
         form = Form.TABLE
     if form is None:
-        form = find_form(lines, ahead)
-        if form is None:
+        if (form := find_form(lines, ahead)) is None:
             return ListForm(Form.TEXT)
     if form is not Form.TABLE:
         if columns != Columns():
@@ -108,7 +108,7 @@ class Readings(Iterator[Reading]):
         self._given = form, columns
         self._form: ListForm | None = None
         self._ahead: list[Numbered] = []
-        self._skipped: Counter[Skipped] = collections.Counter()
+        self._skipped: collections.Counter[Skipped] = collections.Counter()
         self._readings = self._read()
 
     @property
@@ -119,7 +119,7 @@ class Readings(Iterator[Reading]):
         return self._form
 
     @property
-    def skipped(self) -> Counter[Skipped]:
+    def skipped(self) -> collections.Counter[Skipped]:
         """The number of skipped lines of each kind so far."""
         return self._skipped + collections.Counter({Skipped.EMPTY: self._source.empty})
 
@@ -137,8 +137,7 @@ class Readings(Iterator[Reading]):
     def _read(self) -> Iterator[Reading]:
         form = self.form
         for number, line in itertools.chain(self._ahead, self._source):
-            reading = reading_of(number, line, form)
-            if reading is not None:
+            if (reading := reading_of(number, line, form)) is not None:
                 yield reading
             else:
                 self._skipped[skip_kind(line)] += 1
@@ -154,46 +153,33 @@ _MOST_BUFFERED = 8_000_000
 
 
 class RereadableList:
-    """The non-empty lines of a list, to be read more than once. `form` is the list's."""
+    """The non-empty lines of a list, to be read more than once. `form` is the list's; `counted` are the lines of
+    the last reading, with the counts so far."""
 
     def __init__(self, source: Source, form: Form | None = None, columns: Columns = Columns()) -> None:
         self._source: Any = source
-        self._lines = Lines(source)
+        self.counted = Lines(source)
         self._ahead: list[Numbered] = []
         self._copy: IO[bytes] | None = None
         self._is_started = False
-        self.form: ListForm = form_of(self._lines, self._ahead, form, columns)
-
-    def __del__(self) -> None:
-        copy = getattr(self, "_copy", None)
-        if copy is not None:
-            copy.close()
-
-    @property
-    def empty(self) -> int:
-        """The number of empty lines read so far."""
-        return self._lines.empty
-
-    @property
-    def undecoded(self) -> int:
-        """The number of lines read so far that aren't UTF-8."""
-        return self._lines.undecoded
+        self.form: ListForm = form_of(self.counted, self._ahead, form, columns)
 
     def once(self) -> Iterator[Numbered]:
         """The lines, for the last time."""
-        return self.lines() if self._is_started else itertools.chain(self._ahead, self._lines)
+        return self.lines() if self._is_started else itertools.chain(self._ahead, self.counted)
 
     def lines(self) -> Iterator[Numbered]:
         """The lines, from the first on. Raises OSError."""
         self._is_started = True
         is_path = isinstance(self._source, (str, os.PathLike))
         if is_path and stat.S_ISREG(os.stat(self._source).st_mode):
-            self._lines = Lines(self._source)
-            yield from self._lines
+            self.counted = Lines(self._source)
+            yield from self.counted
             return
         if self._copy is None:
             self._copy = tempfile.SpooledTemporaryFile(_MOST_BUFFERED)
-            for number, line in itertools.chain(self._ahead, self._lines):
+            weakref.finalize(self, self._copy.close)
+            for number, line in itertools.chain(self._ahead, self.counted):
                 self._copy.write(b"%d %s\n" % (number, line.encode("utf-8", "surrogatepass")))
         self._copy.seek(0)
         for record in self._copy:

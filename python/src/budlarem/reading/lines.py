@@ -52,7 +52,11 @@ def read_line(number: int, line: str, form: Form = Form.TEXT) -> Reading | None:
     if skip_reason(bare) is not None:
         return None
     reading = _read_plain(number, line)
-    return _require_alone(reading, bare) if form is Form.MACHINES else reading
+    has_more = reading.before or reading.behind or not OF_MACHINES.issuperset(bare)
+    if form is Form.MACHINES and reading.machine is not None and has_more:
+        reason = Reason("beside", f"the line has more than the machine {quote(reading.machine)}", 1)
+        return Reading(number, line, None, reason=reason)
+    return reading
 
 
 def verdict_in(bare: str) -> Verdict | None:
@@ -72,15 +76,6 @@ def _read_verdict(number: int, line: str, bare: str) -> Reading | None:
     text = ("verdict", "this is no verdict line") if verdict is None else ("none", "no machine in this line")
     reason = Reason(*text, len(line) - len(line.lstrip(SPACES)) + 1)
     return Reading(number, line, None, reason=reason)
-
-
-def _require_alone(reading: Reading, bare: str) -> Reading:
-    """The reading of a line whose machine has to stand alone, without signs around it."""
-    has_more = reading.before or reading.behind or not OF_MACHINES.issuperset(bare)
-    if reading.machine is None or not has_more:
-        return reading
-    reason = Reason("beside", f"the line has more than the machine {quote(reading.machine)}", 1)
-    return Reading(reading.number, reading.line, None, reason=reason)
 
 
 def _read_plain(number: int, line: str) -> Reading:
@@ -136,8 +131,7 @@ def _state_line(line: str, text: Text) -> Reason | None:
     """Why a text behind the letter of a state is no machine: it is the line of that state."""
     if "_" in text.written or text.arrays or text.is_address:
         return None
-    letter = _STATE.search(line[: text.begin])
-    if letter is None:
+    if (letter := _STATE.search(line[: text.begin])) is None:
         return None
     group = letter.lastindex or 0
     if group == 2 and text.written == text.written.upper():
@@ -166,7 +160,7 @@ def _read_text(text: Text) -> list[Read] | Reason:
         return [(text, read_arrays(text.arrays))]
     if len(text.words) == 1:
         return _ambiguous_dots(text.words[0]) or [(text, read_words(text.words))]
-    if text.is_of_entries:
+    if all(len(word.text) == 3 for word in text.words):
         return [(text, read_entries(text.words))]
     words = [Text((word,), word.begin, word.end) for word in text.words]
     alone = [(word, read_words(word.words)) for word in words]

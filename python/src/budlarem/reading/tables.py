@@ -10,6 +10,7 @@ from typing import Sequence
 
 from .._text import pluralize, quote
 from ..verdicts import is_machine
+from .files import Numbered
 from .lines import read_line
 from .readings import Skipped, Reading, Reason
 from .tokens import MACHINE_NAMES, SPACES, skip_reason, plain_name
@@ -23,8 +24,6 @@ _NAMES: dict[str, frozenset[str]] = {
     "score": frozenset("score ones sigma".split()),
 }
 _SEPARATOR_NAMES = {"\t": "tab", ",": "comma", ";": "semicolon", "|": "|", " ": "space", "": "none"}
-# A line's number, from 1 on, and its text.
-Numbered = tuple[int, str]
 
 
 @dataclasses.dataclass(frozen=True)
@@ -105,7 +104,11 @@ def find_layout(lines: Sequence[Numbered], columns: Columns) -> Layout:
     if len(fitting) > 1:
         names = " or ".join(_SEPARATOR_NAMES[one] for one in fitting)
         raise ValueError("the separator may be %s: write the cells in quotes" % names)
-    return _layout_by_position(records, fitting[0], columns)
+    row = cells_of(first, fitting[0])
+    if _machine_in(0, row[_place_of(columns.machine or "", row)]).machine is None:
+        return _with_header(records[0], fitting[0], columns)
+    named = ((role, given) for role, given in dataclasses.asdict(columns).items() if given is not None)
+    return Layout(fitting[0], len(row), (), {role: _place_of(given, row) for role, given in named})
 
 
 def _fits(records: Sequence[Numbered], separator: str, columns: Columns) -> bool:
@@ -124,16 +127,6 @@ def _fits(records: Sequence[Numbered], separator: str, columns: Columns) -> bool
         return False
     found = [_machine_in(0, row[place]) for row in rows if len(row) == len(rows[0])]
     return any(one.machine is not None and not (one.before or one.behind) for one in found)
-
-
-def _layout_by_position(records: Sequence[Numbered], separator: str, columns: Columns) -> Layout:
-    """The layout of a table without a header that names the machines. Raises ValueError."""
-    row = cells_of(records[0][1], separator)
-    place = _place_of(columns.machine or "", row)
-    if _machine_in(0, row[place]).machine is None:
-        return _with_header(records[0], separator, columns)
-    named = ((role, given) for role, given in dataclasses.asdict(columns).items() if given is not None)
-    return Layout(separator, len(row), (), {role: _place_of(given, row) for role, given in named})
 
 
 def _with_header(header: Numbered, separator: str, columns: Columns) -> Layout:
@@ -199,8 +192,7 @@ def read_row(number: int, line: str, layout: Layout) -> Reading | None:
         return Reading(number, line, None, reason=wrong, row=row)
     column = layout.columns["machine"]
     found = _machine_in(number, row[column])
-    reason = found.reason
-    if reason is not None:
+    if (reason := found.reason) is not None:
         reason = dataclasses.replace(reason, place=max(line.find(row[column]), 0) + reason.place)
     before, behind = (layout.separator.join(part) for part in (row[:column], row[column + 1 :]))
     return Reading(number, line, found.machine, found.rewritten, before, behind, reason, row)

@@ -3,9 +3,8 @@ skipped lines: comments, code fences, and the rules and headers of tables."""
 
 from __future__ import annotations
 
-import dataclasses
 import re
-from typing import Iterator
+from typing import Iterator, NamedTuple
 
 from .entries import Word
 from .readings import Skipped
@@ -40,8 +39,7 @@ _PART = re.compile(r"[^/?#&=]+")
 _TOGETHER = " \u00a0"
 
 
-@dataclasses.dataclass(frozen=True)
-class Text:
+class Text(NamedTuple):
     """Words with only spaces between them. `begin` and `end` are its place in the line, with an address around
     it; `is_last`: it is the last part of that address. `arrays` has the entries of each group of arrays."""
 
@@ -60,14 +58,8 @@ class Text:
     def is_lone_entry(self) -> bool:
         return len(self.words) == 1 and len(self.words[0].text) == 3
 
-    @property
-    def is_of_entries(self) -> bool:
-        """Whether each of several words is one entry."""
-        return len(self.words) > 1 and all(len(word.text) == 3 for word in self.words)
 
-
-@dataclasses.dataclass(frozen=True)
-class Parts:
+class Parts(NamedTuple):
     """The candidates of a line, and its rows of dashes or dots."""
 
     texts: list[Text]
@@ -86,7 +78,8 @@ def parts_of(line: str) -> Parts:
         token = Word(match.start(), match.group())
         if match.group("address") is not None:
             addresses += _texts_in_address(token)
-            rows += _row_in_address(token)
+            last = token.text.rpartition("/")[2]
+            rows += [Word(token.end - len(last), last)] if _ROW.fullmatch(last) else []
         elif _ROW.fullmatch(token.text):
             rows.append(token)
         elif _has_entries(_without_stop(token).text):
@@ -132,13 +125,6 @@ def _texts_in_address(address: Word) -> Iterator[Text]:
         part = _without_stop(Word(address.begin + match.start(), match.group()))
         if _has_entries(part.text):
             yield Text((part,), address.begin, address.end, True, match.start() >= last)
-
-
-def _row_in_address(address: Word) -> list[Word]:
-    """The row that is the last part of an address."""
-    begin = address.text.rfind("/") + 1
-    last = Word(address.begin + begin, address.text[begin:])
-    return [last] if _ROW.fullmatch(last.text) else []
 
 
 def _has_entries(text: str) -> bool:
@@ -214,10 +200,9 @@ def skip_reason(bare: str) -> Skipped | None:
         return Skipped.EMPTY
     if bare.startswith(_COMMENT):
         return None if is_comment_of_machine(bare) else Skipped.COMMENT
-    if _FENCE.fullmatch(bare):
-        return None if parts_of(bare).texts else Skipped.FENCE
-    if _RULE.fullmatch(bare):
-        return None if parts_of(bare).texts else Skipped.RULE
+    for pattern, kind in ((_FENCE, Skipped.FENCE), (_RULE, Skipped.RULE)):
+        if pattern.fullmatch(bare):
+            return None if parts_of(bare).texts else kind
     return Skipped.HEADER if _is_header(bare) else None
 
 

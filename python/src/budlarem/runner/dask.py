@@ -19,7 +19,7 @@ import time
 import uuid
 import warnings
 from concurrent.futures import CancelledError, Future
-from typing import Any, Callable, Deque, Mapping
+from typing import Any, Callable, Mapping
 
 from .chunks import Job, Numbers, Task, bisect_job
 from .errors import RunError
@@ -73,18 +73,17 @@ class DaskBackend(ExecutorBackend):
         self._lock = threading.RLock()
         # Jobs that dask has, and jobs to submit again.
         self._submissions: dict[Job, Submission] = {}
-        self._lost: Deque[Job] = collections.deque()
+        self._lost: collections.deque[Job] = collections.deque()
         # Jobs whose workers died, and their halves. One half at a time is submitted: dask blames all tasks of
         # a dead worker, and only one killed it.
-        self._killed: Deque[Job] = collections.deque()
-        self._halves: Deque[Job] = collections.deque()
+        self._killed: collections.deque[Job] = collections.deque()
+        self._halves: collections.deque[Job] = collections.deque()
         self._suspect: Job | None = None
         self._workers, self._threads, self._next = 0, 0, 0.0
         self._missing = ""
         self._client: Any = None
         self._executor: Any = None
-        error = self._connect()
-        if error is not None:
+        if (error := self._connect()) is not None:
             raise RunError("no scheduler answers at %s: %s" % (address, error))
         try:
             self._report("dask's page is at %s" % self._client.dashboard_link)
@@ -180,7 +179,13 @@ class DaskBackend(ExecutorBackend):
             self._connect()
         if self._client.status == "running":
             self._count_workers()
-            self._requeue_stale()
+            # dask never ends jobs of another connection whose replies were in transit.
+            connection = self._connection()
+            with self._lock:
+                for job in [
+                    job for job, one in self._submissions.items() if one.connection is not connection
+                ]:
+                    self._requeue(job)
             self._fetch_stuck()
             for _ in range(len(self._lost)):
                 self._submit(self._lost.popleft())
@@ -209,13 +214,6 @@ class DaskBackend(ExecutorBackend):
         if text != self._missing:
             self._missing, self._workers = text, 0
             self._report(text)
-
-    def _requeue_stale(self) -> None:
-        """Requeues jobs of another connection: dask never ends those whose replies were in transit."""
-        connection = self._connection()
-        with self._lock:
-            for job in [job for job, one in self._submissions.items() if one.connection is not connection]:
-                self._requeue(job)
 
     def _fetch_stuck(self) -> None:
         """Fetches replies that dask has and its executor doesn't give: it never ends a future whose reply it

@@ -3,6 +3,7 @@ never changes foreign files."""
 
 from __future__ import annotations
 
+import collections
 import contextlib
 import dataclasses
 import errno
@@ -14,7 +15,7 @@ import re
 import shlex
 import stat
 import string
-from typing import Any, Callable, Iterable, Iterator, Sequence
+from typing import Any, Callable, Iterable, Iterator, NamedTuple, Sequence
 
 from .._files import Checksum, Directory, FileId, KindError, Pin, id_of, kind_of, write_atomically
 from .._files import write_blocks
@@ -98,10 +99,11 @@ def require_own(top: Directory, known_passes: int | None) -> None:
     without a configuration, when each file has to show that it is a run's."""
     names = top.names()
     passes = [name for name in names if PASS.fullmatch(name)]
-    if known_passes is None:
-        foreign = next(_foreign_names(top, names, bool(passes)), None)
-        if foreign is not None:
-            raise _foreign_error(top, foreign)
+    checked = (README, VERDICTS, SUMMARY, LOCK) if passes else (LOCK,)
+    for name in names if known_passes is None else ():
+        is_own = name == RUN or name in passes or (name in checked and _has_start(top, name, name))
+        if not (is_own or _is_leftover(top, name)):
+            raise _foreign_error(top, name)
     require_regular(top, (*FILES, LOCK))
     for name in passes:
         if known_passes is None:
@@ -113,14 +115,6 @@ def require_own(top: Directory, known_passes: int | None) -> None:
 
 def _foreign_error(directory: Directory, name: str) -> FolderError:
     return FolderError(f"{directory.path} has other files in it, as {name}; give an empty folder")
-
-
-def _foreign_names(top: Directory, names: Sequence[str], has_passes: bool) -> Iterator[str]:
-    checked = (README, VERDICTS, SUMMARY, LOCK) if has_passes else (LOCK,)
-    for name in names:
-        is_own = name in checked and _has_start(top, name, name)
-        if not (is_own or name == RUN or PASS.fullmatch(name) or _is_leftover(top, name)):
-            yield name
 
 
 def require_own_pass(top: Directory, name: str) -> None:
@@ -142,24 +136,19 @@ def require_own_pass(top: Directory, name: str) -> None:
 
 
 def require_other_list(top: Directory, listed: FileId | None) -> None:
-    """Raises FolderError if the list is one of the run's files here."""
-    for name in top.names() if listed is not None else ():
-        if name in (*FILES, LOCK) or _PART.fullmatch(name):
-            _require_other(top, name, listed)
-            continue
-        status = top.status(name) if PASS.fullmatch(name) else None
+    """Raises FolderError if the list is one of the run's files here, by a link too."""
+    names = top.names() if listed is not None else []
+    own = [name for name in names if name in (*FILES, LOCK) or _PART.fullmatch(name)]
+    for name in filter(PASS.fullmatch, names):
+        status = top.status(name)
         if status is not None and stat.S_ISDIR(status.st_mode):
             with _open_pass(top, name) as inside:
-                for inner in inside.names():
-                    _require_other(inside, inner, listed)
-
-
-def _require_other(directory: Directory, name: str, listed: FileId | None) -> None:
-    """Raises FolderError if a name leads to the list, by a link too."""
-    with contextlib.suppress(OSError):
-        if id_of(os.stat(name, dir_fd=directory.handle)) == listed:
-            path = directory.at(name)
-            raise FolderError(f"the list is {path}, which a run in that folder writes; give another")
+                own += (os.path.join(name, inner) for inner in inside.names())
+    for name in own:
+        with contextlib.suppress(OSError):
+            if id_of(os.stat(name, dir_fd=top.handle)) == listed:
+                what = "which a run in that folder writes; give another"
+                raise FolderError(f"the list is {top.at(name)}, {what}")
 
 
 def require_separate_list(path: str, list_id: FileId | None) -> None:
@@ -321,11 +310,7 @@ class Folder:
         """Raises MovedError if its path leads elsewhere, RunError if its lock is lost."""
         self._top.require_named()
         if self._locked and self._top.id_at(LOCK) != id_of(os.fstat(self._locked[0])):
-            raise RunError("%s was removed or replaced while the run worked" % self.at(LOCK))
-
-    def at(self, name: str) -> str:
-        """The path of a file in it, for messages."""
-        return self._top.at(name)
+            raise RunError("%s was removed or replaced while the run worked" % self._top.at(LOCK))
 
     def read_config(self) -> RunConfig | None:
         """Its configuration; None if missing or truncated. Raises FolderError if it was changed, is no file,
@@ -339,16 +324,13 @@ class Folder:
             try:
                 return RunConfig.read(file.read())
             except FolderError as error:
-                raise FolderError("%s: %s" % (self.at(RUN), error)) from None
+                raise FolderError("%s: %s" % (self._top.at(RUN), error)) from None
 
     def require_free(self, numbers: Iterable[int]) -> None:
         """Raises FolderError if the folder of a new pass has foreign files."""
         for name in map(pass_name, numbers):
             if self._top.status(name) is not None:
                 require_own_pass(self._top, name)
-
-    def write_config(self, config: RunConfig) -> None:
-        self.write(RUN, config.text())
 
     def write(self, name: str, text: str) -> None:
         """Writes one of its files atomically."""
@@ -371,7 +353,7 @@ class Folder:
             yield
         except FileExistsError:
             why = "was made or replaced by another process while the run worked, and stays as it is"
-            raise RunError(f"{self.at(name)} {why}; take it away") from None
+            raise RunError(f"{self._top.at(name)} {why}; take it away") from None
 
     def write_verdicts(self, only: PassFolder) -> None:
         """Writes the verdicts of a run of one pass. Raises RunError, OSError."""
@@ -417,8 +399,7 @@ def _figures_of(fields: dict[str, Any]) -> tuple[int, Counts, Checksum | None]:
     return int(fields["lines"]), {kind: int(fields["counts"][kind]) for kind in KINDS}, checksum
 
 
-@dataclasses.dataclass(frozen=True)
-class PassSummary:
+class PassSummary(NamedTuple):
     """A pass in a summary. `checksum` covers the output of its chunks."""
 
     limits: Limits
@@ -428,43 +409,18 @@ class PassSummary:
     checksum: Checksum | None
 
 
-@dataclasses.dataclass(frozen=True)
-class RunSummary:
-    """The summary of a run. `checksum` covers the verdicts."""
-
-    passes: tuple[PassSummary, ...]
-    identity: Identity
-    kept: str
-    lines: int
-    counts: Counts
-    checksum: Checksum | None
-
-    @classmethod
-    def read(cls, text: str) -> RunSummary:
-        """The summary of a text. Raises ValueError, KeyError, TypeError."""
-        fields = json.loads(text)
-        pairs = ((Limits(**one["limits"]), one) for one in fields["passes"])
-        passes = tuple(PassSummary(limits, int(one["pieces"]), *_figures_of(one)) for limits, one in pairs)
-        kept = str(parse_retention([fields["kept"]]))
-        return cls(passes, Identity.of_fields(fields), kept, *_figures_of(fields))
-
-
 class FinishedRun:
-    """The folder of a finished run, by the handle of the opened directory. Raises FolderError, OSError."""
+    """The folder of a finished run, by the handle of the opened directory: the path of its verdicts, and its
+    summary, in which `checksum` covers the verdicts. Raises FolderError, OSError."""
 
     def __init__(self, path: str) -> None:
-        self._top = Directory.open(path)
-        try:
+        with contextlib.ExitStack() as stack:
+            self._top = stack.enter_context(contextlib.closing(Directory.open(path)))
             self.verdicts = self._top.at(VERDICTS)
-            self.summary = self._read()
-        except BaseException:
-            self._top.close()
-            raise
+            self._read_summary()
+            self.close = stack.pop_all().close
 
-    def close(self) -> None:
-        self._top.close()
-
-    def _read(self) -> RunSummary:
+    def _read_summary(self) -> None:
         path = self._top.path
         if self._top.status(RUN) is None:
             raise FolderError(f"{path} is a folder, but not of `budlarem run`; give a file of verdict lines")
@@ -474,7 +430,13 @@ class FinishedRun:
         try:
             os.close(self._top.open_file(VERDICTS, os.O_RDONLY))
             with open(self._top.open_file(SUMMARY, os.O_RDONLY), encoding="utf-8") as file:
-                return RunSummary.read(file.read())
+                fields = json.load(file)
+            pairs = ((Limits(**one["limits"]), one) for one in fields["passes"])
+            self.passes = [
+                PassSummary(limits, int(one["pieces"]), *_figures_of(one)) for limits, one in pairs
+            ]
+            self.keep, self.identity = parse_retention([fields["kept"]]), Identity.of_fields(fields)
+            self.lines, self.counts, self.checksum = _figures_of(fields)
         except KindError as error:
             raise FolderError(str(error)) from None
         except (ValueError, KeyError, TypeError) as error:
@@ -483,12 +445,11 @@ class FinishedRun:
 
     def require_journals(self) -> None:
         """Raises FolderError if the journal of a pass is there, and isn't of this run; OSError."""
-        for number, one in enumerate(self.summary.passes, 1):
+        for number, one in enumerate(self.passes, 1):
             name = pass_name(number)
             if self._top.status(name) is None:
                 continue
-            limits = [before.limits for before in self.summary.passes[:number]]
-            key = key_of(limits, parse_retention([self.summary.kept]), self.summary.identity.library)
+            key = key_of([one.limits for one in self.passes[:number]], self.keep, self.identity.library)
             with contextlib.closing(self._top.subdirectory(name)) as inside:
                 if inside.status(JOURNAL) is not None:
                     with contextlib.closing(Journal(inside, key, is_read_only=True)) as journal:
@@ -496,33 +457,32 @@ class FinishedRun:
 
     def _require_records(self, number: int, one: PassSummary, journal: Journal) -> None:
         """Raises FolderError unless the records of a pass add up to its summary."""
-        lines, checksum, counts, why = 0, Checksum(), dict.fromkeys(KINDS, 0), ""
+        name = os.path.join(pass_name(number), JOURNAL)
+        lines, checksum, counts = 0, Checksum(), collections.Counter(dict.fromkeys(KINDS, 0))
         for index in range(one.chunks):
             record = journal.read(index)
             if record is None or record.first != lines:
                 why = "chunk %d isn't of the run in the summary" % (index + 1)
-                break
+                raise self._mismatch_error(name, SUMMARY, why)
             lines += record.lines
             checksum = checksum.add(Checksum(*record.kept))
-            for kind, count in record.counts_by_kind().items():
-                counts[kind] += count
-        if not why and (lines, counts) != (one.lines, one.counts):
+            counts.update(record.counts_by_kind())
+        if (lines, dict(counts)) != (one.lines, one.counts):
             why = "it has %d lines, and the summary has %d" % (lines, one.lines)
-        elif not why and one.checksum not in (None, checksum):
-            why = "its chunks aren't those of the summary"
-        self._require_match(os.path.join(pass_name(number), JOURNAL), SUMMARY, why)
+            raise self._mismatch_error(name, SUMMARY, why)
+        if one.checksum not in (None, checksum):
+            raise self._mismatch_error(name, SUMMARY, "its chunks aren't those of the summary")
 
-    def _require_match(self, name: str, other: str, why: str) -> None:
-        """Raises FolderError if there is a reason why two files don't match."""
-        if why:
-            text = "%s doesn't match %s: %s; run that folder's command again, which writes both"
-            raise FolderError(text % (self._top.at(name), other, why))
+    def _mismatch_error(self, name: str, other: str, why: str) -> FolderError:
+        text = "%s doesn't match %s: %s; run that folder's command again, which writes both"
+        return FolderError(text % (self._top.at(name), other, why))
 
-    def require_verdicts(self, checksum: Checksum, counts: dict[str, int]) -> None:
+    def require_verdicts(self, checksum: Checksum, counts: collections.Counter[str]) -> None:
         """Raises FolderError unless verdicts with this checksum and these counts are those of the summary."""
-        for kind, known in self.summary.counts.items():
-            why = "it counts %d %s, and there are %d" % (known, kind, counts.get(kind, 0))
-            self._require_match(SUMMARY, VERDICTS, why if known != counts.get(kind, 0) else "")
-        is_same = self.summary.checksum in (None, checksum)
-        self._require_match(SUMMARY, VERDICTS, "" if is_same else "the bytes differ")
+        for kind, known in self.counts.items():
+            if known != counts[kind]:
+                why = "it counts %d %s, and there are %d" % (known, kind, counts[kind])
+                raise self._mismatch_error(SUMMARY, VERDICTS, why)
+        if self.checksum not in (None, checksum):
+            raise self._mismatch_error(SUMMARY, VERDICTS, "the bytes differ")
         self._top.require_named()

@@ -11,8 +11,9 @@ import os
 import select
 import stat
 import zlib
-from typing import Callable, Iterator, Protocol
+from typing import Iterator
 
+from .._calls import whole_lines
 from .._text import LONGEST_GIVEN, LONGEST_SHOWN, LONGEST_UNENDED, LONGEST_VALUE
 from ..engine import column_of
 from ..reading.files import BLOCK, GZIP, BlockReader
@@ -27,36 +28,23 @@ _PAUSE = 1.0
 _FEW = 16
 
 
-class LineSource(Protocol):
-    """Lines to be taken some at a time. A line of more than LONGEST_GIVEN bytes is cut to so many, which
-    changes no reply; a last line without a newline gets one."""
-
-    bytes_taken: int
-    lines_taken: int
-
-    def take(self, lines: int, size: int) -> bytes:
-        """The next lines: at most so many, of at most so many bytes, but one at least; none at the end."""
-
-
 class StreamLines:
-    """The lines of a stream."""
+    """The lines of a stream, to be taken some at a time. A line of more than LONGEST_GIVEN bytes is cut to so
+    many, which changes no reply; a last line without a newline gets one."""
 
     def __init__(self, blocks: Iterator[bytes]) -> None:
-        self._batches = _whole_lines(blocks)
+        self._batches = map(_truncate_lines, whole_lines(blocks))
         self._held, self._start = b"", 0
-        self._ended = False
         self.bytes_taken, self.lines_taken = 0, 0
 
     def take(self, lines: int, size: int) -> bytes:
+        """The next lines: at most so many, of at most so many bytes, but one at least; none at the end."""
         end, missing = _end_of(self._held, self._start, lines)
-        while end is None and not self._ended and len(self._held) - self._start < size:
-            batch = next(self._batches, None)
-            if batch is None:
-                self._ended = True
-            else:
-                known = len(self._held) - self._start
-                self._held, self._start = self._held[self._start :] + batch, 0
-                end, missing = _end_of(self._held, known, missing)
+        while end is None and (known := len(self._held) - self._start) < size:
+            if (batch := next(self._batches, None)) is None:
+                break
+            self._held, self._start = self._held[self._start :] + batch, 0
+            end, missing = _end_of(self._held, known, missing)
         start = self._start
         is_whole = end is not None and end - start <= size
         end = len(self._held) if end is None else end
@@ -74,48 +62,6 @@ class StreamLines:
         if self._start >= len(self._held):
             self._held, self._start = next(self._batches, b""), 0
         return self._held[self._start : self._held.find(b"\n", self._start) + 1]
-
-
-class FileLines:
-    """The lines of a file from `place` on, read when cut. `at_end` is called at the end. Raises OSError."""
-
-    def __init__(self, number: int, place: int, at_end: Callable[[], None]) -> None:
-        self._number, self._place, self._at_end = number, place, at_end
-        self.bytes_taken, self.lines_taken = 0, 0
-
-    def take(self, lines: int, size: int) -> bytes:
-        read = min(size, BLOCK)
-        while True:
-            held = os.pread(self._number, read, self._place)
-            found, is_end = held.count(b"\n"), len(held) < read
-            if found >= lines or is_end or read == size:
-                break
-            read = min(2 * read, size)
-        if found > lines:
-            end = _end_of(held, 0, lines)[0] or 0
-        elif is_end and found < lines and not held.endswith(b"\n"):
-            if not held:
-                self._at_end()
-                return b""
-            return self._advance(truncate_lines(held + b"\n"), len(held), found + 1)
-        else:
-            end = held.rfind(b"\n") + 1
-        return self._advance(truncate_lines(held[:end]), end, min(found, lines)) if end else self._take_long()
-
-    def _advance(self, given: bytes, size: int, lines: int) -> bytes:
-        self._place, self.bytes_taken = self._place + size, self.bytes_taken + size
-        self.lines_taken += lines
-        return given
-
-    def _take_long(self) -> bytes:
-        """A line beyond the greatest length."""
-        line, size = os.pread(self._number, LONGEST_GIVEN, self._place).partition(b"\n")[0], 0
-        while True:
-            held = os.pread(self._number, BLOCK, self._place + size)
-            end = held.find(b"\n") + 1
-            size += end or len(held)
-            if end or not held:
-                return self._advance(line + b"\n", size, 1)
 
 
 def _end_of(held: bytes, start: int, lines: int) -> tuple[int | None, int]:
@@ -139,21 +85,7 @@ def _end_of(held: bytes, start: int, lines: int) -> tuple[int | None, int]:
     return (start, 0) if start <= len(held) else (None, 0)
 
 
-def _whole_lines(blocks: Iterator[bytes]) -> Iterator[bytes]:
-    """A stream in whole lines, none longer than LONGEST_GIVEN bytes and its newline."""
-    rest = b""
-    for block in blocks:
-        whole = block.rfind(b"\n") + 1
-        if whole:
-            yield truncate_lines(rest + block[:whole])
-            rest = block[whole:][:LONGEST_GIVEN]
-        else:
-            rest = (rest + block)[:LONGEST_GIVEN]
-    if rest:
-        yield rest + b"\n"
-
-
-def truncate_lines(lines: bytes) -> bytes:
+def _truncate_lines(lines: bytes) -> bytes:
     """Whole lines, each cut to LONGEST_GIVEN bytes."""
     start = 0
     while len(lines) - start > LONGEST_GIVEN:
@@ -191,14 +123,11 @@ class ListFile:
         self._status = os.fstat(self._number)
         self.is_regular = stat.S_ISREG(self._status.st_mode)
         self._raw = BlockReader(functools.partial(_read_blocking, self._number))
-        # Standard input may be a file that was partly read.
-        self._start = self._offset() if self.is_regular else 0
         self.is_compressed = self._raw.first(len(GZIP)) == GZIP
         self._file = io.BufferedReader(self._raw, BLOCK)
-        self._blocks = self._read_blocks()
-
-    def _offset(self) -> int:
-        return os.lseek(self._number, 0, os.SEEK_CUR)
+        # Its bytes in blocks. Reading them raises RunError if it can't be read or has changed.
+        self.blocks: Iterator[bytes] = self._read_blocks()
+        self._may_be_endless = True
 
     @property
     def size(self) -> int | None:
@@ -214,7 +143,8 @@ class ListFile:
         """The estimated fraction of the file that so many bytes of the list are; None if unknown."""
         if not self.size:
             return None
-        return min((self._offset() if self.is_compressed else taken) / self.size, 1.0)
+        read = os.lseek(self._number, 0, os.SEEK_CUR) if self.is_compressed else taken
+        return min(read / self.size, 1.0)
 
     def first_lines(self, most: int) -> list[bytes]:
         """Its first lines, each cut to LONGEST_GIVEN bytes; `lines` and `blocks` return them again. None
@@ -222,25 +152,20 @@ class ListFile:
         held: list[bytes] = []
         count, size, is_paused = 0, 0, False
         while count < most and size < most * LONGEST_GIVEN and not is_paused:
-            block = next(self._blocks, b"")
-            if not block:
+            if not (block := next(self.blocks, b"")):
                 break
             held.append(block)
             count, size = count + block.count(b"\n"), size + len(block)
             is_paused = count < most and not self._raw.held and not _poll(self._number, 1_000 * _PAUSE)
-        self._blocks = itertools.chain(held, self._blocks)
+        self.blocks = itertools.chain(held, self.blocks)
         lines = [] if is_paused else b"".join(held).split(b"\n")
         return [line[:LONGEST_GIVEN] for line in (lines if lines and lines[-1] else lines[:-1])[:most]]
 
-    def lines(self) -> LineSource:
-        """Its lines. Taking them raises RunError if it can't be read or has changed; OSError."""
-        if self.is_regular and not self.is_compressed:
-            return FileLines(self._number, self._start, self.require_unchanged)
-        return StreamLines(self._blocks)
-
-    def blocks(self) -> Iterator[bytes]:
-        """Its bytes in blocks. Raises RunError if it can't be read or has changed."""
-        return self._blocks
+    def lines(self) -> StreamLines:
+        """Its lines, of any length in a plain file. Taking them raises RunError if it can't be read or has
+        changed."""
+        self._may_be_endless = self.is_compressed or not self.is_regular
+        return StreamLines(self.blocks)
 
     def _read_blocks(self) -> Iterator[bytes]:
         """The bytes, uncompressed. Raises RunError, also for a line that never ends."""
@@ -251,7 +176,7 @@ class ListFile:
         try:
             for block in iter(lambda: opened.read1(BLOCK), b""):
                 size = size + len(block) if block.rfind(b"\n") < 0 else 0
-                if size > LONGEST_UNENDED:
+                if self._may_be_endless and size > LONGEST_UNENDED:
                     text = f"has a line of more than {LONGEST_UNENDED:,} bytes and no newline"
                     raise RunError(f"{self.name} {text}; a list has a machine a line")
                 yield block
@@ -292,8 +217,7 @@ def require_form(source: ListFile) -> None:
 
 def refusal_reason(number: int, line: str) -> str:
     """Why `bb` refuses a line, in words."""
-    reading = read_line(number, line)
-    if reading is None:
+    if (reading := read_line(number, line)) is None:
         return "it has no machine"
     if reading.reason is not None:
         return str(reading.reason)

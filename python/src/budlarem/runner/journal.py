@@ -17,7 +17,7 @@ import stat
 import threading
 import zlib
 from concurrent.futures import Future, ThreadPoolExecutor
-from typing import Deque, Iterator, Sequence
+from typing import Iterator, Sequence
 
 from .._files import Checksum, Directory, Pin, id_of, name_errors, write_all
 from ..counts import KINDS
@@ -141,8 +141,7 @@ class Journal:
         self.sync()
 
     def clear_rename_mark(self) -> None:
-        index = self.rename_mark()
-        if index is not None:
+        if (index := self.rename_mark()) is not None:
             self._write(index, bytes(WIDTH))
             self.sync()
 
@@ -232,18 +231,15 @@ class PassFolder:
         """Reserves a place for some bytes behind all others."""
         with self._lock:
             if not self._is_writable:
-                self._make_writable()
+                # It gets a file of its own that ends behind the stored chunks.
+                status = os.fstat(self._file)
+                if self.is_renamed or status.st_nlink > 1:
+                    self._copy_chunks()
+                elif status.st_size > self._end:
+                    os.ftruncate(self._file, self._end)
+                self._is_writable = True
             place, self._end = self._end, self._end + size
         return place
-
-    def _make_writable(self) -> None:
-        """Gets a file of its own that ends behind the stored chunks."""
-        status = os.fstat(self._file)
-        if self.is_renamed or status.st_nlink > 1:
-            self._copy_chunks()
-        elif status.st_size > self._end:
-            os.ftruncate(self._file, self._end)
-        self._is_writable = True
 
     def _copy_chunks(self) -> None:
         """Copies the chunks into a new file of this folder, and uses that one."""
@@ -279,7 +275,7 @@ class PassFolder:
     def read_chunks(self) -> Iterator[tuple[int, bytes]]:
         """The output of each chunk, with the number of lines before it. Raises RunError for one that doesn't
         match its record."""
-        ahead: Deque[Future[tuple[int, bytes]]] = collections.deque()
+        ahead: collections.deque[Future[tuple[int, bytes]]] = collections.deque()
         with ThreadPoolExecutor(_READERS, "budlarem read") as readers:
             for index in range(self.chunks):
                 ahead.append(readers.submit(self._read_chunk, index))
@@ -290,14 +286,12 @@ class PassFolder:
 
     def _read_chunk(self, index: int) -> tuple[int, bytes]:
         record = self._record(index)
-        kept = self.read(record)
-        if kept is None:
+        if (kept := self.read(record)) is None:
             raise self._changed_error(index)
         return record.first, kept
 
     def _record(self, index: int) -> Record:
-        record = self.journal.read(index)
-        if record is None:
+        if (record := self.journal.read(index)) is None:
             raise self._changed_error(index)
         return record
 
@@ -380,37 +374,27 @@ def holdouts_of(folder: PassFolder) -> Iterator[bytes]:
 
 def merge_passes(passes: Sequence[PassFolder]) -> Iterator[bytes]:
     """The verdict lines of all passes: the line of the next pass on the same machine replaces each undecided
-    line, which is dropped if that one isn't kept. Raises RunError, OSError."""
-    lines = StreamLines(merge_passes(passes[1:])) if len(passes) > 1 else None
+    line, which is dropped if that one isn't kept. A machine has one verdict wherever it stands in a list. Raises
+    RunError, OSError."""
+    lines = StreamLines(merge_passes(passes[1:]) if len(passes) > 1 else iter(()))
     for _, verdicts in passes[0].read_chunks():
-        yield verdicts if lines is None else _merge_lines(verdicts, lines)
-
-
-def _merge_lines(verdicts: bytes, lines: StreamLines) -> bytes:
-    """Verdict lines, each undecided one replaced by the next of `lines` if that is on the same machine, and
-    dropped otherwise. A machine has one verdict wherever it stands in a list."""
-    parts: list[bytes] = []
-    done = 0
-    for start, place, end in _spans(verdicts):
-        parts.append(verdicts[done:start])
-        if lines.peek().startswith(verdicts[start : place + 1]):
-            parts.append(lines.take(1, 1))
-        done = end
-    return b"".join(parts) + verdicts[done:]
+        parts, done = [b""], 0
+        for start, place, end in _spans(verdicts) if len(passes) > 1 else ():
+            parts.append(verdicts[done:start])
+            if lines.peek().startswith(verdicts[start : place + 1]):
+                parts.append(lines.take(1, 1))
+            done = end
+        yield b"".join(parts) + verdicts[done:]
 
 
 def list_line_number(before: Sequence[PassFolder], line: int) -> int:
     """The number in the list, from 1 on, of the line with index `line` in the pass after `before`."""
     for folder in reversed(before):
-        line = _line_of_holdout(folder, line)
+        # The line is the undecided one with this index in the pass before.
+        for first, verdicts in folder.read_chunks():
+            starts = [start for start, _, _ in _spans(verdicts)]
+            if line < len(starts):
+                line = first + verdicts.count(b"\n", 0, starts[line])
+                break
+            line -= len(starts)
     return line + 1
-
-
-def _line_of_holdout(folder: PassFolder, holdout: int) -> int:
-    """The index in a pass of the undecided line with index `holdout` among these."""
-    for first, verdicts in folder.read_chunks():
-        starts = [start for start, _, _ in _spans(verdicts)]
-        if holdout < len(starts):
-            return first + verdicts.count(b"\n", 0, starts[holdout])
-        holdout -= len(starts)
-    return holdout

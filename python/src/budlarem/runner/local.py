@@ -15,7 +15,7 @@ from ..engine import check_call, decide_call
 from ..limits import Plan
 from .chunks import validate_verdicts
 from .errors import RunError
-from .input import LineSource
+from .input import StreamLines
 from .passes import Chunk, Pass, PassResult, PassRun
 
 
@@ -25,7 +25,7 @@ class ThreadBackend:
 
     count: int
 
-    def run_pass(self, task: Pass, lines: LineSource) -> PassResult:
+    def run_pass(self, task: Pass, lines: StreamLines) -> PassResult:
         return LocalRun(task, self.count).run(lines)
 
 
@@ -42,7 +42,7 @@ class LocalRun(PassRun):
         # The error that ended each thread, or None.
         self._ended: queue.SimpleQueue[BaseException | None] = queue.SimpleQueue()
 
-    def _decide(self, lines: LineSource) -> None:
+    def _decide(self, lines: StreamLines) -> None:
         chunks = self._chunker.chunks(lines)
         workers: list[threading.Thread] = []
         for _ in range(self._threads):

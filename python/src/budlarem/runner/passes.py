@@ -7,18 +7,20 @@ import collections
 import contextlib
 import dataclasses
 import datetime
+import functools
+import itertools
 import json
 import threading
 import time
-from typing import Any, Callable, Counter, Iterator, NamedTuple, NoReturn, Protocol, Sequence
+from typing import Any, Callable, Iterator, NamedTuple, NoReturn, Protocol, Sequence
 
 from .._files import Checksum
 from ..counts import KINDS, UNDECIDED
 from ..limits import Limits, words_of
 from .chunks import Counts, Identity, Retention, validate_answers, validate_verdicts
 from .errors import CheckError, FolderError, ReplyError
-from .folder import README, SUMMARY, Folder, RunConfig
-from .input import LineSource, ListFile, StreamLines
+from .folder import README, RUN, SUMMARY, Folder, RunConfig
+from .input import ListFile, StreamLines
 from .journal import PassFolder, Record, holdouts_of, list_line_number
 from .progress import Progress
 
@@ -79,10 +81,6 @@ class Chunk:
     is_confirmed: bool = False
     counts: Counts = dataclasses.field(default_factory=dict)
 
-    def drop(self) -> None:
-        """Drops its bytes once they are stored."""
-        self.given, self.written, self.kept = b"", None, None
-
 
 class Chunker:
     """Cuts the lines of a pass as its journal did, else by the pace. `known` is their number, if known."""
@@ -92,17 +90,16 @@ class Chunker:
         self._most_bytes = most.bytes
         self.pace = ChunkPace(most.lines)
 
-    def chunks(self, lines: LineSource) -> Iterator[Chunk]:
+    def chunks(self, lines: StreamLines) -> Iterator[Chunk]:
         """The chunks. Raises FolderError if they aren't those of the journal, RunError, OSError."""
-        index, first = 0, 0
-        while True:
+        for index in itertools.count():
+            first = lines.lines_taken
             record = self._folder.journal.read(index)
             if record is not None and record.first != first:
                 record = None
             count, size, is_fixed = self._room_of(record, index, first)
-            before = lines.lines_taken
             given = lines.take(count, size)
-            found = lines.lines_taken - before
+            found = lines.lines_taken - first
             if (record is not None and not record.fits(given)) or (is_fixed and found != count):
                 self._raise_mismatch(first, count, found)
             known = self._known
@@ -111,14 +108,12 @@ class Chunker:
             if not given:
                 return
             yield Chunk(index, first, given, found, record)
-            index, first = index + 1, first + found
 
     def _room_of(self, record: Record | None, index: int, first: int) -> tuple[int, int, bool]:
         """The lines and bytes of the next chunk, and whether there must be so many lines."""
         if record is not None:
             return record.lines, _ANY_SIZE, True
-        gap = self._folder.journal.find_gap(index, first)
-        if gap is None:
+        if (gap := self._folder.journal.find_gap(index, first)) is None:
             return self.pace.now, self._most_bytes, False
         chunks, count = gap
         return -(-count // chunks), _ANY_SIZE, True
@@ -154,7 +149,7 @@ class Writer:
         self._next, self._since = 0, time.monotonic()
         self._ahead: set[int] = set()
         # Chunks written and not yet synced; the threads that are writing.
-        self._written: list[Chunk] = []
+        self._written: collections.deque[Chunk] = collections.deque()
         self._writing, self._is_closed = 0, False
 
     def add(self, chunk: Chunk) -> None:
@@ -193,9 +188,7 @@ class Writer:
 
     def pop_written(self) -> list[Chunk]:
         """The chunks written since the last call."""
-        with self._changed:
-            chunks, self._written = self._written, []
-        return chunks
+        return [self._written.popleft() for _ in range(len(self._written))]
 
     def _pop_ready(self) -> list[Chunk]:
         """The chunks whose turn it is, with places."""
@@ -227,13 +220,12 @@ class Writer:
             for chunk in due:
                 if chunk.kept is not None and chunk.record is not None:
                     self._folder.write(chunk.record.place, chunk.kept)
-                chunk.drop()
+                chunk.given, chunk.written, chunk.kept = b"", None, None
+            self._written.extend(due)
         finally:
             with self._changed:
                 self._writing -= 1
                 self._changed.notify_all()
-        with self._changed:
-            self._written += due
 
 
 @dataclasses.dataclass
@@ -247,7 +239,7 @@ class PassResult:
     milliseconds: int = 0
     is_checked: bool = True
     checksum: Checksum = Checksum()
-    counts: Counter[str] = dataclasses.field(default_factory=collections.Counter)
+    counts: collections.Counter[str] = dataclasses.field(default_factory=collections.Counter)
 
     def add(self, record: Record) -> None:
         self.lines += record.lines
@@ -272,7 +264,7 @@ class PassResult:
 class Backend(Protocol):
     """Decides the chunks of a pass."""
 
-    def run_pass(self, task: Pass, lines: LineSource) -> PassResult:
+    def run_pass(self, task: Pass, lines: StreamLines) -> PassResult:
         """Raises FolderError if the lines aren't those of the journal, CheckError, RunError, OSError."""
 
 
@@ -324,7 +316,7 @@ class PassRun:
         self._result = PassResult(task.limits)
         self._next = 0.0
 
-    def run(self, lines: LineSource) -> PassResult:
+    def run(self, lines: StreamLines) -> PassResult:
         """Decides the lines of all chunks that aren't stored. Raises what `Backend.run_pass` does."""
         with contextlib.ExitStack() as stack:
             for end in (self._sync, self._writer.close, self._stop):
@@ -334,7 +326,7 @@ class PassRun:
         self._result.checksum = self._folder.checksum()
         return self._result
 
-    def _decide(self, lines: LineSource) -> None:
+    def _decide(self, lines: StreamLines) -> None:
         """Decides and stores each chunk."""
         raise NotImplementedError
 
@@ -440,12 +432,12 @@ class Outcome:
     """The lines of a list, and the count of each kind."""
 
     lines: int
-    counts: Counter[str]
+    counts: collections.Counter[str]
 
     @classmethod
     def of(cls, results: Sequence[PassResult]) -> Outcome:
         """The outcome of all passes."""
-        counts: Counter[str] = collections.Counter()
+        counts: collections.Counter[str] = collections.Counter()
         for result in results:
             for kind in UNDECIDED:
                 counts[kind] = 0
@@ -480,15 +472,16 @@ def _run_passes(folder: Folder, source: ListFile, passes: Sequence[Limits], opti
             folder.require_named()
             found = folder.open_pass(passes[:number], options.keep, options.identity)
             stack.callback(found.close)
-            lines: LineSource = StreamLines(holdouts_of(folders[-1])) if results else source.lines()
+            lines = StreamLines(holdouts_of(folders[-1])) if results else source.lines()
             known = sum(results[-1].counts[kind] for kind in UNDECIDED) if results else config.list_lines
-            options.progress.start(number, len(passes), _total_estimator(source, lines, known))
+            total = functools.partial(_estimate_total, source, lines, known)
+            options.progress.start(number, len(passes), total)
             task = Pass(found, limits, options, tuple(folders), known)
             results.append(options.backend.run_pass(task, lines))
             folders.append(found)
             if config.list_lines is None:
                 config.list_lines = results[0].lines
-                folder.write_config(config)
+                folder.write(RUN, config.text())
         folder.require_named()
         checksum = results[0].checksum
         if len(folders) == 1:
@@ -503,16 +496,12 @@ def _run_passes(folder: Folder, source: ListFile, passes: Sequence[Limits], opti
     return outcome
 
 
-def _total_estimator(source: ListFile, lines: LineSource, known: int | None) -> Callable[[int], float | None]:
-    """A function that estimates the total number of lines from those done."""
-
-    def total(done: int) -> float | None:
-        if known is not None:
-            return known
-        fraction = source.fraction(lines.bytes_taken)
-        return lines.lines_taken / fraction if fraction else None
-
-    return total
+def _estimate_total(source: ListFile, lines: StreamLines, known: int | None) -> float | None:
+    """The estimated number of all lines, if that isn't known."""
+    if known is not None:
+        return known
+    fraction = source.fraction(lines.bytes_taken)
+    return lines.lines_taken / fraction if fraction else None
 
 
 def start_or_resume(
@@ -520,10 +509,9 @@ def start_or_resume(
 ) -> RunConfig:
     """The configuration of a folder, maybe with more passes. Raises FolderError if it has another one."""
     size = None if source.is_compressed else source.size
-    config = folder.read_config()
-    if config is None:
+    if (config := folder.read_config()) is None:
         config = RunConfig(list(passes), options.keep, options.identity, source.name, size)
-        folder.write_config(config)
+        folder.write(RUN, config.text())
         return config
     _require_same(folder, config, passes, options)
     if size is not None and config.list_bytes not in (None, size):
@@ -532,7 +520,7 @@ def start_or_resume(
     folder.require_free(range(len(config.passes) + 1, len(passes) + 1))
     if list(passes) != config.passes:
         config.passes = list(passes)
-        folder.write_config(config)
+        folder.write(RUN, config.text())
     return config
 
 

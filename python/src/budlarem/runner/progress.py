@@ -45,20 +45,17 @@ class Progress:
 
     def __init__(self, stream: TextIO | None = None) -> None:
         self._stream = sys.stderr if stream is None else stream
-        self._is_terminal = self._stream.isatty()
-        self._is_open = False
-        self._next = 0.0
-        self._pass, self._passes = 0, 0
-        self._total: Callable[[int], float | None] = lambda lines: None
+        self._is_terminal, self._is_open = self._stream.isatty(), False
+        self._next, self._pass, self._passes = 0.0, 0, 0
+        self._total: Callable[[], float | None] = lambda: None
         self._reset()
 
     def _reset(self) -> None:
-        self._started = time.monotonic()
+        self._started, self._is_announced = time.monotonic(), False
         self._resumed, self._decided, self._chunks = 0, 0, 0
-        self._is_announced = False
 
-    def start(self, number: int, passes: int, total: Callable[[int], float | None]) -> None:
-        """Starts a pass. `total` estimates the total number of lines from those done, or returns None."""
+    def start(self, number: int, passes: int, total: Callable[[], float | None]) -> None:
+        """Starts a pass. `total` estimates the total number of lines, or returns None."""
         self._reset()
         self._pass, self._passes, self._total = number, passes, total
         self._next = self._started + (_OFTEN if self._is_terminal else _SELDOM)
@@ -76,18 +73,18 @@ class Progress:
 
     def remaining_seconds(self) -> float | None:
         """The seconds to the end of the pass at the present pace; None if unknown."""
-        done = self._resumed + self._decided
-        total = self._total(done)
+        total = self._total()
         if total is None or not self._decided:
             return None
-        return max(total - done, 0) * (time.monotonic() - self._started) / self._decided
+        left = max(total - self._resumed - self._decided, 0)
+        return left * (time.monotonic() - self._started) / self._decided
 
     def text(self) -> str:
         """The line."""
         seconds = max(time.monotonic() - self._started, 1e-3)
         done = self._resumed + self._decided
         parts = ["pass %d of %d" % (self._pass, self._passes), "%d chunks" % self._chunks]
-        total, remaining = self._total(done), self.remaining_seconds()
+        total, remaining = self._total(), self.remaining_seconds()
         parts.append("%s lines" % short_count(done))
         if total:
             parts.append("%d%%" % min(100 * done / total, 100))

@@ -10,7 +10,7 @@ from typing import Any, Iterator
 from .chunks import CHECK, DECIDE, Numbers, Task, check_chunk, decide_chunk, describe_task, open_reply
 from .chunks import quote_line, validate_verdicts
 from .errors import FatalLineError, ReplyError, RunError, describe_error
-from .input import LineSource
+from .input import StreamLines
 from .passes import SENT, Chunk, Pass, PassResult, PassRun
 
 TRIES = 3
@@ -35,7 +35,7 @@ class ExecutorBackend:
         """More text for the progress line; may be empty."""
         return ""
 
-    def run_pass(self, task: Pass, lines: LineSource) -> PassResult:
+    def run_pass(self, task: Pass, lines: StreamLines) -> PassResult:
         return RemoteRun(task, self).run(lines)
 
 
@@ -56,11 +56,12 @@ class RemoteRun(PassRun):
         self._read: Future[Chunk | None] | None = None
         self._skipped: list[str] = []
 
-    def _decide(self, lines: LineSource) -> None:
+    def _decide(self, lines: StreamLines) -> None:
         chunks = self._chunker.chunks(lines)
         is_ended = False
         while self._pending or self._validating or not is_ended:
-            if self._read is None and not is_ended and self._has_room():
+            has_room = len(self._pending) < self._backend.width() and len(self._validating) < _MOST_VALIDATING
+            if self._read is None and not is_ended and has_room:
                 self._read = self._reader.submit(lambda: next(chunks, None))
                 self._read.add_done_callback(self._done.put)
             self._receive(0.1)
@@ -78,9 +79,6 @@ class RemoteRun(PassRun):
     def _stop(self) -> None:
         self._validators.shutdown()
         self._reader.shutdown(wait=False)
-
-    def _has_room(self) -> bool:
-        return len(self._pending) < self._backend.width() and len(self._validating) < _MOST_VALIDATING
 
     def _submit(self, chunk: Chunk) -> None:
         """Submits a chunk to be decided or checked."""
@@ -126,7 +124,11 @@ class RemoteRun(PassRun):
         except CancelledError:
             error = ReplyError("it was cancelled")
         if isinstance(error, FatalLineError):
-            self._skip(chunk, error)
+            # The run fails once all other chunks are stored.
+            where = self._describe_lines(chunk.first + error.line)
+            line = quote_line(chunk.given.split(b"\n")[error.line])
+            self._skipped.append("pass %d, %s: %s: %s" % (self._folder.number, where, error, line))
+            self._options.progress.print_line(self._skipped[-1])
         elif error is not None:
             self._retry(chunk, error)
         else:
@@ -185,10 +187,3 @@ class RemoteRun(PassRun):
             raise RunError("%s; tried %d times" % (text, TRIES)) from error
         self._options.progress.print_line("%s; trying again" % text)
         self._submit(chunk)
-
-    def _skip(self, chunk: Chunk, error: FatalLineError) -> None:
-        """Skips a chunk that can't be decided. The run fails once all others are stored."""
-        where = self._describe_lines(chunk.first + error.line)
-        line = quote_line(chunk.given.split(b"\n")[error.line])
-        self._skipped.append("pass %d, %s: %s: %s" % (self._folder.number, where, error, line))
-        self._options.progress.print_line(self._skipped[-1])
