@@ -1,4 +1,9 @@
-"""What the benchmarks share: their words, builds, times, and the rows that they print."""
+"""What the benchmarks share: their words, builds, times, and the rows that they print.
+
+Importing it puts the tests' `support` and the package on the path.
+"""
+
+from __future__ import annotations
 
 import argparse
 import os
@@ -6,7 +11,7 @@ import pathlib
 import subprocess
 import sys
 import time
-from typing import Callable, Mapping, NamedTuple, Optional, Sequence
+from typing import Callable, Mapping, NamedTuple, Sequence
 
 TOP = pathlib.Path(__file__).resolve().parents[1]
 SOURCE = TOP / "python" / "src"
@@ -113,19 +118,19 @@ class Table:
     def head(self, what: str) -> None:
         print("\n%s:\n\n| | Figure | Bar |\n|---|---|---|" % what, flush=True)
 
-    def row(self, what: str, figure: str, value: float = 0, bar: Optional[float] = None) -> None:
+    def row(self, what: str, figure: str, value: float = 0, bar: float | None = None) -> None:
         """Print a figure in words; with a bar, its value must be at most that."""
         sentence = "" if bar is None else "{:,g}".format(bar) + ("" if value <= bar else ", **not held**")
         print("| %s | %s | %s |" % (what, figure, sentence), flush=True)
         self.held += bar is not None and value <= bar
         self.missed += bar is not None and value > bar
 
-    def ratio(self, what: str, seconds: float, beside: float, bar: Optional[float] = None) -> None:
+    def ratio(self, what: str, seconds: float, beside: float, bar: float | None = None) -> None:
         """Print a time, and how many times another it is."""
         sentence = "%.3f s, beside %.3f s: %.2f" % (seconds, beside, seconds / beside)
         self.row(what, sentence, seconds / beside, bar)
 
-    def milliseconds(self, what: str, seconds: float, bar: Optional[float] = None) -> None:
+    def milliseconds(self, what: str, seconds: float, bar: float | None = None) -> None:
         self.row(what + ", in ms", "%d" % (1_000 * seconds), 1_000 * seconds, bar)
 
     def least(self, *ways: Callable[[], float]) -> list[float]:

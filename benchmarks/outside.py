@@ -8,6 +8,8 @@ with those that it is compared with; `processor` marks processor time. Run it on
 cores: it takes a quarter of an hour. The status is 1 where a figure doesn't hold its bar.
 """
 
+from __future__ import annotations
+
 import collections
 import contextlib
 import functools
@@ -16,22 +18,19 @@ import subprocess
 import sys
 import tempfile
 import time
-from typing import Any, Callable, Iterator, Optional
+from typing import Any, Callable, Iterator
 
-sys.path.insert(0, str(pathlib.Path(__file__).resolve().parents[1]))
+from measuring import NULL, TOP, Table, clock, has, list_machines, make, parser, program_of, run, use_library
 
-from benchmarks.measuring import NULL, TOP, Table, clock, has, list_machines, make, parser  # noqa: E402
-from benchmarks.measuring import program_of, run, use_library  # noqa: E402
-import budlarem  # noqa: E402
-from budlarem._library import ReplyBuffer, validate_replies  # noqa: E402
-from support.browser import Page  # noqa: E402
-from support.examples import README  # noqa: E402
-from support.machines import CHAMPION, CHAMPION_STEPS  # noqa: E402
-from support.node import Engine  # noqa: E402
-from support.page_times import PAUSE, end, traced_views, views  # noqa: E402
-from support.plans import FOUR, MOST  # noqa: E402
-from support.program import words_of_plan  # noqa: E402
-from support.runs import WHERE, interrupt  # noqa: E402
+import budlarem
+from budlarem._library import ReplyBuffer, validate_replies
+from support.browser import Page
+from support.examples import README
+from support.machines import CHAMPION, CHAMPION_STEPS
+from support.node import Engine
+from support.page_times import PAUSE, end, traced_views, views
+from support.program import FOUR, MOST, words_of_plan
+from support.runs import WHERE, interrupt
 
 MODULE_BYTES, PAGE_BYTES, MEGABYTE = 65_536, 260_000, 1_000_000
 TRACED_LINES, SHORT_LINES, REPORTED, LISTS = 1_000, 1_000_000, 1_000, 1_000
@@ -73,20 +72,18 @@ class Bench:
 
 def measure_node(bench: Bench) -> None:
     """The module: its size, the list of four states, memory."""
-    table, size, engine = bench.table, make("web", "web/out/bb.wasm").stat().st_size, Engine(bench.folder)
-    if engine.about.get("unsupported"):
-        print("skipped: the module in Node: it has no vectors")
-        return
+    table, size, given = bench.table, make("web", "web/out/bb.wasm").stat().st_size, bench.four.read_bytes()
     table.head("The module `bb.wasm`, in Node")
     table.row("bytes of the module", "{:,}".format(size), size, MODULE_BYTES)
-    given = bench.four.read_bytes()
-
-    def in_node() -> float:
-        return float(engine.call("decide", FOUR, given).answer["seconds"])
-
-    node, alone = table.least(in_node, lambda: run(bench.decide).processor)
+    with Engine(bench.folder) as engine:
+        if engine.about.get("unsupported"):
+            print("skipped: the module in Node: it has no vectors")
+            return
+        node, alone = table.least(
+            lambda: float(engine.call("decide", FOUR, given).answer["seconds"]),
+            lambda: run(bench.decide).processor,
+        )
     table.ratio(FOUR_STATES + ", beside the program; processor", node, alone, 2.5)
-    engine.end()
     for name in ("decide", "check"):
         held = held_after(bench, name, MOST, b"1RB1LB_1LA1RZ\n1RB1LB_1LA1RZ halt 6 4\n", 1)
         table.row("memory of `%s` at the greatest limits" % name, "%d MB" % (held / MEGABYTE))
@@ -97,10 +94,9 @@ def measure_node(bench: Bench) -> None:
 
 def held_after(bench: Bench, name: str, plan: dict[str, int], given: bytes, times: int) -> int:
     """Return the bytes that a fresh engine holds after so many calls."""
-    engine = Engine(bench.folder)
-    held = int(engine.call(name, plan, given, times=times).answer["held"])
-    engine.end()
-    return held
+    with Engine(bench.folder) as engine:
+        held = engine.call(name, plan, given, times=times).answer["held"]
+    return int(held)
 
 
 def measure_trace(bench: Bench) -> None:
@@ -147,7 +143,7 @@ def measure_calls(bench: Bench) -> None:
 
 
 @contextlib.contextmanager
-def open_page(bench: Bench, cores: Optional[int] = None) -> Iterator[Any]:
+def open_page(bench: Bench, cores: int | None = None) -> Iterator[Any]:
     """The page in a browser of its own."""
     with Page(TOP / "web" / "out" / "bb.html", bench.folder, cores=cores) as page:
         page.open()
@@ -224,10 +220,9 @@ def measure_views(bench: Bench) -> None:
 
 def trace_in_node(bench: Bench) -> float:
     """Return the seconds that the module takes for the lines of a view at step 10^7."""
-    engine = Engine(bench.folder)
     sample = {"steps": 10_000_000, "cells": 65_536, "from": 0, "every": 18_432}
-    taken = [engine.call("trace", sample, CHAMPION.encode()).answer["seconds"] for _ in range(4)]
-    engine.end()
+    with Engine(bench.folder) as engine:
+        taken = [engine.call("trace", sample, CHAMPION.encode()).answer["seconds"] for _ in range(4)]
     return float(min(taken))
 
 
@@ -279,7 +274,7 @@ def measure_python(bench: Bench) -> None:
     claims, texts = given.replace(b"\n", b" halt 6 4\n"), given.decode().splitlines()
     short.write_bytes(given)
     claimed.write_bytes(claims)
-    ways: list[tuple[str, str, pathlib.Path, Optional[float], Callable[[], Iterator[object]]]] = [
+    ways: list[tuple[str, str, pathlib.Path, float | None, Callable[[], Iterator[object]]]] = [
         ("decide_bytes", "decide", short, 1.1, lambda: budlarem.decide_bytes(given)),
         ("decide", "decide", short, None, lambda: budlarem.decide(texts)),
         ("check_bytes", "check", claimed, 1.1, lambda: budlarem.check_bytes(claims)),

@@ -24,14 +24,12 @@ import sys
 import tempfile
 from typing import Any, Sequence
 
-sys.path.insert(0, str(pathlib.Path(__file__).resolve().parents[1]))
-
-from benchmarks.measuring import NULL, Cost, Table, Ways, has, list_machines, parser  # noqa: E402
-from benchmarks.measuring import program_of, run, take_turns, use_library  # noqa: E402
-from support.clusters import Cluster, changed_package, cluster  # noqa: E402
-from support.machines import CHAMPION, uniform  # noqa: E402
-from support.program import as_lines, options  # noqa: E402
-from support.runs import Case, most_memory, words_of  # noqa: E402
+from measuring import NULL, Cost, Table, Ways, has, list_machines, parser, program_of, run, take_turns
+from measuring import use_library
+from support.clusters import Cluster, changed_package, cluster
+from support.machines import CHAMPION, uniform
+from support.program import as_lines, options
+from support.runs import Case, most_memory, words_of
 
 PARTS = ("memory", "bars", "threads", "dask", "waiting")
 RANDOM, MEMORY_LINES, TIMES = 200_000, 1_000_000, 20
