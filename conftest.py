@@ -5,7 +5,7 @@ from __future__ import annotations
 import pathlib
 import random
 import subprocess
-from typing import Callable, List
+from typing import Callable
 
 import pytest
 from support import TOP, build, has_kit, require
@@ -113,19 +113,24 @@ def checker() -> str:
 
 
 @pytest.fixture(scope="session")
-def list_machines() -> Callable[..., List[str]]:
-    """A function that lists the machines of so many states in tree normal form; more words are passed on."""
+def lister() -> str:
+    """The path of the program that lists machines."""
     require("rustc")
-    program = build("lister", "tools/out/tree_normal_form")
+    return str(build("lister", "tools/out/tree_normal_form"))
 
-    def list_states(states: int, *words: str) -> List[str]:
-        command = [str(program), "--states", str(states), *words]
+
+@pytest.fixture(scope="session")
+def list_machines(lister: str) -> Callable[..., list[str]]:
+    """A function that lists the machines of so many states in tree normal form; more words are passed on."""
+
+    def list_states(states: int, *words: str) -> list[str]:
+        command = [lister, "--states", str(states), *words]
         return subprocess.run(command, stdout=subprocess.PIPE, check=True, text=True).stdout.splitlines()
 
     return list_states
 
 
 @pytest.fixture(scope="session")
-def four_states(list_machines: Callable[..., List[str]]) -> List[str]:
+def four_states(list_machines: Callable[..., list[str]]) -> list[str]:
     """All machines of four states in tree normal form."""
     return list_machines(4)

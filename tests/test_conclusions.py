@@ -15,7 +15,7 @@ from typing import Iterator, NamedTuple, Sequence
 import pytest
 from support.machines import LETTERS, SWAPPED, all_machines, entries_of, join_groups, machine, table_of
 from support.machines import text_of
-from support.program import PLANS, options, replies, verdict_of
+from support.program import PLANS, decide_machines, options, replies
 from support.simulation import compare_lines, simulate
 
 LIMITS = options((1_000, 64, 20, 1_000))
@@ -35,9 +35,7 @@ def machines(request: pytest.FixtureRequest) -> list[str]:
 
 
 def decide(bb: str, machines: Words, plan: Words = (), limits: Words = LIMITS) -> list[str]:
-    verdicts = [verdict_of(line) for line in replies([bb, "decide", *limits, *plan], machines)]
-    assert len(verdicts) == len(machines) > 0
-    return verdicts
+    return decide_machines(bb, machines, *limits, *plan)
 
 
 def check(bb: str, machines: Words, claims: Words, limits: Words = LIMITS) -> list[str]:

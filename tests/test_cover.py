@@ -2,6 +2,7 @@
 
 from __future__ import annotations
 
+import functools
 import pathlib
 import random
 import re
@@ -10,7 +11,7 @@ from typing import Callable, Sequence
 
 import pytest
 from support import TOP
-from support.program import CommandResult, as_lines, run_command, options, processor_time
+from support.program import CommandResult, as_lines, options, processor_time, replies, run_command
 from support.terminals import on_terminal
 
 # States and symbols of whole lists.
@@ -29,14 +30,11 @@ Change = Callable[[list[str], int, random.Random], Changed]
 @pytest.fixture(scope="module")
 def decide_all(bb: str, list_machines: Callable[..., list[str]]) -> Decide:
     """A function that returns the verdict lines of a whole list."""
-    lists: dict[tuple[int, int], list[str]] = {}
 
+    @functools.lru_cache(maxsize=None)
     def decide(states: int, symbols: int) -> list[str]:
-        if (states, symbols) not in lists:
-            machines = list_machines(states, "--symbols", str(symbols), "--steps", str(STEPS))
-            output = run_command([bb, "decide", *LIMITS], as_lines(machines)).output
-            lists[states, symbols] = output.decode().splitlines()
-        return lists[states, symbols]
+        machines = list_machines(states, "--symbols", str(symbols), "--steps", str(STEPS))
+        return replies([bb, "decide", *LIMITS], machines)
 
     return decide
 

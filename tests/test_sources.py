@@ -1,7 +1,5 @@
 """The sources: types, layout, and how each executable prints its help and refuses wrong words."""
 
-from __future__ import annotations
-
 import subprocess
 
 import pytest

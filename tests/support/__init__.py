@@ -1,7 +1,5 @@
 """Helpers that tests in several folders share."""
 
-from __future__ import annotations
-
 import fcntl
 import functools
 import importlib.util

@@ -4,8 +4,6 @@
 writes, and `status` the status that it ends with (none: 0). Words that name files are read from the top.
 """
 
-from __future__ import annotations
-
 import dataclasses
 import pathlib
 from typing import Any, Iterator

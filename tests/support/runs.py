@@ -20,7 +20,7 @@ import pytest
 
 from . import restore_signals
 from .machines import CHAMPION, mixed_machines
-from .program import LIMITS, MAX_CELLS, MAX_STEPS, as_lines, run_command, options
+from .program import LIMITS, MAX_CELLS, MAX_STEPS, as_lines, decide_in_passes, options, run_command
 
 PASSES = ((300, 64, 10, 100), (20_000, 1_024, 40, 10_000))
 # It grows as the root of its steps, and no decider finds anything.
@@ -63,13 +63,9 @@ def decide_lines(program: str, given: bytes, limits: Sequence[int]) -> list[byte
 
 def expected_verdicts(program: str, given: bytes, passes: Sequence[Sequence[int]]) -> bytes:
     """The verdicts of one process for each pass, in the list's order."""
-    lines = decide_lines(program, given, passes[0])
-    for limits in passes[1:]:
-        left = [place for place, line in enumerate(lines) if b" undecided " in line]
-        later = decide_lines(program, b"".join(lines[place].split()[0] + b"\n" for place in left), limits)
-        for place, line in zip(left, later):
-            lines[place] = line
-    return b"".join(lines)
+    return decide_in_passes(
+        lambda lines, limits: b"".join(decide_lines(program, lines, limits)), given, passes
+    )
 
 
 class Case:
