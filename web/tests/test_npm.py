@@ -2,7 +2,6 @@
 
 import pathlib
 import subprocess
-from typing import List
 
 import pytest
 from support import TOP
@@ -42,7 +41,7 @@ def installation(module: object, tmp_path_factory: pytest.TempPathFactory) -> pa
     return folder
 
 
-def run(folder: pathlib.Path, script: str, given: List[str]) -> str:
+def run(folder: pathlib.Path, script: str, given: list[str]) -> str:
     """Run a script in the folder, and return its output."""
     (folder / "script.mjs").write_text(script, encoding="utf-8")
     done = run_command(["node", "script.mjs"], as_lines(given), cwd=str(folder))
