@@ -95,19 +95,15 @@ class Bench:
         return found
 
 
-def split_list(given: pathlib.Path, parts: int) -> list[pathlib.Path]:
-    """Cut a list between lines into so many parts of about the same length."""
-    subprocess.run(["split", "-n", "l/%d" % parts, given.name, "part-"], cwd=given.parent, check=True)
-    return sorted(given.parent.glob("part-*"))
-
-
 def measure_bars(bench: Bench) -> None:
     """Print each bar with its figure."""
-    limits, table, words = ROWS[0], bench.table, options(ROWS[0])
+    limits, table, words, given = ROWS[0], bench.table, options(ROWS[0]), bench.case.list
     decide, check = [bench.program, "decide", *words], [bench.program, "check", *words]
-    parts = [(decide, part, part.with_suffix(".out")) for part in split_list(bench.case.list, bench.threads)]
-    decided = bench.case.list.with_name("decided")
-    run((decide, bench.case.list, decided))
+    split = ["split", "-n", "l/%d" % bench.threads, given.name, "part-"]
+    subprocess.run(split, cwd=given.parent, check=True)
+    parts = [(decide, part, part.with_suffix(".out")) for part in sorted(given.parent.glob("part-*"))]
+    decided = given.with_name("decided")
+    run((decide, given, decided))
     many = ["--threads", str(bench.threads)]
     ways = {
         "program": lambda: bench.decide(limits),
