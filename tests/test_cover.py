@@ -16,7 +16,7 @@ from support.terminals import on_terminal
 
 # States and symbols of whole lists.
 SIZES = [(1, 2), (2, 2), (3, 2), (1, 3), (2, 3), (1, 4), (1, 10)]
-LARGE = [(2, 4), (4, 2)]
+LARGE = [pytest.param(*size, marks=pytest.mark.slow) for size in [(2, 4), (4, 2)]]
 # Each machine of these lists that leads to others halts within so many steps.
 STEPS = 200
 LIMITS = options((STEPS, 512, 40, 1_000))
@@ -49,9 +49,7 @@ def summarize(states: int, symbols: int, lines: Sequence[str]) -> str:
     return "covers %s: %d %s, %s\n" % (size, len(lines), word, counts)
 
 
-@pytest.mark.parametrize(
-    "states, symbols", [*SIZES, *(pytest.param(*size, marks=pytest.mark.slow) for size in LARGE)]
-)
+@pytest.mark.parametrize("states, symbols", [*SIZES, *LARGE])
 def test_whole_lists_cover_their_sizes(cover: str, decide_all: Decide, states: int, symbols: int) -> None:
     lines = decide_all(states, symbols)
     assert lines

@@ -23,13 +23,11 @@ def releases(tmp_path_factory: pytest.TempPathFactory) -> list[pathlib.Path]:
     """Two folders, each built at this commit in a clone of its own, which may prove all crates."""
     require("rt", "rustc", "esbuild", "tsc", "npm")
     top = tmp_path_factory.mktemp("release")
-    commit = subprocess.run(
-        ["git", "rev-parse", "HEAD"], cwd=TOP, stdout=subprocess.PIPE, check=True, text=True
-    )
+    commit = subprocess.check_output(["git", "rev-parse", "HEAD"], cwd=TOP, text=True).strip()
     folders = [top / "one", top / "another folder"]
     for folder in folders:
         subprocess.run(["git", "clone", "--quiet", str(TOP), str(folder)], check=True)
-        command = ["git", "checkout", "--quiet", "--detach", commit.stdout.strip()]
+        command = ["git", "checkout", "--quiet", "--detach", commit]
         subprocess.run(command, cwd=folder, check=True)
         subprocess.run(["make", "-s", "release"], cwd=folder, check=True)
     return [folder / "dist" for folder in folders]

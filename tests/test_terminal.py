@@ -59,6 +59,7 @@ HINTS = {
     "claim, CR": ("check", MACHINE + b" halt 6 4\r\n", RETURN),
     "second line, CR": ("decide", MACHINE + b"\n1RA1RA\r\n", ""),
 }
+SEPARATED = {"1,000,000": "1000000", "1_000": "1000", "1'000": "1000", "1e6": "1000000"}
 
 
 def last_shown(command: Sequence[str], given: bytes, output: str = os.devnull) -> tuple[int, str]:
@@ -101,9 +102,7 @@ def test_first_bytes_of_an_input_give_a_hint(bb: str, command: str, given: bytes
     assert plain.stderr == b"", "the hint is shown on a terminal alone"
 
 
-@pytest.mark.parametrize(
-    "word, number", [("1,000,000", "1000000"), ("1_000", "1000"), ("1'000", "1000"), ("1e6", "1000000")]
-)
+@pytest.mark.parametrize("word, number", SEPARATED.items())
 def test_number_with_separators_gives_a_hint(bb: str, word: str, number: str) -> None:
     status, shown = last_shown([bb, "decide", "--steps", word], b"")
     assert status == 2 and shown.endswith("%s: write the number as %s\n" % (word, number))

@@ -24,15 +24,11 @@ def debian_package(program: str) -> str:
 
 def missing_requirements(programs: Sequence[str], modules: Sequence[str] = ()) -> list[str]:
     """List the programs and Python modules that aren't installed, each with its Debian package."""
-    missing = [
-        "%s isn't installed (Debian: %s)" % (program, debian_package(program))
-        for program in programs
-        if shutil.which(program) is None
-    ]
-    for module in modules:
-        if importlib.util.find_spec(module) is None:
-            missing.append("Python has no %s (Debian: python3-%s, for /usr/bin/python3)" % (module, module))
-    return missing
+    absent = [program for program in programs if shutil.which(program) is None]
+    missing = ["%s isn't installed (Debian: %s)" % (name, debian_package(name)) for name in absent]
+    unknown = [module for module in modules if importlib.util.find_spec(module) is None]
+    words = "Python has no %s (Debian: python3-%s, for /usr/bin/python3)"
+    return missing + [words % (module, module) for module in unknown]
 
 
 def require(*programs: str, modules: Sequence[str] = ()) -> None:

@@ -22,6 +22,10 @@ new PerformanceObserver((list) => list.getEntries().forEach((entry) => {
 """
 # Overrides the number of cores.
 CORES = "Object.defineProperty(navigator, 'hardwareConcurrency', { get: () => %d });"
+DISPATCH = """
+const [name, event] = arguments;
+document.getElementById(name).dispatchEvent(new Event(event, { bubbles: true }));
+"""
 DROP = """
 const moved = new DataTransfer();
 moved.items.add(document.getElementById("file").files[0]);
@@ -205,26 +209,20 @@ class Page(contextlib.ExitStack):
         for key in keys:
             element.send_keys(key)
 
-    def type(self, name: str, text: str) -> None:
-        """Set a field's text, with an input event."""
+    def type(self, name: str, text: str, event: str = "input") -> None:
+        """Set a field's text, with an event."""
         self.put(name, "value", text)
-        self.dispatch(name, "input")
+        self.js(DISPATCH, name, event)
 
     def choose_option(self, name: str, value: str) -> None:
         """Choose an option of a menu by its value."""
-        self.put(name, "value", value)
-        self.dispatch(name, "change")
+        self.type(name, value, "change")
 
     def choose_example(self, name: str) -> None:
         """Choose an example by its name, and wait for its results."""
         script = "return [...arguments[0]].find((one) => one.text === arguments[1]).value"
         options = self.get("examples", "options")
         self.await_answer(lambda: self.choose_option("examples", self.js(script, options, name)))
-
-    def dispatch(self, name: str, event: str) -> None:
-        """Dispatch an event to an element."""
-        element = self.driver.find_element("id", name)
-        self.js("arguments[0].dispatchEvent(new Event(arguments[1], { bubbles: true }))", element, event)
 
     def await_answer(self, act: Callable[[], object]) -> None:
         """Run an action that starts a list, and wait for its results."""

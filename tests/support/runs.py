@@ -63,9 +63,7 @@ def decide_lines(program: str, given: bytes, limits: Sequence[int]) -> list[byte
 
 def expected_verdicts(program: str, given: bytes, passes: Sequence[Sequence[int]]) -> bytes:
     """The verdicts of one process for each pass, in the list's order."""
-    return decide_in_passes(
-        lambda lines, limits: b"".join(decide_lines(program, lines, limits)), given, passes
-    )
+    return decide_in_passes(lambda *asked: b"".join(decide_lines(program, *asked)), given, passes)
 
 
 class Case:

@@ -7,6 +7,8 @@ from typing import Iterator, NamedTuple, Sequence
 from .machines import LETTERS, table_of
 from .program import kind_of, replies
 
+Words = Sequence[str]
+
 
 class Configuration(NamedTuple):
     """A machine's state (None in Z), head, outermost positions so far outside Z, and tape."""
@@ -39,9 +41,7 @@ def simulate(
             low, high = min(low, head), max(high, head)
 
 
-def decide_confirmed(
-    bb: str, machines: Sequence[str], limits: Sequence[str], plan: Sequence[str] = ()
-) -> list[str]:
+def decide_confirmed(bb: str, machines: Words, limits: Words, plan: Words = ()) -> list[str]:
     """Return the verdict lines of machines under limits and a plan; the checker must confirm each."""
     lines = replies([bb, "decide", *limits, *plan], machines)
     assert [line.split(" ")[0] for line in lines] == list(machines)
@@ -51,9 +51,7 @@ def decide_confirmed(
     return lines
 
 
-def compare_lines(
-    name: str, found: Sequence[str], expected: Sequence[str], given: Sequence[str] = ()
-) -> None:
+def compare_lines(name: str, found: Words, expected: Words, given: Words = ()) -> None:
     """Require two lists to be the same, and print how many lines were compared.
 
     A failure names the first lines that differ, each with the line of `given` that it is the reply to.

@@ -67,11 +67,9 @@ def test_clear_empties_the_list(tab: Page) -> None:
 
 def test_words_fold_out(tab: Page) -> None:
     """The explanation of kinds and answers opens by keyboard."""
-    found: list[str] = tab.js(
-        "return [...document.querySelectorAll('#words dt')].map((one) => one.textContent)"
-    )
+    words = "return [...document.querySelectorAll('#words dt')].map((one) => one.textContent.split(' ')[0])"
     kinds = ["halt", "cycler", "translated", "backward", "undecided", "refused"]
-    assert [text.split()[0] for text in found] == kinds + ["ok", "open", "bad", "over", "unread"]
+    assert tab.js(words) == kinds + ["ok", "open", "bad", "over", "unread"]
     is_shown = "return document.querySelector('#results #words dl').checkVisibility()"
     assert not tab.js(is_shown)
     tab.js("document.querySelector('#words summary').id = 'words-summary'")
