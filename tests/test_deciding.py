@@ -71,3 +71,16 @@ def test_plain_program_writes_the_same_bytes(bb: str, peer: str, rng: random.Ran
         kinds.update(map(kind_of, lines))
     assert KINDS <= kinds
     print("%d lines compared" % count)
+
+
+@pytest.mark.slow
+@pytest.mark.timing
+@pytest.mark.needs("rustc")
+@pytest.mark.usefixtures("list_machines")
+def test_program_beside_plain_rust(bb: str) -> None:
+    """Each list gives the same bytes by both, timed in one run."""
+    parts = ["--part", "peer", "--part", "searches"]
+    command = [str(TOP / "benchmarks" / "measure.py"), bb, "--runs", "1", *parts]
+    done = subprocess.run(command, stdout=subprocess.PIPE, stderr=subprocess.STDOUT, text=True)
+    print(done.stdout)
+    assert done.returncode == 0, done.stdout

@@ -62,6 +62,12 @@ def build(target: str, path: str) -> pathlib.Path:
     return built
 
 
+def list_files(*words: str) -> list[str]:
+    """List the rows of `git ls-files` by these words whose files exist, from the top."""
+    rows = subprocess.check_output(["git", "ls-files", *words], cwd=TOP, text=True).splitlines()
+    return [row for row in rows if (TOP / row.split("\t")[-1]).is_file()]
+
+
 def restore_signals() -> None:
     """Let this process end by SIGINT and SIGHUP, which processes started by `&` or `nohup` ignore.
 
