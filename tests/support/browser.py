@@ -11,7 +11,7 @@ import threading
 import time
 from typing import Any, Callable, Sequence
 
-from .program import LIMITS, SWITCHES, run_command, words_of_plan
+from .program import SWITCHES, run_command, words_of_plan
 
 # Records the longest task that blocked the page, in milliseconds.
 WATCH = """
@@ -128,8 +128,6 @@ class Page(contextlib.ExitStack):
     ) -> None:
         # Imported late: without selenium the page's tests are skipped.
         from selenium import webdriver
-        from selenium.webdriver.chrome.service import Service
-        from selenium.webdriver.remote.remote_connection import RemoteConnection
 
         super().__init__()
         options = webdriver.ChromeOptions()
@@ -139,8 +137,9 @@ class Page(contextlib.ExitStack):
             metrics = {"deviceMetrics": {"width": width, "height": height, "pixelRatio": 2.0}}
             options.add_experimental_option("mobileEmulation", metrics)
         options.set_capability("goog:loggingPrefs", {"browser": "ALL", "performance": "ALL"})
-        RemoteConnection.set_timeout(COMMAND)
-        service = Service("/usr/bin/chromedriver", popen_kw={"start_new_session": True})
+        webdriver.remote.remote_connection.RemoteConnection.set_timeout(COMMAND)
+        own_group = {"start_new_session": True}
+        service = webdriver.chrome.service.Service("/usr/bin/chromedriver", popen_kw=own_group)
         self.driver = webdriver.Chrome(options=options, service=service)
         self.process: int = service.process.pid
         self.callback(self.end)
@@ -254,8 +253,7 @@ class Page(contextlib.ExitStack):
         self.js("document.querySelectorAll('#shown .row')[arguments[0]].click()", row)
 
     def rows(self) -> list[list[str]]:
-        found: list[list[str]] = self.js(ROWS)
-        return found
+        return list(self.js(ROWS))
 
     def media(self, **features: str) -> None:
         """Emulate media features, such as `prefers_color_scheme="dark"`."""
@@ -272,10 +270,9 @@ class Page(contextlib.ExitStack):
         """Return whether the tape soon shows a step; `step` is the beginning of its text."""
         return bool(soon(lambda: self.text("tape-text").startswith("Step %s" % step)))
 
-    def state(self) -> str | None:
+    def state(self) -> str:
         """Return the state of the run: requested, running, done, stopped or ended."""
-        state: str | None = self.js("return document.getElementById('results').dataset.state")
-        return state
+        return str(self.js("return document.getElementById('results').dataset.state"))
 
     def wait_until_done(self) -> None:
         """Wait until the run is over."""
@@ -325,19 +322,14 @@ class Page(contextlib.ExitStack):
 
     def pixels(self, places: list[list[float]]) -> list[list[int]]:
         """Return the diagram's colours at places, in page pixels from the picture's corner."""
-        found: list[list[int]] = self.js(PIXELS, places)
-        return found
+        return list(self.js(PIXELS, places))
 
     def plan(self, plan: dict[str, Any], mode: str, clean: bool = False) -> None:
         """Set the fields, missing ones to their defaults."""
         self.click("defaults")
-        for name in LIMITS:
-            if name in plan:
-                self.put(name, "value", str(plan[name]))
-        checked = {name: plan.get(name, True) for name in SWITCHES}
-        for name, value in {**checked, "clean": clean}.items():
-            self.put(name, "checked", value)
-        self.put("mode", "value", mode)
+        for name, value in {"mode": mode, **plan}.items():
+            self.put(name, "checked" if name in SWITCHES else "value", value)
+        self.put("clean", "checked", clean)
 
     def run(self) -> None:
         """Start the list without waiting."""

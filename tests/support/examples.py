@@ -33,7 +33,7 @@ class Example:
     @property
     def plan(self) -> dict[str, Any]:
         """Limits and switches by name."""
-        return plan_of([word for word in self.words[1:] if not word.startswith("examples/")])
+        return plan_of(self.words)
 
     @property
     def lines(self) -> bytes:

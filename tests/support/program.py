@@ -4,6 +4,7 @@ from __future__ import annotations
 
 import itertools
 import random
+import re
 import resource
 import subprocess
 from typing import Any, Callable, Iterable, Iterator, Mapping, NamedTuple, Sequence, TypeVar
@@ -141,16 +142,6 @@ def begins_modulo_64(built: str) -> list[int]:
 
 def plan_of(words: list[str]) -> dict[str, Any]:
     """Read limits and switches by name from words such as `--steps 5 --no-cyclers`."""
-    plan: dict[str, Any] = {}
-    waiting: str | None = None
-    for word in words:
-        if waiting:
-            plan[waiting], waiting = int(word), None
-        elif word.startswith("--no-"):
-            plan[word[5:]] = False
-        elif "=" in word:
-            name, value = word[2:].split("=")
-            plan[name] = int(value)
-        else:
-            waiting = word[2:]
-    return plan
+    text = " ".join(words)
+    limits = {name: int(value) for name, value in re.findall(r"--(\w+)[ =](\d+)", text)}
+    return {**limits, **dict.fromkeys(re.findall(r"--no-(\w+)", text), False)}

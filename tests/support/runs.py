@@ -196,23 +196,14 @@ def most_memory(case: Case, count: int, limits: Sequence[int]) -> int:
     return int(used.ru_maxrss) if process.returncode == 0 else 0
 
 
-def work_of(folder: str) -> float:
-    """The processor time of a process or thread, by its folder in /proc, in seconds; 0 once it has ended."""
-    try:
-        with open(folder + "/stat") as file:
-            fields = file.read().rpartition(")")[2].split()
-    except OSError:
-        return 0.0
-    return (int(fields[11]) + int(fields[12])) / os.sysconf("SC_CLK_TCK")
-
-
 def is_at_work(pid: int) -> bool:
     """Whether a thread of a process, beside its first, has worked for half a second."""
-    tasks = "/proc/%d/task" % pid
-    try:
-        return any(work_of("%s/%s" % (tasks, one)) > 0.5 for one in os.listdir(tasks) if int(one) != pid)
-    except FileNotFoundError:
-        return False
+    ticks = [0]
+    for path in pathlib.Path("/proc/%d/task" % pid).glob("*/stat"):
+        with contextlib.suppress(OSError):
+            user, system = path.read_text().rpartition(")")[2].split()[11:13]
+            ticks.append(int(user) + int(system) if path.parent.name != str(pid) else 0)
+    return max(ticks) > os.sysconf("SC_CLK_TCK") / 2
 
 
 def interrupt(where: str) -> tuple[int, bytes, float]:
