@@ -13,6 +13,7 @@ import base64
 import hashlib
 import json
 import pathlib
+import re
 import shlex
 import subprocess
 import sys
@@ -34,11 +35,9 @@ def bundle(path: str, *options: str) -> str:
 
 def plan_of(words: list[str]) -> dict[str, Any]:
     """Return limits and switches by name from a command's options."""
-    plan: dict[str, Any] = {word[5:]: False for word in words if word.startswith("--no-")}
-    for word, value in zip(words, words[1:]):
-        if word.startswith("--") and not word.startswith("--no-"):
-            plan[word[2:]] = value
-    return plan
+    text = " ".join(words)
+    off = dict.fromkeys(re.findall(r"--no-(\w+)", text), False)
+    return {**off, **dict(re.findall(r"--(\w+) (\S+)", text))}
 
 
 def examples() -> Iterator[dict[str, Any]]:
