@@ -97,10 +97,8 @@ export function announce(/** @type {string} */ text) {
   }, Math.max(0, delay));
 }
 
-// It follows changes of the colour scheme.
-const style = getComputedStyle(document.documentElement);
-
-export const colourOf = (/** @type {string} */ name) => style.getPropertyValue(name).trim();
+export const colourOf = (/** @type {string} */ name) =>
+  getComputedStyle(document.documentElement).getPropertyValue(name).trim();
 
 /** The channels of the ten symbols' colours, of unvisited cells and of the head. */
 export function readPalette() {
