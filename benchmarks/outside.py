@@ -85,14 +85,14 @@ def measure_node(bench: Bench) -> None:
         )
     table.ratio(FOUR_STATES + ", beside the program; processor", node, alone, 2.5)
     for name in ("decide", "check"):
-        held = held_after(bench, name, MOST, b"1RB1LB_1LA1RZ\n1RB1LB_1LA1RZ halt 6 4\n", 1)
+        held = memory_after(bench, name, MOST, b"1RB1LB_1LA1RZ\n1RB1LB_1LA1RZ halt 6 4\n", 1)
         table.row("memory of `%s` at the greatest limits" % name, "%d MB" % (held / MEGABYTE))
     small = {"steps": 100, "cells": 64, "depth": 20, "nodes": 100}
-    one, many = (held_after(bench, "decide", small, README * 1_000, times) for times in (1, LISTS))
+    one, many = (memory_after(bench, "decide", small, README * 1_000, times) for times in (1, LISTS))
     table.row("memory after one list, and after 1,000", "{:,} and {:,} bytes".format(one, many), many, one)
 
 
-def held_after(bench: Bench, name: str, plan: dict[str, int], given: bytes, times: int) -> int:
+def memory_after(bench: Bench, name: str, plan: dict[str, int], given: bytes, times: int) -> int:
     """Return the bytes that a fresh engine holds after so many calls."""
     with Engine(bench.folder) as engine:
         held = engine.call(name, plan, given, times=times).answer["held"]
@@ -226,7 +226,7 @@ def trace_in_node(bench: Bench) -> float:
     return float(min(taken))
 
 
-def most_held(root: int) -> int:
+def most_memory(root: int) -> int:
     """Return the most bytes that a browser's process with the page held at once, below a process."""
     listed = subprocess.run(["ps", "-eo", "pid=,ppid="], stdout=subprocess.PIPE, text=True).stdout
     parents = {int(pid): int(parent) for pid, parent in map(str.split, listed.splitlines())}
@@ -247,7 +247,7 @@ def measure_page_memory(bench: Bench) -> None:
         with open_page(bench, 1) as page:
             page.plan(plan, "decide")
             page.answer_file(README)
-            most = most_held(page.process) / MEGABYTE
+            most = most_memory(page.process) / MEGABYTE
             bench.table.row("most memory of the page's process, two machines, %s" % what, "%d MB" % most)
     with open_page(bench) as page:
         held = []

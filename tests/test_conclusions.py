@@ -128,7 +128,7 @@ def completions(text: str) -> Iterator[tuple[str, tuple[int, ...]]]:
             yield join_groups(new, 2), filled
 
 
-def undefined_met(text: str, verdict: str) -> int | None:
+def find_undefined(text: str, verdict: str) -> int | None:
     """Return the `---` on which a machine halts, as state and symbol in one number; None where it doesn't."""
     if not verdict.startswith("halt "):
         return None
@@ -144,7 +144,7 @@ def test_completions_keep_halts_and_pairs(bb: str, machines: list[str], fills_me
         for text, verdict in zip(machines, decide(bb, machines))
         if verdict.split(" ")[0] in ("halt", "cycler", "translated")
         for other, filled in completions(text)
-        if (undefined_met(text, verdict) in filled) == fills_met
+        if (find_undefined(text, verdict) in filled) == fills_met
     ]
     verdicts, others = [verdict for verdict, _ in cases], [other for _, other in cases]
     found = decide(bb, others)

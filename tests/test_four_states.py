@@ -69,7 +69,7 @@ def test_greatest_numbers(lines: list[str]) -> None:
     require_figure("at most %d levels and %d nodes" % trees)
 
 
-def found_later(lines: Sequence[str]) -> str:
+def describe_finds(lines: Sequence[str]) -> str:
     """Describe what larger limits decided, as the document does."""
     new = [line.split(" ") for line in lines if kind_of(line) != "undecided"]
     steps = [int(verdict[4]) for verdict in new if verdict[1] == "translated"]
@@ -83,7 +83,7 @@ def test_larger_limits(bb: str, lines: list[str]) -> None:
     for limits in LATER:
         later = decide_confirmed(bb, left, words_of_plan(limits))
         before, left = len(left), undecided_machines(later)
-        require_figure(row(*limits.values(), before, found_later(later), len(left)))
+        require_figure(row(*limits.values(), before, describe_finds(later), len(left)))
 
 
 @pytest.mark.parametrize("steps", [1_000, 10_000, pytest.param(100_000, marks=pytest.mark.slow)])

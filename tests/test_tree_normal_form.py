@@ -37,7 +37,7 @@ REFUSED = {
 }
 
 
-def undefined_met(entries: list[str], symbols: int, steps: int) -> int | None:
+def find_undefined(entries: list[str], symbols: int, steps: int) -> int | None:
     """Return the place of the undefined entry that a machine meets within so many steps, if any."""
     for now in simulate(join_groups(entries, symbols), steps):
         place = (now.state or 0) * symbols + now.tape.get(now.head, 0)
@@ -49,7 +49,7 @@ def undefined_met(entries: list[str], symbols: int, steps: int) -> int | None:
 def machines_by_definition(entries: list[str], symbols: int, steps: int) -> Iterator[str]:
     """Yield a machine and those that it leads to, by the rules alone: each is run from its first step on."""
     yield join_groups(entries, symbols)
-    met = undefined_met(entries, symbols, steps)
+    met = find_undefined(entries, symbols, steps)
     defined = [entry for entry in entries if entry != "---"]
     if met is None or len(defined) == len(entries) - 1:
         return
