@@ -113,13 +113,18 @@ def checker() -> str:
 
 
 @pytest.fixture(scope="session")
-def list_machines() -> Callable[..., list[str]]:
-    """A function that lists the machines of so many states in tree normal form; more words are passed on."""
+def lister() -> str:
+    """The path of the program that lists machines."""
     require("rustc")
-    program = build("lister", "tools/out/tree_normal_form")
+    return str(build("lister", "tools/out/tree_normal_form"))
+
+
+@pytest.fixture(scope="session")
+def list_machines(lister: str) -> Callable[..., list[str]]:
+    """A function that lists the machines of so many states in tree normal form; more words are passed on."""
 
     def list_states(states: int, *words: str) -> list[str]:
-        command = [str(program), "--states", str(states), *words]
+        command = [lister, "--states", str(states), *words]
         return subprocess.run(command, stdout=subprocess.PIPE, check=True, text=True).stdout.splitlines()
 
     return list_states

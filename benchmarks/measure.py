@@ -19,15 +19,11 @@ import re
 import subprocess
 import sys
 import tempfile
-from typing import NamedTuple, Sequence
+from typing import Callable, NamedTuple, Sequence
 
-sys.path.insert(0, str(pathlib.Path(__file__).resolve().parents[1]))
-
-from benchmarks.measuring import TOP, Cost, Table, has, list_machines, make, parser  # noqa: E402
-from benchmarks.measuring import program_of, run, take_turns  # noqa: E402
-from support.machines import CHAMPION, halting_once, uniform  # noqa: E402
-from support.program import MAX_CELLS, SIMULATION, as_lines, begins_modulo_64, run_command  # noqa: E402
-from support.program import kind_of, replies  # noqa: E402
+from measuring import TOP, Cost, Table, has, list_machines, make, parser, program_of, run, take_turns
+from support.machines import CHAMPION, halting_once, uniform
+from support.program import MAX_CELLS, SIMULATION, as_lines, begins_modulo_64, kind_of, replies, run_command
 
 CHAMPION_LIST = CHAMPION + "\n"
 LIMITS = ["--steps", "1000", "--cells", "200", "--depth", "60"]
@@ -46,14 +42,9 @@ class Case(NamedTuple):
     switch: str = ""
 
 
-def halting_machines(source: random.Random, count: int, states: int) -> str:
-    """Draw machines of so many states, each with one entry that halts."""
-    return as_lines(halting_once(source, states) for _ in range(count)).decode()
-
-
-def uniform_machines(source: random.Random, count: int) -> str:
-    """Draw machines of five states uniformly."""
-    return as_lines(uniform(source, 5) for _ in range(count)).decode()
+def draw(machine: Callable[[random.Random, int], str], source: random.Random, count: int, states: int) -> str:
+    """Draw so many machines of one kind and size."""
+    return as_lines(machine(source, states) for _ in range(count)).decode()
 
 
 def refused_lines(source: random.Random) -> str:
@@ -81,11 +72,11 @@ def cases_in_turn(seed: int) -> list[Case]:
     Of backward reasoning no machine makes a step, so nearly all time goes into the walks.
     """
     source = random.Random(seed)
-    four, halting = halting_machines(source, LIST, 4), "------\n" * HALTING_LIST
+    four, halting = draw(halting_once, source, LIST, 4), "------\n" * HALTING_LIST
     at_once = "%d machines that halt at once" % HALTING_LIST
     trees = ["--no-cyclers", "--no-translated", "--steps", "0", "--cells", "2000", "--depth", "1000"]
-    walked = halting_machines(random.Random(seed), TREES, 5)
-    drawn, widest = uniform_machines(random.Random(seed), RANDOM), ["--cells", str(MAX_CELLS)]
+    walked = draw(halting_once, random.Random(seed), TREES, 5)
+    drawn, widest = draw(uniform, random.Random(seed), RANDOM, 5), ["--cells", str(MAX_CELLS)]
     return [
         Case("the five-state champion", [*SIMULATION, "--steps", "50000000"], CHAMPION_LIST),
         Case("%d machines of four states" % LIST, [*SIMULATION, *LIMITS], four),
@@ -102,22 +93,22 @@ def cases_in_one_run(program: str, source: random.Random) -> list[Case]:
     """Return what measures deciding in one run."""
     four = list_machines(4).decode()
     limits = [*LIMITS, "--nodes", "2000"]
-    left = undecided(program, limits, four).splitlines(keepends=True)
+    left = undecided_machines(program, limits, four).splitlines(keepends=True)
     few = "".join(left[:: max(1, len(left) // OPEN_LONG)])
     kinds = "%d machines of five states, %%s, default limits" % KINDS
     few_name = "%d undecided machines of four states, default limits" % few.count("\n")
     return [
         Case("all %d machines of four states" % four.count("\n"), limits, four),
-        Case(kinds % "one halting entry", [], halting_machines(source, KINDS, 5)),
-        Case(kinds % "uniformly drawn", [], uniform_machines(source, KINDS)),
-        Case(kinds % "one undefined entry", [], halting_machines(source, KINDS, 5).replace("1RZ", "---")),
+        Case(kinds % "one halting entry", [], draw(halting_once, source, KINDS, 5)),
+        Case(kinds % "uniformly drawn", [], draw(uniform, source, KINDS, 5)),
+        Case(kinds % "one undefined entry", [], draw(halting_once, source, KINDS, 5).replace("1RZ", "---")),
         Case("the champion, all deciders", ["--steps", "50000000"], CHAMPION_LIST),
         Case(few_name + ", without the tree", ["--no-backward"], few),
         Case(few_name, [], few),
     ]
 
 
-def undecided(program: str, options: Sequence[str], lines: str) -> str:
+def undecided_machines(program: str, options: Sequence[str], lines: str) -> str:
     """Return the lines on whose machines nothing is found: there all ways make the same steps."""
     found = replies([program, "decide", *options], lines.splitlines())
     return as_lines(line.split()[0] for line in found if kind_of(line) == "undecided").decode()
@@ -128,7 +119,7 @@ def searches(program: str, source: random.Random) -> list[Case]:
     in them. Of all machines a search makes fewer steps than the simulation, since it ends at its pair."""
     long, cycles = ["--steps", "40000000"], ["--no-translated", "--no-backward"]
     records = ["--no-cyclers", "--no-backward"]
-    four = halting_machines(source, LIST, 4)
+    four = draw(halting_once, source, LIST, 4)
     steps = "cyclers over the champion's first 40,000,000 steps"
     cases = [
         Case(steps, [*long, *cycles], CHAMPION_LIST, "--no-cyclers"),
@@ -136,7 +127,7 @@ def searches(program: str, source: random.Random) -> list[Case]:
         Case("translated over the same steps", [*long, *records], CHAMPION_LIST, "--no-translated"),
     ]
     for states in (4, 5):
-        kept = undecided(program, [*LIMITS, *records], halting_machines(source, DRAWN, states))
+        kept = undecided_machines(program, [*LIMITS, *records], draw(halting_once, source, DRAWN, states))
         name = "translated over %d machines of %d states that it doesn't find" % (kept.count("\n"), states)
         cases.append(Case(name, [*LIMITS, *records], kept, "--no-translated"))
     return cases
@@ -186,15 +177,6 @@ class Bench:
         return [[cost.processor for cost in row] for row in costs]
 
 
-def measure_search(bench: Bench, case: Case) -> None:
-    """Print what a search takes beside the simulation of the same lines, in processor time."""
-    command = [bench.program, "decide", *case.options]
-    without, searching = bench.processors(case.lines, [[*command, case.switch], command])
-    ratios = [search / run for run, search in zip(without, searching)]
-    what = "%s, beside the simulation (%.2f to %.2f in single runs)" % (case.name, min(ratios), max(ratios))
-    bench.table.ratio(what, min(searching), min(without))
-
-
 def measure_peer(bench: Bench, seed: int) -> None:
     """Compare with the plain Rust program."""
     program, peer, table = bench.program, bench.peer, bench.table
@@ -221,8 +203,12 @@ def measure_searches(bench: Bench, seed: int) -> None:
     program, table = bench.program, bench.table
     table.head("Searches and checking, in processor time")
     for case in searches(program, random.Random(seed)):
-        measure_search(bench, case)
-    machines = halting_machines(random.Random(seed), CHECKED, 5)
+        command = [program, "decide", *case.options]
+        without, searching = bench.processors(case.lines, [[*command, case.switch], command])
+        ratios = [search / simulation for simulation, search in zip(without, searching)]
+        spread = "%.2f to %.2f in single runs" % (min(ratios), max(ratios))
+        table.ratio("%s, beside the simulation (%s)" % (case.name, spread), min(searching), min(without))
+    machines = draw(halting_once, random.Random(seed), CHECKED, 5)
     verdicts = verdicts_of(program, machines)
     (checking,), (deciding,) = (
         bench.processors(lines, [[program, word]])
@@ -242,7 +228,7 @@ def measure_plain(bench: Bench, seed: int) -> None:
     program, table = bench.program, bench.table
     built = str(make("plain", "out/plain/target/release/bb"))
     table.head("The build by cargo beside the proved one, in processor time")
-    verdicts = 100 * verdicts_of(program, halting_machines(random.Random(seed), CHECKED, 5))
+    verdicts = 100 * verdicts_of(program, draw(halting_once, random.Random(seed), CHECKED, 5))
     checking = Case("checking %d lines of machines of five states" % verdicts.count("\n"), [], verdicts)
     cases = [*cases_in_turn(seed), *cases_in_one_run(program, random.Random(seed))]
     cases += searches(program, random.Random(seed))
@@ -256,8 +242,7 @@ def measure_plain(bench: Bench, seed: int) -> None:
         table.row("instructions a step of the build by cargo", count_instructions(built))
 
 
-WORKS = (measure_peer, measure_searches, measure_plain)
-PARTS = {work.__name__.partition("_")[2]: work for work in WORKS}
+PARTS = {"peer": measure_peer, "searches": measure_searches, "plain": measure_plain}
 
 
 def main() -> int:

@@ -1,4 +1,9 @@
-"""What the benchmarks share: their words, builds, times, and the rows that they print."""
+"""What the benchmarks share: their words, builds, times, and the rows that they print.
+
+Importing it puts the tests' `support` and the package on the path.
+"""
+
+from __future__ import annotations
 
 from __future__ import annotations
 

@@ -20,20 +20,17 @@ import tempfile
 import time
 from typing import Any, Callable, Iterator
 
-sys.path.insert(0, str(pathlib.Path(__file__).resolve().parents[1]))
+from measuring import NULL, TOP, Table, clock, has, list_machines, make, parser, program_of, run, use_library
 
-from benchmarks.measuring import NULL, TOP, Table, clock, has, list_machines, make, parser  # noqa: E402
-from benchmarks.measuring import program_of, run, use_library  # noqa: E402
-import budlarem  # noqa: E402
-from budlarem._library import ReplyBuffer, validate_replies  # noqa: E402
-from support.browser import Page  # noqa: E402
-from support.examples import README  # noqa: E402
-from support.machines import CHAMPION, CHAMPION_STEPS  # noqa: E402
-from support.node import Engine  # noqa: E402
-from support.page_times import PAUSE, end, traced_views, views  # noqa: E402
-from support.plans import FOUR, MOST  # noqa: E402
-from support.program import words_of_plan  # noqa: E402
-from support.runs import WHERE, interrupt  # noqa: E402
+import budlarem
+from budlarem._library import ReplyBuffer, validate_replies
+from support.browser import Page
+from support.examples import README
+from support.machines import CHAMPION, CHAMPION_STEPS
+from support.node import Engine
+from support.page_times import PAUSE, end, traced_views, views
+from support.program import FOUR, MOST, words_of_plan
+from support.runs import WHERE, interrupt
 
 MODULE_BYTES, PAGE_BYTES, MEGABYTE = 65_536, 260_000, 1_000_000
 TRACED_LINES, SHORT_LINES, REPORTED, LISTS = 1_000, 1_000_000, 1_000, 1_000
@@ -75,34 +72,31 @@ class Bench:
 
 def measure_node(bench: Bench) -> None:
     """The module: its size, the list of four states, memory."""
-    table, size, engine = bench.table, make("web", "web/out/bb.wasm").stat().st_size, Engine(bench.folder)
-    if engine.about.get("unsupported"):
-        print("skipped: the module in Node: it has no vectors")
-        return
+    table, size, given = bench.table, make("web", "web/out/bb.wasm").stat().st_size, bench.four.read_bytes()
     table.head("The module `bb.wasm`, in Node")
     table.row("bytes of the module", "{:,}".format(size), size, MODULE_BYTES)
-    given = bench.four.read_bytes()
-
-    def in_node() -> float:
-        return float(engine.call("decide", FOUR, given).answer["seconds"])
-
-    node, alone = table.least(in_node, lambda: run(bench.decide).processor)
+    with Engine(bench.folder) as engine:
+        if engine.about.get("unsupported"):
+            print("skipped: the module in Node: it has no vectors")
+            return
+        node, alone = table.least(
+            lambda: float(engine.call("decide", FOUR, given).answer["seconds"]),
+            lambda: run(bench.decide).processor,
+        )
     table.ratio(FOUR_STATES + ", beside the program; processor", node, alone, 2.5)
-    engine.end()
     for name in ("decide", "check"):
-        held = held_after(bench, name, MOST, b"1RB1LB_1LA1RZ\n1RB1LB_1LA1RZ halt 6 4\n", 1)
+        held = memory_after(bench, name, MOST, b"1RB1LB_1LA1RZ\n1RB1LB_1LA1RZ halt 6 4\n", 1)
         table.row("memory of `%s` at the greatest limits" % name, "%d MB" % (held / MEGABYTE))
     small = {"steps": 100, "cells": 64, "depth": 20, "nodes": 100}
-    one, many = (held_after(bench, "decide", small, README * 1_000, times) for times in (1, LISTS))
+    one, many = (memory_after(bench, "decide", small, README * 1_000, times) for times in (1, LISTS))
     table.row("memory after one list, and after 1,000", "{:,} and {:,} bytes".format(one, many), many, one)
 
 
-def held_after(bench: Bench, name: str, plan: dict[str, int], given: bytes, times: int) -> int:
+def memory_after(bench: Bench, name: str, plan: dict[str, int], given: bytes, times: int) -> int:
     """Return the bytes that a fresh engine holds after so many calls."""
-    engine = Engine(bench.folder)
-    held = int(engine.call(name, plan, given, times=times).answer["held"])
-    engine.end()
-    return held
+    with Engine(bench.folder) as engine:
+        held = engine.call(name, plan, given, times=times).answer["held"]
+    return int(held)
 
 
 def measure_trace(bench: Bench) -> None:
@@ -226,14 +220,13 @@ def measure_views(bench: Bench) -> None:
 
 def trace_in_node(bench: Bench) -> float:
     """Return the seconds that the module takes for the lines of a view at step 10^7."""
-    engine = Engine(bench.folder)
     sample = {"steps": 10_000_000, "cells": 65_536, "from": 0, "every": 18_432}
-    taken = [engine.call("trace", sample, CHAMPION.encode()).answer["seconds"] for _ in range(4)]
-    engine.end()
+    with Engine(bench.folder) as engine:
+        taken = [engine.call("trace", sample, CHAMPION.encode()).answer["seconds"] for _ in range(4)]
     return float(min(taken))
 
 
-def most_held(root: int) -> int:
+def most_memory(root: int) -> int:
     """Return the most bytes that a browser's process with the page held at once, below a process."""
     listed = subprocess.run(["ps", "-eo", "pid=,ppid="], stdout=subprocess.PIPE, text=True).stdout
     parents = {int(pid): int(parent) for pid, parent in map(str.split, listed.splitlines())}
@@ -254,7 +247,7 @@ def measure_page_memory(bench: Bench) -> None:
         with open_page(bench, 1) as page:
             page.plan(plan, "decide")
             page.answer_file(README)
-            most = most_held(page.process) / MEGABYTE
+            most = most_memory(page.process) / MEGABYTE
             bench.table.row("most memory of the page's process, two machines, %s" % what, "%d MB" % most)
     with open_page(bench) as page:
         held = []

@@ -24,14 +24,12 @@ import sys
 import tempfile
 from typing import Any, Sequence
 
-sys.path.insert(0, str(pathlib.Path(__file__).resolve().parents[1]))
-
-from benchmarks.measuring import NULL, Cost, Table, Ways, has, list_machines, parser  # noqa: E402
-from benchmarks.measuring import program_of, run, take_turns, use_library  # noqa: E402
-from support.clusters import Cluster, changed_package, cluster  # noqa: E402
-from support.machines import CHAMPION, uniform  # noqa: E402
-from support.program import as_lines, options  # noqa: E402
-from support.runs import Case, most_memory, words_of  # noqa: E402
+from measuring import NULL, Cost, Table, Ways, has, list_machines, parser, program_of, run, take_turns
+from measuring import use_library
+from support.clusters import Cluster, changed_package, cluster
+from support.machines import CHAMPION, uniform
+from support.program import as_lines, options
+from support.runs import Case, most_memory, words_of
 
 PARTS = ("memory", "bars", "threads", "dask", "waiting")
 RANDOM, MEMORY_LINES, TIMES = 200_000, 1_000_000, 20
@@ -97,19 +95,15 @@ class Bench:
         return found
 
 
-def split_list(given: pathlib.Path, parts: int) -> list[pathlib.Path]:
-    """Cut a list between lines into so many parts of about the same length."""
-    subprocess.run(["split", "-n", "l/%d" % parts, given.name, "part-"], cwd=given.parent, check=True)
-    return sorted(given.parent.glob("part-*"))
-
-
 def measure_bars(bench: Bench) -> None:
     """Print each bar with its figure."""
-    limits, table, words = ROWS[0], bench.table, options(ROWS[0])
+    limits, table, words, given = ROWS[0], bench.table, options(ROWS[0]), bench.case.list
     decide, check = [bench.program, "decide", *words], [bench.program, "check", *words]
-    parts = [(decide, part, part.with_suffix(".out")) for part in split_list(bench.case.list, bench.threads)]
-    decided = bench.case.list.with_name("decided")
-    run((decide, bench.case.list, decided))
+    split = ["split", "-n", "l/%d" % bench.threads, given.name, "part-"]
+    subprocess.run(split, cwd=given.parent, check=True)
+    parts = [(decide, part, part.with_suffix(".out")) for part in sorted(given.parent.glob("part-*"))]
+    decided = given.with_name("decided")
+    run((decide, given, decided))
     many = ["--threads", str(bench.threads)]
     ways = {
         "program": lambda: bench.decide(limits),

@@ -15,7 +15,7 @@ from typing import Iterator, NamedTuple, Sequence
 import pytest
 from support.machines import LETTERS, SWAPPED, all_machines, entries_of, join_groups, machine, table_of
 from support.machines import text_of
-from support.program import PLANS, options, replies, verdict_of
+from support.program import PLANS, decide_machines, options, replies
 from support.simulation import compare_lines, simulate
 
 LIMITS = options((1_000, 64, 20, 1_000))
@@ -35,9 +35,7 @@ def machines(request: pytest.FixtureRequest) -> list[str]:
 
 
 def decide(bb: str, machines: Words, plan: Words = (), limits: Words = LIMITS) -> list[str]:
-    verdicts = [verdict_of(line) for line in replies([bb, "decide", *limits, *plan], machines)]
-    assert len(verdicts) == len(machines) > 0
-    return verdicts
+    return decide_machines(bb, machines, *limits, *plan)
 
 
 def check(bb: str, machines: Words, claims: Words, limits: Words = LIMITS) -> list[str]:
@@ -130,7 +128,7 @@ def completions(text: str) -> Iterator[tuple[str, tuple[int, ...]]]:
             yield join_groups(new, 2), filled
 
 
-def undefined_met(text: str, verdict: str) -> int | None:
+def find_undefined(text: str, verdict: str) -> int | None:
     """Return the `---` on which a machine halts, as state and symbol in one number; None where it doesn't."""
     if not verdict.startswith("halt "):
         return None
@@ -146,7 +144,7 @@ def test_completions_keep_halts_and_pairs(bb: str, machines: list[str], fills_me
         for text, verdict in zip(machines, decide(bb, machines))
         if verdict.split(" ")[0] in ("halt", "cycler", "translated")
         for other, filled in completions(text)
-        if (undefined_met(text, verdict) in filled) == fills_met
+        if (find_undefined(text, verdict) in filled) == fills_met
     ]
     verdicts, others = [verdict for verdict, _ in cases], [other for _, other in cases]
     found = decide(bb, others)

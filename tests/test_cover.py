@@ -2,6 +2,7 @@
 
 from __future__ import annotations
 
+import functools
 import pathlib
 import random
 import re
@@ -10,12 +11,12 @@ from typing import Callable, Sequence
 
 import pytest
 from support import TOP
-from support.program import CommandResult, as_lines, run_command, options, processor_time
+from support.program import CommandResult, as_lines, options, processor_time, replies, run_command
 from support.terminals import on_terminal
 
 # States and symbols of whole lists.
 SIZES = [(1, 2), (2, 2), (3, 2), (1, 3), (2, 3), (1, 4), (1, 10)]
-LARGE = [(2, 4), (4, 2)]
+LARGE = [pytest.param(*size, marks=pytest.mark.slow) for size in [(2, 4), (4, 2)]]
 # Each machine of these lists that leads to others halts within so many steps.
 STEPS = 200
 LIMITS = options((STEPS, 512, 40, 1_000))
@@ -29,14 +30,11 @@ Change = Callable[[list[str], int, random.Random], Changed]
 @pytest.fixture(scope="module")
 def decide_all(bb: str, list_machines: Callable[..., list[str]]) -> Decide:
     """A function that returns the verdict lines of a whole list."""
-    lists: dict[tuple[int, int], list[str]] = {}
 
+    @functools.lru_cache(maxsize=None)
     def decide(states: int, symbols: int) -> list[str]:
-        if (states, symbols) not in lists:
-            machines = list_machines(states, "--symbols", str(symbols), "--steps", str(STEPS))
-            output = run_command([bb, "decide", *LIMITS], as_lines(machines)).output
-            lists[states, symbols] = output.decode().splitlines()
-        return lists[states, symbols]
+        machines = list_machines(states, "--symbols", str(symbols), "--steps", str(STEPS))
+        return replies([bb, "decide", *LIMITS], machines)
 
     return decide
 
@@ -51,9 +49,7 @@ def summarize(states: int, symbols: int, lines: Sequence[str]) -> str:
     return "covers %s: %d %s, %s\n" % (size, len(lines), word, counts)
 
 
-@pytest.mark.parametrize(
-    "states, symbols", [*SIZES, *(pytest.param(*size, marks=pytest.mark.slow) for size in LARGE)]
-)
+@pytest.mark.parametrize("states, symbols", [*SIZES, *LARGE])
 def test_whole_lists_cover_their_sizes(cover: str, decide_all: Decide, states: int, symbols: int) -> None:
     lines = decide_all(states, symbols)
     assert lines

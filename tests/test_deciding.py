@@ -1,15 +1,13 @@
 """Random machines: the checker confirms each verdict, larger limits lose none, and a plain program agrees."""
 
-from __future__ import annotations
-
 import random
 import subprocess
 
 import pytest
 from support import TOP, require
 from support.machines import machine, random_machines
-from support.program import PLANS, ROWS, SIMULATION, as_lines, run_command, kind_of, options, replies
-from support.simulation import compare_lines
+from support.program import PLANS, ROWS, SIMULATION, as_lines, kind_of, options, run_command
+from support.simulation import decide_confirmed
 
 KINDS = {"halt", "cycler", "translated", "backward", "undecided"}
 BATCH = 100
@@ -26,11 +24,7 @@ def test_verdicts_are_confirmed_and_larger_limits_keep(bb: str, rng: random.Rand
     machines = random_machines(10_000, rng)
     runs: list[list[str]] = []
     for limits in ROWS:
-        lines = replies([bb, "decide", *options(limits), *plan], machines)
-        assert [line.split(" ")[0] for line in lines] == machines
-        expected = ["open" if kind_of(line) == "undecided" else "ok" for line in lines]
-        answers = replies([bb, "check", *options(limits)], lines)
-        compare_lines("answers under %s" % (limits,), answers, expected, lines)
+        lines = decide_confirmed(bb, machines, options(limits), plan)
         for earlier, before in zip(ROWS, runs):
             if all(a <= b for a, b in zip(earlier, limits)):
                 assert [pair for pair in zip(before, lines) if not is_kept(*pair)] == [], (earlier, limits)
@@ -77,3 +71,16 @@ def test_plain_program_writes_the_same_bytes(bb: str, peer: str, rng: random.Ran
         kinds.update(map(kind_of, lines))
     assert KINDS <= kinds
     print("%d lines compared" % count)
+
+
+@pytest.mark.slow
+@pytest.mark.timing
+@pytest.mark.needs("rustc")
+@pytest.mark.usefixtures("list_machines")
+def test_program_beside_plain_rust(bb: str) -> None:
+    """Each list gives the same bytes by both, timed in one run."""
+    parts = ["--part", "peer", "--part", "searches"]
+    command = [str(TOP / "benchmarks" / "measure.py"), bb, "--runs", "1", *parts]
+    done = subprocess.run(command, stdout=subprocess.PIPE, stderr=subprocess.STDOUT, text=True)
+    print(done.stdout)
+    assert done.returncode == 0, done.stdout

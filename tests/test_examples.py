@@ -13,9 +13,15 @@ EXAMPLES = list(read_examples())
 PIPELINES = [line.split("  ", 1) for line in (TOP / "examples/three_states/sha256").read_text().splitlines()]
 
 
+@pytest.mark.parametrize("build", ["bb", "plain"])
 @pytest.mark.parametrize("example", EXAMPLES, ids=[example.name for example in EXAMPLES])
-def test_example_writes_its_expected_output(bb: str, example: Example) -> None:
-    found = run_command([bb, *example.words], example.given, cwd=str(TOP))
+def test_example_writes_its_expected_output(
+    request: pytest.FixtureRequest, build: str, example: Example
+) -> None:
+    """By the program, and by the one that cargo builds."""
+    built = request.getfixturevalue(build)
+    program = str(built / "bb") if build == "plain" else built
+    found = run_command([program, *example.words], example.given, cwd=str(TOP))
     assert found.output.splitlines() == example.expected.splitlines()
     assert (found.output, found.status) == (example.expected, example.status)
 

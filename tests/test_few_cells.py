@@ -7,11 +7,10 @@ none may be `undecided steps`.
 from __future__ import annotations
 
 import random
-from typing import Sequence
 
 import pytest
 from support.machines import all_machines, seldom_halting
-from support.program import replies, verdict_of
+from support.program import decide_machines
 from support.simulation import compare_lines, simulate
 
 # A machine of two states and two symbols whose first cycle is found latest.
@@ -35,10 +34,6 @@ def derive_verdict(machine: str, steps: int, cells: int) -> str:
     return "halt %d %d" % (len(seen) - 1, score)
 
 
-def decide(bb: str, options: Sequence[str], machines: Sequence[str]) -> list[str]:
-    return [verdict_of(line) for line in replies([bb, "decide", *options], machines)]
-
-
 @pytest.mark.parametrize(
     "options, verdict",
     [
@@ -47,14 +42,7 @@ def decide(bb: str, options: Sequence[str], machines: Sequence[str]) -> list[str
     ],
 )
 def test_latest_cycle_needs_its_steps(bb: str, options: list[str], verdict: str) -> None:
-    assert decide(bb, options, [LATEST]) == [verdict]
-
-
-def draw_machines(source: random.Random, states: int, symbols: int, count: int | None) -> list[str]:
-    """Draw random machines, or list all where no count is given."""
-    if count is None:
-        return list(all_machines(states, symbols))
-    return [seldom_halting(source, states, symbols) for _ in range(count)]
+    assert decide_machines(bb, [LATEST], *options) == [verdict]
 
 
 @pytest.mark.parametrize(
@@ -70,14 +58,16 @@ def draw_machines(source: random.Random, states: int, symbols: int, count: int |
 def test_verdicts_follow_from_definitions(
     bb: str, rng: random.Random, states: int, symbols: int, cells: int, steps: int | None, count: int | None
 ) -> None:
-    machines = draw_machines(rng, states, symbols, count)
+    """Of so many random machines, or of all where no count is given."""
+    machines = [seldom_halting(rng, states, symbols) for _ in range(count or 0)]
+    machines = machines or list(all_machines(states, symbols))
     configurations = states * cells * symbols**cells
     limit = steps or 3 * configurations
     options = ["--steps=%d" % limit, "--cells=%d" % cells, "--depth=%d" % (cells // 2)]
     expected = [derive_verdict(machine, limit, cells) for machine in machines]
-    alone = decide(bb, options + ["--no-translated", "--no-backward"], machines)
+    alone = decide_machines(bb, machines, *options, "--no-translated", "--no-backward")
     compare_lines("%d states, %d symbols, %d cells" % (states, symbols, cells), alone, expected, machines)
-    whole = decide(bb, options, machines)
+    whole = decide_machines(bb, machines, *options)
     assert "undecided steps" not in [*expected, *whole]
     decided = [pair for pair in zip(whole, expected) if not pair[1].startswith("undecided")]
     assert len(whole) == len(expected) and all(line == verdict for line, verdict in decided)

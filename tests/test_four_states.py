@@ -3,13 +3,12 @@
 from __future__ import annotations
 
 import collections
-from typing import Mapping, Sequence
+from typing import Sequence
 
 import pytest
 from support import TOP
-from support.plans import FOUR
-from support.program import SIMULATION, kind_of, replies, words_of_plan
-from support.simulation import compare_lines
+from support.program import FOUR, SIMULATION, kind_of, replies, words_of_plan
+from support.simulation import decide_confirmed
 
 LATER = [
     {"steps": 1_000, "cells": 1_024, "depth": 40, "nodes": 10_000},
@@ -36,23 +35,14 @@ def kind(line: str) -> str:
     return " ".join(line.split(" ")[1:3]) if found == "undecided" else found
 
 
-def decide(bb: str, limits: Mapping[str, int], machines: Sequence[str]) -> list[str]:
-    """Return the verdict lines of these machines, which the checker must confirm."""
-    lines = replies([bb, "decide", *words_of_plan(limits)], machines)
-    assert [line.split(" ")[0] for line in lines] == list(machines)
-    expected = ["open" if kind_of(line) == "undecided" else "ok" for line in lines]
-    compare_lines("answers", replies([bb, "check", *words_of_plan(limits)], lines), expected, lines)
-    return lines
-
-
-def undecided(lines: Sequence[str]) -> list[str]:
+def undecided_machines(lines: Sequence[str]) -> list[str]:
     return [line.split(" ")[0] for line in lines if kind_of(line) == "undecided"]
 
 
 @pytest.fixture(scope="module")
 def lines(bb: str, four_states: list[str]) -> list[str]:
     """The verdict lines of the whole list at its first limits."""
-    return decide(bb, FOUR, four_states)
+    return decide_confirmed(bb, four_states, words_of_plan(FOUR))
 
 
 def test_kinds(lines: list[str]) -> None:
@@ -79,7 +69,7 @@ def test_greatest_numbers(lines: list[str]) -> None:
     require_figure("at most %d levels and %d nodes" % trees)
 
 
-def found_later(lines: Sequence[str]) -> str:
+def describe_finds(lines: Sequence[str]) -> str:
     """Describe what larger limits decided, as the document does."""
     new = [line.split(" ") for line in lines if kind_of(line) != "undecided"]
     steps = [int(verdict[4]) for verdict in new if verdict[1] == "translated"]
@@ -89,16 +79,16 @@ def found_later(lines: Sequence[str]) -> str:
 
 
 def test_larger_limits(bb: str, lines: list[str]) -> None:
-    left = undecided(lines)
+    left = undecided_machines(lines)
     for limits in LATER:
-        later = decide(bb, limits, left)
-        before, left = len(left), undecided(later)
-        require_figure(row(*limits.values(), before, found_later(later), len(left)))
+        later = decide_confirmed(bb, left, words_of_plan(limits))
+        before, left = len(left), undecided_machines(later)
+        require_figure(row(*limits.values(), before, describe_finds(later), len(left)))
 
 
 @pytest.mark.parametrize("steps", [1_000, 10_000, pytest.param(100_000, marks=pytest.mark.slow)])
 def test_cells_that_undecided_machines_visit(bb: str, lines: list[str], steps: int) -> None:
-    left = undecided(decide(bb, LATER[0], undecided(lines)))
+    left = undecided_machines(decide_confirmed(bb, undecided_machines(lines), words_of_plan(LATER[0])))
     counts = []
     for cells in (16, 32, 64, 128, 256, 512, 1_024):
         plan = {"steps": steps, "cells": cells, "depth": 0, "nodes": 0}

@@ -5,8 +5,6 @@ and prints each count of `bb_look` by the header's name for it. The numbers diff
 two shows, in the header or in the library.
 """
 
-from __future__ import annotations
-
 import itertools
 import pathlib
 import re
@@ -14,8 +12,8 @@ import subprocess
 
 import pytest
 from support import TOP
-from support.program import CommandResult, run_command
-from support.simulation import insert_low
+from support.program import CommandResult, as_lines, run_command
+from support.traces import trace
 
 HEADER = (TOP / "include" / "bb.h").read_text(encoding="utf-8")
 SOURCES = TOP / "tests" / "library"
@@ -71,10 +69,10 @@ def run_with(header: str, library: pathlib.Path, folder: pathlib.Path) -> Comman
 def right(bb: str) -> bytes:
     """What the program in C must print: the lines and the status of the trace, then the counts by name."""
     limits = ["--upto", str(GIVEN["steps"]), "--cells", str(GIVEN["cells"])]
-    whole = run_command([bb, "trace", *limits, "--", MACHINE])
-    lines = whole.output.splitlines(keepends=True)[GIVEN["from"] :: GIVEN["every"]]
-    counts = "".join("%s %d\n" % (name, count) for count, name in enumerate(KINDS, 1))
-    return insert_low(MACHINE, b"".join(lines)) + b"status %d\n" % whole.status + counts.encode()
+    status = run_command([bb, "trace", *limits, "--", MACHINE]).status
+    rows = trace(bb, MACHINE, GIVEN["steps"], GIVEN["cells"])[GIVEN["from"] :: GIVEN["every"]]
+    counts = ["%s %d" % (name, count) for count, name in enumerate(KINDS, 1)]
+    return as_lines([*(row.line for row in rows), "status %d" % status, *counts])
 
 
 @pytest.mark.needs("gcc")

@@ -1,18 +1,18 @@
 """The library for other languages and its examples, against the program: the proved one, and cargo's."""
 
-from __future__ import annotations
-
+import itertools
 import os
 import pathlib
 import subprocess
 import sys
-from typing import Callable, List
+from typing import Callable
 
 import budlarem
 import pytest
 from support import TOP, build, require
 from support.program import as_lines, begins_modulo_64, run_command, replies
-from support.simulation import compare_lines, insert_low
+from support.simulation import compare_lines
+from support.traces import trace
 
 LIMITS = ["--steps", "1000", "--cells", "200", "--depth", "60"]
 SMALL = ["--steps", "1000", "--cells", "64", "--depth", "30", "--nodes", "1000"]
@@ -50,7 +50,7 @@ def compile_source(library: pathlib.Path, tmp_path: pathlib.Path) -> Compile:
     """A function that compiles a source of the repository with the library, and returns the program."""
     archive = str(library.with_suffix(".a"))
 
-    def compile_source(source: str, compiler: List[str] = C) -> str:
+    def compile_source(source: str, compiler: list[str] = C) -> str:
         require(compiler[0])
         path, made = str(TOP / source), str(tmp_path / pathlib.Path(source).stem)
         command = [*compiler, *C_WORDS, path, "-x", "none", archive, "-o", made]
@@ -63,7 +63,7 @@ def compile_source(library: pathlib.Path, tmp_path: pathlib.Path) -> Compile:
 
 
 @pytest.fixture(scope="module")
-def machines(list_machines: Callable[..., List[str]]) -> List[str]:
+def machines(list_machines: Callable[..., list[str]]) -> list[str]:
     """The first 100,000 machines of four states in tree normal form."""
     return list_machines(4)[:100_000]
 
@@ -88,7 +88,7 @@ def test_single_pass_run_begins_at_a_multiple_of_64() -> None:
 
 
 @pytest.mark.parametrize("compiler", [C, CPP], ids=" ".join)
-def test_calls_keep_their_contracts(compile_source: Compile, compiler: List[str]) -> None:
+def test_calls_keep_their_contracts(compile_source: Compile, compiler: list[str]) -> None:
     """Also under valgrind, which finds nothing wrong."""
     require("valgrind")
     made = compile_source("tests/library/calls.c", compiler)
@@ -100,7 +100,7 @@ def test_calls_keep_their_contracts(compile_source: Compile, compiler: List[str]
     [("examples/c/decide.c", C), ("examples/c/decide.c", VALGRIND), ("examples/rust/decide.rs", ["rustc"])],
     ids=["C", "C under valgrind", "Rust"],
 )
-def test_examples_decide_words(bb: str, compile_source: Compile, source: str, words: List[str]) -> None:
+def test_examples_decide_words(bb: str, compile_source: Compile, source: str, words: list[str]) -> None:
     under = words if words == VALGRIND else []
     require(*under[:1])
     command = [*under, compile_source(source, C if under else words)]
@@ -119,15 +119,15 @@ def test_example_decides_all_machines_of_two_states(bb: str, compile_source: Com
 def test_example_traces(bb: str, compile_source: Compile) -> None:
     require("valgrind")
     command = [*VALGRIND, compile_source("examples/c/trace.c")]
-    whole = run_command([bb, "trace", "--upto", "5", MACHINES[0]]).output
-    assert run_command([*command, MACHINES[0], "5"]) == (0, insert_low(MACHINES[0], whole), b"")
+    rows = as_lines(row.line for row in trace(bb, MACHINES[0], 5))
+    assert run_command([*command, MACHINES[0], "5"]) == (0, rows, b"")
     assert run_command([*command, "", "5", "2"]) == (1, b"refused 1\n", b"")
     assert run_command([*command, MACHINES[0], "5", "0"])[:2] == (2, b"")
 
 
 @pytest.mark.parametrize("threads", ["1", "4", "9"])
 def test_many_cores_write_what_one_does(
-    bb: str, compile_source: Compile, machines: List[str], threads: str
+    bb: str, compile_source: Compile, machines: list[str], threads: str
 ) -> None:
     made = compile_source("examples/rust/many_cores.rs", ["rustc"])
     lists = [b"", b"1RZ---", b"\n", as_lines(MACHINES), LONG + b"\n1RZ---\n" + LONG]
@@ -149,7 +149,7 @@ def test_example_in_python(library: pathlib.Path) -> None:
     assert output == b"ok 1RZ--- halt 1 1\nopen refused 1\n"
 
 
-def test_package_decides_and_checks(bb: str, limits: budlarem.Limits, machines: List[str]) -> None:
+def test_package_decides_and_checks(bb: str, limits: budlarem.Limits, machines: list[str]) -> None:
     verdicts = replies([bb, "decide", *LIMITS], machines)
     assert len(verdicts) == 100_000
     compare_lines("verdicts", [str(verdict) for verdict in budlarem.decide(machines, limits)], verdicts)
@@ -158,28 +158,21 @@ def test_package_decides_and_checks(bb: str, limits: budlarem.Limits, machines: 
         compare_lines("answers", [str(answer) for answer in budlarem.check(lines, limits)], expected, lines)
 
 
-def trace(bb: str, machine: str, upto: int, cells: int) -> List[str]:
-    """Return the lines of the program's trace."""
-    words = ["--upto", str(upto), "--cells", str(cells), "--", machine]
-    return run_command([bb, "trace", *words]).output.decode().splitlines()
-
-
 @pytest.mark.parametrize("cells", [200, 5])
 @pytest.mark.parametrize("count", [5, pytest.param(100, marks=pytest.mark.slow)])
 @pytest.mark.usefixtures("limits")
-def test_package_traces(bb: str, machines: List[str], cells: int, count: int) -> None:
+def test_package_traces(bb: str, machines: list[str], cells: int, count: int) -> None:
     """At every first step and every distance up to 50."""
     for machine in machines[:: len(machines) // count]:
-        whole = trace(bb, machine, 120, cells)
-        for start in range(51):
-            for every in range(1, 51):
-                found = [str(now) for now in budlarem.trace(machine, 120, cells, start, every)]
-                assert found == whole[start::every], (machine, start, every)
+        whole = [row.program_line for row in trace(bb, machine, 120, cells)]
+        for start, every in itertools.product(range(51), range(1, 51)):
+            found = [str(now) for now in budlarem.trace(machine, 120, cells, start, every)]
+            assert found == whole[start::every], (machine, start, every)
 
 
 @pytest.mark.usefixtures("limits")
 def test_package_traces_a_long_run(bb: str) -> None:
-    expected = trace(bb, MACHINES[1], 3000, 65_536)
+    expected = [row.program_line for row in trace(bb, MACHINES[1], 3000)]
     assert [str(now) for now in budlarem.trace(MACHINES[1], 3000)] == expected
 
 

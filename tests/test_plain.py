@@ -3,17 +3,14 @@
 clap's own texts may differ by its version: of these only the status and the stream are compared.
 """
 
-from __future__ import annotations
-
 import pathlib
 import random
 import re
 import subprocess
-from typing import Callable, List, Tuple
+from typing import Callable
 
 import pytest
 from support import TOP, build
-from support.examples import Example, read_examples
 from support.machines import random_machines
 from support.program import ROWS, CommandResult, as_lines, run_command, options
 from support.terminals import on_terminal
@@ -43,16 +40,9 @@ EDGES = """exec PROGRAM decide <&-
     ulimit -f 1; exec PROGRAM decide four.txt >short
     ulimit -v 102400; exec PROGRAM decide --cells 67108864 <list.txt
     ulimit -v 102400; exec PROGRAM decide --cells 1048576 <list.txt
-    ulimit -v 102400; exec PROGRAM check --cells 67108864 <list.txt""".split(
-    "\n"
-)
-TERMINAL = [
-    "decide /nonexistent",
-    "decide /tmp",
-    "decide --depth 9 --cells 3",
-    "decide --steps 2000000000000",
-]
-Programs = Tuple[str, str]
+    ulimit -v 102400; exec PROGRAM check --cells 67108864 <list.txt""".splitlines()
+TERMINAL = ["/nonexistent", "/tmp", "--depth 9 --cells 3", "--steps 2000000000000"]
+Programs = tuple[str, str]
 
 
 @pytest.fixture(scope="module")
@@ -82,14 +72,14 @@ def require_same(programs: Programs, run: Callable[[str], CommandResult]) -> Com
 
 
 @pytest.fixture
-def folder(tmp_path: pathlib.Path, four_states: List[str]) -> pathlib.Path:
+def folder(tmp_path: pathlib.Path, four_states: list[str]) -> pathlib.Path:
     """A folder with lists."""
     (tmp_path / "list.txt").write_bytes(b"1RB1LB_1LA1RZ\n1rB1LB\n0RB---_0LA---\n")
     (tmp_path / "four.txt").write_bytes(as_lines(four_states[:20_000]))
     return tmp_path
 
 
-def test_all_machines_of_four_states(programs: Programs, covers: Programs, four_states: List[str]) -> None:
+def test_all_machines_of_four_states(programs: Programs, covers: Programs, four_states: list[str]) -> None:
     lines = as_lines(four_states)
     decided = require_same(programs, lambda bb: run_command([bb, "decide", *FOUR], lines))
     require_same(programs, lambda bb: run_command([bb, "check", *FOUR], decided.output))
@@ -99,17 +89,11 @@ def test_all_machines_of_four_states(programs: Programs, covers: Programs, four_
 
 
 @pytest.mark.parametrize("limits", ROWS)
-def test_random_machines(programs: Programs, rng: random.Random, limits: Tuple[int, ...]) -> None:
+def test_random_machines(programs: Programs, rng: random.Random, limits: tuple[int, ...]) -> None:
     lines = as_lines(random_machines(3_000, rng))
     decided = require_same(programs, lambda bb: run_command([bb, "decide", *options(limits)], lines))
     forged = re.sub(rb"\d(?=\n)", lambda digit: b"%d" % (rng.randrange(10)), decided.output)
     require_same(programs, lambda bb: run_command([bb, "check", *options(limits)], forged))
-
-
-@pytest.mark.parametrize("example", read_examples(), ids=[one.name for one in read_examples()])
-def test_examples(plain: pathlib.Path, example: Example) -> None:
-    found = run_command([str(plain / "bb"), *example.words], example.given, cwd=str(TOP))
-    assert (found.output, found.status) == (example.expected, example.status)
 
 
 def test_random_command_lines(programs: Programs, rng: random.Random, folder: pathlib.Path) -> None:
@@ -127,13 +111,14 @@ def test_streams_and_memory(programs: Programs, folder: pathlib.Path, command: s
 
 
 @pytest.mark.parametrize("words", [[b"\xff"], ["decide", b"\xff"], ["decide", "a" * 5000], ["decide", ""]])
-def test_words_that_name_no_file(programs: Programs, words: List[str]) -> None:
+def test_words_that_name_no_file(programs: Programs, words: list[str]) -> None:
     assert require_same(programs, lambda bb: run_command([bb, *words])).status in (2, 3)
 
 
 @pytest.mark.parametrize("words", TERMINAL)
 def test_hints_on_a_terminal(programs: Programs, words: str) -> None:
-    first, second = (on_terminal([bb, *words.split()], b"", subprocess.DEVNULL) for bb in programs)
+    command = ["decide", *words.split()]
+    first, second = (on_terminal([bb, *command], b"", subprocess.DEVNULL) for bb in programs)
     assert first == second and first[1].count("\n") > 1
 
 

@@ -7,10 +7,9 @@ from __future__ import annotations
 
 import ast
 import re
-import subprocess
 
 import pytest
-from support import TOP
+from support import TOP, list_files
 from support.program import run_command
 
 MOST_MEAN, MOST_WORDS, MOST_CLAUSES = 16.0, 40, 2.5
@@ -28,12 +27,6 @@ def sentences(text: str) -> list[str]:
     text = ITEM.sub(" . ", re.sub(r"\n\s*\n", " . ", APART.sub(" . ", text)))
     text = re.sub(r"`[^`\n]*`", "x", text)
     return [one for one in re.split(r"(?<=[.!?:])\s+", text) if len(one.split()) > 2]
-
-
-def tracked_files(*patterns: str) -> list[str]:
-    command = ["git", "ls-files", *patterns]
-    names = subprocess.run(command, cwd=TOP, stdout=subprocess.PIPE, text=True, check=True).stdout.split()
-    return [name for name in names if (TOP / name).is_file()]
 
 
 def doc_comments(name: str) -> str:
@@ -55,8 +48,8 @@ def doc_comments(name: str) -> str:
 
 def read_pages() -> dict[str, str]:
     """Return each document, and the doc comments of each crate and folder, by name."""
-    found = {name: (TOP / name).read_text(encoding="utf-8") for name in tracked_files("*.md")}
-    for name in tracked_files("crates/*/src/*.rt", "python/src/*.py", "web/*.mjs"):
+    found = {name: (TOP / name).read_text(encoding="utf-8") for name in list_files("*.md")}
+    for name in list_files("crates/*/src/*.rt", "python/src/*.py", "web/*.mjs"):
         folder = "/".join(name.split("/")[: 2 if name.startswith("crates/") else -1])
         found[folder] = found.get(folder, "") + "\n\n" + doc_comments(name)
     return found

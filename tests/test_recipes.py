@@ -15,12 +15,13 @@ import signal
 import subprocess
 import sys
 import time
-from typing import Callable
+from typing import Any, Callable
 
 import pytest
 from support import TOP, build, require, restore_signals
 from support.machines import mixed_machines
-from support.program import GREATEST, CommandResult, as_lines, run_command, options, options_of_pass
+from support.program import GREATEST, CommandResult, as_lines, decide_in_passes, options, options_of_pass
+from support.program import run_command
 
 # How many blocks of commands stand under each heading.
 BLOCKS = {
@@ -132,11 +133,6 @@ class Folder:
             link.unlink(missing_ok=True)
             link.symlink_to(program)
 
-    def place_library(self, library: pathlib.Path) -> None:
-        """Put the folder of the library where the recipes look for it."""
-        (self.path / "crates" / "bb_c").mkdir()
-        (self.path / "crates" / "bb_c" / "out").symlink_to(library.parent)
-
     def write(self, name: str, content: bytes) -> None:
         (self.path / name).write_bytes(content)
 
@@ -165,7 +161,8 @@ def folder(bb: str, tmp_path: pathlib.Path) -> Folder:
 @pytest.fixture
 def placed_library(folder: Folder, library: pathlib.Path) -> pathlib.Path:
     """The library that is built, where the recipes look for it."""
-    folder.place_library(library)
+    (folder.path / "crates" / "bb_c").mkdir()
+    (folder.path / "crates" / "bb_c" / "out").symlink_to(library.parent)
     return library
 
 
@@ -188,26 +185,22 @@ def test_refused_lines_are_shown(folder: Folder, content: bytes) -> None:
     assert folder.run(RECIPES["Prepare a list"][2]) == (0, b"".join(shown), b"")
 
 
-def require_reasons(error: list[str]) -> None:
-    """Require a sentence for each line that isn't taken, and for each that is rewritten."""
-    for number, (line, found) in enumerate(TAKEN, 1):
-        begin = "list.txt:%d: " % number
-        rows = [row for row in error if row.startswith(begin)]
-        if isinstance(found, str):
-            assert rows[0].startswith(begin + "refused: " + found)
-        else:
-            assert len(rows) == (found is not None and found not in line), (line, rows)
-
-
 @pytest.mark.usefixtures("package")
 @pytest.mark.parametrize("lead, ending", [(b"", b"\n"), (b"\xef\xbb\xbf", b"")])
 @pytest.mark.parametrize("pack", [bytes, gzip.compress], ids=["plain", "gzip"])
 def test_machines_are_taken_out_of_lines(folder: Folder, lead: bytes, ending: bytes, pack: type) -> None:
+    """A sentence names each line that isn't taken, and each that is rewritten."""
     folder.write("list.txt", pack(lead + b"\n".join(line for line, _ in TAKEN) + ending))
     status, output, error = folder.run(RECIPES["Prepare a list"][0])
     expected = b"".join(machine + b"\n" for _, machine in TAKEN if isinstance(machine, bytes))
     assert (status, output, folder.read("machines.txt")) == (0, b"", expected)
-    require_reasons(error.decode().splitlines())
+    for number, (line, found) in enumerate(TAKEN, 1):
+        begin = "list.txt:%d: " % number
+        rows = [row for row in error.decode().splitlines() if row.startswith(begin)]
+        if isinstance(found, str):
+            assert rows[0].startswith(begin + "refused: " + found)
+        else:
+            assert len(rows) == (found is not None and found not in line), (line, rows)
 
 
 @pytest.mark.usefixtures("package")
@@ -387,14 +380,11 @@ def test_fewer_pieces_than_before(folder: Folder) -> None:
 @each_list
 def test_runner_decides_lists_of_any_length(folder: Folder, content: bytes) -> None:
     run, keep = RECIPES["Decide a long list"]
-    first, second = re.findall(r"--pass (\S+)", run)
+    passes = [options_of_pass(limits) for limits in re.findall(r"--pass (\S+)", run)]
     content = DECIDED * 3 + content
     folder.write("machines.txt", content)
-    assert folder.run(run).status == 0
-    expected = b""
-    for line in folder.decide(content, *options_of_pass(first)).splitlines(keepends=True):
-        is_left = b" undecided " in line
-        expected += folder.decide(line.split()[0], *options_of_pass(second)) if is_left else line
+    assert folder.run(run).status == 0 and len(passes) == 2
+    expected = decide_in_passes(lambda lines, words: folder.decide(lines, *words), content, passes)
     assert folder.read("decided/verdicts.txt") == expected
     content += b"\n" + LONG_HALT
     folder.write("machines.txt", content)
@@ -440,33 +430,23 @@ def test_program_is_copied_from_where_it_is() -> None:
     assert command == "scp %s host:bin/" % proved.relative_to(TOP)
 
 
-def interrupt(folder: Folder, content: bytes) -> int:
-    """Decide a list, and interrupt the program once something is written; return its status.
-
-    The list comes by a pipe whose last lines are held back, so the program can't have ended before.
-    """
-    folder.write("machines.txt", content)
-    written, pipe = folder.path / "verdicts.txt", subprocess.PIPE
-    command = [folder.bb, "decide"]
-    with open(written, "wb") as output, subprocess.Popen(
-        command, stdin=pipe, stdout=output, preexec_fn=restore_signals
-    ) as process:
-        assert process.stdin
-        process.stdin.write(content[: -len(content) // 10])
-        process.stdin.flush()
-        while written.stat().st_size == 0 and process.poll() is None:
-            time.sleep(0.01)
-        process.send_signal(signal.SIGINT)
-        process.wait()
-    return process.returncode
-
-
 (RESUME,) = RECIPES["Resume after an interruption"]
 
 
 def test_interrupted_run_is_resumed(folder: Folder) -> None:
+    """The last lines of the list's pipe are held back, so that the program can't end before."""
     content = DECIDED * 2_000 + UNDECIDED * 30
-    assert interrupt(folder, content) == -signal.SIGINT
+    folder.write("machines.txt", content)
+    verdicts, command = folder.path / "verdicts.txt", [folder.bb, "decide"]
+    how: dict[str, Any] = {"stdin": subprocess.PIPE, "preexec_fn": restore_signals}
+    with open(verdicts, "wb") as output, subprocess.Popen(command, stdout=output, **how) as process:
+        assert process.stdin
+        process.stdin.write(content[: -len(content) // 10])
+        process.stdin.flush()
+        while verdicts.stat().st_size == 0 and process.poll() is None:
+            time.sleep(0.01)
+        process.send_signal(signal.SIGINT)
+    assert process.returncode == -signal.SIGINT
     whole, written = folder.decide(content), folder.read("verdicts.txt")
     assert whole.startswith(written) and 0 < len(written) < len(whole)
     assert folder.run(RESUME).status == 0 and folder.read("verdicts.txt") == whole
@@ -476,11 +456,10 @@ def test_interrupted_run_is_resumed(folder: Folder) -> None:
 def test_cut_verdicts_are_completed_twice(folder: Folder, content: bytes) -> None:
     whole = folder.decide(content)
     folder.write("machines.txt", content)
-    for size in sorted({0, 1, len(whole) // 3, len(whole) // 2, len(whole)}):
-        folder.write("verdicts.txt", whole[:size])
-        assert folder.run(RESUME).status == 0 and folder.read("verdicts.txt") == whole
-        folder.write("verdicts.txt", whole[: size + 20])
-        assert folder.run(RESUME).status == 0 and folder.read("verdicts.txt") == whole
+    for begin in {0, 1, len(whole) // 3, len(whole) // 2, len(whole)}:
+        for size in (begin, begin + 20):
+            folder.write("verdicts.txt", whole[:size])
+            assert folder.run(RESUME).status == 0 and folder.read("verdicts.txt") == whole
 
 
 def test_machines_that_another_program_makes(folder: Folder, placed_library: pathlib.Path) -> None:

@@ -5,49 +5,14 @@ calls make the tapes and the path, before a byte is read: where one of them is r
 memory is the cause. Those before them read the words. Opening FILE allocates nothing, so no read fails.
 """
 
-from __future__ import annotations
-
 import os
 import pathlib
 import subprocess
 
 import pytest
-from support import require
+from support import TOP, require
 from support.program import CommandResult, run_command
 
-REFUSER = r"""
-#define _GNU_SOURCE
-#include <dlfcn.h>
-#include <stdlib.h>
-#include <unistd.h>
-
-#define NEXT(name, result, ...) \
-    static result (*next)(__VA_ARGS__); \
-    if (!next) next = dlsym(RTLD_NEXT, #name)
-
-static long calls;
-static int refused(void) {
-    const char *at = getenv("REFUSE_AT");
-    if (at && ++calls == atol(at)) {
-        const char *trace = getenv("REFUSE_TRACE");
-        if (trace) { int ignored = symlink("refused", trace); (void)ignored; }
-        return 1;
-    }
-    return 0;
-}
-void *__libc_calloc(size_t n, size_t size);
-void *calloc(size_t n, size_t size) { return refused() ? 0 : __libc_calloc(n, size); }
-void *malloc(size_t n) { NEXT(malloc, void *, size_t); return refused() ? 0 : next(n); }
-void *realloc(void *p, size_t n) { NEXT(realloc, void *, void *, size_t); return refused() ? 0 : next(p, n); }
-void *aligned_alloc(size_t a, size_t n) {
-    NEXT(aligned_alloc, void *, size_t, size_t);
-    return refused() ? 0 : next(a, n);
-}
-int posix_memalign(void **p, size_t a, size_t n) {
-    NEXT(posix_memalign, int, void **, size_t, size_t);
-    return refused() ? 12 : next(p, a, n);
-}
-"""
 # Standard input, and the files that the words name.
 INPUTS = {
     "list": b"1RB1LB_1LA1RZ\n1RB0RA_1LA---\n0RB---_0LA---\n",
@@ -79,10 +44,10 @@ def folder(tmp_path_factory: pytest.TempPathFactory) -> pathlib.Path:
     """A folder with the inputs and the library that refuses allocations."""
     require("cc")
     folder = tmp_path_factory.mktemp("refused")
-    for name, content in {**INPUTS, "refuser.c": REFUSER.encode()}.items():
+    for name, content in INPUTS.items():
         (folder / name).write_bytes(content)
-    command = ["cc", "-shared", "-fPIC", "-O1", "-o", "refuser.so", "refuser.c", "-ldl"]
-    subprocess.run(command, cwd=folder, check=True)
+    source = TOP / "tests" / "library" / "refuser.c"
+    subprocess.run(["cc", "-shared", "-fPIC", "-O1", "-o", folder / "refuser.so", source, "-ldl"], check=True)
     return folder
 
 

@@ -1,12 +1,9 @@
 """The folder of the release, built twice from nothing in two clones of different names: the same bytes."""
 
-from __future__ import annotations
-
 import hashlib
 import pathlib
 import re
 import subprocess
-from typing import List
 
 import pytest
 from support import TOP, require
@@ -22,24 +19,22 @@ pytestmark = pytest.mark.slow
 
 
 @pytest.fixture(scope="module")
-def releases(tmp_path_factory: pytest.TempPathFactory) -> List[pathlib.Path]:
+def releases(tmp_path_factory: pytest.TempPathFactory) -> list[pathlib.Path]:
     """Two folders, each built at this commit in a clone of its own, which may prove all crates."""
     require("rt", "rustc", "esbuild", "tsc", "npm")
     top = tmp_path_factory.mktemp("release")
-    commit = subprocess.run(
-        ["git", "rev-parse", "HEAD"], cwd=TOP, stdout=subprocess.PIPE, check=True, text=True
-    )
+    commit = subprocess.check_output(["git", "rev-parse", "HEAD"], cwd=TOP, text=True).strip()
     folders = [top / "one", top / "another folder"]
     for folder in folders:
         subprocess.run(["git", "clone", "--quiet", str(TOP), str(folder)], check=True)
-        command = ["git", "checkout", "--quiet", "--detach", commit.stdout.strip()]
+        command = ["git", "checkout", "--quiet", "--detach", commit]
         subprocess.run(command, cwd=folder, check=True)
         subprocess.run(["make", "-s", "release"], cwd=folder, check=True)
     return [folder / "dist" for folder in folders]
 
 
 @pytest.fixture(scope="module")
-def release(releases: List[pathlib.Path]) -> pathlib.Path:
+def release(releases: list[pathlib.Path]) -> pathlib.Path:
     """The first of the two."""
     return releases[0]
 
@@ -86,7 +81,7 @@ def content_of(path: pathlib.Path) -> bytes:
     return re.sub(rb"(?m)^date .*\n", b"", content) if path.name == "CONTENTS" else content
 
 
-def test_both_folders_have_the_same_bytes_but_for_the_date(releases: List[pathlib.Path]) -> None:
+def test_both_folders_have_the_same_bytes_but_for_the_date(releases: list[pathlib.Path]) -> None:
     one, another = ({path.name: content_of(path) for path in folder.iterdir()} for folder in releases)
     assert one.keys() == another.keys()
     assert [name for name in one if one[name] != another[name]] == []

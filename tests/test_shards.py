@@ -9,7 +9,6 @@ import subprocess
 from typing import Callable, NamedTuple
 
 import pytest
-from support import TOP
 from support.program import CommandResult, as_lines, options, run_command
 
 # Each machine of these lists that leads to others halts within so many steps.
@@ -214,8 +213,6 @@ def test_text_that_is_no_machine(bb: str, cover: str, text: str) -> None:
         (["--states", "2", "--shards", "0"], "--shards is 0, but must be a whole number from 1 to 256"),
     ],
 )
-def test_refused_words_of_the_lister(list_machines: ListMachines, words: list[str], error: str) -> None:
-    list_machines(1)
-    program = str(TOP / "tools" / "out" / "tree_normal_form")
-    done = subprocess.run([program, *words], capture_output=True, text=True)
+def test_refused_words_of_the_lister(lister: str, words: list[str], error: str) -> None:
+    done = subprocess.run([lister, *words], capture_output=True, text=True)
     assert (done.returncode, done.stdout) == (2, "") and error in done.stderr

@@ -1,11 +1,9 @@
 """The sources: types, layout, and how each executable prints its help and refuses wrong words."""
 
-from __future__ import annotations
-
 import subprocess
 
 import pytest
-from support import TOP
+from support import TOP, list_files
 
 # Shell scripts that hand their words on to a program, each with the fixture that builds it.
 WRAPPERS = {"bb": "bb", "cover": "cover", "tools/tree_normal_form": "list_machines"}
@@ -13,12 +11,6 @@ WRAPPERS = {"bb": "bb", "cover": "cover", "tools/tree_normal_form": "list_machin
 UNTYPED = "python/setup.py"
 # After so many seconds an executable counts as having begun its work.
 PATIENCE = 120
-
-
-def list_files(*words: str) -> list[str]:
-    """List files that git knows, or would."""
-    names = subprocess.check_output(["git", "ls-files", *words], cwd=TOP, text=True).splitlines()
-    return [name for name in names if (TOP / name.split("\t")[-1]).is_file()]
 
 
 def first_line(path: str) -> bytes:

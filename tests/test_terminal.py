@@ -59,9 +59,10 @@ HINTS = {
     "claim, CR": ("check", MACHINE + b" halt 6 4\r\n", RETURN),
     "second line, CR": ("decide", MACHINE + b"\n1RA1RA\r\n", ""),
 }
+SEPARATED = {"1,000,000": "1000000", "1_000": "1000", "1'000": "1000", "1e6": "1000000"}
 
 
-def last_shown(command: Sequence[str], given: bytes, output: str = os.devnull) -> tuple[int, str]:
+def run_on_terminal(command: Sequence[str], given: bytes, output: str = os.devnull) -> tuple[int, str]:
     """Return the status of a command, and what its terminal shows after the last line of progress."""
     with open(output, "wb") as file:
         status, shown = on_terminal(command, given, file)
@@ -70,20 +71,20 @@ def last_shown(command: Sequence[str], given: bytes, output: str = os.devnull) -
 
 @pytest.mark.parametrize("words, fault, advice", REFUSED)
 def test_refused_limits_are_explained(bb: str, words: str, fault: str, advice: str) -> None:
-    assert last_shown([bb, *words.split()], b"") == (2, "bb: %s\n%s\n" % (fault, advice))
+    assert run_on_terminal([bb, *words.split()], b"") == (2, "bb: %s\n%s\n" % (fault, advice))
 
 
 @pytest.mark.parametrize("words, cause", UNREADABLE.items())
 def test_failed_reads_are_explained(bb: str, tmp_path: pathlib.Path, words: str, cause: str) -> None:
     named, expected = (text.replace("FOLDER", str(tmp_path)) for text in (words, cause))
-    assert last_shown([bb, *named.split()], b"") == (3, "bb: read failed\n%s\n" % expected)
+    assert run_on_terminal([bb, *named.split()], b"") == (3, "bb: read failed\n%s\n" % expected)
 
 
 @pytest.mark.parametrize(
     "word, cause", [("check", "standard output: No space left on device (os error 28)\n"), ("--help", "")]
 )
 def test_failed_writes_are_explained(bb: str, word: str, cause: str) -> None:
-    assert last_shown([bb, word], b"1RA1RA halt 1 1\n", "/dev/full") == (3, "bb: write failed\n" + cause)
+    assert run_on_terminal([bb, word], b"1RA1RA halt 1 1\n", "/dev/full") == (3, "bb: write failed\n" + cause)
 
 
 def test_closed_pipe_leaves_the_fixed_line_alone(bb: str) -> None:
@@ -96,22 +97,20 @@ def test_closed_pipe_leaves_the_fixed_line_alone(bb: str) -> None:
 
 @pytest.mark.parametrize("command, given, hint", HINTS.values(), ids=HINTS)
 def test_first_bytes_of_an_input_give_a_hint(bb: str, command: str, given: bytes, hint: str) -> None:
-    assert last_shown([bb, command], given) == (1, hint)
+    assert run_on_terminal([bb, command], given) == (1, hint)
     plain = subprocess.run([bb, command], input=given, capture_output=True)
     assert plain.stderr == b"", "the hint is shown on a terminal alone"
 
 
-@pytest.mark.parametrize(
-    "word, number", [("1,000,000", "1000000"), ("1_000", "1000"), ("1'000", "1000"), ("1e6", "1000000")]
-)
+@pytest.mark.parametrize("word, number", SEPARATED.items())
 def test_number_with_separators_gives_a_hint(bb: str, word: str, number: str) -> None:
-    status, shown = last_shown([bb, "decide", "--steps", word], b"")
+    status, shown = run_on_terminal([bb, "decide", "--steps", word], b"")
     assert status == 2 and shown.endswith("%s: write the number as %s\n" % (word, number))
 
 
 @pytest.mark.parametrize("word", [",1", "1x", "e6", "1e99"])
 def test_other_words_give_no_hint(bb: str, word: str) -> None:
-    status, shown = last_shown([bb, "decide", "--steps", word], b"")
+    status, shown = run_on_terminal([bb, "decide", "--steps", word], b"")
     assert status == 2 and "write the number" not in shown
 
 

@@ -14,12 +14,12 @@ import subprocess
 from typing import Callable, Iterator
 
 import pytest
-from support import TOP, build, require
+from support import TOP, require
 from support.machines import LETTERS, join_groups
 from support.program import run_command
 from support.simulation import simulate
 
-List_ = Callable[..., list[str]]
+Lister = Callable[..., list[str]]
 COUNTS = {1: 3, 2: 61, 3: 5_417, 4: 858_909}
 FIVE_STATES = 181_385_789
 LONGEST = {1: "------", 2: "1RB1LB_1LA---", 3: "1RB---_1LB0RC_1LC1LA", 4: "1RB1LB_1LA0LC_---1LD_1RD0RA"}
@@ -37,14 +37,7 @@ REFUSED = {
 }
 
 
-@pytest.fixture
-def lister() -> str:
-    """The path of the program that lists machines."""
-    require("rustc")
-    return str(build("lister", "tools/out/tree_normal_form"))
-
-
-def undefined_met(entries: list[str], symbols: int, steps: int) -> int | None:
+def find_undefined(entries: list[str], symbols: int, steps: int) -> int | None:
     """Return the place of the undefined entry that a machine meets within so many steps, if any."""
     for now in simulate(join_groups(entries, symbols), steps):
         place = (now.state or 0) * symbols + now.tape.get(now.head, 0)
@@ -56,7 +49,7 @@ def undefined_met(entries: list[str], symbols: int, steps: int) -> int | None:
 def machines_by_definition(entries: list[str], symbols: int, steps: int) -> Iterator[str]:
     """Yield a machine and those that it leads to, by the rules alone: each is run from its first step on."""
     yield join_groups(entries, symbols)
-    met = undefined_met(entries, symbols, steps)
+    met = find_undefined(entries, symbols, steps)
     defined = [entry for entry in entries if entry != "---"]
     if met is None or len(defined) == len(entries) - 1:
         return
@@ -75,14 +68,14 @@ def machines_by_definition(entries: list[str], symbols: int, steps: int) -> Iter
         pytest.param(4, 2, 200, marks=pytest.mark.slow),
     ],
 )
-def test_list_follows_from_definition(list_machines: List_, states: int, symbols: int, steps: int) -> None:
+def test_list_follows_from_definition(list_machines: Lister, states: int, symbols: int, steps: int) -> None:
     expected = list(machines_by_definition(["---"] * states * symbols, symbols, steps))
     assert list_machines(states, "--symbols", str(symbols), "--steps", str(steps)) == expected
     print("%d lines compared" % len(expected))
 
 
 @pytest.mark.parametrize("states", COUNTS)
-def test_list_has_its_known_length_and_its_champion(list_machines: List_, states: int) -> None:
+def test_list_has_its_known_length_and_its_champion(list_machines: Lister, states: int) -> None:
     found = list_machines(states)
     assert len(found) == len(set(found)) == COUNTS[states]
     assert LONGEST[states] in found
@@ -101,7 +94,7 @@ def test_list_of_five_states_has_its_known_length(lister: str) -> None:
 
 
 @pytest.mark.parametrize("states, parts, symbols", [(2, 3, 2), (3, 4, 2), (2, 5, 3), (4, 7, 2)])
-def test_parts_are_together_the_whole(list_machines: List_, states: int, parts: int, symbols: int) -> None:
+def test_parts_are_together_the_whole(list_machines: Lister, states: int, parts: int, symbols: int) -> None:
     words = ["--symbols", str(symbols)]
     whole = list_machines(states, *words)
     places = {line: place for place, line in enumerate(whole)}
@@ -116,7 +109,7 @@ def test_parts_are_together_the_whole(list_machines: List_, states: int, parts: 
 
 @pytest.mark.parametrize("words", [[], ["--part", "2/3"]])
 @pytest.mark.parametrize("every", [1, 2, 7, 1_000, 100_000])
-def test_sample_is_each_so_many_th_line(list_machines: List_, every: int, words: list[str]) -> None:
+def test_sample_is_each_so_many_th_line(list_machines: Lister, every: int, words: list[str]) -> None:
     assert list_machines(3, "--every", str(every), *words) == list_machines(3, *words)[every - 1 :: every]
 
 
@@ -143,32 +136,31 @@ def test_closed_pipe_and_full_disk(lister: str) -> None:
 
 
 @pytest.fixture
-def copy(tmp_path: pathlib.Path) -> dict[str, pathlib.Path]:
-    """A copy of the tool, which isn't compiled there: its script, its source and its program."""
+def tools(tmp_path: pathlib.Path) -> pathlib.Path:
+    """A folder with a copy of the tool, which isn't compiled there."""
     require("rustc")
     (tmp_path / "tools").mkdir()
     for name in ("Makefile", "crates.txt", "tools/tree_normal_form", "tools/tree_normal_form.rs"):
         shutil.copy2(TOP / name, tmp_path / name)
-    tools = tmp_path / "tools"
-    paths = {"script": tools / "tree_normal_form", "source": tools / "tree_normal_form.rs"}
-    return {**paths, "program": tools / "out" / "tree_normal_form"}
+    return tmp_path / "tools"
 
 
-def test_compiled_at_its_first_use_and_after_a_change(copy: dict[str, pathlib.Path]) -> None:
-    script, program = str(copy["script"]), copy["program"]
+def test_compiled_at_its_first_use_and_after_a_change(tools: pathlib.Path) -> None:
+    script, program = str(tools / "tree_normal_form"), tools / "out" / "tree_normal_form"
     at_once = [subprocess.Popen([script, "--help"], stdout=subprocess.DEVNULL) for _ in range(3)]
     assert [process.wait() for process in at_once] == [0, 0, 0]
     assert os.listdir(program.parent) == ["tree_normal_form"]
     before = program.stat().st_mtime_ns
     assert run_command([script, "--states", "1"]).status == 0 and program.stat().st_mtime_ns == before
-    os.utime(copy["source"])
+    os.utime(tools / "tree_normal_form.rs")
     assert run_command([script, "--states", "1"]).status == 0 and program.stat().st_mtime_ns > before
 
 
-def test_missing_compiler_is_named(copy: dict[str, pathlib.Path], tmp_path: pathlib.Path) -> None:
+def test_missing_compiler_is_named(tools: pathlib.Path, tmp_path: pathlib.Path) -> None:
     found = tmp_path / "found"
     found.mkdir()
     for name in ("sh", "dirname", "find", "make", "sed", "mkdir"):
         (found / name).symlink_to(shutil.which(name) or "")
-    status, _, error = run_command([str(copy["script"]), "--states", "1"], env={"PATH": str(found)})
+    command = [str(tools / "tree_normal_form"), "--states", "1"]
+    status, _, error = run_command(command, env={"PATH": str(found)})
     assert status == 3 and b"rustc" in error

@@ -13,10 +13,11 @@ import base64
 import hashlib
 import json
 import pathlib
+import re
 import shlex
 import subprocess
 import sys
-from typing import Any, Dict, Iterator, List
+from typing import Any, Iterator
 
 WEB = pathlib.Path(__file__).resolve().parent
 EXAMPLES = WEB.parent / "examples"
@@ -32,16 +33,14 @@ def bundle(path: str, *options: str) -> str:
     return text
 
 
-def plan_of(words: List[str]) -> Dict[str, Any]:
+def plan_of(words: list[str]) -> dict[str, Any]:
     """Return limits and switches by name from a command's options."""
-    plan: Dict[str, Any] = {word[5:]: False for word in words if word.startswith("--no-")}
-    for word, value in zip(words, words[1:]):
-        if word.startswith("--") and not word.startswith("--no-"):
-            plan[word[2:]] = value
-    return plan
+    text = " ".join(words)
+    off = dict.fromkeys(re.findall(r"--no-(\w+)", text), False)
+    return {**off, **dict(re.findall(r"--(\w+) (\S+)", text))}
 
 
-def examples() -> Iterator[Dict[str, Any]]:
+def examples() -> Iterator[dict[str, Any]]:
     """Yield the examples with lists of their own."""
     for path in sorted(EXAMPLES.glob("*/lines.txt")):
         call, *words = shlex.split((path.parent / "command").read_text(encoding="utf-8"))

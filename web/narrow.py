@@ -11,7 +11,7 @@ end of 32-bit memory. Unknown forms of pointers are refused with exit status 1 a
 
 import re
 import sys
-from typing import Iterator, List, NoReturn
+from typing import Iterator
 
 TARGET = 'target triple = "wasm32-unknown-unknown"\n'
 # Attributes of the original processor.
@@ -45,10 +45,6 @@ SAME = [
 KNOWN = re.compile("|".join("(?:%s)" % form for form in SAME))
 
 
-def refuse(line: str) -> NoReturn:
-    sys.exit("narrow: %s isn't known here" % line.strip()[:200])
-
-
 def replace_pairs(line: str) -> str:
     """Replace pointers in pairs by 64-bit numbers, their size in memory."""
     return PAIR.sub(lambda pair: pair[0].replace("ptr", "i64"), line)
@@ -70,7 +66,7 @@ CHANGED = {
 }
 
 
-def narrow_line(line: str, at: str) -> List[str]:
+def narrow_line(line: str, at: str) -> list[str]:
     """Return the lines that do the same with 32-bit pointers; `at` is a fresh name."""
     if not POINTER.search(QUOTED.sub('""', line)):
         return [line]
@@ -80,7 +76,7 @@ def narrow_line(line: str, at: str) -> List[str]:
             return [replace_pairs(found.expand(one.replace("%X", at))) for one in rewritten]
     same = replace_pairs(line)
     if not KNOWN.fullmatch(same):
-        refuse(line)
+        sys.exit("narrow: %s isn't known here" % line.strip()[:200])
     return [same]
 
 

@@ -1,7 +1,5 @@
 """Helpers that tests in several folders share."""
 
-from __future__ import annotations
-
 import fcntl
 import functools
 import importlib.util
@@ -26,15 +24,11 @@ def debian_package(program: str) -> str:
 
 def missing_requirements(programs: Sequence[str], modules: Sequence[str] = ()) -> list[str]:
     """List the programs and Python modules that aren't installed, each with its Debian package."""
-    missing = [
-        "%s isn't installed (Debian: %s)" % (program, debian_package(program))
-        for program in programs
-        if shutil.which(program) is None
-    ]
-    for module in modules:
-        if importlib.util.find_spec(module) is None:
-            missing.append("Python has no %s (Debian: python3-%s, for /usr/bin/python3)" % (module, module))
-    return missing
+    absent = [program for program in programs if shutil.which(program) is None]
+    missing = ["%s isn't installed (Debian: %s)" % (name, debian_package(name)) for name in absent]
+    unknown = [module for module in modules if importlib.util.find_spec(module) is None]
+    words = "Python has no %s (Debian: python3-%s, for /usr/bin/python3)"
+    return missing + [words % (module, module) for module in unknown]
 
 
 def require(*programs: str, modules: Sequence[str] = ()) -> None:
@@ -66,6 +60,12 @@ def build(target: str, path: str) -> pathlib.Path:
         done = subprocess.run(["make", "-s", target], cwd=TOP, capture_output=True, text=True)
     assert done.returncode == 0, "make %s failed:\n%s%s" % (target, done.stdout, done.stderr)
     return built
+
+
+def list_files(*words: str) -> list[str]:
+    """List the rows of `git ls-files` by these words whose files exist, from the top."""
+    rows = subprocess.check_output(["git", "ls-files", *words], cwd=TOP, text=True).splitlines()
+    return [row for row in rows if (TOP / row.split("\t")[-1]).is_file()]
 
 
 def restore_signals() -> None:

@@ -9,9 +9,9 @@ import pathlib
 import signal
 import threading
 import time
-from typing import Any, Callable, NamedTuple, Sequence
+from typing import Any, Callable, Sequence
 
-from .program import LIMITS, SWITCHES, run_command, words_of_plan
+from .program import SWITCHES, run_command, words_of_plan
 
 # Records the longest task that blocked the page, in milliseconds.
 WATCH = """
@@ -22,6 +22,10 @@ new PerformanceObserver((list) => list.getEntries().forEach((entry) => {
 """
 # Overrides the number of cores.
 CORES = "Object.defineProperty(navigator, 'hardwareConcurrency', { get: () => %d });"
+DISPATCH = """
+const [name, event] = arguments;
+document.getElementById(name).dispatchEvent(new Event(event, { bubbles: true }));
+"""
 DROP = """
 const moved = new DataTransfer();
 moved.items.add(document.getElementById("file").files[0]);
@@ -78,45 +82,10 @@ ENDING = 20
 # A machine that never halts, and limits at which it runs for hours.
 LONG = "0RB---_0LA---"
 ENDLESS: dict[str, Any] = {"steps": 10**12, "cells": 64, "depth": 9, **{name: False for name in SWITCHES}}
-# The indexes of unvisited cells and of the head in the palette.
-UNVISITED, HEAD = 10, 11
-
-
-class Row(NamedTuple):
-    """A step of a run: its state, head, lowest visited position, and the symbols from there."""
-
-    step: int
-    state: str
-    head: int
-    low: int
-    cells: str
-
-    def read(self, position: int) -> int:
-        """Return the symbol read at a position."""
-        symbol = self.symbol(position)
-        return 0 if symbol == UNVISITED else symbol
-
-    @property
-    def state_words(self) -> str:
-        return "halted" if self.state == "Z" else "state " + self.state
-
-    def place_words(self, position: int) -> str:
-        """Return the page's description of a position at this step."""
-        symbol = self.symbol(position)
-        cell = "not visited yet" if symbol == UNVISITED else "symbol %d" % symbol
-        head = "here" if position == self.head else "at " + format_number(self.head)
-        words = (format_number(self.step), self.state_words, format_number(position), cell, head)
-        return "Step %s, %s; position %s: %s; the head is %s." % words
-
-    def symbol(self, position: int) -> int:
-        """Return the symbol at a position, or UNVISITED."""
-        at = position - self.low
-        return int(self.cells[at]) if 0 <= at < len(self.cells) else UNVISITED
-
-
-def format_number(number: int) -> str:
-    """Format a number as the page does."""
-    return "{:,}".format(number).replace("-", "\u2212")
+# The index of the head in the palette.
+HEAD = 11
+# The numbers of a diagram's view by name.
+View = dict[str, float]
 
 
 def contrast(one: Sequence[float], two: Sequence[float]) -> float:
@@ -131,31 +100,19 @@ def contrast(one: Sequence[float], two: Sequence[float]) -> float:
     return (high + 0.05) / (low + 0.05)
 
 
-def trace(program: str, machine: str, steps: int, cells: int = 65_536) -> list[Row]:
-    command = [program, "trace", "--upto", str(steps), "--cells", str(cells), "--", machine]
-    rows, low = [], 0
-    for line in run_command(command).output.decode().splitlines():
-        step, state, head, symbols = line.split()
-        low = min(low, int(head)) if state != "Z" else low
-        rows.append(Row(int(step), state, int(head), low, symbols))
-    return rows
-
-
-def soon(what: Callable[[], object], patience: float = 10.0) -> bool:
-    """Return whether a condition becomes true within some seconds."""
+def soon(what: Callable[[], Any], patience: float = 10.0) -> Any:
+    """Return a result once it is true, or the last one after some seconds."""
     end = time.monotonic() + patience
-    while not what():
-        if time.monotonic() > end:
-            return False
+    while not (found := what()) and time.monotonic() < end:
         time.sleep(0.01)
-    return True
+    return found
 
 
 def is_whole(path: str) -> bool:
     return os.path.exists(path) and os.path.getsize(path) > 0 and not os.path.exists(path + ".crdownload")
 
 
-class Page:
+class Page(contextlib.ExitStack):
     """A page in its own browser, closed at the end of a `with` block. `folder` gets its downloads; `program` is
     the reference; `cores` overrides the number of cores."""
 
@@ -171,9 +128,8 @@ class Page:
     ) -> None:
         # Imported late: without selenium the page's tests are skipped.
         from selenium import webdriver
-        from selenium.webdriver.chrome.service import Service
-        from selenium.webdriver.remote.remote_connection import RemoteConnection
 
+        super().__init__()
         options = webdriver.ChromeOptions()
         for word in ("--headless=new", "--no-sandbox", "--window-size=%d,%d" % (width, height)):
             options.add_argument(word)
@@ -181,10 +137,12 @@ class Page:
             metrics = {"deviceMetrics": {"width": width, "height": height, "pixelRatio": 2.0}}
             options.add_experimental_option("mobileEmulation", metrics)
         options.set_capability("goog:loggingPrefs", {"browser": "ALL", "performance": "ALL"})
-        RemoteConnection.set_timeout(COMMAND)
-        service = Service("/usr/bin/chromedriver", popen_kw={"start_new_session": True})
+        webdriver.remote.remote_connection.RemoteConnection.set_timeout(COMMAND)
+        own_group = {"start_new_session": True}
+        service = webdriver.chrome.service.Service("/usr/bin/chromedriver", popen_kw=own_group)
         self.driver = webdriver.Chrome(options=options, service=service)
         self.process: int = service.process.pid
+        self.callback(self.end)
         self.driver.set_script_timeout(SCRIPT)
         self.driver.set_page_load_timeout(SCRIPT)
         self.folder, self.path, self.program = str(folder), str(path), program
@@ -210,7 +168,7 @@ class Page:
         self.driver.get("file://" + self.path + link)
         self.wait_until_done()
 
-    def open_machine(self, machine: str, query: str = "") -> dict[str, float]:
+    def open_machine(self, machine: str, query: str = "") -> View:
         """Open a machine by a link with more parameters, and wait until its diagram is drawn."""
         self.open("#machine=%s%s" % (machine, query))
         return self.wait_until_drawn()
@@ -250,26 +208,20 @@ class Page:
         for key in keys:
             element.send_keys(key)
 
-    def type(self, name: str, text: str) -> None:
-        """Set a field's text, with an input event."""
+    def type(self, name: str, text: str, event: str = "input") -> None:
+        """Set a field's text, with an event."""
         self.put(name, "value", text)
-        self.dispatch(name, "input")
+        self.js(DISPATCH, name, event)
 
     def choose_option(self, name: str, value: str) -> None:
         """Choose an option of a menu by its value."""
-        self.put(name, "value", value)
-        self.dispatch(name, "change")
+        self.type(name, value, "change")
 
     def choose_example(self, name: str) -> None:
         """Choose an example by its name, and wait for its results."""
         script = "return [...arguments[0]].find((one) => one.text === arguments[1]).value"
         options = self.get("examples", "options")
         self.await_answer(lambda: self.choose_option("examples", self.js(script, options, name)))
-
-    def dispatch(self, name: str, event: str) -> None:
-        """Dispatch an event to an element."""
-        element = self.driver.find_element("id", name)
-        self.js("arguments[0].dispatchEvent(new Event(arguments[1], { bubbles: true }))", element, event)
 
     def await_answer(self, act: Callable[[], object]) -> None:
         """Run an action that starts a list, and wait for its results."""
@@ -286,12 +238,22 @@ class Page:
         self.type("list", "".join(line + "\n" for line in lines))
         self.await_answer(self.run)
 
+    def run_endless(self, *lines: str) -> None:
+        """Type a list whose machines run for hours, and start it."""
+        self.plan(ENDLESS, "decide")
+        self.type("list", "".join(line + "\n" for line in lines))
+        self.run()
+
+    def open_facts(self, machine: str, query: str = "") -> None:
+        """Open a machine by a link, and wait for its facts."""
+        self.open("#machine=%s%s" % (machine, query))
+        self.until(lambda: "\u2026" not in self.text("facts"))
+
     def open_row(self, row: int) -> None:
         self.js("document.querySelectorAll('#shown .row')[arguments[0]].click()", row)
 
     def rows(self) -> list[list[str]]:
-        found: list[list[str]] = self.js(ROWS)
-        return found
+        return list(self.js(ROWS))
 
     def media(self, **features: str) -> None:
         """Emulate media features, such as `prefers_color_scheme="dark"`."""
@@ -300,32 +262,32 @@ class Page:
 
     def until(self, what: Callable[[], Any]) -> Any:
         """Wait for a true result, and return it."""
-        end = time.monotonic() + PATIENCE
-        while not (found := what()):
-            assert time.monotonic() < end, "timeout: %s" % self.text("status")
-            time.sleep(0.01)
+        found = soon(what, PATIENCE)
+        assert found, "timeout: %s" % self.text("status")
         return found
 
     def tape_is_at(self, step: str) -> bool:
         """Return whether the tape soon shows a step; `step` is the beginning of its text."""
-        return soon(lambda: self.text("tape-text").startswith("Step %s" % step))
+        return bool(soon(lambda: self.text("tape-text").startswith("Step %s" % step)))
 
-    def state(self) -> str | None:
+    def state(self) -> str:
         """Return the state of the run: requested, running, done, stopped or ended."""
-        state: str | None = self.js("return document.getElementById('results').dataset.state")
-        return state
+        return str(self.js("return document.getElementById('results').dataset.state"))
 
     def wait_until_done(self) -> None:
         """Wait until the run is over."""
         self.until(lambda: self.state() in ("done", "stopped", "ended"))
 
-    def wait_until_drawn(self) -> dict[str, float]:
-        """Wait until the diagram is drawn, and return the numbers of its view."""
+    def wait_until_drawn(self, is_wanted: Callable[[View], bool] = bool) -> View:
+        """Wait until the diagram is drawn, and some seconds for a wanted view; return the view's numbers."""
         script = "return {...document.getElementById('diagram').dataset}"
-        drawn: dict[str, str] = self.until(
-            lambda: (found := self.js(script)).get("state") == "drawn" and found
-        )
-        return {name: float(value) for name, value in drawn.items() if name != "state"}
+
+        def view() -> View:
+            drawn = self.until(lambda: (found := self.js(script)).get("state") == "drawn" and found)
+            return {name: float(value) for name, value in drawn.items() if name != "state"}
+
+        found: View = soon(lambda: is_wanted(drawn := view()) and drawn) or view()
+        return found
 
     def time_drawing(self, script: str, *words: Any) -> float:
         """Return the seconds from a script until the diagram is drawn again, by the page's clock."""
@@ -337,6 +299,9 @@ class Page:
 
     def size(self) -> tuple[int, int]:
         return self.get("diagram", "clientWidth"), self.get("diagram", "clientHeight")
+
+    def focus_on(self, name: str) -> None:
+        self.js("document.getElementById(arguments[0]).focus()", name)
 
     def scroll_to_diagram(self) -> None:
         self.js("document.getElementById('diagram').scrollIntoView({ block: 'center' })")
@@ -357,19 +322,14 @@ class Page:
 
     def pixels(self, places: list[list[float]]) -> list[list[int]]:
         """Return the diagram's colours at places, in page pixels from the picture's corner."""
-        found: list[list[int]] = self.js(PIXELS, places)
-        return found
+        return list(self.js(PIXELS, places))
 
     def plan(self, plan: dict[str, Any], mode: str, clean: bool = False) -> None:
         """Set the fields, missing ones to their defaults."""
         self.click("defaults")
-        for name in LIMITS:
-            if name in plan:
-                self.put(name, "value", str(plan[name]))
-        checked = {name: plan.get(name, True) for name in SWITCHES}
-        for name, value in {**checked, "clean": clean}.items():
-            self.put(name, "checked", value)
-        self.put("mode", "value", mode)
+        for name, value in {"mode": mode, **plan}.items():
+            self.put(name, "checked" if name in SWITCHES else "value", value)
+        self.put("clean", "checked", clean)
 
     def run(self) -> None:
         """Start the list without waiting."""
@@ -432,12 +392,6 @@ class Page:
     def errors(self) -> list[str]:
         """Return the errors in the console."""
         return [entry["message"] for entry in self.driver.get_log("browser") if entry["level"] == "SEVERE"]
-
-    def __enter__(self) -> Page:
-        return self
-
-    def __exit__(self, *_: object) -> None:
-        self.end()
 
     def quit(self) -> None:
         """Quit the browser, ignoring errors."""

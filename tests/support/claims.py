@@ -3,7 +3,7 @@ verdicts become when something is changed, and claims of pairs and trees that ar
 
 import itertools
 import random
-from typing import Iterable, Iterator, Sequence
+from typing import Callable, Iterable, Iterator, Sequence
 
 from .machines import SWAPPED, table_of
 from .simulation import simulate
@@ -41,12 +41,12 @@ def trees_of(text: str, levels: int, nodes: int) -> Iterator[str]:
             yield "%s backward %d %d" % (text, h, k)
 
 
-def with_number(source: random.Random, fields: list[str]) -> list[str]:
-    """A number one up or down."""
+def with_number(source: random.Random, fields: list[str], more: Sequence[int] = (-1, 1)) -> list[str]:
+    """A number one up or down, or changed by another of these."""
     places = [k for k, field in enumerate(fields) if k and field.isdecimal()]
     if places:
         at = source.choice(places)
-        fields[at] = str(abs(int(fields[at]) + source.choice((-1, 1))))
+        fields[at] = str(abs(int(fields[at]) + source.choice(more)))
     return fields
 
 
@@ -101,8 +101,10 @@ def lengthen(source: random.Random, fields: list[str]) -> list[str]:
 
 
 # The changes, and how often each is made beside the others.
-CHANGES = {with_number: 6, with_pair: 5, with_side: 2, with_kind: 2, with_machine: 2, with_text: 2}
-CHANGES.update({with_odd_number: 1, lengthen: 1})
+CHANGES: dict[Callable[[random.Random, list[str]], list[str]], int] = {
+    **{with_number: 6, with_pair: 5, with_odd_number: 1, lengthen: 1},
+    **dict.fromkeys((with_side, with_kind, with_machine, with_text), 2),
+}
 
 
 def forge(source: random.Random, lines: Sequence[str], count: int) -> Iterator[str]:
@@ -113,12 +115,7 @@ def forge(source: random.Random, lines: Sequence[str], count: int) -> Iterator[s
 
 def with_other_number(line: str, source: random.Random) -> str:
     """A verdict line with one number changed."""
-    fields = line.split(" ")
-    numbers = [k for k, field in enumerate(fields) if k and field.isdigit()]
-    if numbers:
-        at = source.choice(numbers)
-        fields[at] = str(max(0, int(fields[at]) + source.choice([-2, -1, 1, 2, 1000])))
-    return " ".join(fields)
+    return " ".join(with_number(source, line.split(" "), (-2, -1, 1, 2, 1000)))
 
 
 def refusals(numbers: Iterable[int]) -> Iterator[str]:
@@ -128,20 +125,15 @@ def refusals(numbers: Iterable[int]) -> Iterator[str]:
         yield "refused 0%d" % number
 
 
-def last_step(line: str) -> int:
-    """The last step that a line of a halt, a cycler or a translated cycler names; -1 in others."""
-    fields = line.split(" ")
-    at = {"halt": 2, "cycler": 3, "translated": 4}.get(fields[1], 0)
-    return int(fields[at]) if at else -1
-
-
 def tight_limits(line: str) -> Iterator[tuple[Sequence[int], str]]:
     """A line of a run, with limits that are just enough and just not: of steps, and of cells with and without
     one more, to which a step into Z may lead."""
-    last = last_step(line)
-    if last < 0:
+    fields = line.split(" ")
+    at = {"halt": 2, "cycler": 3, "translated": 4}.get(fields[1])
+    if at is None:
         return
-    *_, end = simulate(line.split(" ")[0], last)
+    last = int(fields[at])
+    *_, end = simulate(fields[0], last)
     wide = end.high - end.low + 1
     for steps, cells in ((last, wide), (last, wide + 1), (last, wide - 1), (last - 1, wide)):
         if steps >= 0 and cells >= 1:

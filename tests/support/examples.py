@@ -4,8 +4,6 @@
 writes, and `status` the status that it ends with (none: 0). Words that name files are read from the top.
 """
 
-from __future__ import annotations
-
 import dataclasses
 import pathlib
 from typing import Any, Iterator
@@ -35,7 +33,7 @@ class Example:
     @property
     def plan(self) -> dict[str, Any]:
         """Limits and switches by name."""
-        return plan_of([word for word in self.words[1:] if not word.startswith("examples/")])
+        return plan_of(self.words)
 
     @property
     def lines(self) -> bytes:

@@ -2,13 +2,9 @@
 
 from typing import Any, Sequence
 
-from .browser import Page
+from .browser import Page, View
 
 Point = tuple[float, float]
-View = dict[str, float]
-# Key codes by name.
-KEY_NUMBERS = {"Tab": 9, "Enter": 13}
-SHIFT = 8
 # The moves of a gesture.
 MOVES = 12
 # The canvas's corner in the window, inside its border.
@@ -22,7 +18,8 @@ return [x + canvas.clientLeft, y + canvas.clientTop];
 class Keys:
     """Keys as WebDriver encodes them."""
 
-    ENTER, SPACE, END, HOME = "\ue007", "\ue00d", "\ue010", "\ue011"
+    TAB, ENTER, SHIFT = "\ue004", "\ue007", "\ue008"
+    SPACE, END, HOME = "\ue00d", "\ue010", "\ue011"
     ARROW_LEFT, ARROW_UP, ARROW_RIGHT, ARROW_DOWN = "\ue012", "\ue013", "\ue014", "\ue015"
 
 
@@ -36,14 +33,9 @@ def send_touch(page: Page, kind: str, places: Sequence[Point]) -> None:
     page.command("Input.dispatchTouchEvent", type=kind, touchPoints=points)
 
 
-def press_key(page: Page, name: str, shift: bool = False) -> None:
-    words: dict[str, Any] = {"key": name, "code": name, "windowsVirtualKeyCode": KEY_NUMBERS[name]}
-    words["modifiers"] = SHIFT if shift else 0
-    if name == "Enter":
-        words["text"] = "\r"
-    kind = "keyDown" if name == "Enter" else "rawKeyDown"
-    page.command("Input.dispatchKeyEvent", type=kind, **words)
-    page.command("Input.dispatchKeyEvent", type="keyUp", **words)
+def press_key(page: Page, key: str, shift: bool = False) -> None:
+    """Press a key in the focused element."""
+    page.driver.switch_to.active_element.send_keys(Keys.SHIFT + key if shift else key)
 
 
 def type_text(page: Page, text: str) -> None:

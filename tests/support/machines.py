@@ -11,6 +11,10 @@ SWAPPED = str.maketrans("LR", "RL")
 # The champion of five states, and after how many steps it halts; that of four.
 CHAMPION, CHAMPION_STEPS = "1RB1LC_1RC1RB_1RD0LE_1LA1LD_1RZ0LA", 47_176_870
 CHAMPION_OF_FOUR = "1RB1LB_1LA0LC_1RZ1LD_1RD0RA"
+# It halts after 6 steps, with 4 nonzero cells.
+HALT = "1RB1LB_1LA1RZ"
+# The champion of four states, endless to the right instead of its halt; a machine that its tree decides.
+LATE, TREE = "1RB1LB_1LA0LC_1RE1LD_1RD0RA_1RE1RE", "1RB1LB_1LA0RC_0LD1RC_---1LA"
 
 
 def text_of(table: Iterable[Sequence[str]]) -> str:

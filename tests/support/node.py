@@ -1,5 +1,6 @@
 """The engine as WebAssembly in a process of Node."""
 
+import contextlib
 import itertools
 import json
 import pathlib
@@ -7,6 +8,7 @@ import subprocess
 from typing import Any, NamedTuple
 
 from . import TOP
+from .program import run_command, words_of_plan
 
 MODULE = TOP / "web" / "out" / "bb.wasm"
 
@@ -29,20 +31,23 @@ class CallResult(NamedTuple):
     answer: dict[str, Any]
 
 
-class Engine:
-    """A Node process that answers calls; bytes pass through files in a folder."""
+class Engine(contextlib.ExitStack):
+    """A Node process that answers calls until its `with` block ends; bytes pass through files in a folder."""
 
-    def __init__(self, folder: object, module: object = MODULE) -> None:
+    def __init__(self, folder: object, module: object = MODULE, program: str = "") -> None:
+        super().__init__()
+        self.program = program
         command = ["node", str(TOP / "web" / "tests" / "engine.mjs"), str(module)]
         pipe = subprocess.PIPE
-        self.process = subprocess.Popen(command, stdin=pipe, stdout=pipe, text=True)
+        process = self.enter_context(subprocess.Popen(command, stdin=pipe, stdout=pipe, text=True))
+        assert process.stdin and process.stdout
+        self.jobs, self.replies = process.stdin, process.stdout
         self.given, self.out = (pathlib.Path(str(folder)) / name for name in ("given", "out"))
-        self.about = self.line()
+        self.about = self.read_reply()
 
-    def line(self) -> dict[str, Any]:
+    def read_reply(self) -> dict[str, Any]:
         """Return the process's next line; empty at its end."""
-        assert self.process.stdout
-        answer: dict[str, Any] = json.loads(self.process.stdout.readline() or "{}")
+        answer: dict[str, Any] = json.loads(self.replies.readline() or "{}")
         return answer
 
     def call(self, name: str, plan: dict[str, Any], given: bytes, **more: int) -> CallResult:
@@ -50,15 +55,19 @@ class Engine:
         self.given.write_bytes(given)
         files = {"given": str(self.given), "out": str(self.out)}
         job: dict[str, Any] = {"call": name, "plan": plan, **files, **more}
-        assert self.process.stdin
-        self.process.stdin.write(json.dumps(job) + "\n")
-        self.process.stdin.flush()
-        answer = self.line()
+        print(json.dumps(job), file=self.jobs, flush=True)
+        answer = self.read_reply()
         if "clean" not in answer:
             return CallResult(2, b"", answer)
         return CallResult(0 if answer["clean"] else 1, self.out.read_bytes(), answer)
 
-    def end(self) -> None:
-        assert self.process.stdin
-        self.process.stdin.close()
-        self.process.wait()
+    def program_output(self, name: str, plan: dict[str, Any], given: bytes) -> bytes:
+        """Return the program's output."""
+        return run_command([self.program, name, *words_of_plan(plan)], given).output
+
+    def require_same(self, name: str, plan: dict[str, Any], given: bytes) -> bytes:
+        """Require a call's reply to be the program's, and return it."""
+        found = self.call(name, plan, given)
+        wanted = run_command([self.program, name, *words_of_plan(plan)], given)
+        assert (found.status, found.reply) == (wanted.status, wanted.output), (name, plan, found.answer)
+        return found.reply

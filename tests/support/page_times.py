@@ -35,16 +35,16 @@ def steps_seen(page: Page) -> float:
     return height(page) / float(view["high"]) * float(view["every"])
 
 
-def zoom_late(page: Page, notches: float) -> float:
-    """Turn the wheel at the late step, and return the seconds until the view is drawn."""
+def zoom_after(page: Page, notches: float, pause: float) -> float:
+    """After a pause turn the wheel at the late step, and return the seconds until the view is drawn."""
+    time.sleep(pause)
     view = page.wait_until_drawn()
     down = (LATE - view["top"]) / view["every"] * view["high"]
     return float(page.time_zoom(notches, RIGHT, min(max(down, 0), height(page) - LOWEST)))
 
 
 def open_champion(page: Page, steps: int) -> None:
-    page.open("#machine=%s&steps=%d" % (CHAMPION, steps))
-    page.wait_until_drawn()
+    page.open_machine(CHAMPION, "&steps=%d" % steps)
     time.sleep(1)
 
 
@@ -53,22 +53,14 @@ def views(page: Page, pause: float) -> list[float]:
     open_champion(page, STEPS)
     taken: list[float] = []
     while steps_seen(page) > SEEN and len(taken) < MOST_GESTURES:
-        time.sleep(pause)
-        taken.append(zoom_late(page, NOTCHES))
-    for _ in range(len(taken)):
-        time.sleep(pause)
-        taken.append(zoom_late(page, -NOTCHES))
-    return taken
+        taken.append(zoom_after(page, NOTCHES, pause))
+    return taken + [zoom_after(page, -NOTCHES, pause) for _ in taken]
 
 
 def traced_views(page: Page, pause: float) -> list[float]:
     """Zoom at the late step by small turns; return the seconds of each view."""
     open_champion(page, STEPS)
-    taken: list[float] = []
-    for _ in range(SMALL_TURNS):
-        time.sleep(pause)
-        taken.append(zoom_late(page, SMALL_TURN))
-    return taken
+    return [zoom_after(page, SMALL_TURN, pause) for _ in range(SMALL_TURNS)]
 
 
 def end(page: Page) -> float:

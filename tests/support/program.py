@@ -1,9 +1,15 @@
 """The built program as the checks run it: over lines, with limits and switches, and how long it takes."""
 
+from __future__ import annotations
+
+import itertools
+import random
+import re
 import resource
 import subprocess
-from typing import Any, Dict, Iterable, List, Mapping, NamedTuple, Optional, Sequence
+from typing import Any, Callable, Iterable, Iterator, Mapping, NamedTuple, Sequence, TypeVar
 
+Limits = TypeVar("Limits")
 LIMITS = ("steps", "cells", "depth", "nodes")
 SWITCHES = ("cyclers", "translated", "backward")
 # The greatest limits: of steps, cells, levels and nodes.
@@ -11,7 +17,7 @@ GREATEST = (1_000_000_000_000, 67_108_864, 10_000, 1_000_000_000_000)
 MAX_STEPS, MAX_CELLS = GREATEST[:2]
 # The words that turn all deciders off.
 SIMULATION = ["--no-cyclers", "--no-translated", "--no-backward"]
-PLANS: List[List[str]] = [[], ["--no-backward"], ["--no-cyclers", "--no-translated"]]
+PLANS: list[list[str]] = [[], ["--no-backward"], ["--no-cyclers", "--no-translated"]]
 # Steps, cells, levels and nodes. Where none of the four is smaller than those of an earlier row, what was
 # decided there has to stay decided.
 ROWS = [
@@ -25,20 +31,41 @@ ROWS = [
     (1_000, 599, 300, 1_000),
     (10_000, 4_096, 300, 1_000),
 ]
+# Limits by name: of the list of all machines of four states, and the greatest.
+FOUR = {"steps": 200, "cells": 256, "depth": 20, "nodes": 1_000}
+MOST = dict(zip(LIMITS, GREATEST))
 
 
-def words_of_plan(plan: Mapping[str, int]) -> List[str]:
+def all_plans() -> Iterator[dict[str, Any]]:
+    """Every plan at every row of limits, by name."""
+    for numbers, switches in itertools.product(ROWS, itertools.product([True, False], repeat=3)):
+        yield {**dict(zip(LIMITS, numbers)), **dict(zip(SWITCHES, switches))}
+
+
+def random_plan(source: random.Random) -> dict[str, Any]:
+    """Limits that are accepted, small ones more often, and switches, by name."""
+    cells = int(2 ** source.uniform(0, 13))
+    return {
+        "steps": int(10 ** source.uniform(0, 4)),
+        "cells": cells,
+        "depth": source.randint(0, min(300, (cells + 1) // 2)),
+        "nodes": int(10 ** source.uniform(0, 4)),
+        **{name: source.random() < 0.7 for name in SWITCHES},
+    }
+
+
+def words_of_plan(plan: Mapping[str, int]) -> list[str]:
     """The program's words for limits and switches by name; a switch that is on has none."""
     limits = ["--%s=%d" % (name, value) for name, value in plan.items() if name not in SWITCHES]
     return limits + ["--no-" + name for name in SWITCHES if not plan.get(name, True)]
 
 
-def options(limits: Iterable[int]) -> List[str]:
+def options(limits: Iterable[int]) -> list[str]:
     """The options that ask for limits of steps, cells, levels and nodes, or of the first of these."""
     return ["--%s=%d" % pair for pair in zip(LIMITS, limits)]
 
 
-def options_of_pass(limits: str) -> List[str]:
+def options_of_pass(limits: str) -> list[str]:
     """The options for limits as `budlarem run --pass` takes them, as `steps=5,cells=7`."""
     return ["--" + limit for limit in limits.split(",")]
 
@@ -52,10 +79,7 @@ class CommandResult(NamedTuple):
 
 
 def run_command(
-    command: Sequence[str],
-    given: bytes = b"",
-    cwd: Optional[str] = None,
-    env: Optional[Mapping[str, str]] = None,
+    command: Sequence[str], given: bytes = b"", cwd: str | None = None, env: Mapping[str, str] | None = None
 ) -> CommandResult:
     """Runs a command over these bytes to its end, in a folder and an environment where they are given."""
     done = subprocess.run(command, input=given, capture_output=True, cwd=cwd, env=env)
@@ -67,7 +91,7 @@ def as_lines(lines: Iterable[str]) -> bytes:
     return "".join(line + "\n" for line in lines).encode("utf-8", "surrogatepass")
 
 
-def replies(command: Sequence[str], lines: Iterable[str]) -> List[str]:
+def replies(command: Sequence[str], lines: Iterable[str]) -> list[str]:
     """The lines that a command of the program answers to these. It must end with status 0, or with 1 as where
     an answer isn't clean, and say nothing on standard error."""
     status, output, error = run_command(command, as_lines(lines))
@@ -75,9 +99,24 @@ def replies(command: Sequence[str], lines: Iterable[str]) -> List[str]:
     return output.decode().splitlines()
 
 
-def verdict_of(line: str) -> str:
-    """The verdict of a line, without its machine."""
-    return line.partition(" ")[2]
+def decide_in_passes(
+    decide: Callable[[bytes, Limits], bytes], given: bytes, passes: Sequence[Limits]
+) -> bytes:
+    """The verdicts of a list, in its order; each pass decides what those before it left undecided."""
+    lines = decide(given, passes[0]).splitlines(keepends=True)
+    for limits in passes[1:]:
+        left = [place for place, line in enumerate(lines) if b" undecided " in line]
+        machines = b"".join(lines[place].split()[0] + b"\n" for place in left)
+        for place, line in zip(left, decide(machines, limits).splitlines(keepends=True)):
+            lines[place] = line
+    return b"".join(lines)
+
+
+def decide_machines(program: str, machines: Sequence[str], *words: str) -> list[str]:
+    """The verdict of each of some machines, without the machine."""
+    verdicts = [line.partition(" ")[2] for line in replies([program, "decide", *words], machines)]
+    assert len(verdicts) == len(machines) > 0
+    return verdicts
 
 
 def kind_of(line: str) -> str:
@@ -92,30 +131,17 @@ def processor_time() -> float:
     return used.ru_utime + used.ru_stime
 
 
-def begins_modulo_64(built: str) -> List[int]:
+def begins_modulo_64(built: str) -> list[int]:
     """Where the function of the watched run begins in a program or library, modulo 64. On a processor that is
     slow at branches that cross a multiple of 32 bytes, that makes a tenth of the time of short runs. It takes
     `nm`; FileNotFoundError where there is none."""
     symbols = run_command(["nm", built]).output.decode("utf-8", "replace").splitlines()
-    return [
-        int(symbol.split()[0], 16) % 64
-        for symbol in symbols
-        if "single_pass::continue_single_pass::" in symbol
-    ]
+    begins = [symbol.split()[0] for symbol in symbols if "single_pass::continue_single_pass::" in symbol]
+    return [int(begin, 16) % 64 for begin in begins]
 
 
-def plan_of(words: List[str]) -> Dict[str, Any]:
+def plan_of(words: list[str]) -> dict[str, Any]:
     """Read limits and switches by name from words such as `--steps 5 --no-cyclers`."""
-    plan: Dict[str, Any] = {}
-    waiting: Optional[str] = None
-    for word in words:
-        if waiting:
-            plan[waiting], waiting = int(word), None
-        elif word.startswith("--no-"):
-            plan[word[5:]] = False
-        elif "=" in word:
-            name, value = word[2:].split("=")
-            plan[name] = int(value)
-        else:
-            waiting = word[2:]
-    return plan
+    text = " ".join(words)
+    limits = {name: int(value) for name, value in re.findall(r"--(\w+)[ =](\d+)", text)}
+    return {**limits, **dict.fromkeys(re.findall(r"--no-(\w+)", text), False)}

@@ -15,6 +15,8 @@ from budlarem import Limits, commands
 from budlarem.counts import KINDS as KINDS_OF_VERDICTS, VerdictCounts
 from budlarem.runner import chunks, folder, input, journal, local, passes, progress, remote
 
+from .program import decide_in_passes
+
 # Two that halt, a cycler, two translated cyclers, three that small limits leave, one of which larger ones
 # decide, and two that are no machines.
 KINDS = (
@@ -42,14 +44,7 @@ class PoolBackend(remote.ExecutorBackend):
 
 def expected_verdicts(given: bytes, limits: Sequence[Limits] = PASSES) -> bytes:
     """The verdict lines of a list, by one call for each pass."""
-    lines = b"".join(budlarem.decide_bytes(given, limits[0])).splitlines(keepends=True)
-    for limit in limits[1:]:
-        left = [place for place, line in enumerate(lines) if b" undecided " in line]
-        machines = b"".join(lines[place].split()[0] + b"\n" for place in left)
-        later = b"".join(budlarem.decide_bytes(machines, limit)).splitlines(keepends=True)
-        for place, line in zip(left, later):
-            lines[place] = line
-    return b"".join(lines)
+    return decide_in_passes(lambda *asked: b"".join(budlarem.decide_bytes(*asked)), given, limits)
 
 
 def reseal(reply: chunks.ChunkReply, written: bytes) -> chunks.ChunkReply:

@@ -20,7 +20,7 @@ import pytest
 
 from . import restore_signals
 from .machines import CHAMPION, mixed_machines
-from .program import LIMITS, MAX_CELLS, MAX_STEPS, as_lines, run_command, options
+from .program import LIMITS, MAX_CELLS, MAX_STEPS, as_lines, decide_in_passes, options, run_command
 
 PASSES = ((300, 64, 10, 100), (20_000, 1_024, 40, 10_000))
 # It grows as the root of its steps, and no decider finds anything.
@@ -63,13 +63,7 @@ def decide_lines(program: str, given: bytes, limits: Sequence[int]) -> list[byte
 
 def expected_verdicts(program: str, given: bytes, passes: Sequence[Sequence[int]]) -> bytes:
     """The verdicts of one process for each pass, in the list's order."""
-    lines = decide_lines(program, given, passes[0])
-    for limits in passes[1:]:
-        left = [place for place, line in enumerate(lines) if b" undecided " in line]
-        later = decide_lines(program, b"".join(lines[place].split()[0] + b"\n" for place in left), limits)
-        for place, line in zip(left, later):
-            lines[place] = line
-    return b"".join(lines)
+    return decide_in_passes(lambda *asked: b"".join(decide_lines(program, *asked)), given, passes)
 
 
 class Case:
@@ -202,23 +196,14 @@ def most_memory(case: Case, count: int, limits: Sequence[int]) -> int:
     return int(used.ru_maxrss) if process.returncode == 0 else 0
 
 
-def work_of(folder: str) -> float:
-    """The processor time of a process or thread, by its folder in /proc, in seconds; 0 once it has ended."""
-    try:
-        with open(folder + "/stat") as file:
-            fields = file.read().rpartition(")")[2].split()
-    except OSError:
-        return 0.0
-    return (int(fields[11]) + int(fields[12])) / os.sysconf("SC_CLK_TCK")
-
-
 def is_at_work(pid: int) -> bool:
     """Whether a thread of a process, beside its first, has worked for half a second."""
-    tasks = "/proc/%d/task" % pid
-    try:
-        return any(work_of("%s/%s" % (tasks, one)) > 0.5 for one in os.listdir(tasks) if int(one) != pid)
-    except FileNotFoundError:
-        return False
+    ticks = [0]
+    for path in pathlib.Path("/proc/%d/task" % pid).glob("*/stat"):
+        with contextlib.suppress(OSError):
+            user, system = path.read_text().rpartition(")")[2].split()[11:13]
+            ticks.append(int(user) + int(system) if path.parent.name != str(pid) else 0)
+    return max(ticks) > os.sysconf("SC_CLK_TCK") / 2
 
 
 def interrupt(where: str) -> tuple[int, bytes, float]:

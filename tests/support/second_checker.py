@@ -1,10 +1,10 @@
 """Lines that the program's checker and the second one, in Coq, must answer alike, most of them false."""
 
-from __future__ import annotations
-
+import collections
+import itertools
 import random
 import re
-from typing import Callable, Iterable, Iterator, Sequence
+from typing import Callable, Iterator, Sequence
 
 from . import TOP
 from .claims import forge, pairs_of, refusals, tight_limits, trees_of
@@ -46,25 +46,6 @@ def compare_answers(bb: str, checker: str, what: str, claims: Claims) -> None:
     print("%s: %d lines compared" % (what, len(claims[1])))
 
 
-def group_by_limits(claims: Iterable[tuple[Sequence[int], str]]) -> list[Claims]:
-    """Put lines of the same limits together."""
-    lines: dict[Sequence[int], list[str]] = {}
-    for limits, line in claims:
-        lines.setdefault(limits, []).append(line)
-    return list(lines.items())
-
-
-def worked_lines() -> list[str]:
-    """Return the lines of `coq/Rows.v`."""
-    return re.findall(r"\"([^\"]*)\"[;\]]", (COQ / "Rows.v").read_text(encoding="utf-8"))
-
-
-def halting_machines(bb: str, source: random.Random, count: int) -> list[str]:
-    """Return machines of one state, and so many of two, that halt."""
-    machines = [*all_machines(1, 2), *source.sample(list(all_machines(2, 2)), count)]
-    return [line.split(" ")[0] for line in decide(bb, SMALL, machines) if " halt " in line]
-
-
 def made_claims(bb: str, source: random.Random, verdicts: Sequence[str], count: int) -> Iterator[Claims]:
     """Yield claims that are made by changes of verdicts and by plain runs."""
     yield LIMITS, list(forge(source, verdicts, count))
@@ -72,7 +53,8 @@ def made_claims(bb: str, source: random.Random, verdicts: Sequence[str], count: 
     yield LIMITS, list(refusals([*range(20), *range(770, 780), 2**64 - 1, 2**64]))
     machines = [machine(source, 1 + k % 4, 2 + k % 3) for k in range(count // 100)]
     yield LIMITS, [line for text in machines for line in pairs_of(text, 30)]
-    inside = halting_machines(bb, source, count // 200)
+    small = [*all_machines(1, 2), *source.sample(list(all_machines(2, 2)), count // 200)]
+    inside = [line.split(" ")[0] for line in decide(bb, SMALL, small) if " halt " in line]
     yield LIMITS, [line for text in inside for line in trees_of(text, 4, 7)]
     outside = [line.split(" ")[0] for line in verdicts if " backward " in line][: count // 1_000]
     yield LIMITS, [line for text in outside for line in trees_of(text, 4, 7)]
@@ -83,12 +65,16 @@ def tight_claims(source: random.Random, verdicts: Sequence[str], count: int) -> 
     short = [line for line in verdicts if len(line) < 80]
     halts = [line for line in short if " halt " in line]
     lines = [line for kind in (short, halts) for line in source.sample(kind, min(count, len(kind)))]
-    return group_by_limits(one for line in lines for one in tight_limits(line))
+    claims: dict[Sequence[int], list[str]] = collections.defaultdict(list)
+    for limits, line in itertools.chain.from_iterable(map(tight_limits, lines)):
+        claims[limits].append(line)
+    return list(claims.items())
 
 
 def quick_claims(bb: str, list_machines: ListMachines, source: random.Random) -> Iterator[tuple[str, Claims]]:
     """Yield the lines that are always compared, each batch with its name."""
-    yield "worked lines", (DEFAULT, worked_lines())
+    rows = (COQ / "Rows.v").read_text(encoding="utf-8")
+    yield "worked lines", (DEFAULT, re.findall(r"\"([^\"]*)\"[;\]]", rows))
     verdicts = decide(bb, LIMITS, list_machines(4, "--every", "10"))
     yield "every tenth machine of four states", (LIMITS, verdicts)
     mixture = decide(bb, LIMITS, random_machines(5_000, source))

@@ -5,6 +5,9 @@ from __future__ import annotations
 from typing import Iterator, NamedTuple, Sequence
 
 from .machines import LETTERS, table_of
+from .program import kind_of, replies
+
+Words = Sequence[str]
 
 
 class Configuration(NamedTuple):
@@ -38,16 +41,17 @@ def simulate(
             low, high = min(low, head), max(high, head)
 
 
-def insert_low(machine: str, trace: bytes) -> bytes:
-    """Turn lines of the program's trace into the library's, which have the window's lowest position too."""
-    rows = [line.split(b" ") for line in trace.splitlines()]
-    lows = [now.low for now in simulate(machine, int(rows[-1][0]))]
-    return b"".join(b" ".join([*row[:3], b"%d" % lows[int(row[0])], *row[3:]]) + b"\n" for row in rows)
+def decide_confirmed(bb: str, machines: Words, limits: Words, plan: Words = ()) -> list[str]:
+    """Return the verdict lines of machines under limits and a plan; the checker must confirm each."""
+    lines = replies([bb, "decide", *limits, *plan], machines)
+    assert [line.split(" ")[0] for line in lines] == list(machines)
+    expected = ["open" if kind_of(line) == "undecided" else "ok" for line in lines]
+    answers = replies([bb, "check", *limits], lines)
+    compare_lines("answers under %s" % " ".join(limits), answers, expected, lines)
+    return lines
 
 
-def compare_lines(
-    name: str, found: Sequence[str], expected: Sequence[str], given: Sequence[str] = ()
-) -> None:
+def compare_lines(name: str, found: Words, expected: Words, given: Words = ()) -> None:
     """Require two lists to be the same, and print how many lines were compared.
 
     A failure names the first lines that differ, each with the line of `given` that it is the reply to.

@@ -97,18 +97,8 @@ export function announce(/** @type {string} */ text) {
   }, Math.max(0, delay));
 }
 
-/** @type {Map<string, string>} the style's colours; `getComputedStyle` is slow */
-const colours = new Map();
-
-/** Drops the cached colours, after a change of scheme. */
-export const clearColours = () => colours.clear();
-
-export function colourOf(/** @type {string} */ name) {
-  if (!colours.has(name)) {
-    colours.set(name, getComputedStyle(document.documentElement).getPropertyValue(name).trim());
-  }
-  return colours.get(name) ?? "";
-}
+export const colourOf = (/** @type {string} */ name) =>
+  getComputedStyle(document.documentElement).getPropertyValue(name).trim();
 
 /** The channels of the ten symbols' colours, of unvisited cells and of the head. */
 export function readPalette() {

@@ -1,7 +1,7 @@
 /** The page's entry point: reads the input, runs lists, and shows results. */
 import { isSupported } from "../lib/memory.mjs";
 import { byId, copyText, create, dispatchKey, onClick, saveFile } from "./dom.mjs";
-import { createFields, readLink, readPlan, setPlan, showRefusal } from "./input/fields.mjs";
+import { createFields, readLink, readPlan, setPlan } from "./input/fields.mjs";
 import { listenToFiles } from "./input/files.mjs";
 import { ListInput, readStored } from "./input/list-input.mjs";
 import { ListRun, failureText, showError } from "./list/list-run.mjs";
@@ -19,7 +19,7 @@ let runs = 0;
 
 /** Runs the list, unless a newer run starts while it is read. A list of another origin drops the link. */
 async function startRun(isOfLink = false) {
-  const plan = planOrRefusal();
+  const plan = readPlan();
   if (plan === null) {
     input.labelButton();
     return;
@@ -45,17 +45,6 @@ async function startRun(isOfLink = false) {
   listView.reset();
   const { blob, first, isText, mode, form } = list;
   run.start(blob, first, { mode, form, clean: input.clean.checked, plan }, isText);
-}
-
-/** The plan of the fields; null if a limit is refused, with the refusal shown beside it. */
-function planOrRefusal() {
-  try {
-    return readPlan();
-  } catch (error) {
-    const { limit, message } = /** @type {any} */ (error);
-    showRefusal(limit, message);
-    return null;
-  }
 }
 
 /** Runs a file in place of the text; null removes it. */

@@ -2,7 +2,7 @@
 
 import json
 import pathlib
-from typing import Any, Dict, Iterator
+from typing import Any, Iterator
 
 import pytest
 from support import TOP, require
@@ -27,14 +27,13 @@ def tab(browser: Page) -> Iterator[Page]:
 
 
 @pytest.fixture(scope="module")
-def engine(module: pathlib.Path, tmp_path_factory: pytest.TempPathFactory) -> Iterator[Engine]:
-    """The engine in a Node process."""
+def engine(module: pathlib.Path, bb: str, tmp_path_factory: pytest.TempPathFactory) -> Iterator[Engine]:
+    """The engine in a Node process, beside the program."""
     require("node")
-    opened = Engine(tmp_path_factory.mktemp("engine"), module)
-    if opened.about.get("unsupported"):
-        pytest.skip("this Node has no vectors; Node 16.4 or later has (package nodejs)")
-    yield opened
-    opened.end()
+    with Engine(tmp_path_factory.mktemp("engine"), module, bb) as opened:
+        if opened.about.get("unsupported"):
+            pytest.skip("this Node has no vectors; Node 16.4 or later has (package nodejs)")
+        yield opened
 
 
 @pytest.fixture(params=["light", "dark"])
@@ -46,9 +45,9 @@ def scheme(tab: Page, request: pytest.FixtureRequest) -> Iterator[str]:
 
 
 @pytest.fixture(scope="session")
-def forms() -> Dict[str, Any]:
+def forms() -> dict[str, Any]:
     """Lines and lists with their expected readings, shared with the package."""
-    found: Dict[str, Any] = json.loads((TOP / "tests/support/forms.json").read_text(encoding="utf-8"))
+    found: dict[str, Any] = json.loads((TOP / "tests/support/forms.json").read_text(encoding="utf-8"))
     return found
 
 

@@ -1,27 +1,26 @@
-"""The WebAssembly engine in Node writes the program's bytes."""
+"""The WebAssembly engine in Node and the page write the program's bytes; the narrowing of the engine's code."""
 
-import itertools
 import pathlib
 import random
 import re
-from typing import Any, Dict, List, Tuple
+from typing import Any, Callable
 
 import pytest
 from support import TOP
-from support.browser import trace
 from support.claims import with_other_number
 from support.examples import README, Example, read_examples
 from support.machines import CHAMPION, random_machines, seldom_halting
-from support.node import CallResult, Engine, documented_script
-from support.plans import FOUR, MOST, all_plans, random_plan
-from support.program import MAX_CELLS, SWITCHES, CommandResult, as_lines, processor_time, run_command
-from support.program import plan_of, words_of_plan
+from support.node import Engine, documented_script
+from support.program import FOUR, MAX_CELLS, MOST, SWITCHES, CommandResult, all_plans, as_lines
+from support.program import plan_of, processor_time, random_plan, run_command
+from support.traces import trace
 
-pytestmark = pytest.mark.needs("node")
-
-Plan = Dict[str, Any]
-MOST_BYTES = 65_536
+Plan = dict[str, Any]
+Same = Callable[[str, Plan, bytes], bytes]
 LISTS = list(read_examples("decide", "check"))
+slow = pytest.mark.slow
+each_way = pytest.mark.parametrize("same", ["engine", "tab"], indirect=True)
+MOST_BYTES = 65_536
 SMALL = {"steps": 100, "cells": 64, "depth": 20, "nodes": 100}
 REFUSED_LIMITS = (
     "--steps 1000000000001, --cells 0, --cells 67108865, --depth 10001, --nodes 1000000000001, --cells 598, "
@@ -43,93 +42,90 @@ WIDE = """
 MEMORY = 64 * 65_536
 
 
-class Both:
-    """The program and the engine."""
-
-    def __init__(self, program: str, engine: Engine) -> None:
-        self.program, self.engine = program, engine
-
-    def program_output(self, name: str, plan: Plan, given: bytes) -> bytes:
-        """Return the program's output."""
-        return run_command([self.program, name, *words_of_plan(plan)], given).output
-
-    def require_same(self, name: str, plan: Plan, given: bytes) -> CallResult:
-        """Require a call's reply to be the program's, and return it."""
-        reply = self.engine.call(name, plan, given)
-        wanted = run_command([self.program, name, *words_of_plan(plan)], given)
-        assert (reply.status, reply.reply) == (wanted.status, wanted.output), (name, plan, reply.answer)
-        return reply
-
-
-@pytest.fixture
-def both(bb: str, engine: Engine) -> Both:
-    return Both(bb, engine)
-
-
 def test_size(module: pathlib.Path) -> None:
     assert module.stat().st_size <= MOST_BYTES
 
 
+@pytest.fixture
+def same(request: pytest.FixtureRequest) -> Same:
+    """A function that requires the program's output of the engine or the page, and returns it."""
+    found: Same = request.getfixturevalue(request.param).require_same
+    return found
+
+
+@each_way
 @pytest.mark.parametrize("example", LISTS, ids=[example.name for example in LISTS])
-def test_example(both: Both, example: Example) -> None:
-    both.require_same(example.words[0], example.plan, example.lines)
+def test_example(same: Same, example: Example) -> None:
+    assert same(example.words[0], example.plan, example.lines)
 
 
-def test_all_plans(both: Both) -> None:
-    """The README's first run, and all plans at each row of limits."""
-    both.require_same("decide", {}, README)
-    both.require_same("decide", {name: False for name in SWITCHES}, README)
+@each_way
+@pytest.mark.parametrize("is_on", [True, False])
+def test_first_list_of_the_readme(same: Same, is_on: bool) -> None:
+    """By all deciders, and by simulation alone."""
+    same("decide", dict.fromkeys(SWITCHES, is_on), README)
+
+
+@pytest.mark.parametrize(
+    "same, every", [("engine", 1), ("tab", 9), pytest.param("tab", 1, marks=slow)], indirect=["same"]
+)
+def test_all_plans(same: Same, every: int) -> None:
+    """All plans at each row of limits, or every ninth."""
     given = b"".join(example.lines for example in LISTS if example.name in ("verdicts", "small_limits"))
-    plans = list(all_plans())
+    plans = list(all_plans())[::every]
     for plan in plans:
-        both.require_same("decide", plan, given)
+        same("decide", plan, given)
     print("%d plans of %d lines" % (len(plans), given.count(b"\n")))
 
 
-@pytest.mark.parametrize("count", [1_000, pytest.param(20_000, marks=pytest.mark.slow)])
-def test_random_machines_and_claims(both: Both, rng: random.Random, count: int) -> None:
+@pytest.mark.parametrize(
+    "same, count",
+    [("engine", 1_000), *(pytest.param(way, 20_000, marks=slow) for way in ("engine", "tab"))],
+    indirect=["same"],
+)
+def test_random_machines_and_claims(same: Same, rng: random.Random, count: int) -> None:
     """At random limits, with half of the claims forged."""
     machines = random_machines(count, rng)
     for k in range(0, count, 100):
-        reply = both.require_same("decide", random_plan(rng), as_lines(machines[k : k + 100])).reply
-        lines = reply.decode().splitlines()
+        decided = same("decide", random_plan(rng), as_lines(machines[k : k + 100]))
+        lines = decided.decode().splitlines()
         claims = [with_other_number(line, rng) if rng.random() < 0.5 else line for line in lines]
         limits = {name: value for name, value in random_plan(rng).items() if name not in SWITCHES}
-        both.require_same("check", limits, as_lines(claims))
+        same("check", limits, as_lines(claims))
     print("%d machines and claims" % count)
 
 
 @pytest.mark.slow
-def test_four_states(both: Both, four_states: List[str]) -> None:
+def test_four_states(engine: Engine, four_states: list[str]) -> None:
     given = as_lines(four_states)
     assert len(four_states) == 858_909
     before = processor_time()
-    wanted = both.program_output("decide", FOUR, given)
+    wanted = engine.program_output("decide", FOUR, given)
     taken = processor_time() - before
-    reply = both.engine.call("decide", FOUR, given)
+    reply = engine.call("decide", FOUR, given)
     assert reply.reply == wanted
     seconds = reply.answer["seconds"]
     print("four states: %.2f s, the program %.2f s, %.2f times" % (seconds, taken, seconds / taken))
-    both.require_same("check", FOUR, wanted)
+    engine.require_same("check", FOUR, wanted)
 
 
 @pytest.mark.slow
 @pytest.mark.parametrize("name", ["decide", "check"])
-def test_noise(both: Both, rng: random.Random, name: str) -> None:
+def test_noise(engine: Engine, rng: random.Random, name: str) -> None:
     """Random bytes, lists without a final newline, and a line of 10 MB."""
     for length in (0, 1, 2, 100, 10_000, 100_000):
         noise = rng.randbytes(length)
-        both.require_same(name, {}, noise)
-        both.require_same(name, {}, noise + b"\n\n1RZ---")
+        engine.require_same(name, {}, noise)
+        engine.require_same(name, {}, noise + b"\n\n1RZ---")
     for line in (b"1RB1LB_" * 1_500_000, b"\xff" * 10_000_000, b"1RZ--- halt 1 1" + b" " * 10_000_000):
-        both.require_same(name, {}, line)
+        engine.require_same(name, {}, line)
 
 
 @pytest.mark.parametrize("words", REFUSED_LIMITS.split(", "))
-def test_refused_limit(both: Both, words: str) -> None:
+def test_refused_limit(engine: Engine, words: str) -> None:
     """The error has the program's message and names the limit."""
-    answer = both.engine.call("decide", plan_of(words.split()), b"1RA1RA\n").answer
-    said = run_command([both.program, "decide", *words.split()]).error.decode()
+    answer = engine.call("decide", plan_of(words.split()), b"1RA1RA\n").answer
+    said = run_command([engine.program, "decide", *words.split()]).error.decode()
     assert (answer["error"], answer["limit"]) == ("LimitsError", said[4:].split(" ")[0])
     assert said == "bb: %s\n" % answer["message"]
 
@@ -143,24 +139,26 @@ def test_wrong_plan(engine: Engine, plan: Plan, error: str) -> None:
 
 
 @pytest.mark.parametrize("name", ["decide", "check"])
-def test_greatest_limits(both: Both, name: str) -> None:
-    reply = both.require_same(name, MOST, b"1RB1LB_1LA1RZ\n1RB1LB_1LA1RZ halt 6 4\n")
-    print("memory of %s at the greatest limits: %d MB" % (name, reply.answer["held"] // 10**6))
+def test_greatest_limits(engine: Engine, name: str) -> None:
+    given = b"1RB1LB_1LA1RZ\n1RB1LB_1LA1RZ halt 6 4\n"
+    engine.require_same(name, MOST, given)
+    held = engine.call(name, MOST, given).answer["held"]
+    print("memory of %s at the greatest limits: %d MB" % (name, held // 10**6))
 
 
-def test_script_of_the_documentation(both: Both, tmp_path: pathlib.Path) -> None:
+def test_script_of_the_documentation(engine: Engine, tmp_path: pathlib.Path) -> None:
     """The script of docs/web.md decides a list and checks the verdicts."""
     (tmp_path / "web").symlink_to(TOP / "web")
     (tmp_path / "decide.mjs").write_text(documented_script("A script"), encoding="utf-8")
     limits = {"steps": 100_000, "cells": 4096}
-    decided = both.program_output("decide", limits, README)
+    decided = engine.program_output("decide", limits, README)
     found = run_command(["node", "decide.mjs"], README, cwd=str(tmp_path))
-    assert found.output == decided + both.program_output("check", limits, decided), found.error
+    assert found.output == decided + engine.program_output("check", limits, decided), found.error
 
 
 def test_memory_that_cannot_be_had(engine: Engine) -> None:
     """The engine stays usable after the error."""
-    cases: List[Tuple[str, Plan, bytes]] = [
+    cases: list[tuple[str, Plan, bytes]] = [
         ("decide", {"cells": 10**7}, b"1RA1RA\n"),
         ("check", {"cells": 10**7}, b"1RA1RA translated R 1 2\n"),
         ("decide", {}, b"1RA1RA\n" * 10**6),
@@ -172,56 +170,49 @@ def test_memory_that_cannot_be_had(engine: Engine) -> None:
 
 
 @pytest.mark.slow
+@pytest.mark.needs("node")
 def test_memory_stays(module: pathlib.Path, tmp_path: pathlib.Path) -> None:
     """A thousand lists need no more memory than one."""
-    own = Engine(tmp_path, module)
-    once = own.call("decide", SMALL, README * 1000).answer["held"]
-    assert once == own.call("decide", SMALL, README * 1000, times=1000).answer["held"]
-    own.end()
-
-
-def trace_lines(program: str, machine: str, steps: int, cells: int) -> List[bytes]:
-    """Return the program's trace with the lowest position before the cells, as the engine writes it."""
-    return [
-        b"%d %s %d %d %s\n" % (row.step, row.state.encode(), row.head, row.low, row.cells.encode())
-        for row in trace(program, machine, steps, cells)
-    ]
+    with Engine(tmp_path, module) as own:
+        once = own.call("decide", SMALL, README * 1000).answer["held"]
+        assert once == own.call("decide", SMALL, README * 1000, times=1000).answer["held"]
 
 
 @pytest.mark.parametrize("count", [5, pytest.param(100, marks=pytest.mark.slow)])
-def test_traces_of_some_rows(both: Both, rng: random.Random, count: int) -> None:
+def test_traces_of_some_rows(engine: Engine, rng: random.Random, count: int) -> None:
     for machine in random_machines(count, rng):
         plan = {"steps": rng.randint(0, 200), "cells": rng.randint(1, 60)}
-        lines = trace_lines(both.program, machine, plan["steps"], plan["cells"])
-        wanted = [lines[first::every] for first, every in itertools.product(range(51), range(1, 51))]
-        reply = both.engine.call("samples", {**plan, "from": 50, "every": 50}, machine.encode())
-        assert reply.reply == b"".join(itertools.chain.from_iterable(wanted)), (machine, plan)
+        rows = trace(engine.program, machine, plan["steps"], plan["cells"])
+        samples = [rows[first::every] for first in range(51) for every in range(1, 51)]
+        reply = engine.call("samples", {**plan, "from": 50, "every": 50}, machine.encode())
+        assert reply.reply == as_lines(row.line for sample in samples for row in sample), (machine, plan)
     print("%d machines" % count)
 
 
 @pytest.mark.parametrize("count", [50, pytest.param(500, marks=pytest.mark.slow)])
-def test_traces_name_the_lowest_position(both: Both, rng: random.Random, count: int) -> None:
+def test_traces_name_the_lowest_position(engine: Engine, rng: random.Random, count: int) -> None:
     machines = [seldom_halting(rng, rng.randint(2, 5), rng.randint(2, 4)) for _ in range(count)]
     for machine in [CHAMPION, *machines]:
         steps = rng.randint(100, 4_000)
-        reply = both.engine.call("trace", {"steps": steps}, machine.encode())
-        assert reply.reply == b"".join(trace_lines(both.program, machine, steps, 65_536)), (machine, steps)
+        reply = engine.call("trace", {"steps": steps}, machine.encode())
+        wanted = as_lines(row.line for row in trace(engine.program, machine, steps))
+        assert reply.reply == wanted, (machine, steps)
     print("%d machines" % (count + 1))
 
 
-def test_trace_at_the_greatest_limits(both: Both) -> None:
+def test_trace_at_the_greatest_limits(engine: Engine) -> None:
     most = {"steps": 10**12, "cells": MAX_CELLS, "from": 0, "every": 1}
-    reply = both.engine.call("trace", most, b"1RB1LB_1LA1RZ")
-    assert reply.status == 0
-    assert reply.reply == b"".join(trace_lines(both.program, "1RB1LB_1LA1RZ", 10**12, MAX_CELLS))
+    reply = engine.call("trace", most, b"1RB1LB_1LA1RZ")
+    wanted = as_lines(row.line for row in trace(engine.program, "1RB1LB_1LA1RZ", 10**12, MAX_CELLS))
+    assert (reply.status, reply.reply) == (0, wanted)
     for plan in ({"every": 0}, {"cells": 0}, {"steps": 10**12 + 1}):
-        answer = both.engine.call("trace", {**most, **plan}, b"1RB1LB_1LA1RZ").answer
+        answer = engine.call("trace", {**most, **plan}, b"1RB1LB_1LA1RZ").answer
         assert answer["limit"] == next(iter(plan))
-    reply = both.engine.call("trace", {"steps": 5}, b"1rB")
+    reply = engine.call("trace", {"steps": 5}, b"1rB")
     assert (reply.status, reply.reply) == (1, b"refused 2\n")
 
 
-def narrow(folder: pathlib.Path, line: str) -> Tuple[CommandResult, pathlib.Path]:
+def narrow(folder: pathlib.Path, line: str) -> tuple[CommandResult, pathlib.Path]:
     """Narrow a line of intermediate code; return the result, and the path of what was made."""
     given, made = folder / "wide", folder / "narrow"
     given.write_text(line + "\n", encoding="ascii")

@@ -2,7 +2,6 @@
 
 import pathlib
 import subprocess
-from typing import List
 
 import pytest
 from support import TOP
@@ -19,9 +18,7 @@ const lines: string[] = engine.decide(["1RB1LB_1LA1RZ"], plan);
 const { clean }: { clean: boolean } = engine.trace("1RA1RA", { steps: 10n });
 console.log(lines, clean, LimitsError);
 """
-TSC = (
-    "tsc --strict --noEmit --target es2022 --lib es2022,dom --module node16 --moduleResolution node16".split()
-)
+TSC = "tsc --strict --noEmit --target es2022 --lib es2022,dom --module node16".split()
 INSTALL = "npm install --offline --no-audit --no-fund --cache cache".split()
 
 
@@ -42,7 +39,7 @@ def installation(module: object, tmp_path_factory: pytest.TempPathFactory) -> pa
     return folder
 
 
-def run(folder: pathlib.Path, script: str, given: List[str]) -> str:
+def run(folder: pathlib.Path, script: str, given: list[str]) -> str:
     """Run a script in the folder, and return its output."""
     (folder / "script.mjs").write_text(script, encoding="utf-8")
     done = run_command(["node", "script.mjs"], as_lines(given), cwd=str(folder))
@@ -65,9 +62,8 @@ def test_example_of_the_documentation(bb: str, installation: pathlib.Path) -> No
 def test_example_of_the_readme(bb: str, installation: pathlib.Path) -> None:
     page = (installation / "node_modules" / "budlarem" / "README.md").read_text(encoding="utf-8")
     script = "".join(line[4:] + "\n" for line in page.splitlines() if line.startswith("    "))
-    assert (
-        run(installation, script, []) == run_command([bb, "decide"], as_lines(MACHINES[:1])).output.decode()
-    )
+    wanted = run_command([bb, "decide"], as_lines(MACHINES[:1])).output.decode()
+    assert run(installation, script, []) == wanted
 
 
 @pytest.mark.parametrize("name, is_right", [("steps", True), ("stepps", False)])

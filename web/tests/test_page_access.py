@@ -3,19 +3,17 @@
 import pathlib
 import re
 import time
-from typing import Dict
 
 import pytest
 from support import TOP
-from support.browser import COLOUR, Page, contrast, soon, trace
+from support.browser import COLOUR, Page, contrast
 from support.gestures import Keys
-from support.machines import CHAMPION
+from support.machines import CHAMPION, LATE
+from support.traces import trace
 
 TEXT, MARK = 4.5, 3.0
 # Its head visits ten symbols, and it halts at step 19.
 COUNTER = "1RB2RB3RB4RB5RB6RB7RB8RB9RB9RZ_1LA2LA3LA4LA5LA6LA7LA8LA9LA9LA"
-# Its marks are late, over cells of a pixel.
-LATE = "1RB1LB_1LA0LC_1RE1LD_1RD0RA_1RE1RE"
 # Pixels above a marked row: two of its outline, one outside, and one that only a label reaches.
 ABOVE = (-1, -2, -3, -6)
 # The colours of texts and of controls' borders, and those behind them.
@@ -45,14 +43,9 @@ return [
 ];
 """
 )
-# Controls without a name, and references to missing or repeated ids.
-NAMES = """
-const nodes = arguments[0];
-const named = ["button", "textbox", "combobox", "checkbox", "link", "grid", "img", "image", "listbox",
-  "progressbar", "group", "region", "application"];
-return nodes.filter(({ role, name, ignored }) => !ignored && named.includes(role?.value) && !name?.value)
-  .map((node) => node.role.value + JSON.stringify(node.properties));
-"""
+# Roles of controls that need a name.
+NAMED = "button textbox combobox checkbox link grid img image listbox progressbar group region application"
+# References to missing or repeated ids.
 REFERENCES = """
 const found = [];
 for (const name of ["aria-describedby", "aria-labelledby", "aria-activedescendant", "aria-controls", "for"]) {
@@ -119,7 +112,7 @@ def test_colours_of_the_style(part: int) -> None:
     """Contrasts of heads' letters, marks and texts."""
     style = (TOP / "web" / "page" / "page.css").read_text(encoding="utf-8")
     text = style.split("@media (prefers-color-scheme: dark)")[part].split("* { box-sizing")[0]
-    found: Dict[str, str] = dict(re.findall(r"--([a-z0-9-]+): #([0-9a-f]{6})", text))
+    found: dict[str, str] = dict(re.findall(r"--([a-z0-9-]+): #([0-9a-f]{6})", text))
     colours = {name: list(bytes.fromhex(digits)) for name, digits in found.items()}
     for symbol in range(10):
         letter = colours["on%d" % symbol]
@@ -146,11 +139,10 @@ def test_heads_have_halos(tab: Page) -> None:
 
 @pytest.mark.usefixtures("scheme")
 def test_marks_have_halos(tab: Page) -> None:
-    """A mark over cells of a pixel contrasts with its halo."""
+    """A late mark over cells of a pixel contrasts with its halo."""
     tab.open_machine(LATE)
     tab.click("fit")
-    soon(lambda: tab.wait_until_drawn()["top"] == 0)
-    view, mark = tab.wait_until_drawn(), tab.colour("--mark")
+    view, mark = tab.wait_until_drawn(lambda view: view["top"] == 0), tab.colour("--mark")
     assert view["high"] <= 3
     step = int(tab.program_output("decide", {}, LATE.encode()).split()[3])
     y = int((step - view["top"]) / view["every"] * view["high"] + view["y"]) - view["y"]
@@ -175,7 +167,9 @@ def test_contrasts(tab: Page) -> None:
 def test_names_and_references(tab: Page) -> None:
     """Controls have names, and references point at existing unique ids, also while rows scroll."""
     tab.open_list(*["1RA1RA"] * 500)
-    assert not tab.js(NAMES, tab.command("Accessibility.getFullAXTree")["nodes"])
+    nodes = [one for one in tab.command("Accessibility.getFullAXTree")["nodes"] if not one["ignored"]]
+    named = [one for one in nodes if one["role"]["value"] in NAMED.split()]
+    assert named and all(one["name"]["value"] for one in named)
     assert not tab.js(REFERENCES)
     tab.press("rows", Keys.END)
     assert not tab.js(REFERENCES)

@@ -1,11 +1,12 @@
 """Axes of a diagram, and descriptions of the cells under the pointer and the keyboard cursor."""
 
 import re
-from typing import Dict, List, NamedTuple, Tuple
+from typing import NamedTuple
 
-from support.browser import HEAD, Page, Row, soon, trace
+from support.browser import HEAD, Page, soon
 from support.gestures import Keys, cell_at, send_mouse, window_point
 from support.machines import CHAMPION, CHAMPION_OF_FOUR
+from support.traces import Row, trace
 
 STEPS = 10_000
 # A step with both ends of the tape in view.
@@ -41,7 +42,7 @@ def number_of(text: str) -> int:
     return int(text.replace(",", "").replace("\u2212", "-"))
 
 
-def ticks(tab: Page, view: Dict[str, float]) -> Tuple[List[Tick], List[Tick]]:
+def ticks(tab: Page, view: dict[str, float]) -> tuple[list[Tick], list[Tick]]:
     """Return the ticks of the steps and of the positions."""
     painted = tab.js("return window.painted")
     texts, marks = painted["texts"], painted["marks"]
@@ -77,7 +78,7 @@ def require_ticks(tab: Page) -> None:
         assert all(colour in (panel, accent) for colour in tab.pixels(beside))
 
 
-def require_rows(tab: Page, rows: Dict[int, Row]) -> None:
+def require_rows(tab: Page, rows: dict[int, Row]) -> None:
     """Require the rows at the steps' numbers to have their cells and heads at the positions' numbers."""
     colours, view = tab.palette(), tab.wait_until_drawn()
     steps, positions = ticks(tab, view)
@@ -94,7 +95,7 @@ def require_rows(tab: Page, rows: Dict[int, Row]) -> None:
     assert any(first.number <= rows[step.number].head <= last.number for step in steps)
 
 
-def require_places(tab: Page, rows: Dict[int, Row]) -> None:
+def require_places(tab: Page, rows: dict[int, Row]) -> None:
     """Require the description of the cell under the pointer to be the program's."""
     view = tab.wait_until_drawn()
     width, height = tab.size()
@@ -121,7 +122,7 @@ def test_axes_and_pointer(tab: Page) -> None:
         require_ticks(tab)
         require_places(tab, rows)
     tab.go_to(str(EARLY))
-    soon(lambda: tab.wait_until_drawn()["every"] == 1 and tab.wait_until_drawn()["top"] > EARLY / 2)
+    tab.wait_until_drawn(lambda view: view["every"] == 1 and view["top"] > EARLY / 2)
     require_ticks(tab)
     require_rows(tab, rows)
     require_places(tab, rows)
@@ -140,8 +141,7 @@ def test_keys_name_the_row_that_enter_shows(tab: Page) -> None:
     tab.go_to("1000000")
     assert tab.tape_is_at("1,000,000")
     tab.press("diagram", "0")
-    soon(lambda: tab.wait_until_drawn()["every"] > 10_000)
-    every = tab.wait_until_drawn()["every"]
+    every = tab.wait_until_drawn(lambda view: view["every"] > 10_000)["every"]
     for way in ((Keys.ARROW_DOWN,), (Keys.ARROW_DOWN, Keys.ARROW_RIGHT), (Keys.ARROW_UP,) * 3):
         tab.press("diagram", *way)
         told = shown_step(tab)

@@ -1,11 +1,10 @@
 """Moving and zooming a diagram by mouse and fingers."""
 
-from typing import Tuple
-
 import pytest
-from support.browser import Page, soon, trace
-from support.gestures import View, Point, cell_at, drag, pinch, place_of, swipe, tap, window_point
+from support.browser import Page, View, soon
+from support.gestures import Point, cell_at, drag, pinch, place_of, swipe, tap, window_point
 from support.machines import CHAMPION
+from support.traces import trace
 
 STEPS = 10_000
 # A step to open, with legible cells.
@@ -25,7 +24,7 @@ delete canvas.setPointerCapture;
 """
 
 
-def visible_area(tab: Page) -> Tuple[float, float, float, float]:
+def visible_area(tab: Page) -> tuple[float, float, float, float]:
     """Return the first and last step and the first and last position in view."""
     view = tab.wait_until_drawn()
     width, height = tab.size()
@@ -38,9 +37,8 @@ def open_near(tab: Page) -> View:
     """Open a run at a step with legible cells."""
     tab.open_machine(CHAMPION, "&steps=%d" % STEPS)
     tab.go_to(str(NEAR))
-    soon(lambda: tab.wait_until_drawn()["top"] > 0)
     tab.scroll_to_diagram()
-    return tab.wait_until_drawn()
+    return tab.wait_until_drawn(lambda view: view["top"] > 0)
 
 
 def require_cells(tab: Page) -> None:
@@ -67,16 +65,15 @@ def test_mouse_moves_the_picture(tab: Page) -> None:
     # Neither is a multiple of a cell's size, and each move of the mouse is shorter than a cell.
     end = (begin[0] - 7.25 * wide, begin[1] - 9.25 * high)
     drag(tab, window_point(tab, *begin), window_point(tab, *end))
-    soon(lambda: tab.wait_until_drawn()["top"] == before["top"] + 9)
-    after, then = tab.wait_until_drawn(), visible_area(tab)
+    after = tab.wait_until_drawn(lambda view: view["top"] == before["top"] + 9)
+    then = visible_area(tab)
     assert [b - a for a, b in zip(first, then)] == [9, 9, 7, 7]
     assert (after["high"], after["wide"]) == (high, wide)
     assert cell_at(before, begin) == cell_at(after, end)
     require_cells(tab)
     assert tab.text("tape-text").startswith("Step {:,}".format(NEAR))
     drag(tab, window_point(tab, *end), window_point(tab, *begin))
-    soon(lambda: tab.wait_until_drawn()["top"] == before["top"])
-    assert tab.wait_until_drawn() == before
+    assert tab.wait_until_drawn(lambda view: view["top"] == before["top"]) == before
     drag(tab, window_point(tab, *begin), window_point(tab, begin[0] + 1, begin[1] + 1))
     step = cell_at(before, begin)[0]
     assert soon(lambda: tab.text("tape-text").startswith("Step {:,}".format(step)))
@@ -97,13 +94,12 @@ def test_drag_ends_at_the_edges(tab: Page) -> None:
     begin, end = window_point(tab, 150, 100), window_point(tab, 350, 300)
     for _ in range(4):
         drag(tab, begin, end)
-    soon(lambda: tab.wait_until_drawn()["left"] < before["left"])
-    view, (_, _, left, right) = tab.wait_until_drawn(), visible_area(tab)
-    assert view["top"] == 0
+    assert tab.wait_until_drawn(lambda view: view["left"] < before["left"])["top"] == 0
+    _, _, left, right = visible_area(tab)
     assert left <= trace(tab.program, CHAMPION, STEPS)[-1].low <= right
 
 
-def require_place(view: View, cell: Tuple[int, int], middle: Point) -> None:
+def require_place(view: View, cell: tuple[int, int], middle: Point) -> None:
     """Require a cell to be at a place, within a cell."""
     x, y = place_of(view, *cell)
     assert abs(x - middle[0]) <= 1 + 2 * view["wide"]
@@ -121,16 +117,16 @@ def test_two_fingers_zoom(phone: Page) -> None:
     middle = (before["x"] + 120.5, before["y"] + 150.5)
     cell = cell_at(before, middle)
     pinch(phone, window_point(phone, *middle), 60, 90)
-    soon(lambda: phone.wait_until_drawn()["high"] > before["high"])
-    near, nearer = phone.wait_until_drawn(), visible_area(phone)
+    near = phone.wait_until_drawn(lambda view: view["high"] > before["high"])
+    nearer = visible_area(phone)
     assert nearer[1] - nearer[0] < 0.6 * (begun[1] - begun[0])
     assert nearer[3] - nearer[2] < 0.6 * (begun[3] - begun[2])
     require_place(near, cell, middle)
     require_cells(phone)
     # In steps of which each zooms less than to the next size of a cell.
     pinch(phone, window_point(phone, *middle), 160, 60)
-    soon(lambda: phone.wait_until_drawn()["high"] < before["high"])
-    far, farther = phone.wait_until_drawn(), visible_area(phone)
+    far = phone.wait_until_drawn(lambda view: view["high"] < before["high"])
+    farther = visible_area(phone)
     assert farther[1] - farther[0] > 3 * (nearer[1] - nearer[0])
     require_place(far, cell, middle)
     assert phone.js("return visualViewport.scale") == 1
@@ -154,7 +150,7 @@ def test_one_finger_scrolls_or_moves(phone: Page) -> None:
     soon(lambda: phone.js("return document.activeElement.id") == "diagram")
     place = phone.js("return scrollY")
     swipe(phone, box, (box[0], box[1] - 120))
-    assert soon(lambda: phone.wait_until_drawn()["top"] > before["top"])
-    moved = (phone.wait_until_drawn()["top"] - before["top"]) / before["every"] * before["high"]
+    after = phone.wait_until_drawn(lambda view: view["top"] > before["top"])
+    moved = (after["top"] - before["top"]) / before["every"] * before["high"]
     assert phone.js("return scrollY") == place
     assert abs(moved - 120) <= before["high"]

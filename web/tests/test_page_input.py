@@ -2,20 +2,16 @@
 
 import pathlib
 import time
-from typing import Callable, List
+from typing import Callable
 
 import pytest
-from support.browser import ENDLESS, LONG, Page, soon
-from support.gestures import send_mouse, type_text
+from support.browser import LONG, Page, soon
+from support.gestures import type_text
 from support.machines import CHAMPION, CHAMPION_OF_FOUR
 
 SELECTED = """
 const { selectionStart: first, selectionEnd: end, value } = document.getElementById("list");
 return end - first === value.length ? "all" : end - first;
-"""
-MIDDLE = """
-const box = document.getElementById("list").getBoundingClientRect();
-return [box.x + box.width / 2, box.y + box.height / 2];
 """
 DROP_TEXT = """
 const moved = new DataTransfer();
@@ -34,8 +30,7 @@ def list_of(tab: Page) -> str:
 
 def select_by_click(tab: Page) -> object:
     """Click into the list, and return the number of selected characters, or `all`."""
-    for kind in ("mousePressed", "mouseReleased"):
-        send_mouse(tab, kind, tab.js(MIDDLE), button="left", clickCount=1)
+    tab.driver.find_element("id", "list").click()
     return tab.js(SELECTED)
 
 
@@ -72,11 +67,9 @@ def test_clear_empties_the_list(tab: Page) -> None:
 
 def test_words_fold_out(tab: Page) -> None:
     """The explanation of kinds and answers opens by keyboard."""
-    found: List[str] = tab.js(
-        "return [...document.querySelectorAll('#words dt')].map((one) => one.textContent)"
-    )
+    words = "return [...document.querySelectorAll('#words dt')].map((one) => one.textContent.split(' ')[0])"
     kinds = ["halt", "cycler", "translated", "backward", "undecided", "refused"]
-    assert [text.split()[0] for text in found] == kinds + ["ok", "open", "bad", "over", "unread"]
+    assert tab.js(words) == kinds + ["ok", "open", "bad", "over", "unread"]
     is_shown = "return document.querySelector('#results #words dl').checkVisibility()"
     assert not tab.js(is_shown)
     tab.js("document.querySelector('#words summary').id = 'words-summary'")
@@ -106,7 +99,7 @@ def test_defaults_take_back_a_refusal(tab: Page) -> None:
 def test_examples_bring_their_settings(tab: Page) -> None:
     """Another list and the button for the defaults reset them."""
 
-    def settings() -> List[object]:
+    def settings() -> list[object]:
         return [tab.get("steps", "value"), tab.get("clean", "checked"), tab.get("mode", "value")]
 
     usual = settings()
@@ -147,7 +140,7 @@ def test_step_is_written_as_a_limit(tab: Page) -> None:
     assert soon(lambda: tab.text("tape-text").startswith("Step 100:"))
     tab.go_to("many")
     assert soon(lambda: "whole number" in tab.text("live"))
-    shows: List[Callable[[], object]] = [
+    shows: list[Callable[[], object]] = [
         lambda: tab.click("tape-on"),
         lambda: tab.go_to("7"),
         lambda: tab.open_list("1RB1LB_1LA1RZ"),
@@ -189,9 +182,7 @@ def test_dropped_text(tab: Page) -> None:
 
 
 def test_refused_limit_leaves_the_work_alone(tab: Page) -> None:
-    tab.plan(ENDLESS, "decide")
-    tab.type("list", "1RB1LB_1LA1RZ\n%s\n" % LONG)
-    tab.run()
+    tab.run_endless("1RB1LB_1LA1RZ", LONG)
     assert soon(lambda: tab.text("status").startswith("Running"))
     tab.type("steps", "many")
     tab.run()

@@ -1,6 +1,5 @@
 """The page by keyboard alone, and the keys of the tape."""
 
-from typing import List
 
 from support.browser import COLOUR, Page, contrast, soon
 from support.gestures import Keys, press_key, type_text
@@ -50,10 +49,10 @@ def is_outside(tab: Page) -> bool:
     return bool(tab.js("return document.activeElement === document.body"))
 
 
-def walk(tab: Page, names: List[str], back: bool = False) -> None:
+def walk(tab: Page, names: list[str], back: bool = False) -> None:
     """Press Tab, or Shift and Tab, through the controls of these names; each must be visible and outlined."""
     for wanted in names:
-        press_key(tab, "Tab", back)
+        press_key(tab, Keys.TAB, back)
         found, focus = name_of(tab), tab.js(COLOUR + FOCUS)
         assert found.startswith(wanted) and not focus["is_body"]
         assert focus["is_seen"] and focus["is_outlined"] and contrast(*focus["colours"]) >= 3, (wanted, focus)
@@ -66,7 +65,7 @@ def test_page_by_keys(tab: Page) -> None:
     tab.js("document.getElementById('list').select()")
     type_text(tab, MACHINE)
     walk(tab, BEFORE[3:4])
-    tab.await_answer(lambda: press_key(tab, "Enter"))
+    tab.await_answer(lambda: press_key(tab, Keys.ENTER))
     assert soon(lambda: tab.text("machine-says").startswith("It never halts: at steps 4 and 8"))
     assert tab.text("machine-text") == MACHINE
     tab.wait_until_drawn()
@@ -75,22 +74,22 @@ def test_page_by_keys(tab: Page) -> None:
     walk(tab, BEFORE[4:] + BEHIND)
     leave_and_come_back(tab)
     walk(tab, [*reversed(BEFORE + BEHIND)], back=True)
-    press_key(tab, "Tab", True)
+    press_key(tab, Keys.TAB, True)
     assert is_outside(tab) or name_of(tab) in BEHIND
 
 
 def leave_and_come_back(tab: Page) -> None:
     """Leave the page behind the table, past scrolling boxes only, and return to the table."""
     passed = 0
-    press_key(tab, "Tab")
+    press_key(tab, Keys.TAB)
     while not is_outside(tab) and name_of(tab) != BEFORE[0] and passed < 4:
         passed += 1
-        press_key(tab, "Tab")
+        press_key(tab, Keys.TAB)
     assert passed < 4
     for _ in range(passed + 1):
-        press_key(tab, "Tab", True)
+        press_key(tab, Keys.TAB, True)
     assert name_of(tab) == BEHIND[-1]
-    press_key(tab, "Tab")
+    press_key(tab, Keys.TAB)
 
 
 def test_keys_of_fields_and_buttons(tab: Page) -> None:

@@ -2,11 +2,10 @@
 
 import time
 
-from support.browser import ENDLESS, LONG, Page, soon
-from support.gestures import press_key
-from support.machines import CHAMPION, CHAMPION_OF_FOUR
+from support.browser import LONG, Page, soon
+from support.gestures import Keys, press_key
+from support.machines import CHAMPION, CHAMPION_OF_FOUR, HALT
 
-HALT = "1RB1LB_1LA1RZ"
 STEPS = 50_000_000
 # Opens the next line, and returns soon after what diagram and tape show; the champion's trace takes longer.
 NEXT = """
@@ -33,18 +32,11 @@ window.Worker = class extends Worker {
 HEARING = "return window.workers.filter((one) => one.onmessage !== null || one.onerror !== null).length"
 
 
-def run_endless(tab: Page, given: str) -> None:
-    """Start a list whose machines run for hours."""
-    tab.plan(ENDLESS, "decide")
-    tab.type("list", given)
-    tab.run()
-
-
 def require_focus(tab: Page, name: str, wanted: str, times: int = 1) -> None:
     """Press a button some times, and require the focus to be where it is wanted."""
-    tab.js("document.getElementById(arguments[0]).focus()", name)
+    tab.focus_on(name)
     for _ in range(times):
-        press_key(tab, "Enter")
+        press_key(tab, Keys.ENTER)
     assert soon(lambda: tab.focus() == wanted)
 
 
@@ -65,8 +57,8 @@ def test_slow_first_machine_hides_the_one_before(tab: Page) -> None:
     """The focus moves to the rows, and the next list's machine is shown."""
     tab.open_list("1RA1RA")
     tab.wait_until_drawn()
-    tab.js("document.getElementById('copy-text').focus()")
-    run_endless(tab, "%s\n1RA1RA\n" % LONG)
+    tab.focus_on("copy-text")
+    tab.run_endless(LONG, "1RA1RA")
     assert soon(lambda: tab.get("machine", "hidden"))
     assert tab.focus() == "rows" and tab.text("status").startswith("Running")
     tab.click("stop")
@@ -79,7 +71,7 @@ def test_machine_decided_again_is_left(tab: Page) -> None:
     tab.open_list(CHAMPION, plan={"steps": STEPS // 10}, mode="decide")
     tab.click("again")
     assert tab.text("again") == "Stop"
-    run_endless(tab, "%s\n" % LONG)
+    tab.run_endless(LONG)
     time.sleep(3)
     assert tab.text("again") != "Stop" and "halts" not in tab.text("live")
     tab.click("stop")
@@ -100,7 +92,7 @@ def test_button_keeps_the_focus(tab: Page) -> None:
     tab.driver.set_window_size(800, 900)
     tab.open_list("1RA1RA", HALT, LONG)
     require_focus(tab, "row-next", "row-next")
-    press_key(tab, "Enter")
+    press_key(tab, Keys.ENTER)
     assert soon(lambda: tab.text("machine-text") == LONG)
     tab.driver.set_window_size(1280, 900)
 
@@ -118,10 +110,10 @@ def test_hidden_button_gives_its_focus(tab: Page) -> None:
         require_focus(tab, name, wanted)
     tab.wait_until_done()
     tab.open_list("1RA1RA", "no machine")
-    tab.js("document.getElementById('diagram').focus()")
+    tab.focus_on("diagram")
     tab.click("row-next")
     assert soon(lambda: tab.focus() == "row-next")
-    run_endless(tab, "%s\n" % LONG)
+    tab.run_endless(LONG)
     tab.until(lambda: tab.text("status").startswith("Running"))
     require_focus(tab, "stop", "run")
 

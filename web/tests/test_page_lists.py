@@ -5,7 +5,7 @@ import json
 import pathlib
 import random
 import re
-from typing import Any, Dict, List
+from typing import Any
 
 import pytest
 from budlarem.reading import Form
@@ -15,7 +15,7 @@ from support.browser import Page
 from support.machines import CHAMPION, mixed_machines
 from support.program import as_lines, run_command
 
-Forms = Dict[str, Any]
+Forms = dict[str, Any]
 DISGUISES = [
     "%s", "  %s\r", "%s halt 6 4", "17. %s", "12,%s,x", "`%s`, it halts.", "\ufeff%s", "%s # a comment",
     "[%s](https://bbchallenge.org/{})", "https://bbchallenge.org/%s", "| %s | cycler |",
@@ -25,7 +25,7 @@ MORE = (*" \t_-.,;:|#*~`'\"[](){}<>!?\\/01LRABZHabr=\u200b\xa0\x1b\u00e9\u2013",
 SKIPPED = "3 skipped (empty lines, comments, code fences, rules and headers of tables)"
 
 
-def read_by_page(asked: List[Any]) -> List[Any]:
+def read_by_page(asked: list[Any]) -> list[Any]:
     """Return the sentences of the page's reader, and its replies."""
     given = "".join(json.dumps(one) + "\n" for one in asked).encode()
     done = run_command(["node", str(TOP / "web/tests/reader.mjs")], given)
@@ -33,7 +33,7 @@ def read_by_page(asked: List[Any]) -> List[Any]:
     return [json.loads(line) for line in done.output.decode().split("\n") if line]
 
 
-def expected_reading(form: Dict[str, Any]) -> Dict[str, Any]:
+def expected_reading(form: dict[str, Any]) -> dict[str, Any]:
     """Return the reading of a form."""
     if "nothing" in form:
         return {"kind": "nothing"}
@@ -49,9 +49,8 @@ def test_forms_have_their_readings(forms: Forms) -> None:
     sentences, *found = read_by_page([*lines, *forms["lists"], *forms["encodings"]])
     assert sentences == {name: forms[name] for name in ("advice", "rewritings")}
     wanted = [expected_reading(form) for form in forms["forms"]]
-    wanted += [entry["form"] for entry in forms["lists"]] + [
-        entry["encoding"] for entry in forms["encodings"]
-    ]
+    wanted += [entry["form"] for entry in forms["lists"]]
+    wanted += [entry["encoding"] for entry in forms["encodings"]]
     assert found == wanted
     print("%d forms, lists and encodings" % len(wanted))
 
@@ -65,7 +64,7 @@ def change(line: str, source: random.Random) -> str:
     return line
 
 
-def read_by_package(line: str, form: str) -> Dict[str, Any]:
+def read_by_package(line: str, form: str) -> dict[str, Any]:
     """Return the package's reading of a line in the page's form."""
     reading = read_line(1, line, Form(form))
     if reading is None:
@@ -127,13 +126,10 @@ def test_file_of_all_forms(tab: Page, forms: Forms) -> None:
     texts = [form for form in forms["forms"] if "form" not in form and "\n" not in form["line"]]
     # What marks the order of bytes stands at the begin of a file alone.
     lines = [form["line"].replace("\ufeff", "") for form in texts]
-
-    def line_for_program(form: Dict[str, Any], line: str) -> str:
-        # A rule that is read as a machine elsewhere is refused for a space before it.
-        is_rule = "machine" not in form and line.strip("\r") in ("------", "------------")
-        return str(form.get("machine", " " + line if is_rule else line))
-
-    given = [line_for_program(form, line) for form, line in zip(texts, lines) if "nothing" not in form]
+    # A rule that is read as a machine elsewhere is refused for a space before it.
+    refused = [re.sub(r"^(------|------------)(\r?)$", r" \1\2", line) for line in lines]
+    pairs = [pair for pair in zip(texts, refused) if "nothing" not in pair[0]]
+    given = [form.get("machine", line) for form, line in pairs]
     tab.plan({"steps": 1000}, "decide", True)
     tab.choose_option("list-form", "text")
     tab.answer_file(as_lines(lines))
@@ -152,7 +148,7 @@ def test_file_of_all_forms(tab: Page, forms: Forms) -> None:
         ("machine,status\n1RA1RA,halt\n```\n|-\n", "a table", ["1RA1RA"]),
     ],
 )
-def test_form_of_a_list_is_found(tab: Page, text: str, form: str, rows: List[str]) -> None:
+def test_form_of_a_list_is_found(tab: Page, text: str, form: str, rows: list[str]) -> None:
     """Form and skipped lines are in the status."""
     tab.plan({}, "decide", True)
     tab.open_list(*text.splitlines())

@@ -6,13 +6,12 @@ import time
 
 import budlarem
 import pytest
-from support.browser import LONG, Page, trace
-from support.machines import CHAMPION, CHAMPION_OF_FOUR, SWAPPED
+from support.browser import LONG, Page
+from support.machines import CHAMPION, CHAMPION_OF_FOUR, HALT, LATE, SWAPPED, TREE
+from support.traces import trace
 
-HALT = "1RB1LB_1LA1RZ"
-TREE = "1RB1LB_1LA0RC_0LD1RC_---1LA"
-MACHINES = [HALT, "1RA1RA", LONG, "1LB0LA_1RA---", "1LC1RZ_1RB---_1RA1LA", "1RB---_1LB1LA", TREE, CHAMPION]
-MACHINES.append("1RB1LB_1LA0LC_1RE1LD_1RD0RA_1RE1RE")
+MACHINES = "1RA1RA 1LB0LA_1RA--- 1LC1RZ_1RB---_1RA1LA 1RB---_1LB1LA".split()
+MACHINES += [HALT, LONG, TREE, CHAMPION, LATE]
 ON_BLANK = "A on the blank tape alone"
 # Records copies.
 COPY = """
@@ -29,8 +28,7 @@ navigator.clipboard.write = async ([item]) => {
 @pytest.mark.parametrize("machine", MACHINES)
 def test_facts_are_those_of_the_package(tab: Page, library: pathlib.Path, machine: str) -> None:
     verdict = budlarem.parse(tab.program_output("decide", {}, machine.encode()).decode().rstrip())
-    tab.open("#machine=" + machine)
-    tab.until(lambda: "\u2026" not in tab.text("facts"))
+    tab.open_facts(machine)
     normal = tab.text("fact-normal")
     assert (machine if "is in normal form" in normal else normal) == budlarem.normal(machine).normal
     assert tab.text("fact-mirror") == machine.translate(SWAPPED)
@@ -46,8 +44,7 @@ def test_facts_are_those_of_the_package(tab: Page, library: pathlib.Path, machin
 @pytest.mark.parametrize("machine", MACHINES)
 def test_growth(tab: Page, machine: str, steps: int = 5_000) -> None:
     """Visited cells after a hundredth, a tenth and all of the steps, or at the halt."""
-    tab.open("#machine=%s&steps=%d" % (machine, steps))
-    tab.until(lambda: "\u2026" not in tab.text("facts"))
+    tab.open_facts(machine, "&steps=%d" % steps)
     rows = trace(tab.program, machine, steps)
     if len(rows) <= steps:
         cells = len(rows[-1].cells)
@@ -56,17 +53,14 @@ def test_growth(tab: Page, machine: str, steps: int = 5_000) -> None:
     visited = [len(rows[steps // part].cells) for part in (100, 10, 1)]
     power = math.log10(visited[2] / visited[0]) / 2
     grows = "grow as a " + ("logarithm" if power < 0.2 else "root" if power < 0.8 else "line")
-    wanted = "They %s: %s after" % (
-        "stay" if visited[1] == visited[2] else grows,
-        ", ".join(map("{:,}".format, visited)),
-    )
-    assert tab.text("fact-growth").startswith(wanted)
+    words = "stay" if visited[1] == visited[2] else grows
+    counts = ", ".join(map("{:,}".format, visited))
+    assert tab.text("fact-growth").startswith("They %s: %s after" % (words, counts))
 
 
 def test_growth_up_to_the_limit_of_cells(tab: Page) -> None:
     """Long before the limit of steps."""
-    tab.open("#machine=1RA1RA")
-    tab.until(lambda: "\u2026" not in tab.text("facts"))
+    tab.open_facts("1RA1RA")
     visited = "656, 6,551, 65,501 after a hundredth, a tenth and all of 65,535 steps"
     assert tab.text("fact-growth").startswith("They grow as a line: %s;" % visited)
 
@@ -82,8 +76,7 @@ def test_growth_up_to_the_limit_of_cells(tab: Page) -> None:
 )
 def test_what_a_verdict_says_of_others(tab: Page, machine: str, completions: str, starts: str) -> None:
     """About completions of `---`, and other starts."""
-    tab.open("#machine=" + machine)
-    tab.until(lambda: tab.text("fact-completions") not in ("", "\u2026"))
+    tab.open_facts(machine)
     assert completions in tab.text("fact-completions")
     assert starts in tab.text("fact-starts")
     assert tab.get("elsewhere", "href") == "https://bbchallenge.org/" + machine

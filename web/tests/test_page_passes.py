@@ -2,30 +2,22 @@
 
 import re
 import time
-from typing import Callable, List
 
 import pytest
 from support.browser import ENDLESS, LONG, Page
-from support.machines import CHAMPION_OF_FOUR
+from support.machines import CHAMPION_OF_FOUR, HALT
 from support.program import as_lines
 
-HALT = "1RB1LB_1LA1RZ"
 # Backward reasoning decides these within 1,000 steps; a longer run finds them translated.
 FOUND_LATER = "1RB0LD_0LA1RC_1RE0RB_1RE1LA_1LD0RC 1RB0LE_1LE0RD_0RB1RC_0LD0RC_0LA1LA".split()
 HALTS_LATE = "halts after 107 steps"
-
-
-def percent(tab: Page) -> int:
-    """Return the percentage in the status."""
-    found = re.search(r", (\d+) % done", tab.text("status"))
-    return int(found[1]) if found else 0
 
 
 def test_first_pass_comes_before_long_machines(tab: Page) -> None:
     """A stop saves final verdicts, and reports the omitted ones of the first pass."""
     tab.plan(ENDLESS, "decide")
     tab.submit_file(as_lines([LONG] * 32 + [HALT] * 6_368))
-    tab.until(lambda: percent(tab) == 99)
+    tab.until(lambda: ", 99 % done" in tab.text("status"))
     assert "6,368 decided, 0 undecided" in tab.text("status")
     assert "32 waiting for the second pass" in tab.text("status")
     assert tab.rows()[0][2] == "undecided steps first pass"
@@ -36,14 +28,9 @@ def test_first_pass_comes_before_long_machines(tab: Page) -> None:
 
 def test_long_machine_is_named_while_others_are_decided(tab: Page) -> None:
     """A stop keeps the others' verdicts."""
-
-    def count_decided() -> int:
-        found = re.search(r"([0-9,]+) decided", tab.text("status"))
-        return int(found[1].replace(",", "")) if found else 0
-
     tab.plan(ENDLESS, "decide")
     tab.submit_file(as_lines([HALT] * 700 + [LONG] + [HALT] * 700))
-    tab.until(lambda: LONG in tab.text("under-way") and count_decided() >= 1_300)
+    tab.until(lambda: LONG in tab.text("under-way") and re.search("1,[34]\\d\\d decided", tab.text("status")))
     before = tab.text("status")
     assert re.search(r"s, \d+ % done\. ", before)
     time.sleep(0.5)
@@ -63,27 +50,25 @@ def test_second_pass_has_the_bytes_of_the_program(tab: Page) -> None:
 
 
 @pytest.mark.parametrize("every", [2_000, pytest.param(100, marks=pytest.mark.slow)])
-def test_two_passes_over_four_states(tab: Page, four_states: List[str], every: int) -> None:
+def test_two_passes_over_four_states(tab: Page, four_states: list[str], every: int) -> None:
     tab.require_same("decide", {"steps": 20_000}, as_lines(four_states[::every]))
     print("%d machines" % len(four_states[::every]))
 
 
 @pytest.mark.slow
 @pytest.mark.timing
-def test_four_states_are_decided_soon(tab: Page, four_states: List[str]) -> None:
+def test_four_states_are_decided_soon(tab: Page, four_states: list[str]) -> None:
     """99 % of them in less time than the program takes for all."""
     given = as_lines(four_states)
-
-    def time_call(what: Callable[[], object]) -> float:
-        begun = time.monotonic()
-        what()
-        return time.monotonic() - begun
-
     tab.plan({}, "decide")
     tab.submit_file(given)
-    page = time_call(lambda: tab.until(lambda: percent(tab) == 99))
+    begun = time.monotonic()
+    tab.until(lambda: ", 99 % done" in tab.text("status"))
+    page = time.monotonic() - begun
     tab.click("stop")
-    program = time_call(lambda: tab.program_output("decide", {}, given))
+    begun = time.monotonic()
+    tab.program_output("decide", {}, given)
+    program = time.monotonic() - begun
     print("99 %% of four states after %.1f s; the program takes %.1f s for all" % (page, program))
     assert page < program
 

@@ -4,19 +4,16 @@ import json
 import random
 import re
 import time
-from typing import Callable, Dict, List
 
 import pytest
-from support.browser import HEAD, Page, Row, format_number, soon, trace
+from support.browser import HEAD, Page, soon
 from support.gestures import Keys, cell_at, place_of, send_mouse, window_point
-from support.machines import CHAMPION, CHAMPION_OF_FOUR, seldom_halting
+from support.machines import CHAMPION, CHAMPION_OF_FOUR, LATE, TREE, seldom_halting
 from support.node import Engine
 from support.page_times import PAUSE, end, steps_seen, traced_views, views
+from support.traces import Row, format_number, trace
 
 TRANSLATED = "1LB0LA_1RA---"
-# The champion of four states, with an endless run to the right instead of its halt.
-LATE = "1RB1LB_1LA0LC_1RE1LD_1RD0RA_1RE1RE"
-TREE = "1RB1LB_1LA0RC_0LD1RC_---1LA"
 # A machine of four symbols; it halts after 3,932,964 steps.
 FOUR_SYMBOLS = "1RB2LA1RA1RA_1LB1LA3RB1RZ"
 # Limits under which 1RA1RA is undecided and exceeds the cells.
@@ -37,9 +34,10 @@ CELLS = """
 return [...document.querySelectorAll("#tape-cells .cell")].filter((one) => !one.querySelector(".blank"))
   .map((one) => [Number(one.dataset.at), one.querySelector(".symbol").textContent]);
 """
+LEVELS = "return [...document.querySelectorAll('.level')].map((one) => Number(one.dataset.count))"
 
 
-def row_requests(source: random.Random) -> List[Dict[str, int]]:
+def row_requests(source: random.Random) -> list[dict[str, int]]:
     """Return successive requests for rows; later ones repeat some rows."""
     every = source.choice([1, 2, 3, 4])
     begin = every * source.randrange(50)
@@ -65,7 +63,7 @@ def test_kept_rows_are_those_of_the_program(bb: str, engine: Engine, rng: random
         run = {row.step: row for row in trace(bb, machine, 5_000, 512)}
         for one, found in zip(requests, reply["lines"]):
             steps = range(one["from"], one["upto"] + 1, one["every"])
-            wanted = ["%d %s %d %d %s" % run[step] for step in steps if step in run]
+            wanted = [run[step].line for step in steps if step in run]
             assert found == wanted, (machine, one)
         end = max(run.values())
         assert reply["last"] == [end.step, end.low, len(end.cells)], machine
@@ -100,16 +98,11 @@ def test_cells_have_their_colours(tab: Page, machine: str, upto: int, limits: st
     assert tab.pixels(places) == wanted
 
 
-@pytest.fixture
-def sample(engine: Engine) -> Callable[[str, int], Row]:
-    """A function that returns a row of a machine by the engine's trace of that step."""
-
-    def row(machine: str, step: int) -> Row:
-        reply = engine.call("trace", {"steps": step, "from": step, "every": 1}, machine.encode())
-        _, state, head, low, cells = reply.reply.decode().split()
-        return Row(step, state, int(head), int(low), cells)
-
-    return row
+def sample(engine: Engine, machine: str, step: int) -> Row:
+    """Return a row of a machine by the engine's trace of that step."""
+    reply = engine.call("trace", {"steps": step, "from": step, "every": 1}, machine.encode())
+    _, state, head, low, cells = reply.reply.decode().split()
+    return Row(step, state, int(head), int(low), cells)
 
 
 def require_means(tab: Page, source: random.Random, row: Row) -> None:
@@ -124,15 +117,15 @@ def require_means(tab: Page, source: random.Random, row: Row) -> None:
         assert all(abs(a - b) <= 1 for a, b in zip(pixel, means)), (row.step, x)
 
 
-def test_means_of_four_symbols(tab: Page, sample: Callable[[str, int], Row], rng: random.Random) -> None:
+def test_means_of_four_symbols(tab: Page, engine: Engine, rng: random.Random) -> None:
     view = tab.open_machine(FOUR_SYMBOLS, "&steps=3000000")
     assert view["across"] > 1
     for number in (60, 200, 400):
-        require_means(tab, rng, sample(FOUR_SYMBOLS, number * int(view["every"])))
+        require_means(tab, rng, sample(engine, FOUR_SYMBOLS, number * int(view["every"])))
 
 
 @pytest.mark.slow
-def test_whole_run_of_the_champion(tab: Page, sample: Callable[[str, int], Row], rng: random.Random) -> None:
+def test_whole_run_of_the_champion(tab: Page, engine: Engine, rng: random.Random) -> None:
     """The view shows all steps and cells; a pixel has the mean colour of its cells."""
     view, shown = tab.open_machine(CHAMPION, "&steps=50000000"), tab.text("diagram-text")
     every = int(view["every"])
@@ -141,13 +134,13 @@ def test_whole_run_of_the_champion(tab: Page, sample: Callable[[str, int], Row],
     assert last <= 47_176_870 < last + every and view["top"] == 0
     # The last row has a mark.
     for number in rng.sample(range(50, last // every - 6), 6):
-        require_means(tab, rng, sample(CHAMPION, number * every))
+        require_means(tab, rng, sample(engine, CHAMPION, number * every))
 
 
 def test_resized_window_shows_the_whole(tab: Page) -> None:
     """A chosen view stays."""
 
-    def resize(width: int) -> Dict[str, float]:
+    def resize(width: int) -> dict[str, float]:
         before = tab.size()[0]
         metrics = {"width": width, "height": 900, "deviceScaleFactor": 1, "mobile": False}
         tab.command("Emulation.setDeviceMetricsOverride", **metrics)
@@ -207,32 +200,29 @@ def test_wheel_zooms_at_the_pointer(tab: Page) -> None:
     cell = cell_at(before, (300, 200))
     tab.js(TURN)
     assert tab.wait_until_drawn() == before
-    tab.js("document.getElementById('diagram').focus()")
+    tab.focus_on("diagram")
     tab.js(TURN)
-    tab.until(lambda: tab.wait_until_drawn() != before)
-    after = tab.wait_until_drawn()
+    after = tab.wait_until_drawn(lambda view: view != before)
     assert after["every"] < before["every"]
     assert abs(place_of(after, *cell)[1] - 200) <= 2 + after["high"]
 
 
 @pytest.mark.slow
-def test_going_to_a_step(tab: Page, sample: Callable[[str, int], Row]) -> None:
+def test_going_to_a_step(tab: Page, engine: Engine) -> None:
     """The diagram shows its cells, and the tape its row."""
     tab.open_machine(CHAMPION, "&steps=50000000")
     tab.go_to("47,176,860")
     tab.until(lambda: "47,176,860" in tab.text("tape-text"))
-    tab.until(lambda: tab.wait_until_drawn()["every"] == 1)
-    view, row = tab.wait_until_drawn(), sample(CHAMPION, 47_176_860)
+    view = tab.wait_until_drawn(lambda view: view["every"] == 1)
+    row = sample(engine, CHAMPION, 47_176_860)
     assert view["top"] <= 47_176_860 <= view["top"] + 400 / view["high"]
     assert tab.text("tape-text").startswith(tape_words(row))
 
 
 def tape_words(row: Row) -> str:
     """Return the beginning of the tape's description of a row."""
-    symbol = row.read(row.head)
-    return "Step {:,}: state {} reads {} at position {}".format(
-        row.step, row.state, symbol, format_number(row.head)
-    )
+    words = (row.step, row.state, row.read(row.head), format_number(row.head))
+    return "Step {:,}: state {} reads {} at position {}".format(*words)
 
 
 def require_tape(tab: Page, row: Row) -> None:
@@ -274,7 +264,7 @@ def test_tape_goes_step_by_step(tab: Page) -> None:
 
 
 @pytest.mark.parametrize("keys", [[Keys.END], [Keys.HOME, *[Keys.ARROW_RIGHT] * 7], [Keys.HOME, Keys.END]])
-def test_tape_ends_where_the_cells_do(tab: Page, keys: List[str]) -> None:
+def test_tape_ends_where_the_cells_do(tab: Page, keys: list[str]) -> None:
     """The tape ends where the limit of cells ends the run."""
     tab.open_machine("1RA1RA", FEW_CELLS)
     assert "the limit of cells ends the trace" in tab.text("diagram-text")
@@ -339,16 +329,15 @@ def test_late_marks_are_in_view(tab: Page) -> None:
     upper, lower = (place_of(view, step, 0)[1] for step in (first, second))
     assert view["y"] <= upper <= lower - 8 and lower < tab.size()[1]
     tab.click("fit")
-    tab.until(lambda: tab.wait_until_drawn()["top"] == 0)
+    assert tab.wait_until_drawn(lambda whole: whole["top"] == 0)["top"] == 0
     tab.click("marked")
-    tab.until(lambda: tab.wait_until_drawn() == view)
+    assert tab.wait_until_drawn(lambda marked: marked == view) == view
 
 
 def test_levels_of_a_tree(tab: Page) -> None:
     """The page draws the levels and nodes of the line."""
     tab.open("#machine=" + TREE)
     levels, nodes = tab.program_output("decide", {}, TREE.encode()).decode().split()[2:]
-    script = "return [...document.querySelectorAll('.level')].map((one) => Number(one.dataset.count))"
-    counts = tab.js(script)
+    counts = tab.js(LEVELS)
     assert (len(counts), sum(counts)) == (int(levels), int(nodes))
     assert tab.js("return document.querySelector('#behind .error') === null")

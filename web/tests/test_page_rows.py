@@ -1,12 +1,10 @@
 """The rows of a list: which one is open, chosen and highlighted, in any order and among hidden kinds."""
 
 import time
-from typing import List
 
 from support.browser import LONG, Page, soon
-from support.machines import CHAMPION, CHAMPION_OF_FOUR
+from support.machines import CHAMPION, CHAMPION_OF_FOUR, HALT
 
-HALT = "1RB1LB_1LA1RZ"
 CHOSEN = "return [...document.querySelectorAll('#shown [aria-selected=true]')].map((row) => row.children[1].textContent)"
 LINES = [HALT, "1RA1RA", LONG, "1LB0LA_1RA---", CHAMPION_OF_FOUR]
 ORDERS = """
@@ -18,7 +16,7 @@ for (const value of arguments[0]) {
 """
 
 
-def machines(tab: Page) -> List[str]:
+def machines(tab: Page) -> list[str]:
     return [row[1] for row in tab.rows()]
 
 

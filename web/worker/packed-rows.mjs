@@ -77,9 +77,8 @@ export function parseTrace(/** @type {Uint8Array} */ text, /** @type {number} */
   const bits = symbols === 2 ? 1 : 4;
   const pack = bits === 1 ? packBits : packNibbles;
   const steps = Float64Array.from(columns.steps);
-  const heads = Int32Array.from(columns.heads);
-  const lows = Int32Array.from(columns.lows);
-  const widths = Int32Array.from(columns.widths);
+  const integers = [columns.heads, columns.lows, columns.widths];
+  const [heads, lows, widths] = integers.map((column) => Int32Array.from(column));
   const { offsets, cells } = allocateCells(widths, bits);
   begins.forEach((begin, k) => pack(cells.subarray(offsets[k]), text, begin, widths[k]));
   return { steps, heads, lows, widths, offsets, states, cells, bits };

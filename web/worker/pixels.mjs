@@ -4,10 +4,7 @@
  * @typedef {import("./packed-rows.mjs").PackedRows} PackedRows
  * @typedef {import("../page/diagram/viewport.mjs").View} View
  * @typedef {(k: number, from: number, to: number) => number} Mean of the cells `from` to `to` of row `k`
- * @typedef {(pixels: Uint32Array, k: number, first: number, end: number, cell: number) => void} PaintInner
- *   paints the columns `first` to `end` of row `k`, all visited, from a cell on
- * @typedef {(rows: PackedRows, view: View, palette: number[][]) => {mean: Mean, paintInner: PaintInner}}
- *   CreatePainter
+ * @typedef {(rows: PackedRows, view: View, palette: number[][]) => Mean} CreateMean
  */
 import { FRAMED } from "../page/diagram/viewport.mjs";
 import { symbolAtCell } from "./packed-rows.mjs";
@@ -30,12 +27,10 @@ const pixelOf = (/** @type {number[]} */ [red, green, blue]) =>
 export function paintRows(rows, view, columns, palette) {
   const image = new Uint32Array(columns * rows.steps.length);
   const colours = Uint32Array.from(palette, pixelOf);
-  const painter = (rows.bits === 1 ? twoSymbolPainter : manySymbolPainter)(rows, view, palette);
+  const mean = (rows.bits === 1 ? meanOfTwoSymbols : meanOfManySymbols)(rows, view, palette);
   for (let k = 0; k < rows.steps.length; k += 1) {
     const pixels = image.subarray(columns * k, columns * (k + 1));
-    view.across === 1
-      ? paintCells(pixels, rows, k, view, colours)
-      : paintMeans(pixels, rows, k, view, painter);
+    view.across === 1 ? paintCells(pixels, rows, k, view, colours) : paintMeans(pixels, rows, k, view, mean);
   }
   return new Uint8ClampedArray(image.buffer);
 }
@@ -61,24 +56,21 @@ function paintCells(pixels, rows, k, view, colours) {
 
 /**
  * Paints a pixel for several cells; only the outermost pixels may have unvisited cells.
- * @param {Uint32Array} pixels @param {PackedRows} rows @param {number} k @param {View} view
- * @param {{mean: Mean, paintInner: PaintInner}} painter
+ * @param {Uint32Array} pixels @param {PackedRows} rows @param {number} k @param {View} view @param {Mean} mean
  */
-function paintMeans(pixels, rows, k, { left, across }, { mean, paintInner }) {
+function paintMeans(pixels, rows, k, { left, across }, mean) {
   const low = rows.lows[k];
   const high = low + rows.widths[k] - 1;
   const first = Math.max(0, Math.floor((low - left) / across));
   const last = Math.min(pixels.length - 1, Math.floor((high - left) / across));
-  const edges = first < last ? [first, last] : [first];
-  for (const x of first <= last ? edges : []) {
+  for (let x = first; x <= last; x += 1) {
     const begin = left + x * across;
     pixels[x] = mean(k, Math.max(begin, low) - low, Math.min(begin + across - 1, high) - low);
   }
-  paintInner(pixels, k, first + 1, last, left + (first + 1) * across - low);
 }
 
-/** @type {CreatePainter} looks up means by the number of 1 cells */
-const twoSymbolPainter = ({ cells, offsets }, { across }, palette) => {
+/** @type {CreateMean} looks up means by the number of 1 cells */
+const meanOfTwoSymbols = ({ cells, offsets }, { across }, palette) => {
   const mixed = (/** @type {number} */ ones, /** @type {number} */ visited) =>
     pixelOf(
       palette[UNVISITED].map((unvisited, part) => {
@@ -87,15 +79,10 @@ const twoSymbolPainter = ({ cells, offsets }, { across }, palette) => {
       }),
     );
   const colours = Uint32Array.from({ length: across + 1 }, (_, ones) => mixed(ones, across));
-  return {
-    mean: (k, from, to) => mixed(countOnes(cells, offsets[k], from, to), to - from + 1),
-    paintInner: (pixels, k, first, end, cell) => {
-      let from = cell;
-      for (let x = first; x < end; x += 1) {
-        pixels[x] = colours[countOnes(cells, offsets[k], from, from + across - 1)];
-        from += across;
-      }
-    },
+  return (k, from, to) => {
+    const visited = to - from + 1;
+    const ones = countOnes(cells, offsets[k], from, to);
+    return visited === across ? colours[ones] : mixed(ones, visited);
   };
 };
 
@@ -115,11 +102,10 @@ function countOnes(cells, begin, from, to) {
   return ones;
 }
 
-/** @type {CreatePainter} */
-const manySymbolPainter = (rows, { across }, palette) => {
+/** @type {CreateMean} */
+const meanOfManySymbols = (rows, { across }, palette) => {
   const [reds, greens, blues] = [0, 1, 2].map((part) => Int32Array.from(palette, (colour) => colour[part]));
-  /** @type {Mean} */
-  const mean = (k, from, to) => {
+  return (k, from, to) => {
     const outside = across - (to - from + 1);
     let [red, green, blue] = palette[UNVISITED].map((one) => one * outside);
     for (let cell = from; cell <= to; cell += 1) {
@@ -129,13 +115,5 @@ const manySymbolPainter = (rows, { across }, palette) => {
       blue += blues[symbol];
     }
     return pixelOf([red, green, blue].map((sum) => Math.round(sum / across)));
-  };
-  return {
-    mean,
-    paintInner: (pixels, k, first, end, cell) => {
-      for (let x = first; x < end; x += 1) {
-        pixels[x] = mean(k, cell + (x - first) * across, cell + (x - first + 1) * across - 1);
-      }
-    },
   };
 };

@@ -11,7 +11,7 @@ import time
 from typing import Callable
 
 import pytest
-from support import build, require
+from support import require
 from support.clusters import cluster
 from support.program import as_lines, run_command
 
@@ -20,11 +20,10 @@ PLAN = ["--states", "3", "--entries", "2"]
 
 
 @pytest.fixture(scope="module")
-def programs(bb: str, cover: str, tmp_path_factory: pytest.TempPathFactory) -> pathlib.Path:
+def programs(bb: str, cover: str, lister: str, tmp_path_factory: pytest.TempPathFactory) -> pathlib.Path:
     """A folder with the three programs."""
-    require("rustc")
     folder = tmp_path_factory.mktemp("programs")
-    for path in (bb, cover, str(build("lister", "tools/out/tree_normal_form"))):
+    for path in (bb, cover, lister):
         (folder / os.path.basename(path)).symlink_to(path)
     return folder
 

@@ -6,7 +6,7 @@
  * @typedef {{machine: string, cells: number, upto: number} & Omit<viewport.Fit, "opens">} DiagramRun
  * @typedef {ReturnType<typeof import("../../worker/trace.mjs").makePicture>} Picture
  */
-import { byId, clearColours, readPalette } from "../dom.mjs";
+import { byId, readPalette } from "../dom.mjs";
 import { WorkerClient } from "../worker-client.mjs";
 import * as geometry from "./geometry.mjs";
 import { Painter, createSheet } from "./paint.mjs";
@@ -38,10 +38,7 @@ export class Diagram {
     this.frame = 0;
     this.requests = 0;
     new ResizeObserver(() => this.onResize()).observe(this.canvas);
-    matchMedia("(prefers-color-scheme: dark)").addEventListener("change", () => {
-      clearColours();
-      this.requestPicture();
-    });
+    matchMedia("(prefers-color-scheme: dark)").addEventListener("change", () => this.requestPicture());
   }
 
   get area() {

@@ -1,5 +1,5 @@
 /** The fields of limits and deciders, and links with their values. */
-import { LIMITS, LimitsError, RANGES } from "../../lib/limits.mjs";
+import { LIMITS, RANGES } from "../../lib/limits.mjs";
 import { formatNumber } from "../../reader/machine.mjs";
 import { LONGEST_SHOWN } from "../../reader/tokens.mjs";
 import { byId, create } from "../dom.mjs";
@@ -79,7 +79,7 @@ export function parseNumber(/** @type {string} */ input) {
   return rest < 0 ? null : BigInt(whole + fraction) * 10n ** BigInt(rest);
 }
 
-/** The fields' plan. Throws LimitsError for a limit out of range or a text that isn't a number. */
+/** @returns {Record<string, any> | null} the fields' plan; null for a refused limit, whose refusal is shown */
 export function readPlan() {
   clearRefusals();
   /** @type {Record<string, any>} */
@@ -90,12 +90,12 @@ export function readPlan() {
     const { min, max } = RANGES[name];
     if (number === null || number < min || number > max) {
       const isLarge = number !== null || /^\d{20,}$/.test(digitsOf(text));
-      throw new LimitsError(name, isLarge ? `${name} out of range` : `${name} is no number`);
+      return showRefusal(name, isLarge ? `${name} out of range` : `${name} is no number`);
     }
     plan[name] = number;
   }
   if (2n * plan.depth > plan.cells + 1n) {
-    throw new LimitsError("depth", "depth does not fit in cells");
+    return showRefusal("depth", "depth does not fit in cells");
   }
   return plan;
 }
@@ -110,7 +110,7 @@ function clearRefusals() {
   }
 }
 
-/** Shows a refused limit beside its field: the program's message, and the valid values. */
+/** Shows a refused limit beside its field: the program's message, and the valid values. Returns null. */
 export function showRefusal(/** @type {string} */ limit, /** @type {string} */ message) {
   const range = `enter ${rangeText(/** @type {Limit} */ (limit))}`;
   const advice = message.includes("fit") ? "2 × depth − 1 is at most the cells" : range;
@@ -118,6 +118,7 @@ export function showRefusal(/** @type {string} */ limit, /** @type {string} */ m
   field(limit).setAttribute("aria-invalid", "true");
   Object.assign(byId(`${limit}-range`), { textContent: `${message}: ${advice}`, className: "error" });
   field(limit).focus();
+  return null;
 }
 
 /** The fragment of a link that opens a machine with a plan. */

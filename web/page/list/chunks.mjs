@@ -87,22 +87,14 @@ export class ChunkReader {
   }
 }
 
-/** Rows to decide again, in chunks of their machines. */
-export class Holdouts {
-  /** @param {import("./results.mjs").Results} results @param {Uint32Array} rows @param {number} workers */
-  constructor(results, rows, workers) {
-    this.results = results;
-    this.rows = rows;
-    this.size = Math.min(MOST_LINES, Math.ceil(rows.length / (CHUNKS_PER_WORKER * workers)));
-    this.at = 0;
-  }
-
-  /** The next chunk and the index of its first row; null at the end. */
-  async next() {
-    const line = this.at;
-    const rows = this.rows.subarray(line, line + this.size);
-    this.at += rows.length;
-    const texts = Array.from(rows, (row) => `${this.results.machineAt(row)}\n`);
-    return rows.length === 0 ? null : { bytes: encoder.encode(texts.join("")), line };
+/**
+ * The machines of rows to decide again, in chunks with the index of their first row.
+ * @param {import("./results.mjs").Results} results @param {Uint32Array} rows @param {number} workers
+ */
+export function* holdoutChunks(results, rows, workers) {
+  const size = Math.min(MOST_LINES, Math.ceil(rows.length / (CHUNKS_PER_WORKER * workers)));
+  for (let line = 0; line < rows.length; line += size) {
+    const texts = Array.from(rows.subarray(line, line + size), (row) => `${results.machineAt(row)}\n`);
+    yield { bytes: encoder.encode(texts.join("")), line };
   }
 }

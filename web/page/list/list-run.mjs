@@ -3,7 +3,7 @@ import { KINDS, formatCount } from "../../reader/machine.mjs";
 import { announce, byId, setInactive, showText } from "../dom.mjs";
 import { enlargePlan, showRefusal } from "../input/fields.mjs";
 import { prestartWorkers } from "../worker-client.mjs";
-import { ChunkReader, Holdouts } from "./chunks.mjs";
+import { ChunkReader, holdoutChunks } from "./chunks.mjs";
 import { WorkerPool } from "./pool.mjs";
 import { Results } from "./results.mjs";
 import { slowLineText, statusText } from "./status.mjs";
@@ -100,12 +100,11 @@ export class ListRun {
       return;
     }
     const workers = workerCount(rows.length * LEAST_BYTES);
-    const holdouts = new Holdouts(results, rows, workers);
+    const chunks = holdoutChunks(results, rows, workers);
     this.startPool(workers, { mode: "decide", form: "machines", clean: false, plan }, {
-      nextChunk: () => holdouts.next(),
-      part: (part) => {
-        results.replace(rows.subarray(part.first, part.first + part.kinds.length), part, number);
-      },
+      nextChunk: async () => chunks.next().value ?? null,
+      part: (part) =>
+        results.replace(rows.subarray(part.first, part.first + part.kinds.length), part, number),
       end: () => this.finish("Done"),
     });
   }

@@ -20,6 +20,7 @@ const NARROW = "(max-width: 900px)";
 const BLANK_MILLISECONDS = 100;
 const CLOSE_MILLISECONDS = 250;
 const ELSEWHERE = "https://bbchallenge.org/";
+const AGAIN = "Decide again with larger limits";
 const DOUBTS = /** @type {Record<string, string>} */ ({
   bad: "The checker refutes it.",
   over: "The checker needs larger limits.",
@@ -36,8 +37,8 @@ export class MachineView {
   constructor() {
     this.diagram = new Diagram((place) => this.tape.goTo(place.step));
     this.tape = new Tape((place, closes) => this.diagram.showStep(place, closes));
+    // Busy while a machine is decided again.
     this.client = new WorkerClient();
-    this.isRedeciding = false;
     /**
      * Replaces the open machine's row after a new decision; returns whether it could.
      * @type {(by: import("../../worker/worker.mjs").Part, plan: Record<string, any>) => boolean}
@@ -60,7 +61,7 @@ export class MachineView {
       "copy-png": () => copyPicture(diagram.toPng(), byId("copy-png")),
       "copy-text": () => copyText(this.about?.machine ?? "", byId("copy-text")),
       link: () => this.copyLink(),
-      again: () => (this.isRedeciding ? this.stopRedeciding() : this.redecide()),
+      again: () => (this.client.isBusy ? this.stopRedeciding() : this.redecide()),
       back: () => byId("rows").focus(),
     });
   }
@@ -153,11 +154,10 @@ export class MachineView {
     const { machine, plan: before } = /** @type {About} */ (this.about);
     const plan = enlargePlan(before);
     const limits = `${formatNumber(plan.steps)} steps and ${formatNumber(plan.cells)} cells`;
-    this.isRedeciding = true;
     byId("again").textContent = "Stop";
     showText("again-text", `Deciding with ${limits} …`);
     this.client.request({ type: "decide-one", machine, plan }, ({ error, message, line, answer, part }) => {
-      this.endRedeciding();
+      byId("again").textContent = AGAIN;
       if (error) {
         showText("again-text", `Not decided with ${limits}: ${message}.`);
         return;
@@ -175,16 +175,11 @@ export class MachineView {
   }
 
   stopRedeciding() {
-    if (this.isRedeciding) {
+    if (this.client.isBusy) {
       this.client.cancel();
-      this.endRedeciding();
+      byId("again").textContent = AGAIN;
       showText("again-text", "Stopped. The list is unchanged.");
     }
-  }
-
-  endRedeciding() {
-    this.isRedeciding = false;
-    byId("again").textContent = "Decide again with larger limits";
   }
 
   /** Sets the address to the machine's link, and copies it. */

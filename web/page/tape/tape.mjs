@@ -153,7 +153,6 @@ export class Tape {
     this.closes = false;
   }
 
-
   get hasNext() {
     const { row, about } = this;
     const isKnown = row !== undefined && about !== null;
