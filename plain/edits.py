@@ -22,6 +22,7 @@ import re
 import subprocess
 import sys
 import threading
+import time
 from typing import Callable, Counter, Iterator, List, NamedTuple, Optional, Sequence, Tuple
 
 TOP = pathlib.Path(__file__).resolve().parents[1]
@@ -45,7 +46,8 @@ panic = "abort"
 debug = false
 overflow-checks = true
 """
-SECONDS = 60
+# How long a command may take, and the tests of the crates; a wrong program may not end.
+SECONDS, SECONDS_OF_TESTS = 60, 600
 Result = Tuple[int, bytes, bytes]
 
 
@@ -128,16 +130,21 @@ class Workspace:
         path = folder / "Cargo.toml"
         path.write_text(path.read_text().replace(PROFILES, QUICK))
         assert self.cargo("build", "-p", "bb", "-p", "cover") == 0
-        same = [pair for pair in expected if self.run(pair[0]) == pair[1]]
-        self.expected = same
-        print("%d of them end alike without optimization" % len(same), flush=True)
+        alike = []
+        for probe, result in expected:
+            start = time.monotonic()
+            if self.run(probe) == result:
+                alike.append((time.monotonic() - start, probe, result))
+        # Slow ones come last.
+        self.expected = [pair[1:] for pair in sorted(alike, key=lambda one: one[0] > 1)]
+        print("%d of them end alike without optimization" % len(alike), flush=True)
 
     def run(self, probe: Probe) -> Result:
         return run(probe, self.folder / "target" / "debug", self.lists)
 
     def cargo(self, *words: str) -> int:
         with open(self.folder / "log", "wb") as log:
-            command = ["timeout", "900", "cargo", *words, "--quiet"]
+            command = ["timeout", str(SECONDS_OF_TESTS), "cargo", *words, "--quiet", "--jobs", "1"]
             return subprocess.run(command, cwd=self.folder, stdout=log, stderr=log).returncode
 
     def seen_by(self, edit: Edit) -> Optional[str]:
@@ -159,9 +166,14 @@ class Workspace:
         for probe, expected in self.expected:
             if self.run(probe) != expected:
                 return probe.name
-        return self.library() or (
-            "the tests of the crates" if self.cargo("test", *("-p%s" % name for name in TESTED)) else None
-        )
+        return self.library() or self.tests()
+
+    def tests(self) -> Optional[str]:
+        """Return what the tests of the crates say."""
+        words = ["test", *("-p%s" % name for name in TESTED)]
+        if self.cargo(*words, "--no-run") != 0:
+            return "the compiler"
+        return "the tests of the crates" if self.cargo(*words) != 0 else None
 
     def library(self) -> Optional[str]:
         """Return what the library's test in C says."""
@@ -200,10 +212,13 @@ def try_all(
 
     def work(make: Callable[[], Workspace]) -> None:
         workspace = make()
-        while not waiting.empty():
-            edit = waiting.get()
-            seen = workspace.seen_by(edit)
-            print("%s/%s: %s" % (edit.crate, edit.name, seen or "NOT SEEN"), flush=True)
+        while True:
+            try:
+                edit, start = waiting.get_nowait(), time.monotonic()
+            except queue.Empty:
+                return
+            seen, seconds = workspace.seen_by(edit), time.monotonic() - start
+            print("%s/%s: %s, %.0f s" % (edit.crate, edit.name, seen or "NOT SEEN", seconds), flush=True)
             found.append((edit, seen))
 
     threads = [threading.Thread(target=work, args=(make,)) for make in workspaces]

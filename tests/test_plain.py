@@ -9,21 +9,22 @@ import pathlib
 import random
 import re
 import subprocess
-from typing import Callable, List, Tuple
+from typing import Callable, Dict, List, Tuple
 
 import pytest
 from support import TOP, build
 from support.examples import Example, read_examples
 from support.machines import random_machines
-from support.program import ROWS, CommandResult, as_lines, run_command, options
+from support.program import ROWS, CommandResult, as_lines, kind_of, options, processor_time, run_command
 from support.terminals import on_terminal
 
 FOUR = ["--steps", "1000", "--cells", "1024", "--depth", "40", "--nodes", "10000"]
 WORDS = """decide check trace help decid --steps --cells --depth --nodes --upto --no-cyclers --no-translated
     --no-backward --help -h --version -V -- - --- --step --cels -x -hx --steps=3 --cells=0 --cells=70000000
-    --steps=1000000000001 --steps=18446744073709551616 --steps= --steps=x --help=1 --no-cyclers=1 0 1 5 200 -1 x
-    1RB1LB_1LA1RZ 1RB ---1RZ ------ /nonexistent list.txt \u00e9 --\u00e9 --depth=10001 --nodes=1000000000001
-    --depth=9 --cells=16 --upto=3 --upto=-3 --no- --s = --= --steps=+5 --steps=5_0""".split()
+    --steps=1000000000000 --steps=1000000000001 --steps=18446744073709551616 --steps= --steps=x --help=1
+    --no-cyclers=1 0 1 5 200 -1 x 1RB1LB_1LA1RZ 1RB ---1RZ ------ /nonexistent list.txt \u00e9 --\u00e9
+    --depth=10000 --depth=10001 --nodes=1000000000000 --nodes=1000000000001 --depth=9 --cells=16 --upto=3
+    --upto=-3 --no- --s = --= --steps=+5 --steps=5_0""".split()
 COMMANDS, GIVEN = ("decide", "check", "trace"), b"1RB1LB_1LA1RZ\nx\n1RB1LB_1LA1RZ halt 6 4\n"
 # Commands of a shell; PROGRAM stands for the program, `four.txt` and `list.txt` are lists.
 EDGES = """exec PROGRAM decide <&-
@@ -39,6 +40,8 @@ EDGES = """exec PROGRAM decide <&-
     exec PROGRAM foo 2>/dev/full
     exec PROGRAM decide </dev/null
     exec PROGRAM trace --upto 3 1RB
+    exec PROGRAM decide --cells 67108864 list.txt
+    exec PROGRAM decide --cells 67108865 list.txt
     PROGRAM decide four.txt | head -c 100
     ulimit -f 1; exec PROGRAM decide four.txt >short
     ulimit -v 102400; exec PROGRAM decide --cells 67108864 <list.txt
@@ -52,6 +55,8 @@ TERMINAL = [
     "decide --depth 9 --cells 3",
     "decide --steps 2000000000000",
 ]
+# What the build by cargo may take, beside the proved one.
+BAR = 1.25
 Programs = Tuple[str, str]
 
 
@@ -147,6 +152,22 @@ def test_tests_of_the_crates(plain: pathlib.Path) -> None:
     written = [path.read_text().count("#[test]") for path in TOP.glob("crates/*/src/**/*.rt")]
     assert sum(counts) == sum(written) > 100
     print("%d tests of the crates passed" % sum(counts))
+
+
+@pytest.mark.timing
+def test_speed(programs: Programs, four_states: List[str]) -> None:
+    """Of machines on which nothing is found each makes all its steps, the first in registers, most on tapes."""
+    found = run_command([programs[0], "decide", *FOUR], as_lines(four_states)).output.decode().splitlines()
+    undecided = [line.split()[0] for line in found if kind_of(line) == "undecided"]
+    given = as_lines(undecided[:: len(undecided) // 200])
+    spent: Dict[str, List[float]] = {program: [] for program in programs}
+    for program in 7 * programs:
+        before = processor_time()
+        assert run_command([program, "decide"], given).status == 0
+        spent[program].append(processor_time() - before)
+    proved, by_cargo = (min(times) for times in spent.values())
+    print("%.2f s by cargo, %.2f s proved: %.2f" % (by_cargo, proved, by_cargo / proved))
+    assert by_cargo <= BAR * proved
 
 
 @pytest.mark.slow
