@@ -1,7 +1,7 @@
 #!/usr/bin/python3
 """Show that the comparison of the two builds notices wrong code.
 
-    plain/edits.py [--jobs N] [CRATE]...
+    plain/edits.py [--jobs N] [CRATE | CRATE/EDIT]...
 
 It applies the must-fail edits of the crates one at a time to a plain workspace, builds it without optimizing,
 and compares the program with the unedited build by a selection of `tests/test_plain.py`, up to the first
@@ -30,7 +30,7 @@ sys.path[:0] = [str(TOP), str(TOP / "tests"), str(TOP / "python" / "src")]
 
 from plain.erase import PROFILES, Source, plain, write_workspace  # noqa: E402
 from support.examples import read_examples  # noqa: E402
-from support.machines import random_machines  # noqa: E402
+from support.machines import random_machines, spoil  # noqa: E402
 from support.program import ROWS, as_lines, options  # noqa: E402
 from test_plain import COMMANDS, EDGES, FOUR, GIVEN, WORDS  # noqa: E402
 
@@ -82,6 +82,15 @@ def read_edit(path: pathlib.Path) -> Edit:
     return Edit(path.parents[1].name, path.stem, file[1], pairs)
 
 
+def read_edits(name: str) -> List[Edit]:
+    """Read the edits of a crate, or the one of this name in it."""
+    crate, _, edit = name.partition("/")
+    return [
+        read_edit(path)
+        for path in sorted((TOP / "crates" / crate / "must-fail").glob((edit or "*") + ".edit"))
+    ]
+
+
 def run(probe: Probe, programs: pathlib.Path, cwd: pathlib.Path) -> Result:
     """Run a probe; one that takes too long differs by its status."""
     command = probe.command.replace("BB", str(programs / "bb")).replace("COVER", str(programs / "cover"))
@@ -92,6 +101,10 @@ def run(probe: Probe, programs: pathlib.Path, cwd: pathlib.Path) -> Result:
     except BrokenPipeError:
         return -1, b"", b""
     return done.returncode, done.stdout, done.stderr
+
+
+def with_errors(source: random.Random, lines: bytes) -> bytes:
+    return as_lines(spoil(source, line) for line in lines.decode().splitlines())
 
 
 def probes(programs: pathlib.Path, lists: pathlib.Path) -> Iterator[Probe]:
@@ -108,6 +121,8 @@ def probes(programs: pathlib.Path, lists: pathlib.Path) -> Iterator[Probe]:
         forged = re.sub(rb"\d(?=\n)", lambda digit: b"%d" % (source.randrange(10)), verdicts[words])
         yield Probe("check " + words, "BB check " + words, verdicts[words])
         yield Probe("forged " + words, "BB check " + words, forged)
+        yield Probe("errors " + words, "BB decide " + words, with_errors(source, machines))
+        yield Probe("errors in verdicts " + words, "BB check " + words, with_errors(source, verdicts[words]))
     for example in read_examples():
         yield Probe("example " + example.name, "cd %s; BB %s" % (TOP, " ".join(example.words)), example.given)
     three = run(Probe("", "BB decide " + " ".join(FOUR), (lists / "three.txt").read_bytes()), programs, lists)
@@ -232,23 +247,20 @@ def try_all(
 def main() -> int:
     words = argparse.ArgumentParser(description=__doc__, formatter_class=argparse.RawDescriptionHelpFormatter)
     words.add_argument("--jobs", type=int, default=2, metavar="N", help="edits at a time (default: 2)")
-    words.add_argument("crates", nargs="*", metavar="CRATE", default=CRATES)
+    words.add_argument("names", nargs="*", metavar="CRATE | CRATE/EDIT", default=CRATES)
     asked = words.parse_args()
     subprocess.run(["make", "-s", "plain", "lister"], cwd=TOP, check=True)
     folder = TOP / "out" / "edits"
     write_lists(folder / "lists")
     expected = expected_results(TOP / "out" / "plain" / "target" / "release", folder / "lists")
     print("%d commands are compared" % len(expected), flush=True)
-    paths = [
-        path for name in asked.crates for path in sorted((TOP / "crates" / name / "must-fail").glob("*.edit"))
-    ]
-    edits = [read_edit(path) for path in paths]
+    edits = [edit for name in asked.names for edit in read_edits(name)]
     makers = [
         functools.partial(Workspace, folder / str(job), expected, folder / "lists")
         for job in range(asked.jobs)
     ]
     found = try_all(edits, makers)
-    for name in asked.crates:
+    for name in sorted({edit.crate for edit in edits}):
         counts: Counter[Optional[str]] = collections.Counter(
             seen if seen is None or seen.startswith("the ") else "a command"
             for edit, seen in found

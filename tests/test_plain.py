@@ -14,7 +14,7 @@ from typing import Callable, Dict, List, Tuple
 import pytest
 from support import TOP, build
 from support.examples import Example, read_examples
-from support.machines import random_machines
+from support.machines import random_machines, spoil
 from support.program import ROWS, CommandResult, as_lines, kind_of, options, processor_time, run_command
 from support.terminals import on_terminal
 
@@ -109,6 +109,19 @@ def test_random_machines(programs: Programs, rng: random.Random, limits: Tuple[i
     decided = require_same(programs, lambda bb: run_command([bb, "decide", *options(limits)], lines))
     forged = re.sub(rb"\d(?=\n)", lambda digit: b"%d" % (rng.randrange(10)), decided.output)
     require_same(programs, lambda bb: run_command([bb, "check", *options(limits)], forged))
+
+
+def test_lines_with_an_error(programs: Programs, covers: Programs, rng: random.Random) -> None:
+    machines = list(random_machines(10_000, rng))
+    spoilt = as_lines(spoil(rng, machine) for machine in machines)
+    assert (
+        require_same(programs, lambda bb: run_command([bb, "decide", *FOUR], spoilt)).output.count(b"refused")
+        > 5_000
+    )
+    decided = run_command([programs[0], "decide", *FOUR], as_lines(machines)).output.decode().splitlines()
+    claims = as_lines(spoil(rng, line) for line in decided)
+    require_same(programs, lambda bb: run_command([bb, "check", *FOUR], claims))
+    require_same(covers, lambda cover: run_command([cover, *FOUR], claims))
 
 
 @pytest.mark.parametrize("example", read_examples(), ids=[one.name for one in read_examples()])
