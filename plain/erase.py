@@ -12,6 +12,7 @@ from __future__ import annotations
 
 import argparse
 import json
+import os
 import pathlib
 import re
 import shutil
@@ -38,6 +39,7 @@ TOKEN = re.compile(
 IN_CLAUSE = re.compile(r'"(?:\\.|[^"\\])*"|--[^\n]*|//[^\n]*|[{}]|.', re.S)
 CLAUSE = re.compile(r"\s+(?:\*?\s*[A-Za-z_]\w*\s+)?\*?\s*(?=\{)")
 CLAUSES = ("requires", "ensures", "decreases")
+GHOST = re.compile(r"\s+(?:use\b|[A-Za-z_]\w*\s*[:=])")
 ATTRIBUTES = "allow cfg cold derive error inline must_use repr tactic test unsafe".split()
 MACROS = """assert assert_eq eprint eprintln format matches panic print println unreachable value_parser vec
     write""".split()
@@ -128,7 +130,7 @@ class Source(NamedTuple):
     name: str
 
     def refuse(self, line: int, token: str) -> NoReturn:
-        sys.exit("erase: %s:%d: `%s` has no rule" % (self.path.relative_to(TOP), line, token.strip()[:60]))
+        sys.exit("erase: %s:%d: `%s` has no rule" % (os.path.relpath(self.path, TOP), line, token.strip()[:60]))
 
 
 def braces_end(text: str, at: int) -> int:
@@ -155,7 +157,7 @@ def ghost_end(text: str, at: int) -> int:
 def proof_end(text: str, word: str, at: int) -> Optional[int]:
     """Return the end of the clause or ghost item that starts with `word`, if it is one."""
     if word == "ghost":
-        return ghost_end(text, at)
+        return ghost_end(text, at) if GHOST.match(text, at) else None
     clause = CLAUSE.match(text, at) if word in CLAUSES else None
     return braces_end(text, clause.end()) if clause else None
 
