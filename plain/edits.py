@@ -32,19 +32,17 @@ from plain.erase import PROFILES, Source, plain, write_workspace  # noqa: E402
 from support.examples import read_examples  # noqa: E402
 from support.machines import random_machines, spoil  # noqa: E402
 from support.program import ROWS, as_lines, options  # noqa: E402
+from support.second_checker import made_claims, tight_claims  # noqa: E402
 from test_plain import COMMANDS, EDGES, FOUR, GIVEN, WORDS  # noqa: E402
 
 CRATES = ("bb_machine", "bb_sim", "bb_narrow", "bb_cert", "bb_decide", "bb_lines", "bb_run")
 TESTED = ("tests_of_parts", "tests_of_verdicts", "tests_of_runs", "bb", "bb_c")
+# One build for programs and tests.
 QUICK = """
 [profile.dev]
 debug = false
 overflow-checks = false
-panic = "abort"
-
-[profile.test]
-debug = false
-overflow-checks = true
+debug-assertions = false
 """
 # How long a command may take, and the tests of the crates; a wrong program may not end.
 SECONDS, SECONDS_OF_TESTS = 60, 600
@@ -107,6 +105,16 @@ def with_errors(source: random.Random, lines: bytes) -> bytes:
     return as_lines(spoil(source, line) for line in lines.decode().splitlines())
 
 
+def claims(programs: pathlib.Path, source: random.Random, verdicts: List[str]) -> Iterator[Probe]:
+    """Claims under their limits."""
+    made = made_claims(str(programs / "bb"), source, verdicts, 8_000)
+    for limits, lines in (*made, *tight_claims(source, verdicts, 15)):
+        words = " ".join(options(limits))
+        yield Probe(
+            "claims " + words, "BB check " + words, "".join(line + "\n" for line in lines).encode("latin-1")
+        )
+
+
 def probes(programs: pathlib.Path, lists: pathlib.Path) -> Iterator[Probe]:
     """The commands that are compared, in the order in which differences are likely."""
     source, four = random.Random(1), lists / "four.txt"
@@ -123,6 +131,7 @@ def probes(programs: pathlib.Path, lists: pathlib.Path) -> Iterator[Probe]:
         yield Probe("forged " + words, "BB check " + words, forged)
         yield Probe("errors " + words, "BB decide " + words, with_errors(source, machines))
         yield Probe("errors in verdicts " + words, "BB check " + words, with_errors(source, verdicts[words]))
+    yield from claims(programs, source, verdicts[" ".join(FOUR)].decode().splitlines())
     for example in read_examples():
         yield Probe("example " + example.name, "cd %s; BB %s" % (TOP, " ".join(example.words)), example.given)
     three = run(Probe("", "BB decide " + " ".join(FOUR), (lists / "three.txt").read_bytes()), programs, lists)

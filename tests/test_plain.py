@@ -16,6 +16,7 @@ from support import TOP, build
 from support.examples import Example, read_examples
 from support.machines import random_machines, spoil
 from support.program import ROWS, CommandResult, as_lines, kind_of, options, processor_time, run_command
+from support.second_checker import answer, made_claims, tight_claims
 from support.terminals import on_terminal
 
 FOUR = ["--steps", "1000", "--cells", "1024", "--depth", "40", "--nodes", "10000"]
@@ -122,6 +123,15 @@ def test_lines_with_an_error(programs: Programs, covers: Programs, rng: random.R
     claims = as_lines(spoil(rng, line) for line in decided)
     require_same(programs, lambda bb: run_command([bb, "check", *FOUR], claims))
     require_same(covers, lambda cover: run_command([cover, *FOUR], claims))
+
+
+def test_claims(programs: Programs, rng: random.Random, four_states: List[str]) -> None:
+    """Claims made by changes of verdicts and by plain runs, and at limits that are just enough and just not."""
+    lines = (
+        run_command([programs[0], "decide", *FOUR], as_lines(four_states[::40])).output.decode().splitlines()
+    )
+    for claims in (*made_claims(programs[0], rng, lines, 40_000), *tight_claims(rng, lines, 50)):
+        require_same(programs, lambda bb: answer([bb, "check"], claims))
 
 
 @pytest.mark.parametrize("example", read_examples(), ids=[one.name for one in read_examples()])
