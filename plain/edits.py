@@ -31,7 +31,7 @@ from support.examples import read_examples  # noqa: E402
 from support.machines import random_machines, spoil  # noqa: E402
 from support.program import ROWS, as_lines, options  # noqa: E402
 from support.second_checker import made_claims, tight_claims  # noqa: E402
-from test_plain import COMMANDS, EDGES, FOUR, GIVEN, WORDS  # noqa: E402
+from test_plain import COMMANDS, EDGES, FOUR, GIVEN, PLANS, WORDS  # noqa: E402
 
 CRATES = ("bb_machine", "bb_sim", "bb_narrow", "bb_cert", "bb_decide", "bb_lines", "bb_run")
 TESTED = ("tests_of_parts", "tests_of_verdicts", "tests_of_runs", "bb", "bb_c")
@@ -129,6 +129,9 @@ def probes(programs: pathlib.Path, lists: pathlib.Path) -> Iterator[Probe]:
         yield Probe("forged " + words, "BB check " + words, forged)
         yield Probe("errors " + words, "BB decide " + words, with_errors(source, machines))
         yield Probe("errors in verdicts " + words, "BB check " + words, with_errors(source, verdicts[words]))
+    for words in PLANS:
+        machines = as_lines([*chosen.decode().split()[::5], *random_machines(400, source)])
+        yield Probe("decide " + words, "BB decide %s %s" % (words, " ".join(FOUR)), machines)
     yield from claims(programs, source, verdicts[" ".join(FOUR)].decode().splitlines())
     for example in read_examples():
         yield Probe("example " + example.name, "cd %s; BB %s" % (TOP, " ".join(example.words)), example.given)

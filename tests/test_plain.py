@@ -5,6 +5,7 @@ clap's own texts may differ by its version: of these only the status and the str
 
 from __future__ import annotations
 
+import itertools
 import pathlib
 import random
 import re
@@ -15,7 +16,16 @@ import pytest
 from support import TOP, build
 from support.examples import Example, read_examples
 from support.machines import random_machines, spoil
-from support.program import ROWS, CommandResult, as_lines, kind_of, options, processor_time, run_command
+from support.program import (
+    ROWS,
+    SIMULATION,
+    CommandResult,
+    as_lines,
+    kind_of,
+    options,
+    processor_time,
+    run_command,
+)
 from support.second_checker import answer, made_claims, tight_claims
 from support.terminals import on_terminal
 
@@ -56,6 +66,8 @@ TERMINAL = [
     "decide --depth 9 --cells 3",
     "decide --steps 2000000000000",
 ]
+# All choices of deciders but the default.
+PLANS = [" ".join(words) for count in (1, 2, 3) for words in itertools.combinations(SIMULATION, count)]
 # What the build by cargo may take, beside the proved one.
 BAR = 1.25
 Programs = Tuple[str, str]
@@ -110,6 +122,12 @@ def test_random_machines(programs: Programs, rng: random.Random, limits: Tuple[i
     decided = require_same(programs, lambda bb: run_command([bb, "decide", *options(limits)], lines))
     forged = re.sub(rb"\d(?=\n)", lambda digit: b"%d" % (rng.randrange(10)), decided.output)
     require_same(programs, lambda bb: run_command([bb, "check", *options(limits)], forged))
+
+
+@pytest.mark.parametrize("plan", PLANS)
+def test_deciders(programs: Programs, rng: random.Random, four_states: List[str], plan: str) -> None:
+    lines = as_lines([*four_states[::100], *random_machines(3_000, rng)])
+    require_same(programs, lambda bb: run_command([bb, "decide", *plan.split(), *FOUR], lines))
 
 
 def test_lines_with_an_error(programs: Programs, covers: Programs, rng: random.Random) -> None:
