@@ -3,15 +3,18 @@
 from __future__ import annotations
 
 import pathlib
+import re
 import subprocess
 import sys
 from typing import List
 
 import pytest
 from support import TOP, require
+from support.examples import read_examples
+from support.program import run_command
 
 sys.path.insert(0, str(TOP))
-from plain.erase import Source, plain as erase  # noqa: E402
+from plain.erase import Source, plain as erase, write_workspace  # noqa: E402
 
 CONTRACT = """/// The number after this one.
 pub fn next(n: u8) -> u8
@@ -40,6 +43,14 @@ UNKNOWN = [
     ("\n\n#[other]\nfn f() {}\n", "3: `other`"),
     ("fn f() {\n    other!(1);\n}\n", "2: `other!`"),
 ]
+# The conditions of code for Unix and for other systems, and what makes this system one of the others.
+CONDITIONS = {
+    "cfg(unix)": "cfg(any())",
+    "cfg(not(unix))": "cfg(all())",
+    "cfg(all(unix, not(test)))": "cfg(any())",
+    "cfg(any(not(unix), test))": "cfg(all())",
+    "cfg_attr(all(unix, not(test)), no_main)": "cfg_attr(any(), no_main)",
+}
 
 
 @pytest.fixture
@@ -74,3 +85,21 @@ def test_no_warnings_by_rustc_and_clippy(plain: pathlib.Path, tmp_path: pathlib.
     done = subprocess.run([*command, "--", "-D", "warnings"], cwd=workspace, capture_output=True, text=True)
     assert "bb_decide" in crate_names(workspace)
     assert (done.returncode, done.stdout, done.stderr) == (0, "", "")
+
+
+@pytest.mark.slow
+@pytest.mark.usefixtures("plain")
+def test_code_for_other_systems_than_unix(tmp_path: pathlib.Path) -> None:
+    """Compiled here, it decides the examples as they are printed."""
+    write_workspace(tmp_path)
+    for path in tmp_path.glob("*/src/**/*.rs"):
+        text = path.read_text(encoding="utf-8")
+        for condition, other in CONDITIONS.items():
+            text = text.replace(condition, other)
+        assert not re.search(r"cfg\w*\(.*\bunix\b", text), path
+        path.write_text(text, encoding="utf-8")
+    subprocess.run(["cargo", "build", "--quiet", "-p", "bb", "-p", "cover"], cwd=tmp_path, check=True)
+    bb = str(tmp_path / "target" / "debug" / "bb")
+    for example in read_examples():
+        found = run_command([bb, *example.words], example.given, cwd=str(TOP))
+        assert (found.output, found.status) == (example.expected, example.status), example.name
