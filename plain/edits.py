@@ -1,7 +1,7 @@
 #!/usr/bin/python3
 """Show that the comparison of the two builds notices wrong code.
 
-    plain/edits.py [--jobs N] [CRATE | CRATE/EDIT]...
+    plain/edits.py [--jobs N] [--tests] [CRATE | CRATE/EDIT]...
 
 It applies the must-fail edits of the crates one at a time to a plain workspace, builds it without optimizing,
 and compares the program with the unedited build by a selection of `tests/test_plain.py`, up to the first
@@ -34,7 +34,7 @@ from support.second_checker import made_claims, tight_claims  # noqa: E402
 from test_plain import COMMANDS, EDGES, FOUR, GIVEN, PLANS, WORDS  # noqa: E402
 
 CRATES = ("bb_machine", "bb_sim", "bb_narrow", "bb_cert", "bb_decide", "bb_lines", "bb_run")
-TESTED = ("tests_of_parts", "tests_of_verdicts", "tests_of_runs", "bb", "bb_c")
+TESTED = ("tests_of_verdicts", "tests_of_runs", "tests_of_parts", "bb", "bb_c")
 # One build for programs and tests.
 QUICK = """
 [profile.dev]
@@ -199,10 +199,10 @@ class Workspace:
         seen = self.library()
         if seen:
             return seen
-        words = ["test", *("-p%s" % name for name in TESTED)]
-        if self.cargo(*words, "--no-run") != 0:
-            return "the compiler"
-        return "the tests of the crates" if self.cargo(*words) != 0 else None
+        for name in TESTED:
+            if self.cargo("test", "-p", name) != 0:
+                return "the tests of the crates"
+        return None
 
     def library(self) -> Optional[str]:
         """Return what the library's test in C says."""
@@ -255,27 +255,31 @@ def try_all(
 def main() -> int:
     words = argparse.ArgumentParser(description=__doc__, formatter_class=argparse.RawDescriptionHelpFormatter)
     words.add_argument("--jobs", type=int, default=2, metavar="N", help="edits at a time (default: 2)")
+    words.add_argument("--tests", action="store_true", help="compare no commands, run the tests alone")
     words.add_argument("names", nargs="*", metavar="CRATE | CRATE/EDIT", default=CRATES)
     asked = words.parse_args()
     subprocess.run(["make", "-s", "plain", "lister"], cwd=TOP, check=True)
     folder = TOP / "out" / "edits"
     write_lists(folder / "lists")
-    expected = expected_results(TOP / "out" / "plain" / "target" / "release", folder / "lists")
+    programs = TOP / "out" / "plain" / "target" / "release"
+    expected = [] if asked.tests else expected_results(programs, folder / "lists")
     print("%d commands are compared" % len(expected), flush=True)
     edits = [edit for name in asked.names for edit in read_edits(name)]
     with concurrent.futures.ThreadPoolExecutor(asked.jobs) as pool:
         folders = [folder / str(job) for job in range(asked.jobs)]
         workspaces = list(pool.map(lambda one: Workspace(one, expected, folder / "lists"), folders))
-    found = list(zip(edits, try_all(edits, workspaces, Workspace.commands)))
+    seen: List[Optional[str]] = [None] * len(edits)
+    if not asked.tests:
+        seen = try_all(edits, workspaces, Workspace.commands)
+    found = list(zip(edits, seen))
     unseen = [edit for edit, seen in found if seen is None]
     print("%d edits are left to the tests" % len(unseen), flush=True)
-    found = [pair for pair in found if pair[1]] + list(
-        zip(unseen, try_all(unseen, workspaces, Workspace.tests))
-    )
+    found = [pair for pair in found if pair[1]]
+    found += zip(unseen, try_all(unseen, workspaces, Workspace.tests))
     for name in sorted({edit.crate for edit in edits}):
         counts: Counter[Optional[str]] = collections.Counter(
-            seen if seen is None or seen.startswith("the ") else "a command"
-            for edit, seen in found
+            by if by is None or by.startswith("the ") else "a command"
+            for edit, by in found
             if edit.crate == name
         )
         print(name, dict(counts))
