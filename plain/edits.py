@@ -1,51 +1,49 @@
 #!/usr/bin/python3
 """Show that the comparison of the two builds notices wrong code.
 
-    plain/edits.py [--jobs N] [CRATE]...
+    plain/edits.py [--jobs N] [--tests] [CRATE | CRATE/EDIT]...
 
 It applies the must-fail edits of the crates one at a time to a plain workspace, builds it without optimizing,
 and compares the program with the unedited build by a selection of `tests/test_plain.py`, up to the first
-difference. Where there is none, it runs the library's test in C and the tests of the crates. It prints how
-each edit is seen, and the counts.
+difference. At the end it runs the library's test in C and the tests of the crates, for each edit that no
+command saw. It prints how each edit is seen, and the counts.
 """
 
 from __future__ import annotations
 
 import argparse
 import collections
-import functools
-import os
+import concurrent.futures
 import pathlib
 import queue
 import random
 import re
 import subprocess
 import sys
-import threading
-from typing import Callable, Counter, Iterator, List, NamedTuple, Optional, Sequence, Tuple
+import time
+from typing import Callable, Counter, Iterator, List, NamedTuple, Optional, Tuple
 
 TOP = pathlib.Path(__file__).resolve().parents[1]
 sys.path[:0] = [str(TOP), str(TOP / "tests"), str(TOP / "python" / "src")]
 
 from plain.erase import PROFILES, Source, plain, write_workspace  # noqa: E402
 from support.examples import read_examples  # noqa: E402
-from support.machines import random_machines  # noqa: E402
+from support.machines import random_machines, spoil  # noqa: E402
 from support.program import ROWS, as_lines, options  # noqa: E402
-from test_plain import COMMANDS, EDGES, FOUR, GIVEN, WORDS  # noqa: E402
+from support.second_checker import made_claims, tight_claims  # noqa: E402
+from test_plain import COMMANDS, EDGES, FOUR, GIVEN, PLANS, WORDS  # noqa: E402
 
 CRATES = ("bb_machine", "bb_sim", "bb_narrow", "bb_cert", "bb_decide", "bb_lines", "bb_run")
-TESTED = ("tests_of_parts", "tests_of_verdicts", "tests_of_runs", "bb", "bb_c")
+TESTED = ("tests_of_verdicts", "tests_of_runs", "tests_of_parts", "bb", "bb_c")
+# One build for programs and tests.
 QUICK = """
 [profile.dev]
 debug = false
 overflow-checks = false
-panic = "abort"
-
-[profile.test]
-debug = false
-overflow-checks = true
+debug-assertions = false
 """
-SECONDS = 60
+# How long a command may take, and the tests of the crates; a wrong program may not end.
+SECONDS, SECONDS_OF_TESTS = 60, 600
 Result = Tuple[int, bytes, bytes]
 
 
@@ -80,6 +78,15 @@ def read_edit(path: pathlib.Path) -> Edit:
     return Edit(path.parents[1].name, path.stem, file[1], pairs)
 
 
+def read_edits(name: str) -> List[Edit]:
+    """Read the edits of a crate, or the one of this name in it."""
+    crate, _, edit = name.partition("/")
+    return [
+        read_edit(path)
+        for path in sorted((TOP / "crates" / crate / "must-fail").glob((edit or "*") + ".edit"))
+    ]
+
+
 def run(probe: Probe, programs: pathlib.Path, cwd: pathlib.Path) -> Result:
     """Run a probe; one that takes too long differs by its status."""
     command = probe.command.replace("BB", str(programs / "bb")).replace("COVER", str(programs / "cover"))
@@ -90,6 +97,20 @@ def run(probe: Probe, programs: pathlib.Path, cwd: pathlib.Path) -> Result:
     except BrokenPipeError:
         return -1, b"", b""
     return done.returncode, done.stdout, done.stderr
+
+
+def with_errors(source: random.Random, lines: bytes) -> bytes:
+    return as_lines(spoil(source, line) for line in lines.decode().splitlines())
+
+
+def claims(programs: pathlib.Path, source: random.Random, verdicts: List[str]) -> Iterator[Probe]:
+    """Claims under their limits."""
+    made = made_claims(str(programs / "bb"), source, verdicts, 8_000)
+    for limits, lines in (*made, *tight_claims(source, verdicts, 15)):
+        words = " ".join(options(limits))
+        yield Probe(
+            "claims " + words, "BB check " + words, "".join(line + "\n" for line in lines).encode("latin-1")
+        )
 
 
 def probes(programs: pathlib.Path, lists: pathlib.Path) -> Iterator[Probe]:
@@ -106,6 +127,12 @@ def probes(programs: pathlib.Path, lists: pathlib.Path) -> Iterator[Probe]:
         forged = re.sub(rb"\d(?=\n)", lambda digit: b"%d" % (source.randrange(10)), verdicts[words])
         yield Probe("check " + words, "BB check " + words, verdicts[words])
         yield Probe("forged " + words, "BB check " + words, forged)
+        yield Probe("errors " + words, "BB decide " + words, with_errors(source, machines))
+        yield Probe("errors in verdicts " + words, "BB check " + words, with_errors(source, verdicts[words]))
+    for words in PLANS:
+        machines = as_lines([*chosen.decode().split()[::5], *random_machines(400, source)])
+        yield Probe("decide " + words, "BB decide %s %s" % (words, " ".join(FOUR)), machines)
+    yield from claims(programs, source, verdicts[" ".join(FOUR)].decode().splitlines())
     for example in read_examples():
         yield Probe("example " + example.name, "cd %s; BB %s" % (TOP, " ".join(example.words)), example.given)
     three = run(Probe("", "BB decide " + " ".join(FOUR), (lists / "three.txt").read_bytes()), programs, lists)
@@ -128,20 +155,25 @@ class Workspace:
         path = folder / "Cargo.toml"
         path.write_text(path.read_text().replace(PROFILES, QUICK))
         assert self.cargo("build", "-p", "bb", "-p", "cover") == 0
-        same = [pair for pair in expected if self.run(pair[0]) == pair[1]]
-        self.expected = same
-        print("%d of them end alike without optimization" % len(same), flush=True)
+        alike = []
+        for probe, result in expected:
+            start = time.monotonic()
+            if self.run(probe) == result:
+                alike.append((time.monotonic() - start, probe, result))
+        # Slow ones come last.
+        self.expected = [pair[1:] for pair in sorted(alike, key=lambda one: one[0] > 1)]
+        print("%d of them end alike without optimization" % len(alike), flush=True)
 
     def run(self, probe: Probe) -> Result:
         return run(probe, self.folder / "target" / "debug", self.lists)
 
     def cargo(self, *words: str) -> int:
         with open(self.folder / "log", "wb") as log:
-            command = ["timeout", "900", "cargo", *words, "--quiet"]
+            command = ["timeout", str(SECONDS_OF_TESTS), "cargo", *words, "--quiet", "--jobs", "1"]
             return subprocess.run(command, cwd=self.folder, stdout=log, stderr=log).returncode
 
-    def seen_by(self, edit: Edit) -> Optional[str]:
-        """Return what notices an edit, if anything does."""
+    def seen_by(self, edit: Edit, compare: Callable[[Workspace], Optional[str]]) -> Optional[str]:
+        """Return what a comparison says of the workspace with an edit."""
         path = TOP / "crates" / edit.crate / "src" / edit.file
         target = self.folder / edit.crate / "src" / (edit.file[:-3] + ".rs")
         right, text = target.read_text(), path.read_text(encoding="utf-8")
@@ -149,19 +181,28 @@ class Workspace:
         copy.write_text(edit.apply(text), encoding="utf-8")
         try:
             target.write_text(plain(Source(copy, edit.file)))
-            return self.compare()
+            return compare(self)
         finally:
             target.write_text(right)
 
-    def compare(self) -> Optional[str]:
+    def commands(self) -> Optional[str]:
+        """Return which command differs, or the compiler where it refuses the edit."""
         if self.cargo("build", "-p", "bb", "-p", "cover") != 0:
             return "the compiler"
         for probe, expected in self.expected:
             if self.run(probe) != expected:
                 return probe.name
-        return self.library() or (
-            "the tests of the crates" if self.cargo("test", *("-p%s" % name for name in TESTED)) else None
-        )
+        return None
+
+    def tests(self) -> Optional[str]:
+        """Return what the library's test and the tests of the crates say."""
+        seen = self.library()
+        if seen:
+            return seen
+        for name in TESTED:
+            if self.cargo("test", "-p", name) != 0:
+                return "the tests of the crates"
+        return None
 
     def library(self) -> Optional[str]:
         """Return what the library's test in C says."""
@@ -190,57 +231,59 @@ def write_lists(lists: pathlib.Path) -> None:
 
 
 def try_all(
-    edits: List[Edit], workspaces: Sequence[Callable[[], Workspace]]
-) -> List[Tuple[Edit, Optional[str]]]:
+    edits: List[Edit], workspaces: List[Workspace], compare: Callable[[Workspace], Optional[str]]
+) -> List[Optional[str]]:
     """Try the edits side by side, and print how each is seen."""
-    waiting: "queue.SimpleQueue[Edit]" = queue.SimpleQueue()
-    for edit in edits:
-        waiting.put(edit)
-    found: List[Tuple[Edit, Optional[str]]] = []
+    free: "queue.SimpleQueue[Workspace]" = queue.SimpleQueue()
+    for workspace in workspaces:
+        free.put(workspace)
 
-    def work(make: Callable[[], Workspace]) -> None:
-        workspace = make()
-        while not waiting.empty():
-            edit = waiting.get()
-            seen = workspace.seen_by(edit)
-            print("%s/%s: %s" % (edit.crate, edit.name, seen or "NOT SEEN"), flush=True)
-            found.append((edit, seen))
+    def work(edit: Edit) -> Optional[str]:
+        workspace, start = free.get(), time.monotonic()
+        try:
+            seen = workspace.seen_by(edit, compare)
+        finally:
+            free.put(workspace)
+        seconds = time.monotonic() - start
+        print("%s/%s: %s, %.0f s" % (edit.crate, edit.name, seen or "not seen", seconds), flush=True)
+        return seen
 
-    threads = [threading.Thread(target=work, args=(make,)) for make in workspaces]
-    for thread in threads:
-        thread.start()
-    for thread in threads:
-        thread.join()
-    return found
+    with concurrent.futures.ThreadPoolExecutor(len(workspaces)) as pool:
+        return list(pool.map(work, edits))
 
 
 def main() -> int:
     words = argparse.ArgumentParser(description=__doc__, formatter_class=argparse.RawDescriptionHelpFormatter)
     words.add_argument("--jobs", type=int, default=2, metavar="N", help="edits at a time (default: 2)")
-    words.add_argument("crates", nargs="*", metavar="CRATE", default=CRATES)
+    words.add_argument("--tests", action="store_true", help="compare no commands, run the tests alone")
+    words.add_argument("names", nargs="*", metavar="CRATE | CRATE/EDIT", default=CRATES)
     asked = words.parse_args()
     subprocess.run(["make", "-s", "plain", "lister"], cwd=TOP, check=True)
     folder = TOP / "out" / "edits"
     write_lists(folder / "lists")
-    expected = expected_results(TOP / "out" / "plain" / "target" / "release", folder / "lists")
+    programs = TOP / "out" / "plain" / "target" / "release"
+    expected = [] if asked.tests else expected_results(programs, folder / "lists")
     print("%d commands are compared" % len(expected), flush=True)
-    paths = [
-        path for name in asked.crates for path in sorted((TOP / "crates" / name / "must-fail").glob("*.edit"))
-    ]
-    edits = [read_edit(path) for path in paths]
-    makers = [
-        functools.partial(Workspace, folder / str(job), expected, folder / "lists")
-        for job in range(asked.jobs)
-    ]
-    found = try_all(edits, makers)
-    for name in asked.crates:
+    edits = [edit for name in asked.names for edit in read_edits(name)]
+    with concurrent.futures.ThreadPoolExecutor(asked.jobs) as pool:
+        folders = [folder / str(job) for job in range(asked.jobs)]
+        workspaces = list(pool.map(lambda one: Workspace(one, expected, folder / "lists"), folders))
+    seen: List[Optional[str]] = [None] * len(edits)
+    if not asked.tests:
+        seen = try_all(edits, workspaces, Workspace.commands)
+    found = list(zip(edits, seen))
+    unseen = [edit for edit, seen in found if seen is None]
+    print("%d edits are left to the tests" % len(unseen), flush=True)
+    found = [pair for pair in found if pair[1]]
+    found += zip(unseen, try_all(unseen, workspaces, Workspace.tests))
+    for name in sorted({edit.crate for edit in edits}):
         counts: Counter[Optional[str]] = collections.Counter(
-            seen if seen is None or seen.startswith("the ") else "a command"
-            for edit, seen in found
+            by if by is None or by.startswith("the ") else "a command"
+            for edit, by in found
             if edit.crate == name
         )
         print(name, dict(counts))
-    return 0 if len(found) == len(edits) else 1
+    return 0
 
 
 if __name__ == "__main__":

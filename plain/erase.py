@@ -12,6 +12,7 @@ from __future__ import annotations
 
 import argparse
 import json
+import os
 import pathlib
 import re
 import shutil
@@ -38,6 +39,7 @@ TOKEN = re.compile(
 IN_CLAUSE = re.compile(r'"(?:\\.|[^"\\])*"|--[^\n]*|//[^\n]*|[{}]|.', re.S)
 CLAUSE = re.compile(r"\s+(?:\*?\s*[A-Za-z_]\w*\s+)?\*?\s*(?=\{)")
 CLAUSES = ("requires", "ensures", "decreases")
+GHOST = re.compile(r"\s+(?:use\b|[A-Za-z_]\w*\s*[:=])")
 ATTRIBUTES = "allow cfg cold derive error inline must_use repr tactic test unsafe".split()
 MACROS = """assert assert_eq eprint eprintln format matches panic print println unreachable value_parser vec
     write""".split()
@@ -77,7 +79,7 @@ SHIMMED = {"clap": "rattle_clap", "linked_list_allocator": "rattle_heap"}
 ERASED = ("thiserror",)
 # Lints that the sources don't follow, since the prover prefers another form, or a contract fixes it.
 LINTS = """assign_op_pattern collapsible_if large_enum_variant legacy_numeric_constants manual_div_ceil
-    manual_find manual_is_multiple_of manual_range_contains needless_lifetimes new_without_default single_match
+    manual_find manual_is_multiple_of manual_map manual_range_contains needless_lifetimes new_without_default single_match
     too_many_arguments type_complexity""".split()
 PROFILES = """
 [profile.release]
@@ -128,7 +130,7 @@ class Source(NamedTuple):
     name: str
 
     def refuse(self, line: int, token: str) -> NoReturn:
-        sys.exit("erase: %s:%d: `%s` has no rule" % (self.path.relative_to(TOP), line, token.strip()[:60]))
+        sys.exit("erase: %s:%d: `%s` has no rule" % (os.path.relpath(self.path, TOP), line, token.strip()[:60]))
 
 
 def braces_end(text: str, at: int) -> int:
@@ -155,7 +157,7 @@ def ghost_end(text: str, at: int) -> int:
 def proof_end(text: str, word: str, at: int) -> Optional[int]:
     """Return the end of the clause or ghost item that starts with `word`, if it is one."""
     if word == "ghost":
-        return ghost_end(text, at)
+        return ghost_end(text, at) if GHOST.match(text, at) else None
     clause = CLAUSE.match(text, at) if word in CLAUSES else None
     return braces_end(text, clause.end()) if clause else None
 

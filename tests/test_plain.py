@@ -3,6 +3,9 @@
 clap's own texts may differ by its version: of these only the status and the stream are compared.
 """
 
+from __future__ import annotations
+
+import itertools
 import pathlib
 import random
 import re
@@ -11,16 +14,27 @@ from typing import Callable
 
 import pytest
 from support import TOP, build
-from support.machines import random_machines
-from support.program import ROWS, CommandResult, as_lines, run_command, options
+from support.machines import random_machines, spoil
+from support.program import (
+    ROWS,
+    SIMULATION,
+    CommandResult,
+    as_lines,
+    kind_of,
+    options,
+    processor_time,
+    run_command,
+)
+from support.second_checker import answer, made_claims, tight_claims
 from support.terminals import on_terminal
 
 FOUR = ["--steps", "1000", "--cells", "1024", "--depth", "40", "--nodes", "10000"]
 WORDS = """decide check trace help decid --steps --cells --depth --nodes --upto --no-cyclers --no-translated
     --no-backward --help -h --version -V -- - --- --step --cels -x -hx --steps=3 --cells=0 --cells=70000000
-    --steps=1000000000001 --steps=18446744073709551616 --steps= --steps=x --help=1 --no-cyclers=1 0 1 5 200 -1 x
-    1RB1LB_1LA1RZ 1RB ---1RZ ------ /nonexistent list.txt \u00e9 --\u00e9 --depth=10001 --nodes=1000000000001
-    --depth=9 --cells=16 --upto=3 --upto=-3 --no- --s = --= --steps=+5 --steps=5_0""".split()
+    --steps=1000000000000 --steps=1000000000001 --steps=18446744073709551616 --steps= --steps=x --help=1
+    --no-cyclers=1 0 1 5 200 -1 x 1RB1LB_1LA1RZ 1RB ---1RZ ------ /nonexistent list.txt \u00e9 --\u00e9
+    --depth=10000 --depth=10001 --nodes=1000000000000 --nodes=1000000000001 --depth=9 --cells=16 --upto=3
+    --upto=-3 --no- --s = --= --steps=+5 --steps=5_0""".split()
 COMMANDS, GIVEN = ("decide", "check", "trace"), b"1RB1LB_1LA1RZ\nx\n1RB1LB_1LA1RZ halt 6 4\n"
 # Commands of a shell; PROGRAM stands for the program, `four.txt` and `list.txt` are lists.
 EDGES = """exec PROGRAM decide <&-
@@ -36,12 +50,18 @@ EDGES = """exec PROGRAM decide <&-
     exec PROGRAM foo 2>/dev/full
     exec PROGRAM decide </dev/null
     exec PROGRAM trace --upto 3 1RB
+    exec PROGRAM decide --cells 67108864 list.txt
+    exec PROGRAM decide --cells 67108865 list.txt
     PROGRAM decide four.txt | head -c 100
     ulimit -f 1; exec PROGRAM decide four.txt >short
     ulimit -v 102400; exec PROGRAM decide --cells 67108864 <list.txt
     ulimit -v 102400; exec PROGRAM decide --cells 1048576 <list.txt
     ulimit -v 102400; exec PROGRAM check --cells 67108864 <list.txt""".splitlines()
 TERMINAL = ["/nonexistent", "/tmp", "--depth 9 --cells 3", "--steps 2000000000000"]
+# All choices of deciders but the default.
+PLANS = [" ".join(words) for count in (1, 2, 3) for words in itertools.combinations(SIMULATION, count)]
+# What the build by cargo may take, beside the proved one.
+BAR = 1.25
 Programs = tuple[str, str]
 
 
@@ -96,6 +116,34 @@ def test_random_machines(programs: Programs, rng: random.Random, limits: tuple[i
     require_same(programs, lambda bb: run_command([bb, "check", *options(limits)], forged))
 
 
+@pytest.mark.parametrize("plan", PLANS)
+def test_deciders(programs: Programs, rng: random.Random, four_states: list[str], plan: str) -> None:
+    lines = as_lines([*four_states[::100], *random_machines(3_000, rng)])
+    require_same(programs, lambda bb: run_command([bb, "decide", *plan.split(), *FOUR], lines))
+
+
+def test_lines_with_an_error(programs: Programs, covers: Programs, rng: random.Random) -> None:
+    machines = list(random_machines(10_000, rng))
+    spoilt = as_lines(spoil(rng, machine) for machine in machines)
+    assert (
+        require_same(programs, lambda bb: run_command([bb, "decide", *FOUR], spoilt)).output.count(b"refused")
+        > 5_000
+    )
+    decided = run_command([programs[0], "decide", *FOUR], as_lines(machines)).output.decode().splitlines()
+    claims = as_lines(spoil(rng, line) for line in decided)
+    require_same(programs, lambda bb: run_command([bb, "check", *FOUR], claims))
+    require_same(covers, lambda cover: run_command([cover, *FOUR], claims))
+
+
+def test_claims(programs: Programs, rng: random.Random, four_states: list[str]) -> None:
+    """Claims made by changes of verdicts and by plain runs, and at limits that are just enough and just not."""
+    lines = (
+        run_command([programs[0], "decide", *FOUR], as_lines(four_states[::40])).output.decode().splitlines()
+    )
+    for claims in (*made_claims(programs[0], rng, lines, 40_000), *tight_claims(rng, lines, 50)):
+        require_same(programs, lambda bb: answer([bb, "check"], claims))
+
+
 def test_random_command_lines(programs: Programs, rng: random.Random, folder: pathlib.Path) -> None:
     for _ in range(2_000):
         words = rng.choices(WORDS, k=rng.randint(1, 6))
@@ -132,6 +180,22 @@ def test_tests_of_the_crates(plain: pathlib.Path) -> None:
     written = [path.read_text().count("#[test]") for path in TOP.glob("crates/*/src/**/*.rt")]
     assert sum(counts) == sum(written) > 100
     print("%d tests of the crates passed" % sum(counts))
+
+
+@pytest.mark.timing
+def test_speed(programs: Programs, four_states: list[str]) -> None:
+    """Of machines on which nothing is found each makes all its steps, the first in registers, most on tapes."""
+    found = run_command([programs[0], "decide", *FOUR], as_lines(four_states)).output.decode().splitlines()
+    undecided = [line.split()[0] for line in found if kind_of(line) == "undecided"]
+    given = as_lines(undecided[:: len(undecided) // 200])
+    spent: dict[str, list[float]] = {program: [] for program in programs}
+    for program in 7 * programs:
+        before = processor_time()
+        assert run_command([program, "decide"], given).status == 0
+        spent[program].append(processor_time() - before)
+    proved, by_cargo = (min(times) for times in spent.values())
+    print("%.2f s by cargo, %.2f s proved: %.2f" % (by_cargo, proved, by_cargo / proved))
+    assert by_cargo <= BAR * proved
 
 
 @pytest.mark.slow

@@ -167,6 +167,8 @@ static void require_looks(void) {
     REQUIRE(looks("1RZ---\n", "1RZ--- halt 1 1", BB_NOT_CLEAN, AS_IT_WAS, 0));
     REQUIRE(looks("1RZ---\n", "1RA1RA cycler 1 2\n", BB_NOT_CLEAN, AS_IT_WAS, 0));
     REQUIRE(looks("\n1rB1LB\n", "refused 1\nrefused 3\n", BB_NOT_CLEAN, AS_IT_WAS, 1));
+    REQUIRE(looks("1RA1RAx\n", "1RA1RAx halt 6 4\n", BB_NOT_CLEAN, AS_IT_WAS, 0));
+    REQUIRE(looks("1RA1RA\n", "1RA1RA cycler 1 02\n", BB_NOT_CLEAN, AS_IT_WAS, 0));
 }
 
 static void *decide_often(void *wrong) {

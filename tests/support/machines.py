@@ -98,3 +98,11 @@ def uniform(source: random.Random, states: int) -> str:
 def draw_entry(source: random.Random, letters: str) -> str:
     """A random entry of two symbols that leads into one of these states."""
     return source.choice("01") + source.choice("LR") + source.choice(letters)
+
+
+def spoil(source: random.Random, line: str) -> str:
+    """Change a line at one place: another byte, one more, one less, the rest gone, or a carriage return."""
+    at, byte = source.randrange(len(line) + 1), source.choice("\r -_0129ABHYZLRabhlrtxu")
+    before, after = line[:at], line[at + 1 :]
+    changes = (before + byte + after, before + byte + line[at:], before + after, before, line + "\r")
+    return source.choice(changes)

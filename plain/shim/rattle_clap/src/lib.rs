@@ -1,8 +1,8 @@
 //! The kit's `clap` over the registry's: the allocator of each call is not used, and names are copied.
 //!
-//! clap allocates by Rust's own allocator, so an allocation failure in it ends the process.
+//! clap would abort without memory, so its work is done infallibly: the process ends with status 3 then.
 use registry_clap as registry;
-use rattle_std::alloc::{AllocError, Global};
+use rattle_std::alloc::{AllocError, Global, infallibly};
 use rattle_std::string::String;
 use std::fmt::{self, Display};
 use std::marker::PhantomData;
@@ -43,11 +43,11 @@ pub struct Command<'a>(registry::Command, PhantomData<&'a str>);
 
 impl<'a> Command<'a> {
     pub fn new(_alloc: Global, name: &'a str) -> Self {
-        Command(registry::Command::new(name.to_owned()), PhantomData)
+        Command(infallibly(|| registry::Command::new(name.to_owned())), PhantomData)
     }
 
     fn map(self, change: impl FnOnce(registry::Command) -> registry::Command) -> Self {
-        Command(change(self.0), PhantomData)
+        Command(infallibly(|| change(self.0)), PhantomData)
     }
 
     pub fn about(self, text: &'a str) -> Self {
@@ -79,7 +79,7 @@ impl<'a> Command<'a> {
     }
 
     pub fn try_get_matches_from(self, words: &[&str]) -> Result<ArgMatches<'a>, Error> {
-        let found = self.0.try_get_matches_from(words.iter().copied());
+        let found = infallibly(|| self.0.try_get_matches_from(words.iter().copied()));
         found.map(|matches| ArgMatches(matches, PhantomData)).map_err(Error)
     }
 }
@@ -90,11 +90,11 @@ pub struct Arg<'a>(registry::Arg, PhantomData<&'a str>);
 
 impl<'a> Arg<'a> {
     pub fn new(_alloc: Global, name: &'a str) -> Self {
-        Arg(registry::Arg::new(name.to_owned()), PhantomData)
+        Arg(infallibly(|| registry::Arg::new(name.to_owned())), PhantomData)
     }
 
     fn map(self, change: impl FnOnce(registry::Arg) -> registry::Arg) -> Self {
-        Arg(change(self.0), PhantomData)
+        Arg(infallibly(|| change(self.0)), PhantomData)
     }
 
     pub fn long(self, name: &'a str) -> Self {
@@ -163,7 +163,7 @@ impl Error {
 
 impl Display for Error {
     fn fmt(&self, f: &mut fmt::Formatter<'_>) -> fmt::Result {
-        self.0.fmt(f)
+        infallibly(|| self.0.fmt(f))
     }
 }
 
@@ -177,5 +177,5 @@ macro_rules! value_parser {
 
 /// The parser of numbers in the range of `u64`.
 pub fn parser_of<T>() -> registry::builder::ValueParser {
-    registry::value_parser!(u64).into()
+    infallibly(|| registry::value_parser!(u64).into())
 }

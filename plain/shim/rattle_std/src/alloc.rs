@@ -1,5 +1,8 @@
 //! An allocator that is passed, and what comes where it has no memory.
+use ::std::alloc::{GlobalAlloc, Layout, System};
 use ::std::fmt;
+use ::std::io::Write;
+use ::std::sync::atomic::{AtomicBool, Ordering};
 
 #[derive(Clone, Copy, Debug, Default, PartialEq, Eq)]
 pub struct Global;
@@ -63,3 +66,43 @@ pub trait ToStringWith: fmt::Display {
     }
 }
 impl<T: fmt::Display + ?Sized> ToStringWith for T {}
+
+/// Whether the work in hand would abort without memory.
+static IS_INFALLIBLE: AtomicBool = AtomicBool::new(false);
+
+/// Does work of a crate that aborts without memory: under a `Heap` the process ends with status 3 instead.
+pub fn infallibly<R>(work: impl FnOnce() -> R) -> R {
+    let outer = IS_INFALLIBLE.swap(true, Ordering::Relaxed);
+    let result = work();
+    IS_INFALLIBLE.store(outer, Ordering::Relaxed);
+    result
+}
+
+/// Rust's own allocator, and what a program prints where it ends the process.
+pub struct Heap(pub &'static str);
+
+impl Heap {
+    fn require(&self, found: *mut u8) -> *mut u8 {
+        if found.is_null() && IS_INFALLIBLE.swap(false, Ordering::Relaxed) {
+            let _ = ::std::io::stderr().write_all(self.0.as_bytes());
+            ::std::process::exit(3);
+        }
+        found
+    }
+}
+
+// Each call is one of Rust's own allocator, with the same obligations.
+unsafe impl GlobalAlloc for Heap {
+    unsafe fn alloc(&self, layout: Layout) -> *mut u8 {
+        self.require(unsafe { System.alloc(layout) })
+    }
+    unsafe fn alloc_zeroed(&self, layout: Layout) -> *mut u8 {
+        self.require(unsafe { System.alloc_zeroed(layout) })
+    }
+    unsafe fn realloc(&self, old: *mut u8, layout: Layout, bytes: usize) -> *mut u8 {
+        self.require(unsafe { System.realloc(old, layout, bytes) })
+    }
+    unsafe fn dealloc(&self, old: *mut u8, layout: Layout) {
+        unsafe { System.dealloc(old, layout) }
+    }
+}

@@ -3,9 +3,14 @@
 
 pub use ::std::{
     any, array, ascii, borrow, cell, char, clone, cmp, default, error, f32, f64, fmt, hash, hint, io, iter,
-    mem, ops, option, os, path, pin, ptr, result, slice, str, u8, u16, u32, u64, usize, i64,
+    mem, ops, option, path, pin, ptr, result, slice, str, u8, u16, u32, u64, usize, i64,
 };
+#[cfg(unix)]
+pub use ::std::os;
 pub use ::std::{debug_assert, matches, todo, unreachable, write, writeln};
+
+#[cfg(not(unix))]
+pub mod os;
 
 pub mod alloc;
 pub mod boxed;

@@ -43,6 +43,10 @@ macro_rules! prove {
 #[macro_export]
 macro_rules! main {
     ($begin:ident) => {
+        #[global_allocator]
+        static HEAP: $crate::alloc::Heap =
+            $crate::alloc::Heap(::core::concat!(::core::env!("CARGO_CRATE_NAME"), ": out of memory\n"));
+
         #[cfg(all(unix, not(test)))]
         #[unsafe(no_mangle)]
         pub extern "C" fn main(count: i32, words: *mut *const ::core::ffi::c_char) -> i32 {
