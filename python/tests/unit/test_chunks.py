@@ -58,14 +58,7 @@ def test_chunks_are_as_large_as_may_be() -> None:
     assert [len(chunk) for chunk in take_all(iter([given]), 300, 1_002)] == [1000] * 4
 
 
-def test_lists_that_change_and_gzips(case: RunCase) -> None:
-    listed = input.ListFile(str(case.list))
-    case.callback(listed.close)
-    blocks = listed.blocks
-    next(blocks)
-    case.list.write_bytes(LIST + KINDS)
-    with pytest.raises(RunError, match="changed while it was read"):
-        list(blocks)
+def test_gzip_and_empty_lists(case: RunCase) -> None:
     for given in (b"", b"\n", b"1RZ---", LIST):
         path = case.top / "list"
         for written in (given, gzip.compress(given) + gzip.compress(b"")):
@@ -73,9 +66,22 @@ def test_lists_that_change_and_gzips(case: RunCase) -> None:
             listed = input.ListFile(str(path))
             assert b"".join(listed.blocks) == given
             listed.close()
+
+
+def test_a_cut_gzip_file(case: RunCase) -> None:
     case.list.write_bytes(gzip.compress(LIST)[:-20])
     with pytest.raises(RunError, match="can't be read as gzip"):
         case.run_over()
+
+
+def test_a_list_that_changes(case: RunCase) -> None:
+    listed = input.ListFile(str(case.list))
+    case.callback(listed.close)
+    blocks = listed.blocks
+    next(blocks)
+    case.list.write_bytes(LIST + KINDS)
+    with pytest.raises(RunError, match="changed while it was read"):
+        list(blocks)
 
 
 class JournalCase:
@@ -113,19 +119,22 @@ def test_records_come_back(journals: JournalCase) -> None:
     assert not (journals.known[3].fits(KINDS[1:]) or journals.known[3].has(b"xx"))
 
 
-def test_gaps(journals: JournalCase) -> None:
+def test_a_gap(journals: JournalCase) -> None:
     assert journals.journal.find_gap(2, 20) == (2, 20)
     assert journals.journal.find_gap(2, 39) == (3, 11)
     assert journals.journal.find_gap(6, 60) is None
     assert [journals.journal.find_gap(2, 20), journals.journal.find_gap(3, 30)] == [(2, 20), (1, 10)]
-    # Each line is read once, however often is asked what comes.
+
+
+def test_gaps_of_a_foreign_journal(journals: JournalCase) -> None:
+    """Each line is read once, however often is asked what comes."""
     foreign = journals.open_journal("other")
     with unittest.mock.patch.object(foreign, "read", wraps=foreign.read) as read:
         assert [foreign.find_gap(index, index) for index in range(6)] == [None] * 6
     assert read.call_count <= 6
 
 
-def test_changed_cut_and_moved_records(journals: JournalCase) -> None:
+def test_each_changed_byte_is_seen(journals: JournalCase) -> None:
     data = journals.path.read_bytes()
     for place in range(journal.WIDTH):
         changed = bytearray(data)
@@ -133,6 +142,9 @@ def test_changed_cut_and_moved_records(journals: JournalCase) -> None:
         journals.path.write_bytes(changed)
         assert journals.journal.read(0) is None
         assert journals.journal.read(1) == journals.known[1]
+
+
+def test_cut_moved_and_other_keys(journals: JournalCase) -> None:
     data = journals.path.read_bytes()
     journals.path.write_bytes(data[journal.WIDTH :])
     assert [journals.journal.read(place) for place in range(6)] == [None] * 6
@@ -142,7 +154,7 @@ def test_changed_cut_and_moved_records(journals: JournalCase) -> None:
     assert journals.open_journal("other").read(4) is None
 
 
-def test_right_and_wrong_verdict_lines() -> None:
+def test_verdicts_of_a_list() -> None:
     for limits in PASSES:
         verdicts = expected_verdicts(LIST, [limits])
         counts = chunks.validate_verdicts(LIST, verdicts)
@@ -150,6 +162,9 @@ def test_right_and_wrong_verdict_lines() -> None:
         assert sum(counts.values()) == LIST.count(b"\n")
         for kind in ("halt", "cycler", "translated", "refused"):
             assert counts[kind] > 0
+
+
+def test_what_is_wrong() -> None:
     good = expected_verdicts(KINDS)
     chunks.validate_verdicts(KINDS, good)
     lines = good.splitlines(keepends=True)
@@ -158,6 +173,9 @@ def test_right_and_wrong_verdict_lines() -> None:
     for place, line in itertools.product(range(len(lines)), lines):
         if line != lines[place]:
             require_refusal(KINDS, b"".join([*lines[:place], line, *lines[place + 1 :]]))
+
+
+def test_lines_that_are_no_verdict_lines() -> None:
     machine = b"1RB1LB_1LA1RZ"
     for text in (b"halt 6", b"halt 06 4", b"halt 6 4 ", b" halt 6 4", b"", b"open", b"\x00"):
         require_refusal(machine + b"\n", machine + b" " + text + b"\n")
@@ -175,7 +193,7 @@ def require_refusal(given: bytes, verdicts: bytes) -> None:
         chunks.validate_verdicts(given, verdicts)
 
 
-def test_answers_and_replies() -> None:
+def test_answers() -> None:
     verdicts = expected_verdicts(KINDS)
     chunks.validate_answers(verdicts, b"ok\n" * 9 + b"open\n")
     for answers in (b"", b"ok\n" * 9, b"ok\n" * 10 + b"\n", b"fine\n" * 10):
@@ -185,6 +203,9 @@ def test_answers_and_replies() -> None:
     with pytest.raises(ReplyError, match="bad") as raised:
         chunks.validate_answers(verdicts, b"ok\n" * 4 + b"bad\n" + b"over\n" * 5)
     assert raised.value.line == 4
+
+
+def test_replies() -> None:
     ours = chunks.identity()
     reply = chunks.decide_chunk(KINDS, SMALL.numbers())
     asked = chunks.describe_task(chunks.DECIDE, SMALL.numbers())

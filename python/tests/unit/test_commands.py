@@ -31,7 +31,7 @@ def agreement(first: str, second: str, undefined_steps: bool = False) -> Agreeme
     return comparison.agreement(*pair, undefined_steps)
 
 
-def test_agreements() -> None:
+def test_what_goes_together() -> None:
     for first, second, found in (
         ("halt 6 4", "halt 6 4", "agree"),
         ("halt 6 4", "halt 5 4", "contradict"),
@@ -49,6 +49,9 @@ def test_agreements() -> None:
         ("cycler 1 2", "undecided cells", "first-decides"),
     ):
         assert str(agreement("%s %s" % (CHAMPION, first), "%s %s" % (CHAMPION, second))) == found
+
+
+def test_steps_counted_for_undefined_entries() -> None:
     for machine, other, asked, found in (
         ("1RB---_1LA1RZ", "halt 6 4", True, "agree"),
         ("1RB---_1LA1RZ", "halt 6 5", True, "agree"),
@@ -62,33 +65,49 @@ def test_agreements() -> None:
         assert str(agreement(pair[1], pair[0], asked)) == found
 
 
-def test_comparisons_of_lists() -> None:
+def test_any_order_and_what_one_lacks() -> None:
     first = ["1RA1RA cycler 1 2", "------ halt 0 0", "refused 3", "1RZ--- halt 1 1\tmore", "1RZ--- halt 1 1"]
     second = ["1RZ--- halt 1 1", CHAMPION + " halt 6 4", "1RA1RA cycler 1 2"]
     found = [(str(one.agreement), one.machine) for one in budlarem.compare(first, second)]
     assert sorted(found[:2]) == [("agree", "1RA1RA"), ("agree", "1RZ---")]
     only = [("only-first", "------"), ("only-first", "1RZ---"), ("only-second", CHAMPION)]
     assert sorted(found[2:]) == only
+
+
+def test_machines_that_are_the_same() -> None:
     first = ["1RA1RA translated R 1 2 1 1", "1RB1LB_1LA1RZ halt 6 4", "1RA1LA cycler 1 3"]
     second = ["1LA1LA translated L 2 4", "1LB1RB_1RA1LZ halt 6 5", "1RA---2RA cycler 1 2"]
-    assert [str(one) for one in budlarem.compare(first, second)] == [
+    found = [str(one) for one in budlarem.compare(first, second)]
+    assert found == [
         "agree\t1RA1RA translated R 1 2 1 1 | 1LA1LA translated L 2 4",
         "contradict\t1RB1LB_1LA1RZ halt 6 4 | 1LB1RB_1RA1LZ halt 6 5",
         "only-first\t1RA1LA cycler 1 3 | -",
         "only-second\t- | 1RA---2RA cycler 1 2",
     ]
+
+
+def test_a_line_that_is_none() -> None:
     with pytest.raises(ValueError, match=r"second\[1\]: no verdict line"):
         list(budlarem.compare([], ["refused 1", "x"]))
 
 
-def test_normal_forms_duplicates_and_other_texts() -> None:
+def test_states_are_in_the_order_of_their_use() -> None:
     form = budlarem.normal("1LC1RZ_1RB---_1RA1LA")
     assert (form.normal, form.states, form.mirrored) == ("1RB1LZ_1LA1RA_1LC---", "ACB", True)
+
+
+def test_machines_that_stay() -> None:
     for machine in (CHAMPION, "------", "1RZ---", "---1LA"):
         form = budlarem.normal(machine)
         assert (form.normal, form.mirrored) == (machine, False)
+
+
+def test_duplicates() -> None:
     machines = [CHAMPION, "1LB1RB_1RA1LZ", "1RA1RA", CHAMPION]
     assert [first for _, first in budlarem.distinct(machines)] == [None, CHAMPION, None, CHAMPION]
+
+
+def test_no_machine() -> None:
     with pytest.raises(budlarem.MachineError):
         budlarem.normal("1RB")
     with pytest.raises(budlarem.MachineError, match=r"^machines\[1\]: no machine, from column 4 on: '1RB'"):
@@ -98,23 +117,32 @@ def test_normal_forms_duplicates_and_other_texts() -> None:
         list(budlarem.distinct(wrong))
 
 
-def test_growths_of_counts_runs_and_halts() -> None:
+def test_growths() -> None:
     counts = [(5, 5, 5), (5, 9, 9), (10, 13, 16), (10, 32, 100), (10, 100, 1_000)]
-    kinds = [growth.classify_growth(visited) for visited in counts]
-    assert kinds == [Growth.STAYS, Growth.STAYS, Growth.LOGARITHM, Growth.ROOT, Growth.LINE]
+    found = [growth.classify_growth(visited) for visited in counts]
+    assert found == [Growth.STAYS, Growth.STAYS, Growth.LOGARITHM, Growth.ROOT, Growth.LINE]
+
+
+def test_growth_of_runs() -> None:
     assert measure_growth("1RA1RA", 1_000).visited == (11, 101, 1_001)
     assert measure_growth(UNDECIDED, 10_000).growth is Growth.ROOT
     assert measure_growth(CHAMPION, 100).growth is Growth.HALTS
+
+
+def test_the_cells_end_a_run() -> None:
     found = measure_growth("1RA1RA", 100_000, 1_001)
     assert (found.steps, found.visited) == (1_000, (11, 101, 1_001))
     assert growth._last_step("1RA1RA", 100_000, 778) == 777
     assert growth._last_step(CHAMPION, 100_000, 65_536) == 6
+
+
+def test_a_halt_comes_with_its_steps_and_cells() -> None:
     for machine, steps in (("------", 0), ("1RZ---", 1), (CHAMPION, 6), (FOUR_STATES, 107)):
         rows = list(budlarem.trace(machine, steps))
-        visited = tuple(len(rows[step].cells) for step in (steps // 100, steps // 10, steps))
+        counts = tuple(len(rows[step].cells) for step in (steps // 100, steps // 10, steps))
         for limit in (107, 108, 199, 250, 1_000_000):
             found = measure_growth(machine, limit)
-            assert (found.steps, found.visited, found.growth) == (steps, visited, Growth.HALTS), limit
+            assert (found.steps, found.visited, found.growth) == (steps, counts, Growth.HALTS), limit
     assert measure_growth(FOUR_STATES, 106).growth is Growth.ROOT
 
 
@@ -149,8 +177,11 @@ def test_pictures_are_saved_scaled_or_cut(tmp_path: pathlib.Path) -> None:
 LINES = [CHAMPION + " halt 6 4", "1RA1RA translated R 1 2 1 1", UNDECIDED + " undecided steps", "refused 2"]
 
 
-def test_bars_and_the_smallest_machines() -> None:
+def test_bars() -> None:
     assert [reports.bin_of(number) for number in (0, 1, 10, 12, 13, 100)] == [0, 1, 10, 10, 11, 20]
+
+
+def test_the_smallest_are_kept() -> None:
     found = reports.Statistics(["%s undecided steps" % one for one in ("1RA1RA", UNDECIDED, "1RA0RA")], 2)
     assert [machine for _, machine in found.smallest] == ["1RA0RA", "1RA1RA"]
     assert reports.Statistics(LINES, 0).smallest == []
@@ -172,7 +203,7 @@ def test_a_page(tmp_path: pathlib.Path) -> None:
 
 
 @pytest.mark.needs(modules=("matplotlib",))
-def test_lists_that_are_empty_or_wrong_and_one_bar(tmp_path: pathlib.Path) -> None:
+def test_lists_that_are_empty_or_wrong(tmp_path: pathlib.Path) -> None:
     path = tmp_path / "page.html"
     with pytest.raises(ValueError, match=r"verdicts\[1\]: no verdict line"):
         budlarem.report(["refused 1", "x"], path)
@@ -181,6 +212,10 @@ def test_lists_that_are_empty_or_wrong_and_one_bar(tmp_path: pathlib.Path) -> No
     assert "No verdict has numbers" in page and "No machine is left undecided." in page
     page = budlarem.report(LINES, path, diagrams=0).html
     assert "<p>0 of 1 undecided machines are shown.</p>" in page
+
+
+@pytest.mark.needs(modules=("matplotlib",))
+def test_one_bar_stands_at_a_whole_number() -> None:
     drawn = reports.plot(collections.Counter({3: 5}), "shifts")
     assert re.findall(r"<text[^>]*>([0-9.]+)</text>", drawn) == ["3"]
 

@@ -26,18 +26,16 @@ def decide_lines(machines: Any, *given: Any, **more: Any) -> list[str]:
     return [str(verdict) for verdict in budlarem.decide(machines, *given, **more)]
 
 
-def test_lists_and_texts_of_any_kind() -> None:
+def test_lists_of_any_kind() -> None:
     for machines in (MACHINES, tuple(MACHINES), iter(MACHINES), dict.fromkeys(MACHINES)):
         assert decide_lines(machines) == LINES
     assert decide_lines([]) == []
-    first = itertools.islice(budlarem.decide(itertools.cycle(MACHINES)), 5)
-    assert [str(verdict) for verdict in first] == LINES
+
+
+def test_what_was_refused_is_kept() -> None:
     (verdict,) = budlarem.decide(["x y"])
     assert verdict == budlarem.Refused(1)
     assert verdict.machine == "x y"
-    texts = ["\u00e9", "\ud800", "\0", "1RA1RA\0", "1RA1RA\r", " ", "1RA1RA ", "9" * 3_000_000]
-    columns = [1, 1, 1, 7, 7, 1, 7, 2]
-    assert decide_lines(texts) == ["refused %d" % column for column in columns]
 
 
 def test_limits_and_plans() -> None:
@@ -47,16 +45,18 @@ def test_limits_and_plans() -> None:
     assert decide_lines([CHAMPION], Limits(steps=5), simulation) == [CHAMPION + " undecided steps"]
 
 
-def test_threads_keep_the_order_and_end() -> None:
+def test_order_by_threads() -> None:
     machines = ["1RA1RA", CHAMPION] * 20_000
     for threads in (1, 4):
         assert decide_lines(machines, Limits(steps=10), threads=threads) == [LINES[2], LINES[0]] * 20_000
-    before = threading.active_count()
-    decide_lines(MACHINES, threads=3)
-    assert threading.active_count() == before
 
 
-def test_wrong_items() -> None:
+def test_endless_lists() -> None:
+    first = itertools.islice(budlarem.decide(itertools.cycle(MACHINES)), 5)
+    assert [str(verdict) for verdict in first] == LINES
+
+
+def test_an_item_that_is_no_text() -> None:
     for wrong, said in (
         (b"1RA1RA", r"machines\[2\] is of type bytes, not str; decide_bytes"),
         (None, r"machines\[2\] is of type NoneType"),
@@ -66,10 +66,37 @@ def test_wrong_items() -> None:
         assert [str(next(found)), str(next(found))] == [LINES[0], LINES[2]]
         with pytest.raises(TypeError, match=said):
             next(found)
-    for text in ("1RA1RA\n", "x" * 5_000 + "\n"):
-        with pytest.raises(ValueError, match=r"machines\[1\] has a newline"):
-            decide_lines([CHAMPION, text])
 
+
+def test_an_item_with_a_newline() -> None:
+    for wrong in ("1RA1RA\n", "x" * 5_000 + "\n"):
+        with pytest.raises(ValueError, match=r"machines\[1\] has a newline"):
+            decide_lines([CHAMPION, wrong])
+
+
+def test_no_list() -> None:
+    for wrong in (CHAMPION, b"1RA1RA", None, 7):
+        with pytest.raises(TypeError):
+            decide_lines(wrong)
+
+
+def test_wrong_limits_and_threads_at_once() -> None:
+    wrong: Any = {"steps": 1}
+    with pytest.raises(TypeError, match="limits is of type dict"):
+        budlarem.decide([], wrong)
+    with pytest.raises(TypeError, match="plan is of type dict"):
+        budlarem.decide([], Limits(), wrong)
+    with pytest.raises(ValueError, match="threads is 0"):
+        budlarem.decide([], threads=0)
+
+
+def test_texts_of_all_kinds() -> None:
+    texts = ["\u00e9", "\ud800", "\0", "1RA1RA\0", "1RA1RA\r", " ", "1RA1RA ", "9" * 3_000_000]
+    columns = [1, 1, 1, 7, 7, 1, 7, 2]
+    assert decide_lines(texts) == ["refused %d" % column for column in columns]
+
+
+def test_an_error_of_the_list_itself() -> None:
     def broken_items() -> Iterator[str]:
         yield CHAMPION
         raise KeyError("gone")
@@ -79,18 +106,10 @@ def test_wrong_items() -> None:
         list(found)
 
 
-def test_wrong_arguments_at_once() -> None:
-    wrong: Any
-    for wrong in (CHAMPION, b"1RA1RA", None, 7):
-        with pytest.raises(TypeError):
-            decide_lines(wrong)
-    wrong = {"steps": 1}
-    with pytest.raises(TypeError, match="limits is of type dict"):
-        budlarem.decide([], wrong)
-    with pytest.raises(TypeError, match="plan is of type dict"):
-        budlarem.decide([], Limits(), wrong)
-    with pytest.raises(ValueError, match="threads is 0"):
-        budlarem.decide([], threads=0)
+def test_threads_end_with_the_list() -> None:
+    before = threading.active_count()
+    decide_lines(MACHINES, threads=3)
+    assert threading.active_count() == before
 
 
 def test_lines_and_verdicts() -> None:
@@ -122,7 +141,7 @@ def test_an_item_of_another_type(text: str) -> None:
         list(budlarem.check([LINES[0], WRONG[text]]))
 
 
-def test_blocks_of_any_kind_and_lines_without_a_newline() -> None:
+def test_blocks_of_any_kind() -> None:
     given, expected = as_lines(MACHINES), as_lines(LINES)
     cut = [given[k : k + 3] for k in range(0, len(given), 3)]
     kinds: list[Any] = [given, bytearray(given), memoryview(given), io.BytesIO(given), cut, iter([given])]
@@ -130,11 +149,13 @@ def test_blocks_of_any_kind_and_lines_without_a_newline() -> None:
         assert b"".join(budlarem.decide_bytes(blocks)) == expected
     assert b"".join(budlarem.check_bytes(expected)) == b"ok\nok\nok\nopen\nopen\n"
     assert b"".join(budlarem.decide_bytes(b"")) == b""
-    wrong: Any
-    for wrong in ("1RZ---", ["1RZ---"], [1], 7, None):
-        with pytest.raises(TypeError):
-            list(budlarem.decide_bytes(wrong))
+
+
+def test_a_last_line_without_its_newline() -> None:
     assert b"".join(budlarem.decide_bytes(b"\n1RZ---")) == b"refused 1\n1RZ--- halt 1 1\n"
+
+
+def test_lines_without_an_end() -> None:
     noise = (b"1RZ------" * 100_000 for _ in range(20))
     assert b"".join(budlarem.decide_bytes(noise)) == b"refused 31\n"
     twice = [b"1RZ------" * 100_000, b"\n1RZ---\n"]
@@ -163,21 +184,37 @@ def test_lists_of_many_batches() -> None:
         assert found == expected
 
 
-def test_traces() -> None:
+def test_what_are_no_bytes() -> None:
+    for wrong in ("1RZ---", ["1RZ---"], [1], 7, None):
+        given: Any = wrong
+        with pytest.raises(TypeError):
+            list(budlarem.decide_bytes(given))
+
+
+def test_every_step_and_some() -> None:
     whole = [str(now) for now in budlarem.trace(CHAMPION, 100)]
     assert len(whole) == 7
     assert whole[6] == "6 Z 0 1111"
     assert [str(now) for now in budlarem.trace(CHAMPION, 100, start=1, every=3)] == whole[1::3]
     assert list(budlarem.trace(CHAMPION, 100, start=7)) == []
+
+
+def test_whether_it_was_cut() -> None:
     for upto, cells, cut in ((6, 4, False), (6, 3, True), (3, 3, False), (4, 3, True)):
         trace = budlarem.trace(CHAMPION, upto, cells)
         assert trace.cut is None
         assert list(trace) and trace.cut == cut, (upto, cells)
         with pytest.raises(StopIteration):
             next(trace)
+
+
+def test_no_machine() -> None:
     with pytest.raises(budlarem.MachineError) as raised:
         next(budlarem.trace("1RB1LC_1LA1RZ", 3))
     assert raised.value.column == 14
+
+
+def test_wrong_numbers() -> None:
     for upto, cells, start, every in ((-1, 1, 0, 1), (1, 0, 0, 1), (1, 1, -1, 1), (1, 1, 0, 0)):
         with pytest.raises(budlarem.LimitsError):
             budlarem.trace(CHAMPION, upto, cells, start, every)

@@ -7,7 +7,7 @@ from typing import Any, Iterator
 
 import budlarem
 import pytest
-from budlarem import Cycler, Extent, Halt, Limits, LimitsError, Place, Translated, at, parse
+from budlarem import Cycler, Extent, Limits, LimitsError, Place, Translated, at, parse
 from support.machines import LETTERS
 from support.simulation import simulate
 
@@ -29,32 +29,40 @@ def small_machines() -> list[str]:
     return ["%s%s_%s%s" % table for table in tables]
 
 
-def require_places(verdict: Halt | Cycler | Translated, steps: int, every: int, *more: int) -> None:
-    run = list(plain(verdict.machine, steps))
-    for step in {*range(0, len(run), every), *more, len(run) - 1}:
+def require_places(machine: str, verdict: budlarem.Verdict, steps: int) -> None:
+    run = list(plain(machine, steps))
+    for step in {*range(0, len(run), 3), len(run) - 1}:
         assert at(verdict, step) == Place(step, *run[step]), (str(verdict), step)
 
 
 def test_plain_runs() -> None:
     kinds = set()
     for verdict in budlarem.decide(small_machines(), Limits(steps=100, cells=64, depth=0, nodes=0)):
-        if isinstance(verdict, (Halt, Cycler, Translated)):
+        if isinstance(verdict, (budlarem.Halt, Cycler, Translated)):
             kinds.add(verdict.kind)
-            require_places(verdict, 25, 3)
+            require_places(verdict.machine, verdict, 25)
     assert kinds == {"halt", "cycler", "translated"}
 
 
-def test_great_shifts_and_steps() -> None:
+def test_great_shifts() -> None:
     for verdict in budlarem.decide(FAR):
         assert isinstance(verdict, (Cycler, Translated))
-        steps = 5 * verdict.second - 4 * verdict.first
-        require_places(verdict, steps, 7, verdict.first, verdict.second)
+        period = verdict.second - verdict.first
+        run = list(plain(verdict.machine, verdict.first + 5 * period))
+        for step in (*range(0, len(run), 7), verdict.first, verdict.second, len(run) - 1):
+            assert at(verdict, step) == Place(step, *run[step])
+
+
+def test_without_an_extent() -> None:
     for machine in FAR[:2]:
         (verdict,) = budlarem.decide([machine])
         assert isinstance(verdict, Translated)
         bare = Translated(machine, verdict.side, verdict.first, verdict.second)
         for step in (verdict.second + 1, 10**15):
             assert at(bare, step) == at(verdict, step)
+
+
+def test_steps_that_no_run_reaches() -> None:
     assert str(at(parse("1RA1RA translated R 1 2 1 1"), 10**30)) == "%d A %d" % (10**30, 10**30)
     assert at(parse("1LA1LA translated L 1 2 1 1"), 10**15) == Place(10**15, "A", -(10**15))
     assert at(parse("0RB---_0LA--- cycler 2 4"), 10**15) == Place(10**15, "A", 0)
@@ -81,11 +89,14 @@ def test_refusals(line: str, step: int, error: str) -> None:
         at(parse(line), step)
 
 
-def test_too_few_cells_and_wrong_arguments() -> None:
+def test_too_few_cells() -> None:
     verdict = Translated("1RA1RA", "R", 9, 10, Extent(1, 1))
     assert at(verdict, 20, cells=11) == Place(20, "A", 20)
     with pytest.raises(ValueError, match="needs more than 10 cells"):
         at(verdict, 20, cells=10)
+
+
+def test_wrong_arguments() -> None:
     halt = parse(CHAMPION + " halt 6 4")
     wrong: Any
     for wrong in (CHAMPION + " halt 6 4", None, 7):

@@ -80,7 +80,7 @@ def test_links_and_pipes_are_no_files(place: DirectoryCase) -> None:
     assert (place.top / "other").read_text() == "mine"
 
 
-def test_files_and_parts_of_others_stay(place: DirectoryCase) -> None:
+def test_a_file_of_another_is_not_replaced(place: DirectoryCase) -> None:
     place.write("a", b"1")
     known = place.directory.pin("a")
     assert known is not None
@@ -91,6 +91,9 @@ def test_files_and_parts_of_others_stay(place: DirectoryCase) -> None:
         _files.write_atomically(place.directory, "a", lambda number: None, known)
     assert raised.value.filename == str(place.inside / "a")
     assert contents(place.top) == {str(place.inside / "a"): b"mine"}
+
+
+def test_parts_of_others_stay(place: DirectoryCase) -> None:
     for name in ("a.part", "a.2.part"):
         (place.inside / name).write_bytes(b"mine")
     place.write("a", b"1")
@@ -98,14 +101,7 @@ def test_files_and_parts_of_others_stay(place: DirectoryCase) -> None:
     assert sorted(contents(place.top).values()) == [b"2", b"mine", b"mine"]
 
 
-def test_errors_and_file_systems_without_links(place: DirectoryCase) -> None:
-    def fail(number: int) -> None:
-        os.write(number, b"half")
-        raise OSError(errno.ENOSPC, "No space left on device")
-
-    with pytest.raises(OSError) as raised:
-        _files.write_atomically(place.directory, "a", fail, None)
-    assert (raised.value.filename, contents(place.top)) == (str(place.inside / "a"), {})
+def test_where_there_are_no_links(place: DirectoryCase) -> None:
     refused = unittest.mock.Mock(side_effect=OSError(errno.EPERM, "it can't"))
     with unittest.mock.patch.object(os, "link", refused):
         place.write("a", b"1")
@@ -113,6 +109,16 @@ def test_errors_and_file_systems_without_links(place: DirectoryCase) -> None:
         place.directory.create_file("b.part")
         with pytest.raises(FileExistsError):
             place.directory.install("b.part", "a", None)
+
+
+def test_nothing_is_left_after_an_error(place: DirectoryCase) -> None:
+    def fail(number: int) -> None:
+        os.write(number, b"half")
+        raise OSError(errno.ENOSPC, "No space left on device")
+
+    with pytest.raises(OSError) as raised:
+        _files.write_atomically(place.directory, "a", fail, None)
+    assert (raised.value.filename, contents(place.top)) == (str(place.inside / "a"), {})
 
 
 def test_a_target_whose_folder_is_moved(place: DirectoryCase) -> None:
@@ -234,19 +240,12 @@ def test_what_a_killed_run_left_is_removed(case: RunCase) -> None:
     assert case.verdicts() == expected_verdicts(LIST)
 
 
-def test_copies_that_were_begun_and_folders_that_are_not_asked_for(case: RunCase) -> None:
+def test_a_copy_of_the_chunks_that_was_begun(case: RunCase) -> None:
     case.run_over(limits=[SMALL])
     for name in ("pieces.part", "pieces.2.part"):
         (case.out / "pass-1" / name).write_bytes(expected_verdicts(LIST)[:100])
     case.run_over(limits=[SMALL])
     assert os.listdir(case.out / "pass-1") == ["journal"]
-    case.run_over(limits=[SMALL])
-    (case.out / "pass-7").mkdir()
-    (case.out / "pass-7" / "notes").write_text("mine")
-    case.run_over(limits=[SMALL])
-    case.run_over(limits=PASSES)
-    assert case.verdicts() == expected_verdicts(LIST)
-    assert (case.out / "pass-7" / "notes").read_text() == "mine"
 
 
 def test_chunks_and_passes_that_are_replaced_meanwhile(case: RunCase) -> None:
@@ -268,7 +267,17 @@ def test_chunks_and_passes_that_are_replaced_meanwhile(case: RunCase) -> None:
     assert (case.out / "pass-1" / "pieces").read_text() == "mine"
 
 
-def test_checksums_and_journals_of_a_summary(case: RunCase) -> None:
+def test_folders_of_passes_that_are_not_asked_for(case: RunCase) -> None:
+    case.run_over(limits=[SMALL])
+    (case.out / "pass-7").mkdir()
+    (case.out / "pass-7" / "notes").write_text("mine")
+    case.run_over(limits=[SMALL])
+    case.run_over(limits=PASSES)
+    assert case.verdicts() == expected_verdicts(LIST)
+    assert (case.out / "pass-7" / "notes").read_text() == "mine"
+
+
+def test_a_summary_has_the_checksum_of_the_verdicts(case: RunCase) -> None:
     for limits in (PASSES, [SMALL]):
         case.out = case.top / str(len(limits))
         case.run_over(limits=limits)
@@ -276,12 +285,6 @@ def test_checksums_and_journals_of_a_summary(case: RunCase) -> None:
             assert found.checksum == _files.Checksum().add_bytes(case.verdicts())
             assert (found.identity, found.lines) == (chunks.identity(), 370)
             found.require_journals()
-    case.run_over()
-    whole = (case.out / "pass-2" / "journal").read_bytes()
-    for change in (whole[:200], whole.replace(b"decided", b"checked", 1), b""):
-        (case.out / "pass-2" / "journal").write_bytes(change)
-        with pytest.raises(budlarem.PublishError, match="pass-2/journal doesn't match summary.json"):
-            publish(case.top / "new.tar", case.out)
 
 
 def test_a_summary_of_an_earlier_version(case: RunCase) -> None:
@@ -296,6 +299,15 @@ def test_a_summary_of_an_earlier_version(case: RunCase) -> None:
     (case.out / "verdicts.txt").write_bytes(b"".join(lines[:-1]))
     with pytest.raises(budlarem.PublishError, match="doesn't match verdicts.txt: it counts"):
         publish(case.top / "cut.tar", case.out)
+
+
+def test_journals_that_do_not_go_with_a_summary(case: RunCase) -> None:
+    case.run_over()
+    whole = (case.out / "pass-2" / "journal").read_bytes()
+    for change in (whole[:200], whole.replace(b"decided", b"checked", 1), b""):
+        (case.out / "pass-2" / "journal").write_bytes(change)
+        with pytest.raises(budlarem.PublishError, match="pass-2/journal doesn't match summary.json"):
+            publish(case.top / "new.tar", case.out)
 
 
 def test_all_names_are_there() -> None:

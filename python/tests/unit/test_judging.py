@@ -68,8 +68,11 @@ def test_a_text_has_a_verdict_or_nothing() -> None:
     assert "two things" in (claim_of(CHAMPION + " halt 6 4\tnonhalt").trouble or "")
 
 
-def test_words_and_a_file_of_them(tmp_path: pathlib.Path) -> None:
+def test_words_are_written_as_they_are_looked_up() -> None:
     assert all(word == word.lower() and word.isalnum() for word in WORDS)
+
+
+def test_a_file_of_words(tmp_path: pathlib.Path) -> None:
     path = tmp_path / "words.txt"
     path.write_text("# mine\n\nhalting: Yes, it does\nnever halting: no\nNothing: loop\n", encoding="utf-8")
     words = read_words(str(path))
@@ -97,7 +100,7 @@ CLAIMS = {
     ],
     "unreadable": ["x", "refused 3"],
 }
-TABLE: dict[str, dict[str, list[str]]] = {
+TABLE = {
     "confirmed": {
         CHAMPION: ["halts", "halt 6 4"],
         CYCLER: ["bouncer", "Translated Cyclers", "does not halt"],
@@ -107,7 +110,6 @@ TABLE: dict[str, dict[str, list[str]]] = {
         CYCLER: ["undecided", "decided", "I doubt that it can halt", "halt: false", ""],
         LEFT: ["halt"],
     },
-    "unreadable": {},
 }
 
 
@@ -115,21 +117,31 @@ TABLE: dict[str, dict[str, list[str]]] = {
 def test_claims_and_words(judgement: str) -> None:
     for line in CLAIMS[judgement]:
         assert judgements([line]) == [judgement], line
+
+
+@pytest.mark.parametrize("judgement", TABLE)
+def test_words_of_a_table(judgement: str) -> None:
     for machine, words in TABLE[judgement].items():
         for word in words:
             lines = ["verdict\tmachine", "%s\t%s" % (word, machine)]
             assert judgements(lines) == [judgement], (word, machine)
 
 
-def test_columns_of_a_table() -> None:
+def test_numbers_beside_never_halting_are_named() -> None:
     lines = ["machine,verdict,steps", "1RA1RA,nonhalt,1000"]
     (found,) = budlarem.judge(lines, limits=SMALL)
     assert str(found.judgement) == "confirmed"
     assert found.reason == "never halts, as ours says; not judged: 1000"
+
+
+def test_a_translation_is_counted() -> None:
     lines = ["machine,status", "1RA1RA,halt", "1RA1RA,Halt", "1RA1RA,loop", "x,halt", "1RA1RA,no"]
     translation = budlarem.judge(lines, limits=SMALL).theirs.translation
     assert translation is not None
     assert translation.lines == ["halting: halt 1, Halt 1", "never halting: loop 1", "nothing: no 1"]
+
+
+def test_two_columns_that_may_be_meant() -> None:
     lines = ["machine,status,verdict", "1RA1RA,x,nonhalt"]
     with pytest.raises(ValueError, match="status and verdict"):
         budlarem.judge(lines)
@@ -153,23 +165,11 @@ def test_a_claim_over_the_checkers_limits() -> None:
     assert (found.judgement, found.reason) == (Judgement.NOT_JUDGED, reason)
 
 
-def test_lists_files_and_streams(tmp_path: pathlib.Path) -> None:
+def test_order_and_numbers() -> None:
     lines = ["# c", "x", CHAMPION + " halt 6 4", "", "y", "1ra1ra: cycler 7 9", "z"]
     found = [(one.number, str(one.judgement)) for one in budlarem.judge(lines)]
     right = ["unreadable", "confirmed", "unreadable", "contradicted", "unreadable"]
     assert found == list(zip((2, 3, 5, 6, 7), right))
-    theirs = ["1LB1RB_1RA1LZ halt 6 4", "1RA1RA nonhalt", "x", "1RA---2RA nonhalt", "1RA---2RA nonhalt"]
-    judging = budlarem.judge(theirs, ["# c", CHAMPION, "1RA1RA", CYCLER])
-    assert len(list(judging)) == 5
-    assert judging.missing() == [(4, CYCLER)]
-    assert judging.foreign() == [(4, "1RA---2RA"), (5, "1RA---2RA")]
-    path = str(tmp_path / "theirs.txt")
-    pathlib.Path(path).write_text(CHAMPION + " halt 6 4\n", encoding="utf-8")
-    assert judgements(path) == ["confirmed"]
-    with open(path, "rb") as stream:
-        assert [str(one.judgement) for one in budlarem.judge(stream)] == ["confirmed"]
-    with pytest.raises(FileNotFoundError):
-        budlarem.judge(path + "x")
 
 
 def test_steps_counted_for_undefined_entries() -> None:
@@ -190,6 +190,24 @@ def test_steps_counted_for_undefined_entries() -> None:
     assert not budlarem.judge((theirs + ["1RB1LB_1LA--- halt 9 4"])).undefined_steps
 
 
+def test_a_list() -> None:
+    theirs = ["1LB1RB_1RA1LZ halt 6 4", "1RA1RA nonhalt", "x", "1RA---2RA nonhalt", "1RA---2RA nonhalt"]
+    judging = budlarem.judge(theirs, ["# c", CHAMPION, "1RA1RA", CYCLER])
+    assert len(list(judging)) == 5
+    assert judging.missing() == [(4, CYCLER)]
+    assert judging.foreign() == [(4, "1RA---2RA"), (5, "1RA---2RA")]
+
+
+def test_files_and_streams(tmp_path: pathlib.Path) -> None:
+    path = str(tmp_path / "theirs.txt")
+    pathlib.Path(path).write_text(CHAMPION + " halt 6 4\n", encoding="utf-8")
+    assert judgements(path) == ["confirmed"]
+    with open(path, "rb") as stream:
+        assert [str(one.judgement) for one in budlarem.judge(stream)] == ["confirmed"]
+    with pytest.raises(FileNotFoundError):
+        budlarem.judge(path + "x")
+
+
 def test_each_reading_has_the_same_lines(tmp_path: pathlib.Path) -> None:
     lines = ["", CHAMPION + " halt 6 4", "", "# \u00e9", "1RA1RA undecided steps"] * 40
     content = "\n".join(lines).encode()
@@ -207,7 +225,7 @@ def test_each_reading_has_the_same_lines(tmp_path: pathlib.Path) -> None:
     assert (list(once.once()), once.counted.empty) == (right, 80)
 
 
-def test_canonical_forms() -> None:
+def test_changes_keep_the_form() -> None:
     source = random.Random(3)
     for _ in range(2_000):
         machine, changed, mirrored = draw_machine(source)
@@ -215,6 +233,9 @@ def test_canonical_forms() -> None:
         assert forms[0].text == forms[1].text, (machine, changed)
         if not machine.startswith("---"):
             assert (forms[0].mirrored != forms[1].mirrored) == mirrored, (machine, changed)
+
+
+def test_the_form_is_the_machine_with_other_names() -> None:
     for machine in ("1LC1RZ_1RB---_1RA1LA", "2LA1RB0RZ_0LB---1RA", "1RA1RA"):
         verdicts = list(budlarem.decide([machine, canonical_form(machine).text]))
         assert str(verdicts[0]).split(" ")[1] == str(verdicts[1]).split(" ")[1]

@@ -4,7 +4,6 @@ from __future__ import annotations
 
 import importlib.util
 import io
-import itertools
 import os
 import pathlib
 import resource
@@ -28,29 +27,42 @@ NEEDED += ["picture --upto 1 --out picture.png 1RB1LB_1LA1RZ"]
 COMMANDS = {words.split()[0]: words.split() for words in NEEDED}
 
 
-def test_every_option_of_every_command() -> None:
+def numbers_of(command: str) -> list[str]:
+    """The options of a command whose value is a number."""
     choices = next(action.choices for action in build_parser()._actions if isinstance(action.choices, dict))
-    numbers = [
-        (given, action.option_strings[0])
-        for command, given in COMMANDS.items()
-        for action in choices[command]._actions
-        if action.metavar in ("N", "P", "LINES") and action.option_strings
-    ]
-    for (given, option), text in itertools.product(numbers, MILLION):
-        asked = build_parser().parse_args([*given, option, text])
-        assert getattr(asked, option[2:].replace("-", "_")) == 1_000_000
-    assert len(numbers) * len(MILLION) > 100
+    actions = [action for action in choices[command]._actions if action.metavar in ("N", "P", "LINES")]
+    return [action.option_strings[0] for action in actions if action.option_strings]
 
 
-def test_positions_passes_and_what_is_no_number() -> None:
+def test_every_option_of_every_command() -> None:
+    tried = 0
+    for command, given in COMMANDS.items():
+        for option in numbers_of(command):
+            for text in MILLION:
+                asked = build_parser().parse_args([*given, option, text])
+                assert getattr(asked, option[2:].replace("-", "_")) == 1_000_000
+                tried += 1
+    assert tried > 100
+
+
+def test_positions() -> None:
     asked = build_parser().parse_args([*COMMANDS["picture"], "--left=-1,000", "--right", "1e3"])
     assert (asked.left, asked.right) == (-1_000, 1_000)
+
+
+def test_what_is_no_number() -> None:
     for text in ("1,00", "1_0", "1,000_000", "1e-3", "1.5", "many", "", "0x10", "\u0661"):
         with pytest.raises(ValueError):
             whole_number(text)
+
+
+def test_the_sentence_says_what_would_do() -> None:
     with mock.patch("sys.stderr", io.StringIO()) as printed, pytest.raises(SystemExit):
         build_parser().parse_args(["decide", "--steps", "1,00"])
     assert "--steps: 1,00 is no whole number; 1000000, 1,000,000" in printed.getvalue()
+
+
+def test_a_pass() -> None:
     for text in MILLION:
         limits = limits_of("steps=%s,cells=1,024,depth=40" % text)
         assert (limits.steps, limits.cells, limits.depth) == (1_000_000, 1_024, 40)
@@ -83,7 +95,7 @@ def command(*given: str) -> subprocess.CompletedProcess[str]:
             feeder.kill()
 
 
-def test_commands_over_an_endless_line(tmp_path: pathlib.Path) -> None:
+def test_commands(tmp_path: pathlib.Path) -> None:
     every = [["read"], ["decide"], ["normal"], ["judge", "-"], ["compare", "/dev/null", "-"]]
     every.append(["check", "--cells", "1000"])
     if importlib.util.find_spec("matplotlib") is not None:
@@ -93,15 +105,21 @@ def test_commands_over_an_endless_line(tmp_path: pathlib.Path) -> None:
         assert ended.returncode == 2, ended.stderr
         assert "standard input: line 301 has more than 268,435,456 bytes" in ended.stderr
         assert "Traceback" not in ended.stderr
+
+
+def test_a_run(tmp_path: pathlib.Path) -> None:
     ended = command("run", "-", "--out", str(tmp_path / "out"))
     assert ended.returncode == 3, ended.stderr
     assert "a line of more than 268,435,456 bytes and no newline" in ended.stderr
 
 
-def test_endless_and_long_lines() -> None:
+def test_zeros_alone() -> None:
     with mock.patch.object(files, "LONGEST_UNENDED", 1_000_000):
         with pytest.raises(EndlessLineError):
             list(files.Lines("/dev/zero"))
+
+
+def test_the_sentence() -> None:
     with mock.patch.object(files, "LONGEST_UNENDED", 1_000_000):
         lines = files.Lines(io.BytesIO(b"1RA1RA\n" + b"x" * 2_000_000))
         with pytest.raises(EndlessLineError) as raised:
@@ -109,6 +127,9 @@ def test_endless_and_long_lines() -> None:
     assert raised.value.number == 2
     assert "line 2 has more than" in str(raised.value)
     assert "no newline" in str(raised.value)
+
+
+def test_a_long_line_that_ends() -> None:
     with mock.patch.object(files, "LONGEST_UNENDED", 3_000_000):
         lines = files.Lines(io.BytesIO((b"x" * 2_000_000 + b"\n") * 3))
         assert [number for number, _ in lines] == [1, 2, 3]

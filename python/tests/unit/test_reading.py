@@ -51,10 +51,13 @@ def read_line(line: str, form: Form = Form.TEXT) -> list[Any]:
     return []
 
 
-def test_each_form_and_sentence() -> None:
+def test_each_form() -> None:
     assert len(LISTED["forms"]) >= 80
     for form in LISTED["forms"]:
         assert read_line(form["line"], Form(form.get("form", "text"))) == right_reading(form)
+
+
+def test_sentences() -> None:
     assert LISTED["advice"] == ADVICE
     assert LISTED["rewritings"] == {rewriting.value: rewriting.sentence for rewriting in Rewriting}
     kinds = {form["refusal"] for form in LISTED["forms"] if "refusal" in form}
@@ -70,21 +73,27 @@ def test_each_encoding_is_named() -> None:
                 list(budlarem.read(io.BytesIO(content * 3)))
 
 
-def test_fields_and_refusals() -> None:
+def test_a_long_line() -> None:
+    assert one(CHAMPION + " " * (LONGEST_LINE - len(CHAMPION))).machine is not None
+    reading = one(CHAMPION + " " * LONGEST_LINE)
+    assert reading.reason is not None
+    assert (reading.reason.kind, reading.reason.place) == ("long", LONGEST_LINE + 1)
+
+
+def test_what_else_stands_there() -> None:
     reading = one("17. `1rb1lb 1la1rh`; halt\t6")
     assert (reading.machine, reading.before, reading.behind) == (CHAMPION, "17.", "halt\t6")
     assert reading.fields == "17.\thalt\t6"
     assert (reading.column, reading.reason) == (None, None)
     assert "H read as Z" in str(reading)
+
+
+def test_a_refusal() -> None:
     reading = one("12,1RB1LC_1LA1RZ")
     assert reading.reason is not None
     assert (reading.machine, reading.column, reading.reason.place) == (None, 2, 9)
     assert "group for each state" in reading.reason.advice
     assert "at character 9 (for bb column 2)" in str(reading)
-    assert one(CHAMPION + " " * (LONGEST_LINE - len(CHAMPION))).machine is not None
-    reading = one(CHAMPION + " " * LONGEST_LINE)
-    assert reading.reason is not None
-    assert (reading.reason.kind, reading.reason.place) == ("long", LONGEST_LINE + 1)
 
 
 def machines(source: Any) -> list[Any]:
@@ -105,13 +114,13 @@ def test_paths_files_and_lines(tmp_path: pathlib.Path) -> None:
         assert machines(lines) == right
 
 
-def test_bytes_of_any_kind() -> None:
+def test_bytes_that_are_no_text() -> None:
     assert machines(io.BytesIO(b"\xff 1RA1RA \x80\n1RA\xff1RA\n")) == [(1, "1RA1RA"), (2, None)]
+
+
+def test_a_long_line_of_bytes() -> None:
     lines = b"x" * 1_000_000 + b"\n1RA1RA\n" + b"1RA1RA," * 100_000
     assert machines(io.BytesIO(lines)) == [(1, None), (2, "1RA1RA"), (3, None)]
-    readings = budlarem.read(io.BytesIO("1RA1RA \u00e9\n1RA1RA x\n1RA1RA \u00fc".encode("latin-1")))
-    assert [reading.machine for reading in readings] == ["1RA1RA"] * 3
-    assert readings.undecoded == 2
 
 
 def test_a_line_is_read_when_it_is_needed() -> None:
@@ -124,7 +133,7 @@ def test_a_line_is_read_when_it_is_needed() -> None:
     assert next(budlarem.read(many)).number == 1
 
 
-def test_what_is_no_list_and_a_cut_gzip() -> None:
+def test_what_is_no_list() -> None:
     for source, error, text in (
         (b"1RA1RA\n", TypeError, "BytesIO"),
         ("1RA1RA\n1RA1RA", ValueError, "splitlines"),
@@ -136,25 +145,37 @@ def test_what_is_no_list_and_a_cut_gzip() -> None:
     ):
         with pytest.raises(error, match=text):
             list(budlarem.read(source))  # type: ignore[arg-type]
+
+
+def test_a_gzip_that_is_cut() -> None:
     whole = gzip.compress(b"1RA1RA\n" * 1_000)
     for content in (whole[:30], whole[:-4], whole[:-8] + bytes(8)):
         with pytest.raises(OSError, match="can't be read as gzip"):
             list(budlarem.read(io.BytesIO(content)))
 
 
-def test_skipped_lines_are_counted() -> None:
+def test_lines_that_are_passed_over_are_counted() -> None:
     lines = ["", "\r", "# c", "#17 1RA1RA", "```", "1RA1RA", "```", "|-", "| Machine | x |", "  "]
     readings = budlarem.read(lines)
     assert [reading.number for reading in readings] == [4, 6]
     right = {Skipped.EMPTY: 3, Skipped.COMMENT: 1, Skipped.FENCE: 2, Skipped.RULE: 1, Skipped.HEADER: 1}
     assert dict(readings.skipped) == right
+
+
+def test_empty_lines_have_their_numbers() -> None:
     content = b"\n" * 2_000_000 + b"1RA1RA\n\r\n\n1RA1RA"
     readings = budlarem.read(io.BytesIO(content))
     assert [reading.number for reading in readings] == [2_000_001, 2_000_004]
     assert readings.skipped[Skipped.EMPTY] == 2_000_002
 
 
-def test_tables_and_their_layouts() -> None:
+def test_bytes_that_are_no_utf_8_are_counted() -> None:
+    readings = budlarem.read(io.BytesIO("1RA1RA \u00e9\n1RA1RA x\n1RA1RA \u00fc".encode("latin-1")))
+    assert [reading.machine for reading in readings] == ["1RA1RA"] * 3
+    assert readings.undecoded == 2
+
+
+def test_tables() -> None:
     for lines, columns, machines in (
         (["machine,x", "1ra1ra,1", '"1RA1RA","a, b"'], Columns(), ["1RA1RA", "1RA1RA"]),
         (["# machine\tx", "1RA1RA\t1", "------\t2"], Columns(), ["1RA1RA", "------"]),
@@ -166,6 +187,9 @@ def test_tables_and_their_layouts() -> None:
         assert [reading.machine for reading in readings] == machines, lines
     reasons = [reading.reason for reading in budlarem.read(["1;1RA1RA", "2;x", "3"], None, Columns("2"))]
     assert [reason.kind for reason in reasons if reason] == ["none", "row"]
+
+
+def test_tables_whose_layout_is_not_known() -> None:
     for lines, form, columns, text in (
         (["1RA1RA,1"], Form.TABLE, Columns(), "give it by --machine"),
         (["1RA1RA,1"], None, Columns("3"), "no separator"),

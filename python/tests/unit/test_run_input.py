@@ -38,7 +38,7 @@ def all_lines(listed: input.ListFile) -> bytes:
     return b"".join(iter(lambda: lines.take(7, 1_000), b""))
 
 
-def test_first_lines_are_given_again(case: RunCase) -> None:
+def test_they_are_given_again(case: RunCase) -> None:
     for count in (0, 1, 999, 1_000, 1_001, 200_000):
         given = MACHINE * count
         for data in (given, gzip.compress(given)):
@@ -46,29 +46,38 @@ def test_first_lines_are_given_again(case: RunCase) -> None:
             with contextlib.closing(input.ListFile(str(case.list))) as listed:
                 assert listed.first_lines(1_000) == [MACHINE[:-1]] * min(count, 1_000)
                 assert all_lines(listed) == given
+
+
+def test_a_last_line_without_a_newline(case: RunCase) -> None:
     case.list.write_bytes(MACHINE + b"1RA1RA")
     with contextlib.closing(input.ListFile(str(case.list))) as listed:
         assert listed.first_lines(2) == [MACHINE[:-1], b"1RA1RA"]
+
+
+def test_a_list_that_has_no_newline_is_not_held_whole(case: RunCase) -> None:
     case.list.write_bytes(gzip.compress(os.urandom(4_000_000).replace(b"\n", b"")))
     with contextlib.closing(input.ListFile(str(case.list))) as listed:
         assert [len(line) for line in listed.first_lines(1_000)] == [LONGEST_GIVEN]
         assert (listed.fraction(0) or 1.0) < 0.7
 
 
-def test_pauses_of_a_pipe() -> None:
+def test_a_pause() -> None:
     given = b"# a head\n" + MACHINE
     with unittest.mock.patch.object(input, "_PAUSE", 0.01), pipe(given) as (listed, writing):
         assert listed.first_lines(1_000) == []
         os.write(writing, MACHINE)
         os.close(writing)
         assert all_lines(listed) == given + MACHINE
+
+
+def test_no_pause() -> None:
     with pipe(MACHINE * 2) as (listed, writing):
         os.close(writing)
         assert listed.first_lines(1_000) == [MACHINE[:-1]] * 2
         assert all_lines(listed) == MACHINE * 2
 
 
-def test_lists_in_another_form(case: RunCase) -> None:
+def test_more_than_half(case: RunCase) -> None:
     case.list.write_bytes((b"`1RB1LB_1LA1RZ`\n" + MACHINE) * 3)
     with contextlib.closing(input.ListFile(str(case.list))) as listed:
         input.require_form(listed)
@@ -76,10 +85,16 @@ def test_lists_in_another_form(case: RunCase) -> None:
     with contextlib.closing(input.ListFile(str(case.list))) as listed:
         with pytest.raises(errors.FolderError, match="4 of the first 7 lines .* line 2: .*budlarem read"):
             input.require_form(listed)
+
+
+def test_nothing_is_begun(case: RunCase) -> None:
     case.list.write_bytes(b"1RB1LB_1LA1RZ halt 6 4\n")
     status, said = case.call(*SMALL)
     assert (status, case.out.exists()) == (2, False)
     assert "budlarem read" in said
+
+
+def test_a_run_s_own_file_is_named_before_its_form(case: RunCase) -> None:
     case.list.write_bytes(MACHINE)
     assert case.call(*SMALL)[0] == 0
     status, said = call_command("run", str(case.out / "verdicts.txt"), "--out", str(case.out), *SMALL)

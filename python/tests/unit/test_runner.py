@@ -75,13 +75,16 @@ def test_lines_keep_their_numbers(case: RunCase) -> None:
     assert journal.list_line_number([], 7) == 8
 
 
-def test_passes_are_added_and_what_stands_stays(case: RunCase) -> None:
+def test_whole_passes_are_added(case: RunCase) -> None:
     case.run_over(limits=[SMALL])
     before = case.records([SMALL])
     executor = Answering()
     require_verdicts(case, executor)
     assert case.records([SMALL]) == before
     assert executor.count == len(case.records(PASSES))
+
+
+def test_what_stands_is_not_decided_again(case: RunCase) -> None:
     case.run_over()
     executor = Answering()
     (case.out / "verdicts.txt").write_bytes(b"changed")
@@ -93,11 +96,14 @@ def test_passes_are_added_and_what_stands_stays(case: RunCase) -> None:
         assert executor.count == count
 
 
-def test_the_same_list_and_others(case: RunCase) -> None:
+def test_the_same_list_compressed(case: RunCase) -> None:
     case.run_over(limits=[SMALL])
     path = case.top / "list.txt.gz"
     path.write_bytes(gzip.compress(LIST))
     require_verdicts(case, path=str(path))
+
+
+def test_another_list(case: RunCase) -> None:
     case.run_over()
     packed = case.top / "list.gz"
     other = LIST.replace(b"------", b"1RZ---", 1)
@@ -142,11 +148,14 @@ def test_what_a_folder_was_begun_with() -> None:
             folder.RunConfig.read(other)
 
 
-def test_locks_and_lists_that_would_be_overwritten(case: RunCase) -> None:
+def test_two_runs_in_a_folder(case: RunCase) -> None:
     with contextlib.closing(folder.Folder(str(case.out))):
         assert list(case.out.iterdir()) == [], "the folder itself is locked"
         require_error(case, FolderError, "another run works in")
     case.run_over()
+
+
+def test_a_list_that_would_be_overwritten(case: RunCase) -> None:
     case.run_over()
     for path in ("verdicts.txt", "summary.json", "run.json", "pass-2/journal"):
         other = case.top / "another_name"

@@ -27,16 +27,9 @@ UNREAD += ["", CHAMPION, "1RB1LC_1LA1RZ halt 6 4", "1RB1LB halt 6 4"]
 UNREAD += ["refused", "refused 0", "refused 01", "refused 776", "refused 1 1"]
 
 
-def test_limits_and_plans() -> None:
+def test_are_the_programs_where_nothing_is_said() -> None:
     assert Limits().numbers() == (1_000_000, 65_536, 300, 1_000_000)
     assert Plan().switches() == (True, True, True)
-    assert Limits(cells=599).depth == 300
-    with pytest.raises(LimitsError, match="depth is 300, but may be 0 to 299 .* at most the cells"):
-        Limits(cells=598)
-    with pytest.raises(dataclasses.FrozenInstanceError):
-        setattr(Limits(), "steps", 1)
-    error = LimitsError("cells", 1, 5, 7)
-    assert str(pickle.loads(pickle.dumps(error))) == str(error)
 
 
 OUT_OF_RANGE = [("steps", -1), ("steps", 10**12 + 1), ("cells", 0), ("cells", 67_108_865)]
@@ -52,6 +45,12 @@ def test_numbers_out_of_range(name: str, given: int) -> None:
     assert "{:,}".format(highest) in str(error)
 
 
+def test_refuse_a_depth_that_does_not_fit() -> None:
+    assert Limits(cells=599).depth == 300
+    with pytest.raises(LimitsError, match="depth is 300, but may be 0 to 299 .* at most the cells"):
+        Limits(cells=598)
+
+
 @pytest.mark.parametrize("wrong", [1e6, "7", None, True, b"1"])
 def test_limits_are_whole_numbers(wrong: Any) -> None:
     with pytest.raises(TypeError, match="^steps is .*whole number"):
@@ -62,6 +61,16 @@ def test_limits_are_whole_numbers(wrong: Any) -> None:
 def test_switches_are_true_or_false(wrong: Any) -> None:
     with pytest.raises(TypeError, match="^cyclers .*True or False"):
         Plan(cyclers=wrong)
+
+
+def test_stay_as_they_are() -> None:
+    with pytest.raises(dataclasses.FrozenInstanceError):
+        setattr(Limits(), "steps", 1)
+
+
+def test_errors_go_from_process_to_process() -> None:
+    error = LimitsError("cells", 1, 5, 7)
+    assert str(pickle.loads(pickle.dumps(error))) == str(error)
 
 
 @pytest.mark.parametrize("line", LINES)
