@@ -130,7 +130,9 @@ class Source(NamedTuple):
     name: str
 
     def refuse(self, line: int, token: str) -> NoReturn:
-        sys.exit("erase: %s:%d: `%s` has no rule" % (os.path.relpath(self.path, TOP), line, token.strip()[:60]))
+        sys.exit(
+            "erase: %s:%d: `%s` has no rule" % (os.path.relpath(self.path, TOP), line, token.strip()[:60])
+        )
 
 
 def braces_end(text: str, at: int) -> int:
