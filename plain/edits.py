@@ -31,7 +31,7 @@ from support.examples import read_examples  # noqa: E402
 from support.machines import random_machines, spoil  # noqa: E402
 from support.program import ROWS, as_lines, options  # noqa: E402
 from support.second_checker import made_claims, tight_claims  # noqa: E402
-from test_plain import COMMANDS, EDGES, FOUR, GIVEN, PLANS, WORDS  # noqa: E402
+from test_plain import COMMANDS, EDGES, EDGES_OF_COVER, FOUR, GIVEN, PLANS, WORDS  # noqa: E402
 
 CRATES = ("bb_machine", "bb_sim", "bb_narrow", "bb_cert", "bb_decide", "bb_lines", "bb_run")
 TESTED = ("tests_of_verdicts", "tests_of_runs", "tests_of_parts", "bb", "bb_c")
@@ -133,10 +133,16 @@ def probes(programs: pathlib.Path, lists: pathlib.Path) -> Iterator[Probe]:
         machines = as_lines([*chosen.decode().split()[::5], *random_machines(400, source)])
         yield Probe("decide " + words, "BB decide %s %s" % (words, " ".join(FOUR)), machines)
     yield from claims(programs, source, verdicts[" ".join(FOUR)].decode().splitlines())
+    for machine in random_machines(30, source):
+        words = "--upto %d --cells %d" % (source.randrange(60), source.randint(1, 40))
+        yield Probe("trace " + words, "BB trace %s -- %s" % (words, machine), b"")
     for example in read_examples():
         yield Probe("example " + example.name, "cd %s; BB %s" % (TOP, " ".join(example.words)), example.given)
     three = run(Probe("", "BB decide " + " ".join(FOUR), (lists / "three.txt").read_bytes()), programs, lists)
     yield Probe("cover", "COVER " + " ".join(FOUR), three[1])
+    (lists / "verdicts.txt").write_bytes(three[1])
+    for command in EDGES_OF_COVER:
+        yield Probe("cover: " + command.strip(), command.replace("PROGRAM", "COVER"), b"")
     for command in EDGES:
         yield Probe(command.strip(), command.replace("PROGRAM", "BB"), b"")
     for _ in range(300):

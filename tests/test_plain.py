@@ -53,10 +53,35 @@ EDGES = """exec PROGRAM decide <&-
     exec PROGRAM decide --cells 67108864 list.txt
     exec PROGRAM decide --cells 67108865 list.txt
     PROGRAM decide four.txt | head -c 100
+    printf 1RB1LB_1LA1RZ | PROGRAM decide
+    printf '1RA1RA\\n1RB1LB_1LA1R' | PROGRAM decide
+    printf '1RB1LB_1LA1RZ halt 6 4' | PROGRAM check
+    (printf 1RB1LB; sleep 0.1; printf '_1LA1RZ\\n1RA'; sleep 0.1; printf 1RA) | PROGRAM decide
+    (printf 1RB1LB; sleep 0.1; printf '_1LA1RZ halt 6 4\\n1RA'; sleep 0.1; printf 1RA) | PROGRAM check
     ulimit -f 1; exec PROGRAM decide four.txt >short
     ulimit -v 102400; exec PROGRAM decide --cells 67108864 <list.txt
     ulimit -v 102400; exec PROGRAM decide --cells 1048576 <list.txt
     ulimit -v 102400; exec PROGRAM check --cells 67108864 <list.txt""".splitlines()
+# A reply whose cost is high, above 100,000 steps, is written before the next line, which never ends here.
+ENDLESS = "--no-cyclers --no-translated --no-backward --steps 1000000000000 --cells"
+EDGES += [
+    "printf '1RA1RA\\n0RB0LB_0LA0RA\\n' | timeout 2 PROGRAM decide %s 100001" % ENDLESS,
+    "printf '1RA1RA\\n0RB0LB_0LA0RA\\n' | timeout 2 PROGRAM decide %s 100002" % ENDLESS,
+    "printf '1RA1RA cycler 1 100001\\n0RB0LB_0LA0RA halt 1000000000000 1\\n'"
+    " | timeout 2 PROGRAM check --steps 1000000000000 --cells 200000",
+]
+# The same for `cover`; `verdicts.txt` is a list of verdicts.
+EDGES_OF_COVER = """exec PROGRAM <&-
+    exec PROGRAM </tmp
+    exec PROGRAM <verdicts.txt >&-
+    exec PROGRAM <verdicts.txt >/dev/full
+    exec PROGRAM verdicts.txt
+    exec PROGRAM /nonexistent
+    head -c -1 verdicts.txt | PROGRAM
+    head -c -9 verdicts.txt | PROGRAM
+    (cat verdicts.txt; printf 1RB) | PROGRAM
+    (head -c 9 verdicts.txt; sleep 0.1; tail -c +10 verdicts.txt) | PROGRAM
+    ulimit -v 102400; exec PROGRAM --cells 67108864 <verdicts.txt""".splitlines()
 TERMINAL = ["/nonexistent", "/tmp", "--depth 9 --cells 3", "--steps 2000000000000"]
 # All choices of deciders but the default.
 PLANS = [" ".join(words) for count in (1, 2, 3) for words in itertools.combinations(SIMULATION, count)]
@@ -122,6 +147,12 @@ def test_deciders(programs: Programs, rng: random.Random, four_states: list[str]
     require_same(programs, lambda bb: run_command([bb, "decide", *plan.split(), *FOUR], lines))
 
 
+def test_traces(programs: Programs, rng: random.Random) -> None:
+    for machine in random_machines(200, rng):
+        words = ["--upto", str(rng.randrange(60)), "--cells", str(rng.randint(1, 40)), "--", machine]
+        require_same(programs, lambda bb: run_command([bb, "trace", *words]))
+
+
 def test_lines_with_an_error(programs: Programs, covers: Programs, rng: random.Random) -> None:
     machines = list(random_machines(10_000, rng))
     spoilt = as_lines(spoil(rng, machine) for machine in machines)
@@ -156,6 +187,21 @@ def test_random_command_lines(programs: Programs, rng: random.Random, folder: pa
 def test_streams_and_memory(programs: Programs, folder: pathlib.Path, command: str) -> None:
     run = lambda bb: run_command(["sh", "-c", command.replace("PROGRAM", bb)], cwd=str(folder))  # noqa: E731
     require_same(programs, run)
+
+
+@pytest.mark.parametrize("command", EDGES_OF_COVER, ids=str.strip)
+def test_streams_and_memory_of_cover(
+    programs: Programs,
+    covers: Programs,
+    folder: pathlib.Path,
+    list_machines: Callable[..., list[str]],
+    command: str,
+) -> None:
+    decided = run_command([programs[0], "decide"], as_lines(list_machines(2)))
+    (folder / "verdicts.txt").write_bytes(decided.output)
+    require_same(
+        covers, lambda cover: run_command(["sh", "-c", command.replace("PROGRAM", cover)], cwd=str(folder))
+    )
 
 
 @pytest.mark.parametrize("words", [[b"\xff"], ["decide", b"\xff"], ["decide", "a" * 5000], ["decide", ""]])
