@@ -13,7 +13,7 @@ import subprocess
 from typing import Any
 
 import pytest
-from support import TOP
+from support import TOP, has_kit
 from support.program import run_command
 from support.runs import expected_verdicts, words_of
 
@@ -106,6 +106,8 @@ def test_examples_of_docstrings() -> None:
 @pytest.mark.needs("readelf")
 def test_library_asks_for_no_newer_glibc(library: pathlib.Path) -> None:
     """The wheel's tag names the newest glibc that its library may need."""
+    if not has_kit():
+        pytest.skip("cargo's library is in no wheel")
     symbols = run_command(["readelf", "--version-info", "--wide", str(library)]).output.decode()
     versions = [tuple(map(int, name.split("."))) for name in re.findall(r"GLIBC_([0-9.]+)", symbols)]
     assert (0,) < max(versions) <= NEWEST_GLIBC
