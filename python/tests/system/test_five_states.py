@@ -27,11 +27,8 @@ FOUR_STATES = (858_909, (249_693, 87_754, 500_902, 12_105, 8_455, 0, 0))
 FOUR_STATES_GREATEST = {"halt steps": 106, "cycler second": 102, "backward levels": 11, "backward nodes": 14}
 WRITTEN: dict[str, Any] = json.loads((DOCUMENTS / "five-states.json").read_text())
 Process = subprocess.Popen[bytes]
-
-
-@pytest.fixture(autouse=True)
-def lister(list_machines: Callable[..., list[str]]) -> None:
-    """The lister is built."""
+# The script calls the program that lists machines.
+pytestmark = pytest.mark.usefixtures("lister")
 
 
 def start(out: pathlib.Path, *asked: str) -> Process:
