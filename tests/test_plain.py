@@ -59,6 +59,8 @@ EDGES = """exec PROGRAM decide <&-
     (printf 1RB1LB; sleep 0.1; printf '_1LA1RZ\\n1RA'; sleep 0.1; printf 1RA) | PROGRAM decide
     (printf 1RB1LB; sleep 0.1; printf '_1LA1RZ halt 6 4\\n1RA'; sleep 0.1; printf 1RA) | PROGRAM check
     ulimit -f 1; exec PROGRAM decide four.txt >short
+    head -n 100 four.txt >few.txt; ulimit -f 1; exec PROGRAM decide few.txt >short
+    (printf '1RB1LB_1LA1RZ\\n'; sleep 2) | timeout 1 PROGRAM decide
     ulimit -v 102400; exec PROGRAM decide --cells 67108864 <list.txt
     ulimit -v 102400; exec PROGRAM decide --cells 1048576 <list.txt
     ulimit -v 102400; exec PROGRAM check --cells 67108864 <list.txt""".splitlines()

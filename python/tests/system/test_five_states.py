@@ -10,7 +10,7 @@ import runpy
 import signal
 import subprocess
 import time
-from typing import Any, Callable, Iterator
+from typing import Any, Iterator
 
 import pytest
 from support import TOP, restore_signals

@@ -13,7 +13,7 @@ import subprocess
 from typing import Any
 
 import pytest
-from support import TOP, has_kit
+from support import TOP, build
 from support.program import run_command
 from support.runs import expected_verdicts, words_of
 
@@ -103,24 +103,28 @@ def test_examples_of_docstrings() -> None:
     assert sum(one.attempted for one in found) > 15
 
 
+@pytest.fixture(scope="module")
+def wheel_library() -> pathlib.Path:
+    """The path of the library in the wheel: always the proved one."""
+    return build("library", "crates/bb_c/out/libbb.so")
+
+
 @pytest.mark.needs("readelf")
-def test_library_asks_for_no_newer_glibc(library: pathlib.Path) -> None:
+def test_library_asks_for_no_newer_glibc(wheel_library: pathlib.Path) -> None:
     """The wheel's tag names the newest glibc that its library may need."""
-    if not has_kit():
-        pytest.skip("cargo's library is in no wheel")
-    symbols = run_command(["readelf", "--version-info", "--wide", str(library)]).output.decode()
+    symbols = run_command(["readelf", "--version-info", "--wide", str(wheel_library)]).output.decode()
     versions = [tuple(map(int, name.split("."))) for name in re.findall(r"GLIBC_([0-9.]+)", symbols)]
     assert (0,) < max(versions) <= NEWEST_GLIBC
 
 
 @pytest.mark.slow
 @pytest.mark.needs("pip3", modules=("setuptools", "wheel"))
-def test_wheel(bb: str, library: pathlib.Path, tmp_path: pathlib.Path) -> None:
+def test_wheel(bb: str, wheel_library: pathlib.Path, tmp_path: pathlib.Path) -> None:
     """The wheel: twice the same bytes; by the oldest and the newest Python its first run, its unit tests, its
     commands, and what it says where its library was cut."""
     wheels = []
     for name in ("first", "again"):
-        words = ["--library", str(library), "--out", str(tmp_path / name)]
+        words = ["--library", str(wheel_library), "--out", str(tmp_path / name)]
         status, output = run(["/usr/bin/python3", "build_wheel.py", *words])
         assert status == 0, output
         wheels.append(pathlib.Path(output.strip().splitlines()[-1]))
