@@ -7,13 +7,17 @@ fault; 130 after an interruption. Finished shards are kept, and the same command
 from __future__ import annotations
 
 import argparse
+import contextlib
 import functools
 import importlib
 import os
+import signal
 import sys
 from concurrent.futures import FIRST_EXCEPTION, Executor, Future, ThreadPoolExecutor, wait
+from types import FrameType
 from typing import Callable
 
+from .._text import escape_controls
 from ..limits import Limits
 from ..runner.errors import CheckError, FolderError, RunError, UsageError
 from ..runner.progress import TerminalLine
@@ -35,6 +39,7 @@ MACHINE below N U G SHA256. A finished shard isn't run again."""
 
 def do_shards(asked: argparse.Namespace) -> int:
     """Runs the unfinished shards of a list, and joins them."""
+    _end_at_signals(asked.folder)
     try:
         if asked.states is not None:
             create(asked.folder, _plan_of(asked))
@@ -63,6 +68,21 @@ def _print_error(error: Exception) -> int:
     """Prints an error; returns its status."""
     print("budlarem: %s" % error, file=sys.stderr)
     return 1 if isinstance(error, CheckError) else 2 if isinstance(error, FolderError) else 3
+
+
+def _end_at_signals(folder: str) -> None:
+    """Has SIGINT, SIGTERM and SIGHUP end the process at once, with a message; finished shards are stored."""
+
+    def end(number: int, frame: FrameType | None) -> None:
+        what = "interrupted" if number == signal.SIGINT else "ended by " + signal.Signals(number).name
+        line = "budlarem: %s; `budlarem shards %s` resumes\n" % (what, escape_controls(folder))
+        with contextlib.suppress(OSError):
+            os.write(2, line.encode("utf-8", "replace"))
+        os._exit(128 + number)
+
+    for number in (signal.SIGINT, signal.SIGTERM, signal.SIGHUP):
+        if signal.getsignal(number) is not signal.SIG_IGN:
+            signal.signal(number, end)
 
 
 def _plan_of(asked: argparse.Namespace) -> Plan:
