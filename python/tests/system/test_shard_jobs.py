@@ -8,10 +8,10 @@ import signal
 import subprocess
 import sys
 import time
-from typing import Callable
+from typing import Any, Callable
 
 import pytest
-from support import require
+from support import require, restore_signals
 from support.clusters import cluster
 from support.program import as_lines, run_command
 
@@ -85,9 +85,8 @@ def test_interruption(programs: pathlib.Path, run: Run, tmp_path: pathlib.Path) 
     folder, words = tmp_path / "out", ["--states", "4", "--entries", "4", "--threads", "1"]
     environment = {**os.environ, "PATH": "%s:%s" % (programs, os.environ["PATH"])}
     command = [sys.executable, "-m", "budlarem", "shards", str(folder), *words]
-    with subprocess.Popen(
-        command, stdout=subprocess.PIPE, stderr=subprocess.PIPE, env=environment
-    ) as process:
+    how: dict[str, Any] = {"stdout": subprocess.PIPE, "stderr": subprocess.PIPE, "env": environment}
+    with subprocess.Popen(command, preexec_fn=restore_signals, **how) as process:
         while len(list((folder / "shards").glob("*"))) < 3 and process.poll() is None:
             time.sleep(0.01)
         process.send_signal(signal.SIGINT)
