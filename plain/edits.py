@@ -6,7 +6,8 @@
 It applies the must-fail edits of the crates one at a time to a plain workspace, builds it without optimizing,
 and compares the program with the unedited build by a selection of `tests/test_plain.py`, up to the first
 difference. At the end it runs the library's test in C and the tests of the crates, for each edit that no
-command saw. It prints how each edit is seen, and the counts.
+command saw. It prints how each edit is seen, and the counts. `plain/unseen.txt` names the edits that change
+nothing visible; the status is 1 where another one isn't seen.
 """
 
 from __future__ import annotations
@@ -85,6 +86,12 @@ def read_edits(name: str) -> List[Edit]:
         read_edit(path)
         for path in sorted((TOP / "crates" / crate / "must-fail").glob((edit or "*") + ".edit"))
     ]
+
+
+def read_invisible() -> List[str]:
+    """Read the names of the edits that change nothing visible."""
+    lines = (TOP / "plain" / "unseen.txt").read_text(encoding="utf-8").splitlines()
+    return [line.partition(":")[0] for line in lines if not line.startswith("#")]
 
 
 def run(probe: Probe, programs: pathlib.Path, cwd: pathlib.Path) -> Result:
@@ -289,7 +296,11 @@ def main() -> int:
             if edit.crate == name
         )
         print(name, dict(counts))
-    return 0
+    invisible = read_invisible()
+    names = ["%s/%s" % (edit.crate, edit.name) for edit, by in found if by is None]
+    missed = [name for name in names if name not in invisible]
+    print("missed:", ", ".join(missed) or "none")
+    return 1 if missed else 0
 
 
 if __name__ == "__main__":
