@@ -13,9 +13,9 @@
  * What a caller has to uphold:
  * - No pointer is NULL, also where its length is 0. Each points to as many bytes as its length says.
  * - No length is above PTRDIFF_MAX.
- * - `count` is aligned as a `size_t` is, `counts` and `lines` as a `uint64_t` is.
- * - What a call reads doesn't overlap with what it writes: `out` and `count`, or `counts` and `lines`; nor do
- *   these with each other.
+ * - `count` is aligned as a `size_t` is, `counts`, `lines` and `cost` as a `uint64_t` is.
+ * - What a call reads doesn't overlap with what it writes: `out` and `count`, or `counts` and `lines`, or
+ *   `cost`; nor do these with each other.
  * - During a call no other thread changes what it reads, and none reads or writes what it writes.
  * - A `bool` is 0 or 1.
  * - `malloc`, `realloc` and `free` come from one allocator, and align as C says: for any object that fits.
@@ -23,7 +23,7 @@
  *
  * A call keeps nothing: neither pointers nor memory. So calls in different threads don't disturb each other.
  *
- * `*count` is the number of bytes of the reply; `bb_look` has none. Where the status is BB_CLEAN or
+ * `*count` is the number of bytes of the reply; `bb_look` and `bb_check_cost` have none. Where the status is BB_CLEAN or
  * BB_NOT_CLEAN they stand at the beginning of `out`, and the rest of `out` is as it was. Where it is
  * BB_SHORT, `out` is as it was, and `*count` is how long it has to be. Else `out` is as it was, and `*count`
  * is 0. No byte 0 is put behind the reply.
@@ -106,6 +106,15 @@ uint32_t bb_check_line(uint64_t steps, uint64_t cells, uint64_t depth, uint64_t 
  * run. */
 uint32_t bb_trace(uint64_t steps, uint64_t cells, uint64_t from, uint64_t every, const uint8_t *line,
                   size_t line_len, uint8_t *out, size_t out_len, size_t *count);
+
+/* The most that checking a list can cost, without checking it. A claim costs at most the steps and nodes that
+ * it names: none if it is answered without a run, as `over` or `bad`. `cost` gets four numbers: the steps of
+ * all lines together, the nodes of all lines together (each at most 2^64 - 1, which stands for that or more),
+ * the steps and nodes of the most expensive line, and the index of that line, from 0: the first of equal ones,
+ * and 0 if no line costs anything. It allocates nothing. The status is BB_CLEAN or BB_LIMITS; `cost` is
+ * unchanged after BB_LIMITS. */
+uint32_t bb_check_cost(uint64_t steps, uint64_t cells, uint64_t depth, uint64_t nodes, const uint8_t *list,
+                       size_t list_len, uint64_t cost[4]);
 
 /* Looks at the replies to the lines of a list: whether each line has one of its form, in order, each with a
  * newline, and whether there are no more. A reply has its form where it is the line's bytes, a space and a

@@ -171,6 +171,21 @@ static void require_looks(void) {
     REQUIRE(looks("1RA1RA\n", "1RA1RA cycler 1 02\n", BB_NOT_CLEAN, AS_IT_WAS, 0));
 }
 
+/* Whether `bb_check_cost` gives this status and these numbers; without a status of BB_CLEAN they stay 9. */
+static bool costs(const char *list, uint64_t cells, uint32_t status, const uint64_t wanted[4]) {
+    uint64_t cost[4] = {9, 9, 9, 9};
+    uint32_t found = bb_check_cost(1000, cells, 30, 1000, bytes(list), strlen(list), cost);
+    return found == status && memcmp(cost, wanted, sizeof cost) == 0;
+}
+
+static void require_costs(void) {
+    static const uint64_t NONE[4] = {0}, AS_IT_WAS[4] = {9, 9, 9, 9}, SUM[4] = {256, 250, 250, 1};
+    REQUIRE(costs("1RB1LB_1LA1RZ halt 6 4\n0RB---_0LA--- backward 3 250\n1RA1RA cycler 9 250", 64, BB_CLEAN, SUM));
+    REQUIRE(costs("", 64, BB_CLEAN, NONE));
+    REQUIRE(costs("refused 1\n1RA1RA undecided steps\n1RA1RA halt 1001 0\n1RA1RA cycler 7 7\n", 64, BB_CLEAN, NONE));
+    REQUIRE(costs("1RA1RA cycler 1 2\n", 0, BB_LIMITS, AS_IT_WAS));
+}
+
 static void *decide_often(void *wrong) {
     for (int at = 0; at < 20; at++) {
         if (!wrote(decide(LIST, ROOM), BB_NOT_CLEAN, VERDICTS)) *(bool *)wrong = true;
@@ -195,6 +210,7 @@ int main(void) {
     require_traces();
     require_limits();
     require_looks();
+    require_costs();
     require_threads();
     return failed > 0;
 }

@@ -5,6 +5,7 @@
 #![tactic(auto)]
 
 mod buffer;
+mod check_cost;
 mod checking;
 mod deciding;
 pub mod laws;

@@ -2,9 +2,11 @@
 //! call with no other answer than `MEMORY` would be proved.
 
 use crate::buffer::{CLEAN, LIMITS, MEMORY, NOT_CLEAN, SHORT};
+use crate::check_cost::bb_check_cost;
 use crate::checking::{bb_check, bb_check_line};
 use crate::deciding::{bb_decide, bb_decide_line};
 use crate::tracing::bb_trace;
+use bb_run::CheckCost;
 use std::process::Abort;
 
 /// How many bytes the caller's buffer has.
@@ -155,5 +157,23 @@ fn machines_are_traced(rt: HostRuntime) {
         &out,
         count,
         (0, b"0 A 0 0 0\n3 B -1 -1 011\n6 Z 0 -2 1111\n"),
+    );
+}
+
+/// Claims, one of them over the limit of steps, one out of order, and lines without a claim.
+const COSTS: &[u8] =
+    b"1RB1LB_1LA1RZ halt 6 4\n1RA1RA translated R 1 200\n0RB---_0LA--- backward 3 250\n\
+0RB---_0LA--- cycler 5 5\nrefused 2\n1RB1LB_1LA1RZ halt 1001 4\n0RB---_0LA--- cycler 2 250\n";
+
+#[test]
+fn costs_are_added(rt: HostRuntime) {
+    let mut cost = CheckCost::default();
+    let status = bb_check_cost(1_000, 64, 30, 1_000, COSTS, &mut cost);
+    assert_eq!(rt; status, CLEAN);
+    assert_eq!(rt; (cost.steps, cost.nodes), (456, 250));
+    assert_eq!(rt; (cost.most, cost.line), (250, 2));
+    assert_eq!(rt;
+        bb_check_cost(1_000, 0, 30, 1_000, COSTS, &mut cost),
+        LIMITS
     );
 }

@@ -4,6 +4,7 @@ pub mod Validations
 pub mod Newlines
 pub mod CheckReplies
 pub mod CheckSummaries
+pub mod Costs
 pub mod FewCells
 pub mod Replies
 pub mod Peaks

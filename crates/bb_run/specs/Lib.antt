@@ -5,6 +5,7 @@ pub mod CheckKeptBytes
 pub mod CheckReply
 pub mod CheckSeen
 pub mod CheckSummary
+pub mod Cost
 pub mod Ends
 pub mod FewCells
 pub mod KeptBytes

@@ -3,6 +3,8 @@ ghost use Rattle.bb_run.specs.FewCells.{AllFewCellsAreReplied};
 ghost use Rattle.bb_run.specs.Laws.{
   AllVerdictsAreBorneOut,
   CheckReplyIsUnique,
+  ChecksCostNoMore,
+  ConfirmedClaimsCostThat,
   LongLinesAreUnread,
   RepliesHaveForm,
   ReplyHasOneKind,
@@ -36,4 +38,10 @@ pub fn few_cells_are_replied()
 pub fn replies_are_of_one_kind()
     ensures one { ReplyHasOneKind }
     ensures form { RepliesHaveForm }
+{}
+
+/// Checking a line makes at most the steps and nodes of its cost, and just as many if it confirms the claim.
+pub fn costs_bound_checks()
+    ensures bound { ChecksCostNoMore }
+    ensures confirmed { ConfirmedClaimsCostThat }
 {}

@@ -3,6 +3,7 @@
 #![tactic(auto)]
 
 mod checking;
+mod cost;
 mod counts;
 mod decider;
 mod deciding;
@@ -15,6 +16,7 @@ mod tracing;
 mod words;
 
 pub use checking::{run_check, run_check_with_counts};
+pub use cost::{CheckCost, LineCost, cost_of_check};
 pub use counts::{AnswerCounts, VerdictCounts};
 pub use deciding::{run_decide, run_decide_in_one_run};
 pub use reply_validation::{KindCounts, Mismatch, ReplyCheck, ReplyKind, validate_replies};

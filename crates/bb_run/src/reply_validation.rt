@@ -108,7 +108,7 @@ pub fn validate_replies(list: &[u8], replies: &[u8]) -> Result<ReplyCheck, Misma
 }
 
 /// The first line, and the bytes after its newline; none if there are no bytes.
-fn first_line(bytes: &[u8]) -> Option<(&[u8], &[u8])>
+pub(crate) fn first_line(bytes: &[u8]) -> Option<(&[u8], &[u8])>
     ensures { MatchOption result (bytes.now ≡ []) (λ cut. (lines bytes.now ≡ cut.0.now ∷ lines cut.1.now)
         × HasNoNewline cut.0.now × (length cut.1.now < length bytes.now)) }
 {

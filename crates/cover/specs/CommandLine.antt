@@ -5,6 +5,7 @@ use Rattle.std.specs.String.{string_bytes}
 use Rattle.clap.specs.Simple.{new_shape}
 use Rattle.clap.specs.Words.{App, Rule, Text, fault_of, first_of, matches_of, new_rule}
 use Rattle.bb_machine.specs.Column.{IsColumn}
+use Rattle.bb_machine.specs.Limits.{IsAccepted}
 use Rattle.bb_machine.specs.Machine.{Table, IsMachine, text}
 use Rattle.bb_command.specs.Command.{IsLimitsStop, IsWordsStop, is_given, list_bounds}
 use Rattle.bb_command.specs.CommandLine.{by_default, number_rule, positional_rule, switch_rule}
@@ -60,10 +61,11 @@ abbrev pub IsTextRefused : Option Text → ℕ → Type 0
 IsTextRefused None column = ⊥
 IsTextRefused (Some given) column = IsColumn given column
 
--- why nothing is done: the words give nothing; or they are a command line, and its limits are refused, or else
--- its machine is
+-- why nothing is done: the words give nothing; or they are a command line, and its limits are refused; or the
+-- limits are accepted, and its machine is refused
 abbrev pub IsStopOf : List Text → Refusal → Type 0
 IsStopOf words (Common stop) = IsWordsStop (fault_of command_line words) stop
     ⊎ ((fault_of command_line words ≡ []) × IsLimitsStop (list_bounds (matches_of command_line words)) stop)
 IsStopOf words (Machine refused) = (fault_of command_line words ≡ [])
+    × IsAccepted (list_bounds (matches_of command_line words))
     × IsTextRefused (first_of (codes "below") (matches_of command_line words)) refused.column

@@ -73,6 +73,7 @@ pub fn ask(alloc: Global, words: &[&str]) -> Result<Asked, Refusal>
         Ok(limits) => limits,
         Err(stop) => return Err(Refusal::Common(stop)),
     };
+    limits.show_accepted();
     let below = match below_of(&matches) {
         Ok(below) => below,
         Err(refused) => return Err(Refusal::Machine(refused)),

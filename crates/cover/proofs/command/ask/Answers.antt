@@ -1,4 +1,5 @@
-use Rattle.std.proofs.Common.{◌∙◌, ap, codes, inl, inr}
+use Rattle.std.proofs.Common.{◌∙◌, ap, codes, inl, inr, subst}
+use Rattle.bb_machine.specs.Limits.{IsAccepted}
 use Rattle.bb_command.specs.Command.{is_given, list_bounds}
 use Rattle.cover.specs.CommandLine.{form_by}
 use Rattle.cover.proofs.CommandLines.{rows_given, stopped, taken}
@@ -20,6 +21,7 @@ pub returns-in-Err-below_of-clause-stop : goal.returns-in-Err-below_of-clause-st
 returns-in-Err-below_of-clause-stop c =
     let rows = rows_given _ c.in_ok-program.ensures _ _ c.in-Ok.ensures.matches in (
       taken _ c.in_ok-program.ensures _ c.in-Ok.ensures.kinds,
+      subst IsAccepted (c.in-Ok-limits_of.ensures.ok ∙ ap list_bounds rows) c.show_accepted.ensures.accepted,
       rw rows at c.in-Err-below_of.ensures.refused,
     )
 
