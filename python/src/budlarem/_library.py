@@ -29,6 +29,7 @@ _KINDS = 7
 _CALLS = {
     "bb_decide": (_NUMBER,) * 4 + (_SWITCH,) * 3 + _BUFFERS,
     "bb_check": (_NUMBER,) * 4 + _BUFFERS,
+    "bb_check_cost": (_NUMBER,) * 4 + (ctypes.c_char_p, _SIZE, ctypes.POINTER(_NUMBER * 4)),
     "bb_trace": (_NUMBER,) * 4 + _BUFFERS,
     "bb_look": (*(ctypes.c_char_p, _SIZE) * 2, ctypes.POINTER(_NUMBER * _KINDS), ctypes.POINTER(_NUMBER)),
 }
@@ -114,6 +115,24 @@ def validate_replies(lines: bytes, replies: bytes) -> ReplyCheck:
     call = bind_call("bb_look")
     status = call(lines, len(lines), replies, len(replies), ctypes.byref(counts), ctypes.byref(count))
     return ReplyCheck(status == CLEAN, count.value, tuple(counts))
+
+
+class ListCost(NamedTuple):
+    """The most that checking some lines can cost: the steps and the nodes of all, the steps and nodes of the most
+    expensive line together, and its index from 0."""
+
+    steps: int
+    nodes: int
+    most: int
+    line: int
+
+
+def cost_of_check(limits: Sequence[int], lines: bytes) -> ListCost:
+    """The most that checking some lines can cost, from the numbers in them. Raises LibraryError."""
+    cost = (_NUMBER * 4)()
+    if bind_call("bb_check_cost")(*limits, lines, len(lines), ctypes.byref(cost)) != CLEAN:
+        raise AssertionError("bb_check_cost refuses the limits %r" % (limits,))
+    return ListCost(*cost)
 
 
 class Reply(NamedTuple):

@@ -7,7 +7,8 @@ import dataclasses
 import io
 from typing import Iterator, NamedTuple, Sequence
 
-from ._calls import BinaryReader
+from ._calls import BinaryReader, whole_lines
+from ._library import cost_of_check
 from ._text import LONGEST_SHOWN
 from .engine import check_file, decide
 from .limits import Limits, Plan
@@ -15,6 +16,8 @@ from .verdicts import Answer, Backward, Cycler, Halt, Translated, Verdict, parse
 
 # With so few cells a call costs little.
 _FEW_CELLS = 65_536
+# The bytes read at once where nothing is checked.
+_BLOCK = 1 << 20
 
 
 class Unconfirmed(NamedTuple):
@@ -47,6 +50,37 @@ def answer_blocks(file: BinaryReader, limits: Limits, threads: int, summary: Che
             # No answer ends as another.
             summary.counts[answer] += answers.count(b"%s\n" % str(answer).encode())
         yield answers
+
+
+class CheckCost(NamedTuple):
+    """The most that checking a file can cost: steps and nodes of all lines, the steps and nodes of the most
+    expensive line together, and its number; 0 if no line costs anything."""
+
+    steps: int
+    nodes: int
+    most: int
+    number: int
+
+    def sentence(self, name: str) -> str:
+        """The cost as one line, with the most expensive line of the file."""
+        whole = "at most {:,} steps and {:,} nodes".format(self.steps, self.nodes)
+        if self.number == 0:
+            return "%s: %s" % (name, whole)
+        return "{}: {}; the most on line {:,}: {:,}".format(name, whole, self.number, self.most)
+
+
+def cost_of_file(file: BinaryReader, limits: Limits) -> CheckCost:
+    """The most that checking a file can cost under these limits, from the numbers in its lines. No claim is
+    checked. Raises OSError, ValueError for the file; LibraryError."""
+    cost, before = CheckCost(0, 0, 0, 0), 0
+    for lines in whole_lines(iter(lambda: file.read(_BLOCK), b"")):
+        more = cost_of_check(limits.numbers(), lines)
+        most, number = max(
+            (cost.most, cost.number), (more.most, before + more.line + 1), key=lambda pair: pair[0]
+        )
+        cost = CheckCost(cost.steps + more.steps, cost.nodes + more.nodes, most, number if most else 0)
+        before += lines.count(b"\n")
+    return cost
 
 
 def find_unconfirmed(lines: bytes, answers: bytes, before: int) -> Unconfirmed | None:

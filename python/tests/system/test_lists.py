@@ -332,3 +332,37 @@ def test_examples() -> None:
         assert first[:2] == second[:2] and first.status == 0 and b"Column" in first.output, name
         assert all(len(line) < 80 for line in first.output.splitlines()), name
     assert command("help")[:2] == command("--help")[:2]
+
+
+COSTS = """1RB1LB_1LA1RZ halt 6 4
+0RB---_0LA--- cycler 2 4
+0RB---_0LA--- backward 2 900
+1RA1RA translated R 1 200 1 1
+1RA1RA cycler 5 5
+1RA1RA halt 1000000000001 1
+refused 3
+no verdict
+1RA1RA cycler 1 1000000000000
+"""
+
+
+def test_cost_of_a_forged_claim() -> None:
+    """Nothing is checked; the sums and the line are those that a reader adds up."""
+    result = command("check", "--cost", given=COSTS.encode())
+    expected = "standard input: at most 1,000,000,000,210 steps and 900 nodes; the most on line 9: 1,000,000,000,000\n"
+    assert (result.status, result.output.decode(), result.error) == (0, expected, b"")
+    few = command("check", "--cost", "--steps", "100", "--nodes", "10", given=COSTS.encode() + b"x" * 5000)
+    assert few.output.decode() == "standard input: at most 10 steps and 0 nodes; the most on line 1: 6\n"
+    nothing = command("check", "--cost", given=b"refused 1\n\n")
+    assert nothing.output == b"standard input: at most 0 steps and 0 nodes\n"
+
+
+def test_cost_over_blocks(tmp_path: pathlib.Path) -> None:
+    """The most expensive line is found in any block, and the first of equal ones is named."""
+    lines = ["1RB1LB_1LA1RZ halt 6 4\n"] * 120_000
+    lines[70_000] = lines[90_000] = "1RA1RA cycler 3 77\n"
+    path = tmp_path / "list.gz"
+    path.write_bytes(gzip.compress("".join(lines).encode()))
+    result = command("check", "--cost", str(path))
+    expected = "at most 720,142 steps and 0 nodes; the most on line 70,001: 77\n"
+    assert (result.status, result.output.decode()) == (0, "%s: %s" % (path, expected))

@@ -11,13 +11,13 @@ import sys
 from types import FrameType
 
 from .._text import escape_controls
-from ..limits import GREATEST, limits_of
+from ..limits import GREATEST, Limits, limits_of
 from ..publishing import UnconfirmedError, publish
 from ..reading.files import BytesFile
 from ..runner.errors import RunError
 from ..runner.progress import TerminalLine, short_count
 from ..verdicts import Answer
-from ..verification import CheckSummary, answer_blocks
+from ..verification import CheckSummary, answer_blocks, cost_of_file
 from .shared import Subcommands, add_command, add_file, add_greatest_limits, add_number, add_passes
 from .shared import counts_text, greatest_limits, source_of
 
@@ -27,12 +27,17 @@ nothing; unread, it is no verdict line. Standard error gets the counts at the en
 neither ok nor open, with the reason. Status 1 if there is one. FILE may be a gzip.
 
 The check of a claim takes as many steps as it names, whatever the limits, so these are the greatest by default.
-The tapes of each thread then take 134 MB. Pass --steps against claims of 10^12 steps, which take hours."""
+The tapes of each thread then take 134 MB. Pass --steps against claims of 10^12 steps, which take hours.
+
+With --cost nothing is checked. The output is one line: the most steps and nodes that the check can take, and the
+most expensive line with its steps and nodes. The status is 0."""
 
 
 def do_check(asked: argparse.Namespace) -> int:
     """Writes the checker's answers."""
     limits, progress, summary = greatest_limits(asked), TerminalLine(), CheckSummary()
+    if asked.cost:
+        return _print_cost(asked.file, limits)
     with contextlib.closing(BytesFile(source_of(asked.file))) as file:
         for answers in answer_blocks(file, limits, asked.threads, summary):
             progress.show(lambda: counts_text(summary.counts, Answer))
@@ -47,6 +52,13 @@ def do_check(asked: argparse.Namespace) -> int:
     return 1
 
 
+def _print_cost(path: str | None, limits: Limits) -> int:
+    """Prints the most that checking a file can cost."""
+    with contextlib.closing(BytesFile(source_of(path))) as file:
+        print(escape_controls(cost_of_file(file, limits).sentence(file.name)))
+    return 0
+
+
 def add_check(commands: Subcommands) -> None:
     """Adds the command to a parser."""
     columns = [("answer", "ok, bad, over, open or unread")]
@@ -54,6 +66,8 @@ def add_check(commands: Subcommands) -> None:
     add_file(check)
     add_greatest_limits(check)
     add_number(check, "--threads", "cores used", 1)
+    help = "print the most that the check can cost, and check nothing"
+    check.add_argument("--cost", action="store_true", help=help)
 
 
 _PUBLISH = """Writes one archive of a decided list that others can check: the list, the verdicts, limits and
