@@ -9,7 +9,7 @@ use Rattle.bb_lines.specs.declared.responder.TheConstants.{HIGH_COST, MAX_KEPT, 
 -- replies are written at once
 pub record NumbersAreStated : Type 0 where
   pub waiting : WAITING ≡ 16384
-  pub reply : REPLY ≡ 1023
+  pub reply : REPLY ≡ 8191
   pub kept : MAX_KEPT ≡ 1024
   pub high_cost : HIGH_COST ≡ 100000
 

@@ -7,7 +7,7 @@ use arrayvec::ArrayVec;
 use std::alloc::AllocError;
 
 /// The most bytes of a reply, without its newline.
-pub const REPLY: usize = 1023;
+pub const REPLY: usize = 8191;
 
 /// The most bytes of a line kept for any responder.
 pub const MAX_KEPT: usize = 1024;

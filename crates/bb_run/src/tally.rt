@@ -59,7 +59,9 @@ impl<'a> Tally<'a> {
                 self.summary.clean = false;
                 self.last_cost = 0;
                 self.counts.add_refusal();
-                refusal_into(refused.column, text);
+                let mut refusal = ArrayVec::new();
+                refusal_into(refused.column, &mut refusal);
+                text.try_extend_from_slice(refusal.as_slice()).unwrap();
                 false
             }
         }
@@ -88,7 +90,9 @@ impl<'a> Tally<'a> {
         lines_are_short();
         // The line is the machine's text, so it isn't written anew.
         text.try_extend_from_slice(line).unwrap();
-        verdict_into(verdict, text);
+        let mut words = ArrayVec::new();
+        verdict_into(verdict, &mut words);
+        text.try_extend_from_slice(words.as_slice()).unwrap();
         self.summary.peak = self.summary.peak.greatest(meter);
         self.last_cost = meter.steps + meter.nodes;
         self.counts.add(verdict);
