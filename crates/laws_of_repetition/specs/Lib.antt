@@ -1,0 +1,4 @@
+pub mod Repetition
+pub mod Seen
+pub mod Shift
+pub mod Uses

@@ -1,0 +1,48 @@
+//! Laws of runs that repeat, as contracts. A call of each does nothing.
+ghost use Rattle.laws_of_repetition.specs.Repetition.{CyclersRepeat, TranslatedCyclersRepeat};
+ghost use Rattle.laws_of_repetition.specs.Repetition.{ExactIsUnique, ExactTellsAll, PeriodsAreMultiples};
+ghost use Rattle.laws_of_repetition.specs.Repetition.{StartsServeAllPeriods};
+ghost use Rattle.laws_of_repetition.specs.Seen.{ExactIsSeen, SeenIsExact};
+ghost use Rattle.laws_of_repetition.specs.Shift.{ShiftStays, ZeroShiftIsCycle};
+ghost use Rattle.laws_of_repetition.specs.Uses.{LastUseIsSeen, UnusedIsSeen, UsedForEverJustInPeriod};
+
+/// A machine with a true pair repeats from the pair's first step on, and the distance of both steps is a
+/// period.
+pub fn pairs_repeat()
+    ensures cyclers { CyclersRepeat }
+    ensures translated { TranslatedCyclersRepeat }
+{}
+
+/// A step from which on the run repeats with one period serves each of its periods.
+pub fn starts_serve_all_periods()
+    ensures { StartsServeAllPeriods }
+{}
+
+/// The exact start and period of a machine are unique. They decide every other claim: its start is at least
+/// the exact one, and its period a multiple of the exact one.
+pub fn exact_is_unique()
+    ensures one { ExactIsUnique }
+    ensures multiples { PeriodsAreMultiples }
+    ensures tells { ExactTellsAll }
+{}
+
+/// Finitely many steps certify an exact start and period, and each exact start and period has such a
+/// certificate.
+pub fn seen_is_exact()
+    ensures right { SeenIsExact }
+    ensures complete { ExactIsSeen }
+{}
+
+/// The states and transitions of one period are those used for ever. The others have their last use before
+/// it, or none.
+pub fn uses_are_seen()
+    ensures for_ever { UsedForEverJustInPeriod }
+    ensures last { LastUseIsSeen }
+    ensures none { UnusedIsSeen }
+{}
+
+/// Each period moves the head by the same shift. It is 0 exactly if the configuration comes again.
+pub fn shift_stays()
+    ensures stays { ShiftStays }
+    ensures zero { ZeroShiftIsCycle }
+{}
