@@ -6,12 +6,16 @@ ghost use Rattle.laws_of_repetition.specs.Seen.{ExactIsSeen, SeenIsExact};
 ghost use Rattle.laws_of_repetition.specs.Shift.{ShiftStays, ZeroShiftIsCycle};
 ghost use Rattle.laws_of_repetition.specs.Uses.{LastUseIsSeen, UnusedIsSeen, UsedForEverJustInPeriod};
 
+use bb_cert::claims::laws::agreeing_records_go_on;
+
 /// A machine with a true pair repeats from the pair's first step on, and the distance of both steps is a
 /// period.
 pub fn pairs_repeat()
     ensures cyclers { CyclersRepeat }
     ensures translated { TranslatedCyclersRepeat }
-{}
+{
+    agreeing_records_go_on();
+}
 
 /// A step from which on the run repeats with one period serves each of its periods.
 pub fn starts_serve_all_periods()
