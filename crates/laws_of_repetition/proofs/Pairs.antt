@@ -15,7 +15,7 @@ use Rattle.bb_cert.specs.records.Agree.{AgreeingRecords}
 use Rattle.bb_cert.specs.records.Record.{far, head_at, out}
 use Rattle.bb_cert.proofs.Facts.{agreeing_records_never_halt, head_at-is, records_in_order, stands_on}
 use Rattle.bb_cert.proofs.Facts.{repeats_go_on, repeats_never_halt}
-use Rattle.laws_of_repetition.specs.Repetition.{CyclersRepeat, Transition, TranslatedCyclersRepeat}
+use Rattle.laws_of_repetition.specs.Repetition.{CyclersRepeat, Repeats, Transition, TranslatedCyclersRepeat}
 use Rattle.laws_of_repetition.specs.Repetition.{transition_at, transition_of}
 
 -- the transition of a configuration
@@ -119,12 +119,15 @@ module _ (go_on : AgreeingRecordsGoOn) (table : Table) (side : Side) (a b : ℕ)
       (alike.same_cells alike.first.head beyond ∙ ap (cell alike.second.tape) (sym there))
       ∙ ap (transition_at table) first
 
-pub translated_cyclers_repeat : AgreeingRecordsGoOn → TranslatedCyclersRepeat
-translated_cyclers_repeat go_on table side a b extent claim =
-    let records = claim.0 in
+pub records_repeat : AgreeingRecordsGoOn → (table : Table) (side : Side) (a b : ℕ)
+    → AgreeingRecords table side a b → Repeats table a (b - a)
+records_repeat go_on table side a b records =
     let in_order = records.in_order in
     record {
       some = omega (arith, in_order);
       never = agreeing_records_never_halt table side a b records;
       again = agreeing_again go_on table side a b records;
     }
+
+pub translated_cyclers_repeat : AgreeingRecordsGoOn → TranslatedCyclersRepeat
+translated_cyclers_repeat go_on table side a b extent claim = records_repeat go_on table side a b claim.0

@@ -1,5 +1,5 @@
 -- Where the head goes nowhere in a period, the configuration comes again.
-use Rattle.std.proofs.Common.{◌≡◌, ℕ, zero, suc, ◌+◌, ◌<◌, ◌⊎◌, inl, inr, Option, Some, None, ℤ, pos, ◌-ℤ◌}
+use Rattle.std.proofs.Common.{◌≡◌, ℕ, zero, suc, ◌+◌, ◌<◌, ◌⊎◌, inl, inr, Option, Some, None, ℤ, pos, ◌+ℤ◌, ◌-ℤ◌}
 use Rattle.std.proofs.Common.{ap, sym, subst, ◌∙◌, arith}
 use Rattle.std.proofs.lemmas.Bool.{cases_lt}
 use Rattle.std.proofs.lemmas.Int.{ints}
@@ -17,15 +17,15 @@ use Rattle.laws_of_repetition.specs.Shift.{ZeroShiftIsCycle}
 use Rattle.laws_of_repetition.proofs.Pairs.{transition_at-is, used_by}
 use Rattle.laws_of_repetition.proofs.Shifts.{shift_is_one}
 
-abbrev tape_of : Option Configuration → Content
+abbrev pub tape_of : Option Configuration → Content
 tape_of None = blank
 tape_of (Some c) = c.tape
 
 -- the symbol of a cell at a step
-abbrev symbol_at : Table → ℕ → ℤ → ℕ
+abbrev pub symbol_at : Table → ℕ → ℤ → ℕ
 symbol_at table n x = cell (tape_of (conf table n)) x
 
-symbol_at-is : (table : Table) (n : ℕ) (x : ℤ) (c : Configuration) → conf table n ≡ Some c
+pub symbol_at-is : (table : Table) (n : ℕ) (x : ℤ) (c : Configuration) → conf table n ≡ Some c
     → symbol_at table n x ≡ cell c.tape x
 symbol_at-is table n x c at = ap (λ o. cell (tape_of o) x) at
 
@@ -52,13 +52,13 @@ unvisited table never s (suc k) x none =
     ∙ unvisited table never s k x (λ j less. none j (omega (arith, less)))
 
 -- the first visit of a cell within some steps
-record IsFirstVisit (table : Table) (s k : ℕ) (x : ℤ) : Type 0 where
-  at : ℕ
-  soon : at < k
-  here : x ≡ head_at table (s + at)
-  none : (j : ℕ) → j < at → x ≡ head_at table (s + j) → ⊥
+pub record IsFirstVisit (table : Table) (s k : ℕ) (x : ℤ) : Type 0 where
+  pub at : ℕ
+  pub soon : at < k
+  pub here : x ≡ head_at table (s + at)
+  pub none : (j : ℕ) → j < at → x ≡ head_at table (s + j) → ⊥
 
-visited_or_not : (table : Table) (s k : ℕ) (x : ℤ)
+pub visited_or_not : (table : Table) (s k : ℕ) (x : ℤ)
     → IsFirstVisit table s k x ⊎ ((j : ℕ) → j < k → x ≡ head_at table (s + j) → ⊥)
 visited_or_not table s zero x = inr (λ j less. absurd (omega (arith, less)))
 visited_or_not table s (suc k) x = elim (visited_or_not table s k x) [
@@ -95,6 +95,37 @@ under_head table never n m same =
     ∙ sym (ap (cell one.here.tape) (head_at-is table n one.here one.exists))
     ∙ sym (symbol_at-is table n (head_at table n) one.here one.exists)
 
+same_after : (x y d : ℤ) → x +ℤ d ≡ y +ℤ d → x ≡ y
+same_after x y d same = omega (arith, ints, same)
+
+no_shift : (x : ℤ) → x ≡ x +ℤ pos 0
+no_shift x = omega (arith, ints)
+
+-- a cell visited from the start on, and the one as far from it as the heads are apart, a period later
+pub moved_symbol : (table : Table) (start period k : ℕ) (shift : ℤ) → Repeats table start period
+    → ((j : ℕ) → head_at table ((start + period) + j) ≡ head_at table (start + j) +ℤ shift) → (x : ℤ)
+    → IsFirstVisit table start k x
+    → symbol_at table (start + period) (x +ℤ shift) ≡ symbol_at table start x
+moved_symbol table start period k shift repeats moves_by x first =
+    let never = repeats.never in
+    let j = first.at in
+    let y = x +ℤ shift in
+    let again : transition_at table ((start + period) + j) ≡ transition_at table (start + j) =
+    let e : (start + j) + period ≡ (start + period) + j = omega arith in
+    ap (transition_at table) (sym e) ∙ repeats.again (start + j) (omega arith) in
+    let under = under_head table never (start + j) ((start + period) + j) again in
+    let one : symbol_at table (start + j) x ≡ symbol_at table start x =
+    unvisited table never start j x first.none in
+    let two : symbol_at table ((start + period) + j) y ≡ symbol_at table (start + period) y =
+    unvisited table never (start + period) j y
+    (λ i less e. first.none i less (same_after x (head_at table (start + i)) shift (e ∙ moves_by i))) in
+    let there : y ≡ head_at table ((start + period) + j) =
+    ap (λ z. z +ℤ shift) first.here ∙ sym (moves_by j) in
+    let here : symbol_at table ((start + period) + j) y ≡ symbol_at table (start + j) x =
+    ap (symbol_at table ((start + period) + j)) there ∙ under
+    ∙ ap (symbol_at table (start + j)) (sym first.here) in
+    sym two ∙ here ∙ one
+
 -- the same cells, a period later
 later_symbol : (table : Table) (start period : ℕ) → Repeats table start period
     → ((j : ℕ) → head_at table ((start + period) + j) ≡ head_at table (start + j)) → (x : ℤ)
@@ -102,20 +133,9 @@ later_symbol : (table : Table) (start period : ℕ) → Repeats table start peri
 later_symbol table start period repeats stands x = elim (visited_or_not table start period x) [
   | inr none ↦ unvisited table repeats.never start period x none
   | inl first ↦
-      let never = repeats.never in
-      let j = first.at in
-      let again : transition_at table ((start + period) + j) ≡ transition_at table (start + j) =
-      let e : (start + j) + period ≡ (start + period) + j = omega arith in
-      ap (transition_at table) (sym e) ∙ repeats.again (start + j) (omega arith) in
-      let under = under_head table never (start + j) ((start + period) + j) again in
-      let one : symbol_at table (start + j) x ≡ symbol_at table start x =
-      unvisited table never start j x first.none in
-      let two : symbol_at table ((start + period) + j) x ≡ symbol_at table (start + period) x =
-      unvisited table never (start + period) j x (λ i less e. first.none i less (e ∙ stands i)) in
-      let here : symbol_at table ((start + period) + j) x ≡ symbol_at table (start + j) x =
-      ap (symbol_at table ((start + period) + j)) (first.here ∙ sym (stands j)) ∙ under
-      ∙ ap (symbol_at table (start + j)) (sym first.here) in
-      sym two ∙ here ∙ one
+      ap (symbol_at table (start + period)) (no_shift x)
+      ∙ moved_symbol table start period period (pos 0) repeats (λ j. stands j ∙ no_shift (head_at table (start + j)))
+      x first
 ]
 
 apart_none : (p q r s : ℤ) → p -ℤ q ≡ r -ℤ s → r ≡ s → p ≡ q

@@ -2,3 +2,4 @@ pub mod Repetition
 pub mod Seen
 pub mod Shift
 pub mod Uses
+pub mod Verdicts

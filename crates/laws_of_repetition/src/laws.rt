@@ -5,8 +5,9 @@ ghost use Rattle.laws_of_repetition.specs.Repetition.{StartsServeAllPeriods};
 ghost use Rattle.laws_of_repetition.specs.Seen.{ExactIsSeen, SeenIsExact};
 ghost use Rattle.laws_of_repetition.specs.Shift.{ShiftStays, ZeroShiftIsCycle};
 ghost use Rattle.laws_of_repetition.specs.Uses.{LastUseIsSeen, UnusedIsSeen, UsedForEverJustInPeriod};
+ghost use Rattle.laws_of_repetition.specs.Verdicts.{CyclersHaveExactPeriod, TranslatedCyclersHaveExactPeriod};
 
-use bb_cert::claims::laws::agreeing_records_go_on;
+use bb_cert::claims::laws::{agreeing_records_go_on, records_in_order};
 
 /// A machine with a true pair repeats from the pair's first step on, and the distance of both steps is a
 /// period.
@@ -50,3 +51,12 @@ pub fn shift_stays()
     ensures stays { ShiftStays }
     ensures zero { ZeroShiftIsCycle }
 {}
+
+/// The pair of a verdict of `decide` is one exact period apart.
+pub fn verdicts_have_exact_period()
+    ensures cyclers { CyclersHaveExactPeriod }
+    ensures translated { TranslatedCyclersHaveExactPeriod }
+{
+    agreeing_records_go_on();
+    records_in_order();
+}
