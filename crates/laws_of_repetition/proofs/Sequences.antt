@@ -118,7 +118,7 @@ module _ {X : Type 0} (e : ℕ → X) where
   ]
 
   -- and after it
-  seen_by : (a l p : ℕ) → 0 < l → Has e a l → ((m : ℕ) → a ≤ m → m < a + l → e (m + p) ≡ e m)
+  pub seen_by : (a l p : ℕ) → 0 < l → Has e a l → ((m : ℕ) → a ≤ m → m < a + l → e (m + p) ≡ e m)
       → (fuel n : ℕ) → n ≤ fuel → a ≤ n → e (n + p) ≡ e n
   seen_by a l p some has inside zero n few late = inside n late (omega (arith, few, late, some))
   seen_by a l p some has inside (suc fuel) n few late = elim (cases_lt n (a + l)) [

@@ -56,6 +56,11 @@ abbrev pub StartsServeAllPeriods : Type 0
 StartsServeAllPeriods = (table : Table) (s p t q : ℕ) → Repeats table s p → Repeats table t q
     → Repeats table s q
 
+-- a run that repeats has an exact start and an exact period
+abbrev pub ExactExists : Type 0
+ExactExists = (table : Table) (s p : ℕ) → Repeats table s p
+    → (start : ℕ) × (period : ℕ) × RepeatsExactly table start period
+
 -- a machine has at most one exact start and one exact period
 abbrev pub ExactIsUnique : Type 0
 ExactIsUnique = (table : Table) (s p t q : ℕ) → RepeatsExactly table s p → RepeatsExactly table t q

@@ -1,6 +1,6 @@
 -- The states and transitions that a run uses, for ever or for the last time. Quasihalting is that of the
 -- Beeping Busy Beaver (Aaronson, 2020).
-use Rattle.std.specs.Prelude.{◌≡◌, ℕ, ◌+◌, ◌<◌, ◌≤◌, ◌↔◌, Some}
+use Rattle.std.specs.Prelude.{◌≡◌, ℕ, ◌+◌, ◌<◌, ◌≤◌, ◌⊎◌, ◌↔◌, Some}
 use Rattle.bb_machine.specs.declared.entry.Next.TheVariants.{State}
 use Rattle.bb_machine.specs.Machine.{Table}
 use Rattle.bb_sim.specs.Run.{Never}
@@ -68,3 +68,31 @@ LastUseIsSeen = (table : Table) (part : TablePart) (start period n : ℕ) → Re
 abbrev pub UnusedIsSeen : Type 0
 UnusedIsSeen = (table : Table) (part : TablePart) (start period : ℕ) → Repeats table start period
     → ((m : ℕ) → m < start + period → Uses table part m → ⊥) → NeverUses table part
+
+-- in a run that repeats each part is never used, or has its last use before the start, or is used for ever
+abbrev pub UsesAreOfThreeKinds : Type 0
+UsesAreOfThreeKinds = (table : Table) (part : TablePart) (start period : ℕ) → Repeats table start period
+    → NeverUses table part
+    ⊎ (((n : ℕ) × (n < start) × IsLastUse table part n) ⊎ UsesForEver table part)
+
+-- the three exclude one another, in any run
+abbrev pub KindsOfUseDiffer : Type 0
+KindsOfUseDiffer = (table : Table) (part : TablePart) (n : ℕ)
+    → (NeverUses table part → IsLastUse table part n → ⊥)
+    × (NeverUses table part → UsesForEver table part → ⊥)
+    × (IsLastUse table part n → UsesForEver table part → ⊥)
+
+-- a part has at most one last use
+abbrev pub LastUseIsUnique : Type 0
+LastUseIsUnique = (table : Table) (part : TablePart) (n m : ℕ) → IsLastUse table part n
+    → IsLastUse table part m → n ≡ m
+
+-- a machine quasihalts after at most one number of steps
+abbrev pub QuasihaltIsUnique : Type 0
+QuasihaltIsUnique = (table : Table) (n m : ℕ) → IsQuasihalt table n → IsQuasihalt table m → n ≡ m
+
+-- a machine that repeats quasihalts exactly if one of its states has a last use
+abbrev pub QuasihaltsByLastUse : Type 0
+QuasihaltsByLastUse = (table : Table) (start period : ℕ) → Repeats table start period
+    → ((steps : ℕ) × IsQuasihalt table steps)
+    ↔ ((state : ℕ) × (n : ℕ) × IsLastUse table (of_state state) n)

@@ -1,10 +1,12 @@
 //! Laws of runs that repeat, as contracts. A call of each does nothing.
 ghost use Rattle.laws_of_repetition.specs.Repetition.{CyclersRepeat, TranslatedCyclersRepeat};
-ghost use Rattle.laws_of_repetition.specs.Repetition.{ExactIsUnique, ExactTellsAll, PeriodsAreMultiples};
+ghost use Rattle.laws_of_repetition.specs.Repetition.{ExactExists, ExactIsUnique, ExactTellsAll, PeriodsAreMultiples};
 ghost use Rattle.laws_of_repetition.specs.Repetition.{StartsServeAllPeriods};
 ghost use Rattle.laws_of_repetition.specs.Seen.{ExactIsSeen, SeenIsExact};
 ghost use Rattle.laws_of_repetition.specs.Shift.{ShiftStays, ZeroShiftIsCycle};
-ghost use Rattle.laws_of_repetition.specs.Uses.{LastUseIsSeen, UnusedIsSeen, UsedForEverJustInPeriod};
+ghost use Rattle.laws_of_repetition.specs.Uses.{KindsOfUseDiffer, LastUseIsSeen, LastUseIsUnique};
+ghost use Rattle.laws_of_repetition.specs.Uses.{QuasihaltIsUnique, QuasihaltsByLastUse, UnusedIsSeen};
+ghost use Rattle.laws_of_repetition.specs.Uses.{UsedForEverJustInPeriod, UsesAreOfThreeKinds};
 ghost use Rattle.laws_of_repetition.specs.Verdicts.{CyclersHaveExactPeriod, TranslatedCyclersHaveExactPeriod};
 
 use bb_cert::claims::laws::{agreeing_records_go_on, records_in_order};
@@ -23,9 +25,10 @@ pub fn starts_serve_all_periods()
     ensures { StartsServeAllPeriods }
 {}
 
-/// The exact start and period of a machine are unique. They decide every other claim: its start is at least
+/// A run that repeats has one exact start and one exact period. They decide every other claim: its start is at least
 /// the exact one, and its period a multiple of the exact one.
 pub fn exact_is_unique()
+    ensures exists { ExactExists }
     ensures one { ExactIsUnique }
     ensures multiples { PeriodsAreMultiples }
     ensures tells { ExactTellsAll }
@@ -44,6 +47,21 @@ pub fn uses_are_seen()
     ensures for_ever { UsedForEverJustInPeriod }
     ensures last { LastUseIsSeen }
     ensures none { UnusedIsSeen }
+{}
+
+/// In a run that repeats a state or transition is never used, or used for the last time at one step before
+/// the start, or used for ever.
+pub fn uses_are_of_three_kinds()
+    ensures kinds { UsesAreOfThreeKinds }
+    ensures differ { KindsOfUseDiffer }
+    ensures one_last { LastUseIsUnique }
+{}
+
+/// A machine that repeats quasihalts exactly if one of its states has a last use, and then after one number of
+/// steps.
+pub fn quasihalt_is_unique()
+    ensures one { QuasihaltIsUnique }
+    ensures by_last_use { QuasihaltsByLastUse }
 {}
 
 /// Each period moves the head by the same shift. It is 0 exactly if the configuration comes again.
