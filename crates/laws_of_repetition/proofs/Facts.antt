@@ -1,4 +1,5 @@
 -- What the proofs of other crates may cite of runs that repeat.
+pub use Rattle.laws_of_repetition.proofs.Cyclers.{exact_of_cyclers}
 pub use Rattle.laws_of_repetition.proofs.Decisions.{decide_steps, decide_use}
 pub use Rattle.laws_of_repetition.proofs.Exact.{divisor_below, exact_from, exact_is_seen, exact_is_unique}
 pub use Rattle.laws_of_repetition.proofs.Exact.{exact_tells_all, periods_are_multiples, seen_is_exact}

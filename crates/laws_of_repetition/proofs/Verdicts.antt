@@ -16,11 +16,11 @@ use Rattle.bb_decide.specs.Partner.{IsPartner}
 use Rattle.bb_decide.specs.Translation.{AgreesWithPartner, IsFirstTranslation}
 use Rattle.laws_of_repetition.specs.Repetition.{Repeats}
 use Rattle.laws_of_repetition.specs.Verdicts.{CyclersHaveExactPeriod, TranslatedCyclersHaveExactPeriod}
+use Rattle.laws_of_repetition.proofs.Agreements.{agrees_after_period, record_after_period}
 use Rattle.laws_of_repetition.proofs.Exact.{periods_are_multiples, starts_serve_all_periods}
 use Rattle.laws_of_repetition.proofs.Pairs.{cyclers_repeat, records_repeat}
 use Rattle.laws_of_repetition.proofs.Tapes.{comes_again}
-use Rattle.laws_of_repetition.proofs.Ways.{GoesOut, agrees_after_period, goes_each_period, has_way}
-use Rattle.laws_of_repetition.proofs.Ways.{record_after_period}
+use Rattle.laws_of_repetition.proofs.Ways.{GoesOut, back_after_period, goes_each_period, has_way}
 
 -- a number between a power of two and another of its partner's numbers has that partner
 nearer_partner : (p j m : ℕ) → IsPartner p j → p < m → m < j → IsPartner p m
@@ -32,27 +32,6 @@ nearer_partner p j m partner above below = record {
 }
 
 -- ---- cyclers
-
-goes_nowhere : (x y : ℤ) (side : Side) → out side y ≡ out side x +ℤ pos 0 → y ≡ x
-goes_nowhere x y L e = omega (arith, ints)
-goes_nowhere x y R e = omega (arith, ints)
-
-none_of_product : (k c : ℕ) (x : ℤ) → x ≡ x +ℤ pos (suc k * c) → c ≡ 0
-none_of_product k zero x e = omega arith
-none_of_product k (suc c) x e =
-    let more : suc k * suc c ≡ suc (c + k * suc c) = omega arith in
-    absurd (omega (arith, ints, e, more))
-
--- a head that is back after several periods is back after one
-back_after_period : (table : Table) (a period k : ℕ) → Repeats table a period
-    → head_at table (a + suc k * period) ≡ head_at table a → head_at table (a + period) ≡ head_at table a
-back_after_period table a period k repeats back =
-    let here = has_way table a (a + period) in
-    let whole = goes_each_period table here.side a period here.cells repeats here.way (suc k) a (omega arith) in
-    let none = none_of_product k here.cells (out here.side (head_at table a))
-    (sym (ap (out here.side) back) ∙ whole.goes) in
-    goes_nowhere _ _ here.side
-    (here.way.goes ∙ ap (λ c. out here.side (head_at table a) +ℤ pos c) none)
 
 cycle_is_exact : (table : Table) (bounds : Bounds) (a b period k : ℕ) → IsFirstCycle table bounds a b
     → Repeats table a period → b - a ≡ k * period → b - a ≡ period

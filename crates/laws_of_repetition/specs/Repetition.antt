@@ -42,8 +42,8 @@ pub record RepeatsExactly (table : Table) (start period : ℕ) : Type 0 where
 abbrev pub IsMultipleOf : ℕ → ℕ → Type 0
 IsMultipleOf d n = (k : ℕ) × (n ≡ k * d)
 
--- a machine with a true cycler or translated cycler repeats from the first step of the pair on; the distance
--- of both steps is a period
+-- a machine with a true cycler or translated cycler repeats from the first step of the pair on, and the
+-- distance of both steps is a period
 abbrev pub CyclersRepeat : Type 0
 CyclersRepeat = (table : Table) (a b : ℕ) → Claim table (Cycler a b) → Repeats table a (b - a)
 
@@ -51,7 +51,7 @@ abbrev pub TranslatedCyclersRepeat : Type 0
 TranslatedCyclersRepeat = (table : Table) (side : Side) (a b : ℕ) (extent : Option Extent)
     → Claim table (Translated side a b extent) → Repeats table a (b - a)
 
--- where a run repeats with one period, it repeats with each of its periods
+-- a run that repeats from s on with one period, and from t on with another, has both from s on
 abbrev pub StartsServeAllPeriods : Type 0
 StartsServeAllPeriods = (table : Table) (s p t q : ℕ) → Repeats table s p → Repeats table t q
     → Repeats table s q
@@ -71,8 +71,8 @@ abbrev pub PeriodsAreMultiples : Type 0
 PeriodsAreMultiples = (table : Table) (start period s p : ℕ) → RepeatsExactly table start period
     → Repeats table s p → IsMultipleOf period p
 
--- the exact start and period decide every other claim: a run repeats from s on with period p exactly if s is
--- at least the exact start, and p a multiple of the exact period
+-- the exact start and period decide every claim: a run repeats from s on with period p exactly if s is at
+-- least the exact start, and p a multiple of the exact period
 abbrev pub ExactTellsAll : Type 0
 ExactTellsAll = (table : Table) (start period s p : ℕ) → RepeatsExactly table start period
     → Repeats table s p ↔ ((0 < p) × (start ≤ s) × IsMultipleOf period p)

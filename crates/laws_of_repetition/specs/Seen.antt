@@ -1,5 +1,5 @@
--- A certificate for an exact start and period: facts about finitely many steps of a run that is known to
--- repeat, and differences. These notions are this project's own.
+-- A certificate of an exact start and period. It compares transitions of finitely many steps, of a run that is
+-- known to repeat. These notions are this project's own.
 use Rattle.std.specs.Prelude.{◌≡◌, ◌≢◌, ℕ, ◌+◌, ◌-◌, ◌*◌, ◌<◌, ◌≤◌, ◌⊎◌}
 use Rattle.bb_machine.specs.Machine.{Table}
 use Rattle.laws_of_repetition.specs.Repetition.{IsMultipleOf, Repeats, RepeatsExactly, transition_at}
@@ -9,21 +9,21 @@ pub record IsPrime (q : ℕ) : Type 0 where
   pub above : 1 < q
   pub only : (d e : ℕ) → q ≡ d * e → (d ≡ 1) ⊎ (e ≡ 1)
 
--- some step from `first` on uses another transition than the step that comes `distance` later
+-- not every step from `first` on uses the transition of the step `distance` later
 abbrev pub Differs : Table → ℕ → ℕ → Type 0
 Differs table first distance =
     ((n : ℕ) → first ≤ n → transition_at table (n + distance) ≡ transition_at table n) → ⊥
 
--- each step from `start` up to `first` uses the transition of the step that comes `distance` later, and the
--- step before `start` doesn't
+-- each step from `start` to `first` uses the transition of the step `distance` later, and the step before
+-- `start` doesn't
 pub record IsSeenStart (table : Table) (first distance start : ℕ) : Type 0 where
   pub no_later : start ≤ first
   pub same : (n : ℕ) → start ≤ n → n < first → transition_at table (n + distance) ≡ transition_at table n
   pub differs : (n : ℕ) → start ≡ n + 1 → transition_at table (n + distance) ≢ transition_at table n
 
--- a run that repeats from `first` on with the period `second - first` has this start and period by its steps
--- before `second`: the period divides `second - first`, and the steps from `first` to `second` repeat with
--- it; with the period divided by a prime they don't; and the start is the first step that repeats
+-- the certificate of a run that repeats from `first` on with the period `second - first`: the period divides
+-- that, and the steps from `first` to `second` repeat with it; the run doesn't repeat with the period divided
+-- by a prime; and `start` is as early as transitions repeat
 pub record IsSeenExact (table : Table) (first second start period : ℕ) : Type 0 where
   pub some : 0 < period
   pub divides : IsMultipleOf period (second - first)
@@ -32,13 +32,13 @@ pub record IsSeenExact (table : Table) (first second start period : ℕ) : Type 
   pub no_less : (q less : ℕ) → IsPrime q → period ≡ q * less → Differs table first less
   pub begins : IsSeenStart table first (second - first) start
 
--- a certificate is right: its start and period are exact
+-- the start and period of a certificate are exact
 abbrev pub SeenIsExact : Type 0
 SeenIsExact = (table : Table) (first second start period : ℕ) → first < second
     → Repeats table first (second - first) → IsSeenExact table first second start period
     → RepeatsExactly table start period
 
--- each exact start and period has a certificate, from any two steps between which the run repeats
+-- an exact start and period have a certificate, by any two steps between which the run repeats
 abbrev pub ExactIsSeen : Type 0
 ExactIsSeen = (table : Table) (first second start period : ℕ) → first < second
     → Repeats table first (second - first) → RepeatsExactly table start period

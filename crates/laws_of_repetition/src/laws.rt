@@ -1,9 +1,9 @@
-//! Laws of runs that repeat, as contracts. A call of each does nothing.
-ghost use Rattle.laws_of_repetition.specs.Repetition.{CyclersRepeat, TranslatedCyclersRepeat};
-ghost use Rattle.laws_of_repetition.specs.Repetition.{ExactExists, ExactIsUnique, ExactTellsAll, PeriodsAreMultiples};
-ghost use Rattle.laws_of_repetition.specs.Repetition.{StartsServeAllPeriods};
+//! Laws of repeating runs, as contracts. A call of each does nothing.
+ghost use Rattle.laws_of_repetition.specs.Repetition.{CyclersRepeat, ExactExists, ExactIsUnique};
+ghost use Rattle.laws_of_repetition.specs.Repetition.{ExactTellsAll, PeriodsAreMultiples};
+ghost use Rattle.laws_of_repetition.specs.Repetition.{StartsServeAllPeriods, TranslatedCyclersRepeat};
 ghost use Rattle.laws_of_repetition.specs.Seen.{ExactIsSeen, SeenIsExact};
-ghost use Rattle.laws_of_repetition.specs.Shift.{ShiftStays, ZeroShiftIsCycle};
+ghost use Rattle.laws_of_repetition.specs.Shift.{ExactOfCyclers, ShiftStays, ZeroShiftIsCycle};
 ghost use Rattle.laws_of_repetition.specs.Uses.{KindsOfUseDiffer, LastUseIsSeen, LastUseIsUnique};
 ghost use Rattle.laws_of_repetition.specs.Uses.{QuasihaltIsUnique, QuasihaltsByLastUse, UnusedIsSeen};
 ghost use Rattle.laws_of_repetition.specs.Uses.{UsedForEverJustInPeriod, UsesAreOfThreeKinds};
@@ -20,13 +20,13 @@ pub fn pairs_repeat()
     agreeing_records_go_on();
 }
 
-/// A step from which on the run repeats with one period serves each of its periods.
+/// A run repeats from the same steps on with each of its periods.
 pub fn starts_serve_all_periods()
     ensures { StartsServeAllPeriods }
 {}
 
-/// A run that repeats has one exact start and one exact period. They decide every other claim: its start is at least
-/// the exact one, and its period a multiple of the exact one.
+/// A repeating run has one exact start and one exact period. The true starts are those no earlier, and the true
+/// periods are the multiples.
 pub fn exact_is_unique()
     ensures exists { ExactExists }
     ensures one { ExactIsUnique }
@@ -49,25 +49,27 @@ pub fn uses_are_seen()
     ensures none { UnusedIsSeen }
 {}
 
-/// In a run that repeats a state or transition is never used, or used for the last time at one step before
-/// the start, or used for ever.
+/// A repeating run uses each state and transition never, for ever, or for the last time at one step before the
+/// start.
 pub fn uses_are_of_three_kinds()
     ensures kinds { UsesAreOfThreeKinds }
     ensures differ { KindsOfUseDiffer }
     ensures one_last { LastUseIsUnique }
 {}
 
-/// A machine that repeats quasihalts exactly if one of its states has a last use, and then after one number of
+/// A repeating run quasihalts exactly if one of its states has a last use. It does so after one number of
 /// steps.
 pub fn quasihalt_is_unique()
     ensures one { QuasihaltIsUnique }
     ensures by_last_use { QuasihaltsByLastUse }
 {}
 
-/// Each period moves the head by the same shift. It is 0 exactly if the configuration comes again.
+/// Each period moves the head by the same shift. It is 0 exactly if the configuration comes again. So the exact
+/// start and period of a cycler are those of its configurations.
 pub fn shift_stays()
     ensures stays { ShiftStays }
     ensures zero { ZeroShiftIsCycle }
+    ensures cyclers { ExactOfCyclers }
 {}
 
 /// The pair of a verdict of `decide` is one exact period apart.

@@ -1,5 +1,5 @@
-//! Runs that repeat, their exact start and period, and the transitions they use: laws, as contracts of
-//! functions that do nothing.
+//! Repeating runs, their exact start and period, and the transitions they use: laws, as contracts of
+//! functions without effect.
 #![tactic(auto)]
 
 pub mod laws;

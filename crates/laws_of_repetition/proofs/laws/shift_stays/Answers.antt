@@ -1,3 +1,4 @@
+use Rattle.laws_of_repetition.proofs.Cyclers.{exact_of_cyclers}
 use Rattle.laws_of_repetition.proofs.Shifts.{shift_stays}
 use Rattle.laws_of_repetition.proofs.Tapes.{zero_shift_is_cycle}
 use Rattle.laws_of_repetition.proofs.laws.shift_stays.Goals as goal
@@ -7,3 +8,6 @@ returns-clause-stays c = shift_stays
 
 pub returns-clause-zero : goal.returns-clause-zero
 returns-clause-zero c = zero_shift_is_cycle
+
+pub returns-clause-cyclers : goal.returns-clause-cyclers
+returns-clause-cyclers c = exact_of_cyclers
