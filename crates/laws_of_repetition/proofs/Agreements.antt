@@ -1,4 +1,4 @@
--- Steps a period apart agree, and where records are several periods apart, there is one a period after the first.
+-- Steps a period apart agree. Between records several periods apart there is one after a period.
 use Rattle.std.proofs.Common.{◌≡◌, ◌≢◌, ℕ, zero, suc, ◌+◌, ◌-◌, ◌*◌, ◌<◌, ◌≤◌, inl, inr, Some, ℤ, pos, ◌+ℤ◌}
 use Rattle.std.proofs.Common.{◌-ℤ◌, ◌≤ℤ◌, ap, sym, subst, ◌∙◌, arith}
 use Rattle.std.specs.Prelude.{◌<ℤ◌}
@@ -49,7 +49,8 @@ above_next a b x h more apart =
     by_lt_z x b (λ above. above) (λ below. absurd (apart (omega (arith, ints, h, more, below))))
 
 above_first : (a x : ℤ) → x ≤ℤ a → x ≢ a → x <ℤ a
-above_first a x h apart = by_lt_z x a (λ above. above) (λ below. absurd (apart (omega (arith, ints, h, below))))
+above_first a x h apart =
+    by_lt_z x a (λ above. above) (λ below. absurd (apart (omega (arith, ints, h, below))))
 
 same_out : (side : Side) (x y : ℤ) → out side x ≡ out side y → x ≡ y
 same_out L x y same = omega (arith, ints)
@@ -123,7 +124,8 @@ agrees_after_period table side a period repeats =
     ∙ transition_at-is table (a + period) two.here two.exists) in
     let moves_by : (j : ℕ) → head_at table ((a + period) + j) ≡ head_at table (a + j) +ℤ shift = λ j.
     let e : (a + j) + period ≡ (a + period) + j = omega arith in
-    head_moves _ _ (head_at table (a + period)) (head_at table a) shift (ap (λ n. head_at table n -ℤ head_at table (a + j)) (sym e)
+    head_moves _ _ (head_at table (a + period)) (head_at table a) shift
+    (ap (λ n. head_at table n -ℤ head_at table (a + j)) (sym e)
     ∙ shift_is_one table a period (a + j) repeats (omega arith))
     (ap (λ h. h -ℤ one.here.head) (sym second) ∙ ap (λ h. head_at table (a + period) -ℤ h) (sym first)) in
     record {
@@ -152,7 +154,7 @@ too_far x i d short at = omega (arith, ints)
 on_it : (x y : ℤ) (i d : ℕ) → x ≡ pos i → y ≡ x +ℤ pos d → y ≡ pos (i + d)
 on_it x y i d at goes = omega (arith, ints)
 
--- where a record is made several periods after another, one is made a period after it
+-- if a record is made several periods after another, one is made a period after that
 pub record_after_period : ShortOfRecord → (table : Table) (side : Side) (i j a b period cells k : ℕ)
     → IsRecord table side i a → IsRecord table side j b → b ≡ a + suc k * period → Repeats table a period
     → GoesOut table side a (a + period) cells → IsRecord table side (i + cells) (a + period)
@@ -174,9 +176,10 @@ record_after_period short table side i j a b period cells k first second later r
             let onward = goes_each_period table side a period cells repeats way k m late in
             let whole = goes_each_period table side a period cells repeats way (suc k) a (omega arith) in
             let cells_in_all : suc k * cells ≡ cells + k * cells = omega arith in
-            let at_second : out side (head_at table b) ≡ out side (head_at table a) +ℤ pos (cells + k * cells) =
+            let here = out side (head_at table a) in
+            let at_second : out side (head_at table b) ≡ here +ℤ pos (cells + k * cells) =
             ap (λ n. out side (head_at table n)) later ∙ whole.goes
-            ∙ ap (λ c. out side (head_at table a) +ℤ pos c) cells_in_all in
+            ∙ ap (λ c. here +ℤ pos c) cells_in_all in
             second.is_first (m + k * period) soon
             (onward.goes ∙ same_number _ _ _ i j cells (k * cells) on_first at_second
             (stands_on table side j b second) at)

@@ -55,7 +55,8 @@ exact_of_cyclers table a b start period s p claim exact some = (to_exact, to_sam
   to_exact : Same table s (s + p) → (start ≤ s) × IsMultipleOf period p
   to_exact same =
       let distance : (s + p) - s ≡ p = omega arith in
-      let repeats = subst (Repeats table s) distance (cyclers_repeat table s (s + p) (omega (arith, some), same)) in
+      let pair = cyclers_repeat table s (s + p) (omega (arith, some), same) in
+      let repeats = subst (Repeats table s) distance pair in
       let told = (exact_tells_all table start period s p exact).0 repeats in
       (told.1, told.2)
 

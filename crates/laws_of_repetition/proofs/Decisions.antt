@@ -1,4 +1,4 @@
--- Decisions on a run that never halts: whether steps use one transition, and searches among finitely many steps.
+-- Decisions on a run that never halts: whether steps use one transition, and bounded searches.
 use Rattle.std.proofs.Common.{◌≡◌, ℕ, zero, suc, ◌<◌, ◌≤◌, ◌⊎◌, inl, inr, Option, Some, None, refl, ap, sym}
 use Rattle.std.proofs.Common.{subst, ◌∙◌, arith}
 use Rattle.std.proofs.lemmas.Bool.{cases_lt, cases_eq}

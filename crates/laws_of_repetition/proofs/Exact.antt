@@ -9,7 +9,8 @@ use Rattle.laws_of_repetition.specs.Repetition.{ExactIsUnique, ExactTellsAll, Pe
 use Rattle.laws_of_repetition.specs.Repetition.{StartsServeAllPeriods}
 use Rattle.laws_of_repetition.specs.Seen.{Differs, ExactIsSeen, IsPrime, IsSeenStart, SeenIsExact}
 use Rattle.laws_of_repetition.proofs.Primes.{has_prime}
-use Rattle.laws_of_repetition.proofs.Sequences.{Has, common, has_multiples, repeats_before, seen_is_period, serves}
+use Rattle.laws_of_repetition.proofs.Sequences.{Has, common, has_multiples, repeats_before}
+use Rattle.laws_of_repetition.proofs.Sequences.{seen_is_period, serves}
 
 pub starts_serve_all_periods : StartsServeAllPeriods
 starts_serve_all_periods table s p t q one two = record {
@@ -40,12 +41,14 @@ periods_are_multiples table start period s p exact other =
     let both = common (transition_at table) start period p here.some also.some here.again also.again in
     let less = exact.least_period start both.part
     (record { some = both.some; never = here.never; again = both.has }) in
-    let same : both.part ≡ period = whole both.divides_first.0 both.part period both.divides_first.1 here.some less in
+    let times = both.divides_first in
+    let same : both.part ≡ period = whole times.0 both.part period times.1 here.some less in
     subst (λ d. IsMultipleOf d p) same both.divides_second
 
 pub exact_tells_all : ExactTellsAll
 exact_tells_all table start period s p exact = (
-  (λ other. (other.some, exact.least_start s p other, periods_are_multiples table start period s p exact other)),
+  (λ other.
+      (other.some, exact.least_start s p other, periods_are_multiples table start period s p exact other)),
   (λ told. record {
     some = told.0;
     never = exact.repeats.never;

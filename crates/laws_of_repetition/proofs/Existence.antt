@@ -18,7 +18,8 @@ from_step : (table : Table) (a q k : ℕ) → ((n : ℕ) → n < k → Comes tab
     → transition_at table (m + q) ≡ transition_at table m
 from_step table a q k all m late soon =
     let e : a + (m - a) ≡ m = omega (arith, late) in
-    subst (λ n. transition_at table (n + q) ≡ transition_at table n) e (all (m - a) (omega (arith, late, soon)))
+    subst (λ n. transition_at table (n + q) ≡ transition_at table n) e
+    (all (m - a) (omega (arith, late, soon)))
 
 -- whether a run with a period from s on has another number as a period from there on
 decide_period : (table : Table) (s p q : ℕ) → Repeats table s p → Decision (Has (transition_at table) s q)

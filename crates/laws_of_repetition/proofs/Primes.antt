@@ -75,4 +75,5 @@ search_from (suc fuel) n d far above within none = elim (cases_eq (n % d) 0) [
 pub has_prime : (n : ℕ) → 1 < n → HasPrime n
 unfolding NoneBelow
 has_prime n above =
-    search_from n n 2 (omega arith) (omega arith) above (λ k one below divides. absurd (omega (arith, one, below)))
+    search_from n n 2 (omega arith) (omega arith) above
+    (λ k one below divides. absurd (omega (arith, one, below)))

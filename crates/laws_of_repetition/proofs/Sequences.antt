@@ -62,8 +62,8 @@ module _ {X : Type 0} (e : ℕ → X) where
     }
     | inr apart ↦ elim apart [
       | inl less ↦
-          let rest = common_by fuel s p (q - p) (omega (arith, few, some, less)) some (omega (arith, less)) has
-          (has_difference s q p (omega (arith, less)) also has) in
+          let rest = common_by fuel s p (q - p) (omega (arith, few, some, less)) some (omega (arith, less))
+          has (has_difference s q p (omega (arith, less)) also has) in
           record {
             part = rest.part;
             some = rest.some;
@@ -113,7 +113,8 @@ module _ {X : Type 0} (e : ℕ → X) where
         let there : ((n + p) - l) + k * p ≡ n = omega (arith, over, times_here) in
         let late_back : a ≤ (n + p) - l = omega (arith, over) in
         ap e (sym back) ∙ has ((n + p) - l) late_back
-        ∙ sym (apart_by a (a + l) p k ((n + p) - l) seen late_back (subst (λ m. m < a + l) (sym there) inside))
+        ∙ sym (apart_by a (a + l) p k ((n + p) - l) seen late_back
+        (subst (λ m. m < a + l) (sym there) inside))
         ∙ ap e there
   ]
 
@@ -137,7 +138,8 @@ module _ {X : Type 0} (e : ℕ → X) where
   seen_is_period a l p some multiple has seen n late = by_times multiple.0 multiple.1 where
     by_times : (k : ℕ) → l ≡ k * p → e (n + p) ≡ e n
     by_times zero times = absurd (omega (arith, times, some))
-    by_times (suc k) times = seen_by a l p some has (seen_inside a l p k times has seen) n n (omega arith) late
+    by_times (suc k) times =
+        seen_by a l p some has (seen_inside a l p k times has seen) n n (omega arith) late
 
   -- what repeats in a stretch before repeats from there on
   pub repeats_before : (s a l : ℕ) → Has e a l → ((n : ℕ) → s ≤ n → n < a → e (n + l) ≡ e n) → Has e s l

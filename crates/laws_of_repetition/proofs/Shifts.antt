@@ -1,6 +1,6 @@
 -- How far the head goes in a period.
-use Rattle.std.proofs.Common.{◌≡◌, ℕ, zero, suc, ◌+◌, ◌-◌, ◌≤◌, Some, None, ℤ, ◌-ℤ◌, refl, ap, sym, subst, ◌∙◌}
-use Rattle.std.proofs.Common.{arith}
+use Rattle.std.proofs.Common.{◌≡◌, ℕ, zero, suc, ◌+◌, ◌-◌, ◌≤◌, Some, None, ℤ, ◌-ℤ◌, refl, ap, sym, subst}
+use Rattle.std.proofs.Common.{◌∙◌, arith}
 use Rattle.std.proofs.lemmas.Int.{ints}
 use Rattle.bb_machine.specs.declared.entry.Dir.{Dir}
 use Rattle.bb_machine.specs.declared.entry.Dir.TheVariants.{L, R}
@@ -59,7 +59,8 @@ moves_alike : (table : Table) (n m : ℕ) → Never table → transition_at tabl
 moves_alike table n m never same =
     let one = moves table m (steps_of_never table never (suc m)) in
     let two = moves table n (steps_of_never table never (suc n)) in
-    let transitions : transition_of (Some one.before) ≡ transition_of (Some two.before) = sym (transition_at-is table m one.before one.at_before) ∙ same
+    let transitions : transition_of (Some one.before) ≡ transition_of (Some two.before) =
+    sym (transition_at-is table m one.before one.at_before) ∙ same
     ∙ transition_at-is table n two.before two.at_before in
     let alike = move_alike table one.before two.before one.then_here two.then_here
     (same_entry table one.before two.before transitions) one.is_next two.is_next in

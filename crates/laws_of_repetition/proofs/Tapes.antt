@@ -1,6 +1,6 @@
 -- Where the head goes nowhere in a period, the configuration comes again.
-use Rattle.std.proofs.Common.{◌≡◌, ℕ, zero, suc, ◌+◌, ◌<◌, ◌⊎◌, inl, inr, Option, Some, None, ℤ, pos, ◌+ℤ◌, ◌-ℤ◌}
-use Rattle.std.proofs.Common.{ap, sym, subst, ◌∙◌, arith}
+use Rattle.std.proofs.Common.{◌≡◌, ℕ, zero, suc, ◌+◌, ◌<◌, ◌⊎◌, inl, inr, Option, Some, None, ℤ, pos, ◌+ℤ◌}
+use Rattle.std.proofs.Common.{◌-ℤ◌, ap, sym, subst, ◌∙◌, arith}
 use Rattle.std.proofs.lemmas.Bool.{cases_lt}
 use Rattle.std.proofs.lemmas.Int.{ints}
 use Rattle.bb_machine.specs.declared.entry.Next.{Next}
@@ -88,7 +88,8 @@ under_head table never n m same =
     let one = steps_of_never table never n in
     let two = steps_of_never table never m in
     let transitions : used_by two.here ≡ used_by one.here = same_some (used_by two.here) (used_by one.here)
-    (sym (transition_at-is table m two.here two.exists) ∙ same ∙ transition_at-is table n one.here one.exists) in
+    (sym (transition_at-is table m two.here two.exists) ∙ same
+    ∙ transition_at-is table n one.here one.exists) in
     let symbols = ap (λ (t : Transition). t.symbol) transitions in
     symbol_at-is table m (head_at table m) two.here two.exists
     ∙ ap (cell two.here.tape) (head_at-is table m two.here two.exists) ∙ symbols
@@ -134,8 +135,8 @@ later_symbol table start period repeats stands x = elim (visited_or_not table st
   | inr none ↦ unvisited table repeats.never start period x none
   | inl first ↦
       ap (symbol_at table (start + period)) (no_shift x)
-      ∙ moved_symbol table start period period (pos 0) repeats (λ j. stands j ∙ no_shift (head_at table (start + j)))
-      x first
+      ∙ moved_symbol table start period period (pos 0) repeats
+      (λ j. stands j ∙ no_shift (head_at table (start + j))) x first
 ]
 
 apart_none : (p q r s : ℤ) → p -ℤ q ≡ r -ℤ s → r ≡ s → p ≡ q

@@ -21,7 +21,8 @@ module _ (table : Table) (part : TablePart) (start period : ℕ) (repeats : Repe
   pub in_period_by : (fuel n : ℕ) → n ≤ fuel → start ≤ n → Uses table part n
       → UsesInPeriod table part start period
   in_period_by zero n few late uses =
-      record { step = n; late = late; soon = let some = repeats.some in omega (arith, few, some); uses = uses }
+      let some = repeats.some in
+      record { step = n; late = late; soon = omega (arith, few, some); uses = uses }
   in_period_by (suc fuel) n few late uses = elim (cases_lt n (start + period)) [
     | inl soon ↦ record { step = n; late = late; soon = soon; uses = uses }
     | inr past ↦
@@ -55,7 +56,7 @@ module _ (table : Table) (part : TablePart) (start period : ℕ) (repeats : Repe
   pub used_for_ever : UsesForEver table part ↔ UsesInPeriod table part start period
   used_for_ever = (for_ever_in_period, in_period_for_ever)
 
-  -- no use after n up to the end of the first period is none after n at all
+  -- a run without a use from n to the end of the first period has none after n
   pub none_later : (n : ℕ) → n < start → ((m : ℕ) → n < m → m < start + period → Uses table part m → ⊥)
       → (m : ℕ) → n < m → Uses table part m → ⊥
   none_later n early none m later also = elim (cases_lt m (start + period)) [
@@ -171,7 +172,8 @@ decide_end table start period n repeats =
           let uses = ends.last.used in
           let same : Some uses.transition ≡ Some t = sym uses.at ∙ at in
           let transitions : uses.transition ≡ t = cc in
-          let clash : State ends.state ≡ Halt = sym uses.is_in ∙ ap (λ (x : Transition). x.state) transitions ∙ is in
+          let clash : State ends.state ≡ Halt =
+          sym uses.is_in ∙ ap (λ (x : Transition). x.state) transitions ∙ is in
           cc)
       by_state t at (State q) is = elim (uses_are_of_three_kinds table (of_state q) start period repeats) [
         | inl never ↦ absurd (never n (record { transition = t; at = at; is_in = is }))
@@ -181,7 +183,8 @@ decide_end table start period n repeats =
             | inr apart ↦ inr (λ ends. apart (last_use_is_unique table (of_state q) last.0 n last.2
                 (this_state t at q is ends)))
           ]
-          | inr ever ↦ inr (λ ends. (kinds_of_use_differ table (of_state q) n).2 (this_state t at q is ends) ever)
+          | inr ever ↦ inr (λ ends.
+              (kinds_of_use_differ table (of_state q) n).2 (this_state t at q is ends) ever)
         ]
       ]
 

@@ -22,7 +22,7 @@ use Rattle.laws_of_repetition.proofs.Pairs.{cyclers_repeat, records_repeat}
 use Rattle.laws_of_repetition.proofs.Tapes.{comes_again}
 use Rattle.laws_of_repetition.proofs.Ways.{GoesOut, back_after_period, goes_each_period, has_way}
 
--- a number between a power of two and another of its partner's numbers has that partner
+-- a number between another one and its partner has the same partner
 nearer_partner : (p j m : ℕ) → IsPartner p j → p < m → m < j → IsPartner p m
 nearer_partner p j m partner above below = record {
   exponent = partner.exponent;
@@ -125,8 +125,8 @@ translation_is_exact short table bounds side a b period (suc (suc k)) before fir
         partner = nearer_partner i j (i + here.cells) pair.partner (omega (arith, some_cells))
             (omega (arith, is_second, cells_far, some_cells));
         first_record = pair.first_record;
-        second_record = record_after_period short table side i j a b period here.cells (suc k) pair.first_record
-            pair.second_record second repeats way;
+        second_record = record_after_period short table side i j a b period here.cells (suc k)
+            pair.first_record pair.second_record second repeats way;
         agree = agrees_after_period table side a period repeats;
       };
       inside = earlier_is_inside table bounds (a + period) b (omega (arith, sooner)) first.translation.inside;
@@ -135,7 +135,8 @@ translation_is_exact short table bounds side a b period (suc (suc k)) before fir
 
 pub translated_cyclers_have_exact_period : AgreeingRecordsGoOn → ShortOfRecord
     → TranslatedCyclersHaveExactPeriod
-translated_cyclers_have_exact_period go_on short table bounds plan side a b extent start period verdict exact =
+translated_cyclers_have_exact_period go_on short table bounds plan side a b extent start period verdict
+    exact =
     let first = verdict.3 in
     let records = agreeing_records table side a b first.translation.pair in
     let repeats = records_repeat go_on table side a b records in

@@ -1,6 +1,6 @@
 -- The way of the head over several periods.
-use Rattle.std.proofs.Common.{◌≡◌, ℕ, zero, suc, ◌+◌, ◌*◌, ◌≤◌, ℤ, pos, negsuc, ◌+ℤ◌, ◌-ℤ◌, refl, ap, sym, ◌∙◌}
-use Rattle.std.proofs.Common.{arith}
+use Rattle.std.proofs.Common.{◌≡◌, ℕ, zero, suc, ◌+◌, ◌*◌, ◌≤◌, ℤ, pos, negsuc, ◌+ℤ◌, ◌-ℤ◌, refl, ap, sym}
+use Rattle.std.proofs.Common.{◌∙◌, arith}
 use Rattle.std.proofs.lemmas.Int.{ints}
 use Rattle.bb_machine.specs.Machine.{Table}
 use Rattle.bb_cert.specs.declared.verdict.Side.{Side}
@@ -40,8 +40,8 @@ goes_each_period table side start period cells repeats way (suc k) n late =
     record {
       goes = sym (ap (λ m. out side (head_at table m)) there)
           ∙ out_by side (head_at table (n + k * period)) (head_at table ((n + k * period) + period))
-          (head_at table start) (head_at table (start + period)) (out side (head_at table n)) cells (k * cells)
-          shift way.goes before.goes
+          (head_at table start) (head_at table (start + period)) (out side (head_at table n)) cells
+          (k * cells) shift way.goes before.goes
           ∙ ap (λ c. out side (head_at table n) +ℤ pos c) more;
     }
 
@@ -80,7 +80,8 @@ pub back_after_period : (table : Table) (a period k : ℕ) → Repeats table a p
     → head_at table (a + suc k * period) ≡ head_at table a → head_at table (a + period) ≡ head_at table a
 back_after_period table a period k repeats back =
     let here = has_way table a (a + period) in
-    let whole = goes_each_period table here.side a period here.cells repeats here.way (suc k) a (omega arith) in
+    let whole = goes_each_period table here.side a period here.cells repeats here.way (suc k) a
+    (omega arith) in
     let none = none_of_product k here.cells (out here.side (head_at table a))
     (sym (ap (out here.side) back) ∙ whole.goes) in
     goes_nowhere _ _ here.side

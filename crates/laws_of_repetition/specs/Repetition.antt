@@ -1,6 +1,6 @@
--- Runs that repeat, as the recurrence of Lin and Radó (1965): from a step on, the machine uses the transitions
--- of its table in a period, whatever the tape holds. That start and period are defined by transitions, and so
--- are numbers of the machine alone, is this project's own.
+-- Runs that repeat, as in the recurrence of Lin and Radó (1965): from a step on, the run uses the transitions
+-- of the table in a period. The definition by transitions alone is this project's own. It makes start and
+-- period numbers of the machine, for cyclers and translated cyclers alike.
 use Rattle.std.specs.Prelude.{◌≡◌, ℕ, ◌+◌, ◌-◌, ◌*◌, ◌<◌, ◌≤◌, ◌↔◌, Option, Some, None}
 use Rattle.bb_machine.specs.declared.entry.Next.{Next}
 use Rattle.bb_machine.specs.Machine.{Table}

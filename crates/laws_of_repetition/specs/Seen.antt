@@ -1,5 +1,5 @@
--- A certificate of an exact start and period. It compares transitions of finitely many steps, of a run that is
--- known to repeat. These notions are this project's own.
+-- A certificate of an exact start and period. It compares transitions of finitely many steps, in a run known
+-- to repeat. These notions are this project's own.
 use Rattle.std.specs.Prelude.{◌≡◌, ◌≢◌, ℕ, ◌+◌, ◌-◌, ◌*◌, ◌<◌, ◌≤◌, ◌⊎◌}
 use Rattle.bb_machine.specs.Machine.{Table}
 use Rattle.laws_of_repetition.specs.Repetition.{IsMultipleOf, Repeats, RepeatsExactly, transition_at}

@@ -25,8 +25,8 @@ pub fn starts_serve_all_periods()
     ensures { StartsServeAllPeriods }
 {}
 
-/// A repeating run has one exact start and one exact period. The true starts are those no earlier, and the true
-/// periods are the multiples.
+/// A repeating run has one exact start and one exact period. The true starts are those no earlier, and the
+/// true periods are the multiples.
 pub fn exact_is_unique()
     ensures exists { ExactExists }
     ensures one { ExactIsUnique }
@@ -49,8 +49,8 @@ pub fn uses_are_seen()
     ensures none { UnusedIsSeen }
 {}
 
-/// A repeating run uses each state and transition never, for ever, or for the last time at one step before the
-/// start.
+/// A repeating run uses each state and transition never, for ever, or for the last time at one step before
+/// the start.
 pub fn uses_are_of_three_kinds()
     ensures kinds { UsesAreOfThreeKinds }
     ensures differ { KindsOfUseDiffer }
@@ -64,8 +64,8 @@ pub fn quasihalt_is_unique()
     ensures by_last_use { QuasihaltsByLastUse }
 {}
 
-/// Each period moves the head by the same shift. It is 0 exactly if the configuration comes again. So the exact
-/// start and period of a cycler are those of its configurations.
+/// Each period moves the head by the same shift. It is 0 exactly if the configuration comes again. So the
+/// exact start and period of a cycler are those of its configurations.
 pub fn shift_stays()
     ensures stays { ShiftStays }
     ensures zero { ZeroShiftIsCycle }
