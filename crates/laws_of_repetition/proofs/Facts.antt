@@ -1,0 +1,18 @@
+-- What the proofs of other crates may cite of runs that repeat.
+pub use Rattle.laws_of_repetition.proofs.Cyclers.{exact_of_cyclers}
+pub use Rattle.laws_of_repetition.proofs.Decisions.{decide_steps, decide_use}
+pub use Rattle.laws_of_repetition.proofs.Exact.{divisor_below, exact_from, exact_is_seen, exact_is_unique}
+pub use Rattle.laws_of_repetition.proofs.Exact.{exact_tells_all, periods_are_multiples, seen_is_exact}
+pub use Rattle.laws_of_repetition.proofs.Exact.{starts_serve_all_periods}
+pub use Rattle.laws_of_repetition.proofs.Existence.{exact_exists}
+pub use Rattle.laws_of_repetition.proofs.Pairs.{cyclers_repeat, translated_cyclers_repeat}
+pub use Rattle.laws_of_repetition.proofs.Pairs.{transition_at-is, used_by}
+pub use Rattle.laws_of_repetition.proofs.Primes.{HasPrime, has_prime}
+pub use Rattle.laws_of_repetition.proofs.Sequences.{Has, has_multiples, repeats_before}
+pub use Rattle.laws_of_repetition.proofs.Sequences.{seen_is_period, serves}
+pub use Rattle.laws_of_repetition.proofs.Shifts.{shift_is_one, shift_stays}
+pub use Rattle.laws_of_repetition.proofs.Tapes.{zero_shift_is_cycle}
+pub use Rattle.laws_of_repetition.proofs.Uses.{comes_in_period, kinds_of_use_differ, last_use_is_seen}
+pub use Rattle.laws_of_repetition.proofs.Uses.{last_before_start, last_use_is_unique, quasihalt_is_unique}
+pub use Rattle.laws_of_repetition.proofs.Uses.{quasihalts_by_last_use, unused_is_seen}
+pub use Rattle.laws_of_repetition.proofs.Uses.{used_for_ever_just_in_period, uses_are_of_three_kinds}

@@ -1,0 +1,8 @@
+use Rattle.laws_of_repetition.proofs.Exact.{exact_is_seen, seen_is_exact}
+use Rattle.laws_of_repetition.proofs.laws.seen_is_exact.Goals as goal
+
+pub returns-clause-right : goal.returns-clause-right
+returns-clause-right c = seen_is_exact
+
+pub returns-clause-complete : goal.returns-clause-complete
+returns-clause-complete c = exact_is_seen

@@ -1,0 +1,5 @@
+pub mod Repetition
+pub mod Seen
+pub mod Shift
+pub mod Uses
+pub mod Verdicts
