@@ -19,7 +19,8 @@ use Rattle.bb_cert.specs.records.Record.{IsRecord, head_at, out}
 use Rattle.bb_cert.proofs.Facts.{head_at-is, record_takes_steps, stands_on, steps_of_never}
 use Rattle.laws_of_repetition.specs.Pairs.{LateRecordsArePairs, RepeatsHavePairs}
 use Rattle.laws_of_repetition.specs.Repetition.{Repeats}
-use Rattle.laws_of_repetition.proofs.Agreements.{agrees_after_period, falls, on_it, same_out, stays_above, too_far}
+use Rattle.laws_of_repetition.proofs.Agreements.{agrees_after_period, falls, on_it, same_out}
+use Rattle.laws_of_repetition.proofs.Agreements.{stays_above, too_far}
 use Rattle.laws_of_repetition.proofs.Shifts.{shift_is_one}
 use Rattle.laws_of_repetition.proofs.Tapes.{IsFirstVisit, comes_again, visited_or_not}
 use Rattle.laws_of_repetition.proofs.Ways.{GoesOut, goes_each_period, goes_nowhere, has_way}
@@ -206,7 +207,8 @@ repeats_have_pairs short table s p repeats =
           let onward = goes_each_period table side s p (suc c) repeats way k s (omega arith) in
           let many : k ≤ k * suc c = le-mul_of_pos_right k (omega arith) in
           let made = reaches table side repeats.never j (s + k * p) (omega arith)
-          (far_enough _ _ s k (k * suc c) j (near table side repeats.never s) onward.goes many (omega arith)) in
+          (far_enough _ _ s k (k * suc c) j (near table side repeats.never s) onward.goes many
+          (omega arith)) in
           let late = record_takes_steps table side j made.0 made.1 in
           inr (
             side,

@@ -1,7 +1,6 @@
--- Every run that repeats has a true pair, so the checker can confirm any start and period. These laws are this
--- project's own.
-use Rattle.std.specs.Prelude.{ℕ, ◌+◌, ◌≤◌, ◌⊎◌, None, ℤ, pos}
-use Rattle.std.specs.Prelude.{◌<ℤ◌}
+-- Every run that repeats has a true pair, so the checker can confirm any true start and period. These laws
+-- are this project's own.
+use Rattle.std.specs.Prelude.{ℕ, ◌+◌, ◌≤◌, ◌⊎◌, None, ℤ, pos, ◌<ℤ◌}
 use Rattle.bb_machine.specs.Machine.{Table}
 use Rattle.bb_cert.specs.declared.verdict.Side.{Side}
 use Rattle.bb_cert.specs.declared.verdict.Verdict.TheVariants.{Cycler, Translated}
