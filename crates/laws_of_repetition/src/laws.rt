@@ -3,7 +3,7 @@ ghost use Rattle.laws_of_repetition.specs.Pairs.{LateRecordsArePairs, RepeatsHav
 ghost use Rattle.laws_of_repetition.specs.Repetition.{CyclersRepeat, ExactExists, ExactIsUnique};
 ghost use Rattle.laws_of_repetition.specs.Repetition.{ExactTellsAll, PeriodsAreMultiples};
 ghost use Rattle.laws_of_repetition.specs.Repetition.{StartsServeAllPeriods, TranslatedCyclersRepeat};
-ghost use Rattle.laws_of_repetition.specs.Seen.{ExactIsSeen, SeenIsExact};
+ghost use Rattle.laws_of_repetition.specs.Seen.{DifferenceIsSeen, ExactIsSeen, SeenIsExact};
 ghost use Rattle.laws_of_repetition.specs.Shift.{ExactOfCyclers, ShiftStays, ZeroShiftIsCycle};
 ghost use Rattle.laws_of_repetition.specs.Uses.{KindsOfUseDiffer, LastUseIsSeen, LastUseIsUnique};
 ghost use Rattle.laws_of_repetition.specs.Uses.{QuasihaltIsUnique, QuasihaltsByLastUse, UnusedIsSeen};
@@ -49,6 +49,7 @@ pub fn exact_is_unique()
 pub fn seen_is_exact()
     ensures right { SeenIsExact }
     ensures complete { ExactIsSeen }
+    ensures finite { DifferenceIsSeen }
 {}
 
 /// The states and transitions of one period are those used for ever. The others have their last use before
