@@ -1,5 +1,6 @@
--- A certificate of an exact start and period, in a run known to repeat. It compares the transitions of finitely
--- many steps, as a difference is among them too (`DifferenceIsSeen`). These notions are this project's own.
+-- A certificate of an exact start and period, in a run known to repeat. It compares the transitions of
+-- finitely many steps: differences are among them too (`DifferenceIsSeen`). These notions are this project's
+-- own.
 use Rattle.std.specs.Prelude.{◌≡◌, ◌≢◌, ℕ, ◌+◌, ◌-◌, ◌*◌, ◌<◌, ◌≤◌, ◌⊎◌}
 use Rattle.bb_machine.specs.Machine.{Table}
 use Rattle.laws_of_repetition.specs.Repetition.{IsMultipleOf, Repeats, RepeatsExactly, transition_at}
