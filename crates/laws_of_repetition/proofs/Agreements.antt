@@ -32,7 +32,7 @@ falls_beside R dir.L p = omega (arith, ints)
 falls_beside R dir.R p = omega (arith, ints)
 
 -- a step goes at most one cell nearer
-falls : (table : Table) (side : Side) (n : ℕ) → Never table
+pub falls : (table : Table) (side : Side) (n : ℕ) → Never table
     → out side (head_at table n) ≤ℤ (out side (head_at table (suc n)) +ℤ pos 1)
 falls table side n never =
     let moved = moves table n (steps_of_never table never (suc n)) in
@@ -52,12 +52,12 @@ above_first : (a x : ℤ) → x ≤ℤ a → x ≢ a → x <ℤ a
 above_first a x h apart =
     by_lt_z x a (λ above. above) (λ below. absurd (apart (omega (arith, ints, h, below))))
 
-same_out : (side : Side) (x y : ℤ) → out side x ≡ out side y → x ≡ y
+pub same_out : (side : Side) (x y : ℤ) → out side x ≡ out side y → x ≡ y
 same_out L x y same = omega (arith, ints)
 same_out R x y same = same
 
 -- a head that starts at a cell or farther out, and is never on that cell, stays farther out
-stays_above : (table : Table) (side : Side) (never : Never table) (start k : ℕ) (x : ℤ)
+pub stays_above : (table : Table) (side : Side) (never : Never table) (start k : ℕ) (x : ℤ)
     → out side x ≤ℤ out side (head_at table start)
     → ((j : ℕ) → j < suc k → x ≡ head_at table (start + j) → ⊥)
     → (j : ℕ) → j ≤ k → out side x <ℤ out side (head_at table (start + j))
@@ -148,10 +148,10 @@ same_number : (x y z : ℤ) (i j d e : ℕ) → x ≡ pos i → y ≡ x +ℤ pos
     → z +ℤ pos e ≡ pos j
 same_number x y z i j d e at_x at_y is_y at_z = omega (arith, ints)
 
-too_far : (x : ℤ) (i d : ℕ) → x <ℤ pos i → x ≡ pos (i + d) → ⊥
+pub too_far : (x : ℤ) (i d : ℕ) → x <ℤ pos i → x ≡ pos (i + d) → ⊥
 too_far x i d short at = omega (arith, ints)
 
-on_it : (x y : ℤ) (i d : ℕ) → x ≡ pos i → y ≡ x +ℤ pos d → y ≡ pos (i + d)
+pub on_it : (x y : ℤ) (i d : ℕ) → x ≡ pos i → y ≡ x +ℤ pos d → y ≡ pos (i + d)
 on_it x y i d at goes = omega (arith, ints)
 
 -- if a record is made several periods after another, one is made a period after that

@@ -1,10 +1,11 @@
--- A run that repeats has an exact start and period: the least ones.
-use Rattle.std.proofs.Common.{◌≡◌, ℕ, ◌+◌, ◌-◌, ◌<◌, ◌≤◌, inl, inr, subst, arith}
+-- A run that repeats has an exact start and period: the least ones. Other numbers differ within few steps.
+use Rattle.std.proofs.Common.{◌≡◌, ◌≢◌, ℕ, ◌+◌, ◌-◌, ◌<◌, ◌≤◌, inl, inr, sym, subst, arith}
 use Rattle.std.proofs.lemmas.Bool.{cases_lt}
 use Rattle.bb_machine.specs.Machine.{Table}
 use Rattle.laws_of_repetition.specs.Repetition.{ExactExists, Repeats, transition_at}
-use Rattle.laws_of_repetition.proofs.Decisions.{Decision, all_below, decide_steps, least_of}
-use Rattle.laws_of_repetition.proofs.Sequences.{Has, repeats_before, seen_by, serves}
+use Rattle.laws_of_repetition.specs.Seen.{DifferenceIsSeen}
+use Rattle.laws_of_repetition.proofs.Decisions.{Decision, all_below, decide_steps, last_below, least_of}
+use Rattle.laws_of_repetition.proofs.Sequences.{Has, repeats_before, seen_by, seen_is_period, serves}
 
 -- the step so many after a has the transition of the one q later
 abbrev Comes : Table → ℕ → ℕ → ℕ → Type 0
@@ -68,3 +69,37 @@ exact_exists table s p repeats =
             start.1.least t (serves e t q s period.0 other.some other.again here.again);
       },
     )
+
+-- ---- a difference is seen
+
+-- the step so many after `first` differs from the one `less` later, before `second`
+abbrev DiffersAt : Table → ℕ → ℕ → ℕ → ℕ → Type 0
+DiffersAt table first second less n = ((first + n) + less < second)
+    × (transition_at table ((first + n) + less) ≢ transition_at table (first + n))
+
+decide_differs : (table : Table) (first second less n : ℕ) → Decision (DiffersAt table first second less n)
+decide_differs table first second less n = elim (cases_lt ((first + n) + less) second) [
+  | inl soon ↦ elim (decide_comes table first less n) [
+    | inl same ↦ inr (λ differs. differs.1 same)
+    | inr apart ↦ inl (soon, apart)
+  ]
+  | inr late ↦ inr (λ differs. let soon = differs.0 in absurd (omega (arith, soon, late)))
+]
+
+pub difference_is_seen : DifferenceIsSeen
+difference_is_seen table first second less in_order repeats divides differs =
+    let e = transition_at table in
+    elim (last_below (DiffersAt table first second less) (decide_differs table first second less) second) [
+      | inl found ↦ (first + found.0, omega arith, found.1.has.0, found.1.has.1)
+      | inr none ↦
+          let end : first + (second - first) ≡ second = omega (arith, in_order) in
+          absurd (differs (seen_is_period e first (second - first) less repeats.some divides repeats.again
+          (λ m late soon. elim (decide_steps (e (m + less)) (e m)) [
+            | inl same ↦ same
+            | inr apart ↦
+                let here : first + (m - first) ≡ m = omega (arith, late) in
+                let within : m + less < second = subst (λ x. m + less < x) end soon in
+                absurd (none (m - first) (omega (arith, within, late))
+                (subst (λ k. (k + less < second) × (e (k + less) ≢ e k)) (sym here) (within, apart)))
+          ])))
+    ]

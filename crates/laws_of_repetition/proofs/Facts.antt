@@ -4,7 +4,8 @@ pub use Rattle.laws_of_repetition.proofs.Decisions.{decide_steps, decide_use}
 pub use Rattle.laws_of_repetition.proofs.Exact.{divisor_below, exact_from, exact_is_seen, exact_is_unique}
 pub use Rattle.laws_of_repetition.proofs.Exact.{exact_tells_all, periods_are_multiples, seen_is_exact}
 pub use Rattle.laws_of_repetition.proofs.Exact.{starts_serve_all_periods}
-pub use Rattle.laws_of_repetition.proofs.Existence.{exact_exists}
+pub use Rattle.laws_of_repetition.proofs.Existence.{difference_is_seen, exact_exists}
+pub use Rattle.laws_of_repetition.proofs.LaterPairs.{late_records_are_pairs, repeats_have_pairs}
 pub use Rattle.laws_of_repetition.proofs.Pairs.{cyclers_repeat, translated_cyclers_repeat}
 pub use Rattle.laws_of_repetition.proofs.Pairs.{transition_at-is, used_by}
 pub use Rattle.laws_of_repetition.proofs.Primes.{HasPrime, has_prime}

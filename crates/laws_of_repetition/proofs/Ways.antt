@@ -65,7 +65,7 @@ has_way table n m = by_distance (head_at table m -ℤ head_at table n) refl wher
   by_distance (negsuc d) e =
       record { side = L; cells = suc d; way = record { goes = to_left _ _ d e } }
 
-goes_nowhere : (x y : ℤ) (side : Side) → out side y ≡ out side x +ℤ pos 0 → y ≡ x
+pub goes_nowhere : (x y : ℤ) (side : Side) → out side y ≡ out side x +ℤ pos 0 → y ≡ x
 goes_nowhere x y L e = omega (arith, ints)
 goes_nowhere x y R e = omega (arith, ints)
 

@@ -1,3 +1,4 @@
+pub mod Pairs
 pub mod Repetition
 pub mod Seen
 pub mod Shift

@@ -1,10 +1,11 @@
--- A certificate of an exact start and period. It compares transitions of finitely many steps, in a run known
--- to repeat. These notions are this project's own.
+-- A certificate of an exact start and period, in a run known to repeat. It compares the transitions of
+-- finitely many steps: differences are among them too (`DifferenceIsSeen`). These notions are this project's
+-- own.
 use Rattle.std.specs.Prelude.{◌≡◌, ◌≢◌, ℕ, ◌+◌, ◌-◌, ◌*◌, ◌<◌, ◌≤◌, ◌⊎◌}
 use Rattle.bb_machine.specs.Machine.{Table}
 use Rattle.laws_of_repetition.specs.Repetition.{IsMultipleOf, Repeats, RepeatsExactly, transition_at}
 
--- a number above 1 that is no product but of 1 and itself
+-- a number above 1 that is a product of 1 and itself only
 pub record IsPrime (q : ℕ) : Type 0 where
   pub above : 1 < q
   pub only : (d e : ℕ) → q ≡ d * e → (d ≡ 1) ⊎ (e ≡ 1)
@@ -43,3 +44,9 @@ abbrev pub ExactIsSeen : Type 0
 ExactIsSeen = (table : Table) (first second start period : ℕ) → first < second
     → Repeats table first (second - first) → RepeatsExactly table start period
     → IsSeenExact table first second start period
+
+-- if a divisor of a period is no period, two steps before `second` differ
+abbrev pub DifferenceIsSeen : Type 0
+DifferenceIsSeen = (table : Table) (first second less : ℕ) → first < second
+    → Repeats table first (second - first) → IsMultipleOf less (second - first) → Differs table first less
+    → (n : ℕ) × (first ≤ n) × (n + less < second) × (transition_at table (n + less) ≢ transition_at table n)

@@ -1,8 +1,9 @@
 //! Laws of repeating runs, as contracts. A call of each does nothing.
+ghost use Rattle.laws_of_repetition.specs.Pairs.{LateRecordsArePairs, RepeatsHavePairs};
 ghost use Rattle.laws_of_repetition.specs.Repetition.{CyclersRepeat, ExactExists, ExactIsUnique};
 ghost use Rattle.laws_of_repetition.specs.Repetition.{ExactTellsAll, PeriodsAreMultiples};
 ghost use Rattle.laws_of_repetition.specs.Repetition.{StartsServeAllPeriods, TranslatedCyclersRepeat};
-ghost use Rattle.laws_of_repetition.specs.Seen.{ExactIsSeen, SeenIsExact};
+ghost use Rattle.laws_of_repetition.specs.Seen.{DifferenceIsSeen, ExactIsSeen, SeenIsExact};
 ghost use Rattle.laws_of_repetition.specs.Shift.{ExactOfCyclers, ShiftStays, ZeroShiftIsCycle};
 ghost use Rattle.laws_of_repetition.specs.Uses.{KindsOfUseDiffer, LastUseIsSeen, LastUseIsUnique};
 ghost use Rattle.laws_of_repetition.specs.Uses.{QuasihaltIsUnique, QuasihaltsByLastUse, UnusedIsSeen};
@@ -18,6 +19,15 @@ pub fn pairs_repeat()
     ensures translated { TranslatedCyclersRepeat }
 {
     agreeing_records_go_on();
+}
+
+/// Each repeating run has a true pair of its period: a cycler from its start, or a translated cycler from any
+/// late record on the side of the shift.
+pub fn repeats_have_pairs()
+    ensures records { LateRecordsArePairs }
+    ensures pairs { RepeatsHavePairs }
+{
+    records_in_order();
 }
 
 /// A run repeats from the same steps on with each of its periods.
@@ -39,6 +49,7 @@ pub fn exact_is_unique()
 pub fn seen_is_exact()
     ensures right { SeenIsExact }
     ensures complete { ExactIsSeen }
+    ensures finite { DifferenceIsSeen }
 {}
 
 /// The states and transitions of one period are those used for ever. The others have their last use before
