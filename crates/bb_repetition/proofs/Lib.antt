@@ -1,0 +1,4 @@
+mod GoingOn
+mod Quotients
+mod SeenStarts
+mod UseSteps

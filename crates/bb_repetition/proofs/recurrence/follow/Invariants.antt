@@ -1,0 +1,24 @@
+use Rattle.std.proofs.Common.{◌≡◌, ◌≤◌, ◌-◌, ◌+◌, ◌*◌}
+use Rattle.bb_sim.specs.Runner.{steps_of}
+use Rattle.laws_of_repetition.specs.Seen.{IsSeenStart}
+use Rattle.bb_repetition.specs.LastUses.{AreSeen}
+use Rattle.bb_repetition.specs.Lockstep.{IsAt}
+use Rattle.bb_repetition.specs.Tapes.{TapesHaveCells}
+use Rattle.bb_repetition.proofs.recurrence.follow.Given as goal
+
+-- both runs have come so far, and the start and the last uses are seen up to there
+abbrev pub invariant-loop-start : goal.invariant-loop-start
+invariant-loop-start g l = record {
+  at : IsAt l.machine l.limits (steps_of l.runner) l.runner (g.T.Tape.view l.tapes.pair.run);
+  ahead : IsAt l.machine l.limits (steps_of l.runner + (l.second - l.first)) l.ahead
+      (g.T.Tape.view l.tapes.ahead);
+  tapes : TapesHaveCells g.T.Tape.view l.limits.cells l.tapes;
+  apart : steps_of l.ahead ≡ steps_of l.runner + (l.second - l.first);
+  within : steps_of l.runner ≤ l.first;
+  seen_start : IsSeenStart l.machine (steps_of l.runner) (l.second - l.first) l.start;
+  seen_uses : AreSeen l.machine (steps_of l.ahead) l.uses;
+  counted : l.meter.steps ≡ l.fn.meter.steps + 2 * steps_of l.runner;
+}
+
+abbrev pub decreases-loop-start : goal.decreases-loop-start
+decreases-loop-start g l = l.first - steps_of l.runner

@@ -1,0 +1,12 @@
+//! Exact repetition of machines that never halt: the first step from which on a run repeats, its period, its
+//! shift, and the last use of each state.
+#![tactic(auto)]
+
+mod factors;
+mod lockstep;
+pub mod period;
+pub mod recurrence;
+pub mod uses;
+
+pub use recurrence::{Recurrence, Tapes, find_recurrence};
+pub use uses::{LastUse, LastUses};

@@ -1,0 +1,215 @@
+//! The exact recurrence of a run of which a pair is known.
+ghost use Rattle.std.specs.Prelude.{◌≡◌, ◌+◌, ◌-◌, ◌*◌, ◌<◌, ◌≤◌, ◌^◌, IfOk, IsTrue, MatchBool, OnErr, OnOk};
+ghost use Rattle.bb_sim.specs.Span.{Inside};
+ghost use Rattle.laws_of_repetition.specs.Repetition.{Repeats, RepeatsExactly};
+ghost use Rattle.laws_of_repetition.specs.Seen.{IsSeenStart};
+ghost use Rattle.laws_of_repetition.specs.Shift.{IsShift};
+ghost use Rattle.bb_repetition.specs.LastUses.{AreSeen};
+ghost use Rattle.bb_repetition.specs.Lockstep.{IsAt, IsNear, IsOpen};
+ghost use Rattle.bb_repetition.specs.Recurrence.{CountsRecurrence};
+ghost use Rattle.bb_repetition.specs.Tapes.{TapesHaveCells};
+
+use crate::lockstep::{has_same_transition, run_to, step};
+use crate::period::least_period;
+use crate::uses::LastUses;
+use bb_cert::Pair;
+use bb_machine::{Limits, Machine};
+use bb_sim::{Meter, Runner};
+use bb_tape::{Memory, Tape};
+
+/// How a run repeats.
+#[derive(Clone, Copy, Debug, PartialEq, Eq)]
+pub struct Recurrence {
+    /// The first step from which on it repeats.
+    pub start: u64,
+    /// After so many steps it uses the same transitions again.
+    pub period: u64,
+    /// How many cells the head is farther to the right after a period; negative means to the left.
+    pub shift: i64,
+    /// The last use of each state.
+    pub uses: LastUses,
+}
+
+/// The tapes for finding a recurrence. Each call resets those it uses.
+#[derive(Drop)]
+pub struct Tapes<T> {
+    /// The tape of the run, and the one saved at the first step of a pair.
+    pub pair: Pair<T>,
+    /// The tape of the run that is ahead.
+    pub ahead: T,
+}
+
+/// Finds the exact recurrence of a run that repeats from `first` on with the distance to `second` as a period,
+/// where `second` is inside the limits. It makes no step past `second`.
+///
+/// The steps are counted in `meter`: `first + second` for the start and the last uses, the period for the shift,
+/// and at most 4 * log2(`second - first`) times that distance for the least period.
+///
+/// After an error the contents of the tapes are unspecified; the next call resets them.
+pub fn find_recurrence<T: Tape>(
+    machine: &Machine,
+    limits: &Limits,
+    first: u64,
+    second: u64,
+    tapes: &mut Tapes<T>,
+    meter: &mut Meter,
+) -> Result<Recurrence, Memory>
+    requires tapes { TapesHaveCells T.view limits.now.cells tapes.old }
+    requires order { first < second }
+    requires pair { Repeats machine.now first (second - first) }
+    requires inside { Inside machine.now limits.now second }
+    requires room { meter.old.steps ≤ 10 ^ 12 }
+    ensures exact { IfOk result (λ found. RepeatsExactly machine.now found.start found.period) }
+    ensures shift { IfOk result (λ found. IsShift machine.now found.start found.period found.shift) }
+    ensures early { IfOk result (λ found. found.start ≤ first) }
+    ensures uses { IfOk result (λ found. AreSeen machine.now second found.uses) }
+    ensures few { CountsRecurrence first second meter.old.steps meter.new.steps }
+    ensures tapes { TapesHaveCells T.view limits.now.cells tapes.new }
+    ensures memory { OnErr result (IsTrue T.GROWS) }
+{
+    limits.show_accepted();
+    let mut uses = LastUses::new();
+    let (start, saved) = find_start(machine, limits, first, second, tapes, &mut uses, meter)?;
+    let Ok(()) = tapes.pair.saved.copy_from(&tapes.pair.run) else {
+        return Err(Memory);
+    };
+    let period = least_period(machine, limits, saved, first, second, tapes, meter)?;
+    let shift = find_shift(machine, limits, saved, first, period, second, tapes, meter)?;
+    Ok(Recurrence {
+        start,
+        period,
+        shift,
+        uses,
+    })
+}
+
+/// Advances a run to the first step of a pair, and one ahead of it to the second. Returns the first step from
+/// which on both use the same transitions, and the runner at the first step of the pair, and records the last
+/// uses of the states up to the second.
+fn find_start<T: Tape>(
+    machine: &Machine,
+    limits: &Limits,
+    first: u64,
+    second: u64,
+    tapes: &mut Tapes<T>,
+    uses: &mut LastUses,
+    meter: &mut Meter,
+) -> Result<(u64, Runner), Memory>
+    requires goes_on { IsOpen machine.now limits.now second }
+    requires tapes { TapesHaveCells T.view limits.now.cells tapes.old }
+    requires order { first ≤ second }
+    requires room { meter.old.steps + first + second < 2 ^ 64 }
+    requires seen { AreSeen machine.now 0 uses.old }
+    ensures at { IfOk result (λ found.
+        IsAt machine.now limits.now first found.1 (T.view tapes.new.pair.run)) }
+    ensures start { IfOk result (λ found. IsSeenStart machine.now first (second - first) found.0) }
+    ensures uses { OnOk result (AreSeen machine.now second uses.new) }
+    ensures counted { OnOk result (meter.new.steps ≡ meter.old.steps + first + second) }
+    ensures few { meter.new.steps ≤ meter.old.steps + first + second }
+    ensures tapes { TapesHaveCells T.view limits.now.cells tapes.new }
+    ensures memory { OnErr result (IsTrue T.GROWS) }
+{
+    let mut runner = Runner::start(machine, &mut tapes.pair.run);
+    let mut ahead = Runner::start(machine, &mut tapes.ahead);
+    while ahead.steps() < second - first {
+        uses.record(machine, limits, &ahead, &tapes.ahead);
+        step(machine, &mut ahead, &mut tapes.ahead, limits, second, meter)?;
+    }
+    let start = follow(
+        machine,
+        limits,
+        &mut runner,
+        &mut ahead,
+        first,
+        second,
+        tapes,
+        uses,
+        meter,
+    )?;
+    Ok((start, runner))
+}
+
+/// Advances both runs of `find_start` to the two steps of a pair.
+fn follow<T: Tape>(
+    machine: &Machine,
+    limits: &Limits,
+    runner: &mut Runner,
+    ahead: &mut Runner,
+    first: u64,
+    second: u64,
+    tapes: &mut Tapes<T>,
+    uses: &mut LastUses,
+    meter: &mut Meter,
+) -> Result<u64, Memory>
+    requires goes_on { IsOpen machine.now limits.now second }
+    requires tapes { TapesHaveCells T.view limits.now.cells tapes.old }
+    requires order { first ≤ second }
+    requires at { IsAt machine.now limits.now 0 runner.old (T.view tapes.old.pair.run) }
+    requires ahead { IsAt machine.now limits.now (second - first) ahead.old (T.view tapes.old.ahead) }
+    requires room { meter.old.steps + 2 * first < 2 ^ 64 }
+    requires seen { AreSeen machine.now (second - first) uses.old }
+    ensures at { OnOk result (IsAt machine.now limits.now first runner.new (T.view tapes.new.pair.run)) }
+    ensures start { IfOk result (IsSeenStart machine.now first (second - first)) }
+    ensures uses { OnOk result (AreSeen machine.now second uses.new) }
+    ensures counted { OnOk result (meter.new.steps ≡ meter.old.steps + 2 * first) }
+    ensures few { meter.new.steps ≤ meter.old.steps + 2 * first }
+    ensures tapes { TapesHaveCells T.view limits.now.cells tapes.new }
+    ensures memory { OnErr result (IsTrue T.GROWS) }
+{
+    let mut start = 0;
+    while runner.steps() < first {
+        let same = has_same_transition(runner, &tapes.pair.run, ahead, &tapes.ahead);
+        start = start_after(start, runner.steps(), same);
+        uses.record(machine, limits, ahead, &tapes.ahead);
+        step(machine, runner, &mut tapes.pair.run, limits, second, meter)?;
+        step(machine, ahead, &mut tapes.ahead, limits, second, meter)?;
+    }
+    Ok(start)
+}
+
+/// From where on two runs use the same transitions, after a step in which they do, or don't.
+#[inline(always)]
+fn start_after(start: u64, step: u64, same: bool) -> u64
+    requires { step + 1 < 2 ^ 64 }
+    ensures { MatchBool same (result ≡ start) (result ≡ step + 1) }
+{
+    if same { start } else { step + 1 }
+}
+
+/// How far the head goes in a period from the first step of a pair on, where the saved tape and `saved` are.
+fn find_shift<T: Tape>(
+    machine: &Machine,
+    limits: &Limits,
+    saved: Runner,
+    first: u64,
+    period: u64,
+    second: u64,
+    tapes: &mut Tapes<T>,
+    meter: &mut Meter,
+) -> Result<i64, Memory>
+    requires tapes { TapesHaveCells T.view limits.now.cells tapes.old }
+    requires within { first + period ≤ second }
+    requires goes_on { IsOpen machine.now limits.now second }
+    requires at { IsAt machine.now limits.now first saved (T.view tapes.old.pair.saved) }
+    requires room { meter.old.steps + period < 2 ^ 64 }
+    ensures shift { IfOk result (IsShift machine.now first period) }
+    ensures near { IfOk result IsNear }
+    ensures few { meter.new.steps ≤ meter.old.steps + period }
+    ensures tapes { TapesHaveCells T.view limits.now.cells tapes.new }
+    ensures memory { OnErr result (IsTrue T.GROWS) }
+{
+    let Ok(()) = tapes.pair.run.copy_from(&tapes.pair.saved) else {
+        return Err(Memory);
+    };
+    let mut runner = saved;
+    run_to(
+        machine,
+        &mut runner,
+        &mut tapes.pair.run,
+        limits,
+        first + period,
+        second,
+        meter,
+    )?;
+    Ok(runner.position() - saved.position())
+}
