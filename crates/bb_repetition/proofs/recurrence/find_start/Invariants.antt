@@ -6,8 +6,8 @@ use Rattle.bb_repetition.specs.Tapes.{TapesHaveCells}
 use Rattle.bb_repetition.proofs.recurrence.find_start.Given as goal
 
 -- the run ahead has come so far, and the other one stays at its start
-abbrev pub invariant-loop-ahead : goal.invariant-loop-ahead
-invariant-loop-ahead g l = record {
+abbrev pub invariant-loop-uses : goal.invariant-loop-uses
+invariant-loop-uses g l = record {
   at : IsAt l.machine l.limits 0 l.runner (g.T.Tape.view l.tapes.pair.run);
   ahead : IsAt l.machine l.limits (steps_of l.ahead) l.ahead (g.T.Tape.view l.tapes.ahead);
   tapes : TapesHaveCells g.T.Tape.view l.limits.cells l.tapes;
@@ -16,5 +16,5 @@ invariant-loop-ahead g l = record {
   counted : l.meter.steps ≡ l.fn.meter.steps + steps_of l.ahead;
 }
 
-abbrev pub decreases-loop-ahead : goal.decreases-loop-ahead
-decreases-loop-ahead g l = (l.second - l.first) - steps_of l.ahead
+abbrev pub decreases-loop-uses : goal.decreases-loop-uses
+decreases-loop-uses g l = (l.second - l.first) - steps_of l.ahead

@@ -7,8 +7,8 @@ use Rattle.bb_repetition.specs.Tapes.{TapesHaveCells}
 use Rattle.bb_repetition.proofs.recurrence.follow.Given as goal
 
 -- both runs have come so far, and the start and the last uses are seen up to there
-abbrev pub invariant-loop-start : goal.invariant-loop-start
-invariant-loop-start g l = record {
+abbrev pub invariant-loop-runner : goal.invariant-loop-runner
+invariant-loop-runner g l = record {
   at : IsAt l.machine l.limits (steps_of l.runner) l.runner (g.T.Tape.view l.tapes.pair.run);
   ahead : IsAt l.machine l.limits (steps_of l.runner + (l.second - l.first)) l.ahead
       (g.T.Tape.view l.tapes.ahead);
@@ -20,5 +20,5 @@ invariant-loop-start g l = record {
   counted : l.meter.steps ≡ l.fn.meter.steps + 2 * steps_of l.runner;
 }
 
-abbrev pub decreases-loop-start : goal.decreases-loop-start
-decreases-loop-start g l = l.first - steps_of l.runner
+abbrev pub decreases-loop-runner : goal.decreases-loop-runner
+decreases-loop-runner g l = l.first - steps_of l.runner
