@@ -82,25 +82,28 @@ class Plan:
 
 
 class VerdictReader:
-    """Reads verdict lines in blocks: their `sha256`, `counts`, and undecided lines, `holdouts`."""
+    """Reads verdict lines in blocks: their `sha256`, `bytes`, `counts`, and undecided lines, `holdouts`."""
 
     def __init__(self) -> None:
-        self.sha256, self.counts = hashlib.sha256(), VerdictCounts()
+        self.sha256, self.bytes, self.counts = hashlib.sha256(), 0, VerdictCounts()
         self.holdouts: list[bytes] = []
         self._rest = b""
 
     def read(self, block: bytes) -> None:
         """Reads a block, which may end within a line."""
         self.sha256.update(block)
+        self.bytes += len(block)
         lines, newline, self._rest = (self._rest + block).rpartition(b"\n")
         self.holdouts += self.counts.add_block(lines + newline)
 
 
 class Shard(NamedTuple):
-    """A finished shard: its line in the skeleton, its counts, its undecided lines, and the seconds of its job."""
+    """A finished shard: its line in the skeleton, its counts, the bytes of its lines, its undecided lines, and the
+    seconds of its job."""
 
     line: str
     counts: VerdictCounts
+    bytes: int
     holdouts: bytes
     seconds: float
 
@@ -114,8 +117,8 @@ def create(folder: str, plan: Plan) -> None:
         if read_plan(folder) != plan:
             raise FolderError("%s has another plan; choose another folder, or remove it" % path)
         return
-    with _Pipe([plan.list_command("--shards", str(plan.entries))]) as machines:
-        write_whole(os.path.join(folder, MACHINES), machines.blocks())
+    machines = pipe_blocks([plan.list_command("--shards", str(plan.entries))])
+    write_whole(os.path.join(folder, MACHINES), machines)
     write_whole(path, [plan.to_json().encode()])
 
 
@@ -151,7 +154,8 @@ def read_shard(folder: str, machine: str) -> Shard:
         line, text, holdouts = file.readline().decode("ascii"), file.readline(), file.read()
     try:
         fields = json.loads(text)
-        shard = Shard(line, VerdictCounts.of_fields(fields), holdouts, float(fields["seconds"]))
+        numbers = int(fields["bytes"]), holdouts, float(fields["seconds"])
+        shard = Shard(line, VerdictCounts.of_fields(fields), *numbers)
         lines, undecided = map(int, line.split()[2:4])
     except (KeyError, TypeError, ValueError) as error:
         raise FolderError("%s is no finished shard: %s; remove it, and resume" % (path, error)) from None
@@ -179,13 +183,12 @@ def run_shard(folder: str, machine: str) -> str:
         [LISTER, "--below", machine, "--steps", str(plan.list_steps)],
         [DECIDER, "decide", *plan.options()],
     ]
-    with _Pipe(decide) as verdicts:
-        found = _cover(["--below", machine, *plan.options()], verdicts.blocks(), reader.read)
+    found = _cover(["--below", machine, *plan.options()], pipe_blocks(decide), reader.read)
     counts = _COVERS.match(found)
     if counts is None:
         raise CheckError("cover refuses the shard of %s: %s" % (machine, found.rstrip("\n")))
     line = "%s below %s %s\n" % (machine, " ".join(counts.groups()), reader.sha256.hexdigest())
-    fields = {**reader.counts.fields(), "seconds": round(time.monotonic() - began, 3)}
+    fields = {**reader.counts.fields(), "bytes": reader.bytes, "seconds": round(time.monotonic() - began, 3)}
     blocks = [line.encode("ascii"), json.dumps(fields).encode("ascii") + b"\n", *reader.holdouts]
     write_whole(os.path.join(folder, "shards", machine), blocks)
     return line
@@ -231,9 +234,8 @@ def digests(plan: Plan) -> dict[str, str]:
     pipe, found = [plan.list_command()], {}
     for name in ("list", "verdicts"):
         sha256 = hashlib.sha256()
-        with _Pipe(pipe) as output:
-            for block in output.blocks():
-                sha256.update(block)
+        for block in pipe_blocks(pipe):
+            sha256.update(block)
         found[name] = sha256.hexdigest()
         pipe.append([DECIDER, "decide", *plan.options()])
     return found
@@ -295,38 +297,30 @@ def _require_success(program: str, status: int) -> None:
         raise RunError("%s ended %s" % (program, cause))
 
 
-class _Pipe:
-    """Programs in a pipe, whose last output is read. Raises RunError if one fails or can't be found."""
-
-    def __init__(self, commands: Sequence[Sequence[str]]) -> None:
-        self._names = [command[0] for command in commands]
-        self._running: list[subprocess.Popen[bytes]] = []
-        given: int | IO[bytes] | None = subprocess.DEVNULL
-        # All are found before the first one starts.
-        for path, (_, *words) in zip([*map(_find, self._names)], commands):
-            self._running.append(subprocess.Popen([path, *words], stdin=given, stdout=subprocess.PIPE))
+def pipe_blocks(commands: Sequence[Sequence[str]]) -> Iterator[bytes]:
+    """The output of programs in a pipe, in blocks. Raises RunError if one fails or can't be found; none is
+    started then."""
+    paths = [_find(command[0]) for command in commands]
+    running: list[subprocess.Popen[bytes]] = []
+    given: int | IO[bytes] | None = subprocess.DEVNULL
+    try:
+        for path, command in zip(paths, commands):
+            running.append(subprocess.Popen([path, *command[1:]], stdin=given, stdout=subprocess.PIPE))
             if not isinstance(given, int) and given is not None:
                 given.close()
-            given = self._running[-1].stdout
-
-    def __enter__(self) -> _Pipe:
-        return self
-
-    def __exit__(self, *_: object) -> None:
-        for process in self._running:
+            given = running[-1].stdout
+        assert given is not None and not isinstance(given, int)
+        yield from iter(functools.partial(given.read, _BLOCK), b"")
+        # If one fails, those before it may fail too.
+        for command, process in reversed([*zip(commands, running)]):
+            _require_success(command[0], process.wait())
+    finally:
+        for process in running:
             if process.stdout is not None:
                 process.stdout.close()
             if process.poll() is None:
                 process.kill()
             process.wait()
-
-    def blocks(self) -> Iterator[bytes]:
-        """The output, in blocks; once it ends, each program must have succeeded."""
-        last = self._running[-1].stdout
-        assert last is not None
-        yield from iter(functools.partial(last.read, _BLOCK), b"")
-        for name, process in zip(self._names, self._running):
-            _require_success(name, process.wait())
 
 
 def _cover(options: Sequence[str], blocks: Iterator[bytes], see: Callable[[bytes], object]) -> str:
