@@ -21,7 +21,9 @@ def number(value: float) -> str:
 
 
 def row(*cells: object) -> str:
-    return "| %s |" % " | ".join(number(cell) if isinstance(cell, (int, float)) else str(cell) for cell in cells)
+    return "| %s |" % " | ".join(
+        number(cell) if isinstance(cell, (int, float)) else str(cell) for cell in cells
+    )
 
 
 def head(*cells: str) -> Iterator[str]:
@@ -31,9 +33,9 @@ def head(*cells: str) -> Iterator[str]:
 
 def run_of(found: Fields) -> Iterator[str]:
     """The sentences on the run."""
-    seconds = sum(sum(one["seconds"].values()) for one in found["sizes"].values())
+    seconds = sum(step["clock"] for one in found["sizes"].values() for step in one["seconds"].values())
     lines = sum(one["lines"] for one in found["sizes"].values())
-    text = "The run of commit `{}` with the {} programs did {:,} lines in {:.0f} minutes, with {} threads."
+    text = "The run of commit `{}` with the {} programs did {:,} lines in {:.1f} minutes, with {} threads."
     yield text.format(found["commit"], found["build"], lines, seconds / 60, found["threads"])
 
 
@@ -41,15 +43,17 @@ def counts_of(found: Fields) -> Iterator[str]:
     yield from head("Size", "Lines", *("`%s`" % kind for kind in KINDS), "Holdouts", "Share")
     for name, one in found["sizes"].items():
         counts = [one["counts"][kind] for kind in KINDS]
-        yield row(name, one["lines"], *counts, one["holdouts"], "%.2f %%" % (100 * one["holdouts"] / one["lines"]))
+        yield row(
+            name, one["lines"], *counts, one["holdouts"], "%.2f %%" % (100 * one["holdouts"] / one["lines"])
+        )
 
 
 def passes_of(found: Fields) -> Iterator[str]:
-    yield from head("Size", "Limits", "Machines", "Decided", "Left", "Seconds of all threads")
+    yield from head("Size", "Limits", "Machines", "Decided", "Left")
     for name, one in found["sizes"].items():
         for each in one["passes"]:
             left = each["counts"]["undecided steps"] + each["counts"]["undecided cells"]
-            yield row(name, "`%s`" % each["limits"], each["lines"], each["lines"] - left, left, each["job_seconds"])
+            yield row(name, "`%s`" % each["limits"], each["lines"], each["lines"] - left, left)
 
 
 def holdouts_of(found: Fields) -> Iterator[str]:
@@ -68,14 +72,15 @@ def greatest_of(found: Fields) -> Iterator[str]:
 
 
 def times_of(found: Fields) -> Iterator[str]:
-    yield from head("Size", "First pass", "Later passes", "Lines a second and thread", "Milliseconds a holdout")
+    steps, names = ("walk", "later"), ("clock", "cores")
+    yield from head(
+        "Size", "First pass", "Its core time", "Later passes", "Their core time", "A machine of these"
+    )
     for name, one in found["sizes"].items():
-        first, *later = one["passes"]
-        rate = "{:,.0f}".format(first["lines"] / first["job_seconds"]) if first["job_seconds"] else "-"
-        last = later[0]
-        each = "%.2f" % (1_000 * last["job_seconds"] / last["lines"]) if last["lines"] else "-"
-        times = ("%.0f s" % one["seconds"][step] for step in ("walk", "later"))
-        yield row(name, *times, rate, each)
+        times = ["%.1f s" % one["seconds"][step][each] for step in steps for each in names]
+        lines = one["passes"][1]["lines"]
+        each = "%.2f ms" % (1_000 * one["seconds"]["later"]["cores"] / lines) if lines else "-"
+        yield row(name, *times, each)
 
 
 def covers_of(found: Fields) -> Iterator[str]:
@@ -93,28 +98,28 @@ def digests_of(found: Fields) -> Iterator[str]:
 
 def larger_of(found: Fields) -> Iterator[str]:
     """What larger sizes take, by their samples and the rates of the sizes done."""
-    samples = found["samples"]
-    yield from head("", *samples)
-    rows = [estimate(one, found["sizes"]) for one in samples.values()]
-    for what in rows[0] if rows else ():
-        yield row(what, *(each[what] for each in rows))
+    rows = {name: estimate(one, found["sizes"]) for name, one in found["samples"].items()}
+    yield from head("", *rows)
+    for what in next(iter(rows.values()), ()):
+        yield row(what, *(each[what] for each in rows.values()))
 
 
 def estimate(sample: Fields, sizes: Fields) -> dict[str, str]:
     """The figures of a sample, and the estimates for its size."""
     first, part = sample["first"], sample["part"]
     listed, decided = sum(part["counts"].values()), first["lines"]
-    rate, left = decided / first["job_seconds"], part["counts"]["undecided steps"] / listed
+    rate, left = decided / first["seconds"]["cores"], part["counts"]["undecided steps"] / listed
     total = listed * part["parts"]
-    # The dearest later pass of the sizes done, a machine.
-    later = [one["passes"][1] for one in sizes.values() if one["passes"][1]["lines"] > 1_000_000]
-    later = later or [one["passes"][1] for one in sizes.values() if one["passes"][1]["lines"]]
-    each = max(one["job_seconds"] / one["lines"] for one in later)
+    # The second pass of the size with the most undecided machines that has no third one.
+    later = max(
+        (one for one in sizes.values() if len(one["passes"]) == 2), key=lambda one: one["passes"][1]["lines"]
+    )
+    each = later["seconds"]["later"]["cores"] / later["passes"][1]["lines"]
     skeleton = first["skeleton_bytes"] / first["shards"] * first["of"]
     return {
         "Lines of the sample's shards": number(decided),
         "Shards of the sample, of all": "%s of %s" % (number(first["shards"]), number(first["of"])),
-        "Lines a second and thread": number(rate),
+        "Lines a second and core": number(rate),
         "Lines of the part": "%s, 1 of %s parts" % (number(listed), number(part["parts"])),
         "Bytes a verdict line": "%.1f" % (part["bytes"] / listed),
         "Undecided, first pass": "%.2f %%" % (100 * left),
@@ -150,8 +155,8 @@ TABLES: dict[str, Callable[[Fields], Iterator[str]]] = {
 def fill(page: str, found: Fields) -> str:
     """The page with its tables filled. Raises ValueError if it has no place for one."""
     for name, lines in TABLES.items():
-        table = "\n".join(lines(found))
-        place = re.compile(r"(<!-- %s -->\n).*?(\n<!-- end -->)" % name, re.S)
+        table = "".join(line + "\n" for line in lines(found))
+        place = re.compile(r"(<!-- %s -->\n)(?:(?!<!--).)*(<!-- end -->)" % name, re.S)
         page, count = place.subn(lambda match: match[1] + table + match[2], page)
         if count != 1:
             raise ValueError("%s has %d places for the table %s, but needs one" % (PAGE, count, name))
