@@ -111,10 +111,9 @@ def estimate(sample: Fields, sizes: Fields) -> dict[str, str]:
     rate, left = decided / first["seconds"]["cores"], part["counts"]["undecided steps"] / listed
     total = listed * part["parts"]
     # The second pass of the size with the most undecided machines that has no third one.
-    later = max(
-        (one for one in sizes.values() if len(one["passes"]) == 2), key=lambda one: one["passes"][1]["lines"]
-    )
-    each = later["seconds"]["later"]["cores"] / later["passes"][1]["lines"]
+    later = [one for one in sizes.values() if len(one["passes"]) == 2]
+    most, seconds = max((one["passes"][1]["lines"], one["seconds"]["later"]["cores"]) for one in later)
+    each = seconds / most
     skeleton = first["skeleton_bytes"] / first["shards"] * first["of"]
     return {
         "Lines of the sample's shards": number(decided),

@@ -82,28 +82,28 @@ class Plan:
 
 
 class VerdictReader:
-    """Reads verdict lines in blocks: their `sha256`, `bytes`, `counts`, and undecided lines, `holdouts`."""
+    """Reads verdict lines in blocks: their `sha256`, `size` in bytes, `counts`, and undecided lines, `holdouts`."""
 
     def __init__(self) -> None:
-        self.sha256, self.bytes, self.counts = hashlib.sha256(), 0, VerdictCounts()
+        self.sha256, self.size, self.counts = hashlib.sha256(), 0, VerdictCounts()
         self.holdouts: list[bytes] = []
         self._rest = b""
 
     def read(self, block: bytes) -> None:
         """Reads a block, which may end within a line."""
         self.sha256.update(block)
-        self.bytes += len(block)
+        self.size += len(block)
         lines, newline, self._rest = (self._rest + block).rpartition(b"\n")
         self.holdouts += self.counts.add_block(lines + newline)
 
 
 class Shard(NamedTuple):
-    """A finished shard: its line in the skeleton, its counts, the bytes of its lines, its undecided lines, and the
-    seconds of its job."""
+    """A finished shard: its line in the skeleton, its counts, the bytes of all its lines, its undecided lines, and
+    the seconds of its job."""
 
     line: str
     counts: VerdictCounts
-    bytes: int
+    size: int
     holdouts: bytes
     seconds: float
 
@@ -161,8 +161,8 @@ def read_shard(folder: str, machine: str) -> Shard:
         raise FolderError("%s is no finished shard: %s; remove it, and resume" % (path, error)) from None
     found = sum(shard.counts.kinds.values()), shard.counts.undecided(), holdouts.count(b"\n")
     if found != (lines, undecided, undecided):
-        text = "%s counts %d lines, %d undecided, and has %d of them; remove it, and resume"
-        raise FolderError(text % (path, *found))
+        sentence = "%s counts %d lines, %d undecided, and has %d of them; remove it, and resume"
+        raise FolderError(sentence % (path, *found))
     return shard
 
 
@@ -188,7 +188,7 @@ def run_shard(folder: str, machine: str) -> str:
     if counts is None:
         raise CheckError("cover refuses the shard of %s: %s" % (machine, found.rstrip("\n")))
     line = "%s below %s %s\n" % (machine, " ".join(counts.groups()), reader.sha256.hexdigest())
-    fields = {**reader.counts.fields(), "bytes": reader.bytes, "seconds": round(time.monotonic() - began, 3)}
+    fields = {**reader.counts.fields(), "bytes": reader.size, "seconds": round(time.monotonic() - began, 3)}
     blocks = [line.encode("ascii"), json.dumps(fields).encode("ascii") + b"\n", *reader.holdouts]
     write_whole(os.path.join(folder, "shards", machine), blocks)
     return line
