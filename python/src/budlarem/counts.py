@@ -61,7 +61,7 @@ class VerdictCounts:
         self._add_numbers(kind, numbers_of(kind, words), line)
         return machine
 
-    def add_block(self, lines: bytes) -> list[bytes]:
+    def add_block(self, lines: bytes) -> bytes:
         """Counts a block of whole verdict lines, with the numbers of halts and trees; equal verdicts are read
         once. Returns the undecided lines."""
         for kind in _NUMBERS:
@@ -75,7 +75,7 @@ class VerdictCounts:
             self._add_numbers(kind, numbers_of(kind, words), line.decode())
         undecided = _undecided_lines(lines)
         for kind in UNDECIDED:
-            self.kinds[kind] += sum(line.endswith(b" %s\n" % kind.encode()) for line in undecided)
+            self.kinds[kind] += undecided.count(b" %s\n" % kind.encode())
         return undecided
 
     def merge(self, other: VerdictCounts) -> None:
@@ -109,11 +109,11 @@ class VerdictCounts:
             runs.remove(min(runs))
 
 
-def _undecided_lines(lines: bytes) -> list[bytes]:
-    """The undecided lines of a block, with their newlines."""
+def _undecided_lines(lines: bytes) -> bytes:
+    """The undecided lines of a block."""
     found, place = [], lines.find(b" undecided ")
     while place >= 0:
         end = lines.index(b"\n", place) + 1
         found.append(lines[lines.rfind(b"\n", 0, place) + 1 : end])
         place = lines.find(b" undecided ", end)
-    return found
+    return b"".join(found)

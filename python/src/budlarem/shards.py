@@ -94,7 +94,7 @@ class VerdictReader:
         self.sha256.update(block)
         self.size += len(block)
         lines, newline, self._rest = (self._rest + block).rpartition(b"\n")
-        self.holdouts += self.counts.add_block(lines + newline)
+        self.holdouts.append(self.counts.add_block(lines + newline))
 
 
 class Shard(NamedTuple):
@@ -263,7 +263,7 @@ def _holdouts(folder: str, total: Total) -> Iterator[bytes]:
         for line in file:
             machine, word = line.split(b" ", 2)[:2]
             if word != b"below":
-                yield from total.counts.add_block(line)
+                yield total.counts.add_block(line)
                 continue
             shard = read_shard(folder, machine.decode("ascii"))
             total.counts.merge(shard.counts)
