@@ -492,13 +492,12 @@ def _contents_of_shards(folder: str, listed: ArchivedFile | None) -> HoldoutCont
 def _shards_again(plan: Plan) -> str:
     """The commands that make the shards of a plan again."""
     options = " ".join(plan.options())
-    size = (plan.states, plan.symbols, plan.entries, plan.list_steps, options)
     commands = [
         "cover --skeleton %s skeleton.txt" % options,
         "tree_normal_form --below MACHINE --steps %d | bb decide %s > shard.txt" % (plan.list_steps, options),
         "sha256sum shard.txt       # prints the sha256 on MACHINE's line of skeleton.txt",
         "cover --below MACHINE %s shard.txt" % options,
-        "budlarem shards FOLDER --states %d --symbols %d --entries %d --list-steps %d %s" % size,
+        "budlarem shards FOLDER " + " ".join(plan.shards_options()),
         "cmp FOLDER/skeleton.txt skeleton.txt",
         "cmp FOLDER/holdouts.txt holdouts.txt",
     ]

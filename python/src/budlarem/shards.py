@@ -76,6 +76,12 @@ class Plan:
         size = ["--states", str(self.states), "--symbols", str(self.symbols)]
         return [LISTER, *size, "--steps", str(self.list_steps), *words]
 
+    def shards_options(self) -> list[str]:
+        """The options of `budlarem shards` that make this plan."""
+        names = ("states", "symbols", "entries", "list_steps")
+        words = (("--" + name.replace("_", "-"), str(getattr(self, name))) for name in names)
+        return [word for pair in words for word in pair] + self.options()
+
     def options(self) -> list[str]:
         """The options of `bb` and `cover` for the limits."""
         return [word for name in Limits.RANGES for word in ("--" + name, str(getattr(self.limits, name)))]
@@ -178,6 +184,8 @@ def run_shard(folder: str, machine: str) -> str:
     plan, line = read_plan(folder), shard_line(folder, machine)
     if line is not None:
         return line
+    for program in PROGRAMS:
+        _find(program)
     began, reader = time.monotonic(), VerdictReader()
     decide = [
         [LISTER, "--below", machine, "--steps", str(plan.list_steps)],
