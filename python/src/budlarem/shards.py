@@ -78,9 +78,8 @@ class Plan:
 
     def shards_options(self) -> list[str]:
         """The options of `budlarem shards` that make this plan."""
-        names = ("states", "symbols", "entries", "list_steps")
-        words = (("--" + name.replace("_", "-"), str(getattr(self, name))) for name in names)
-        return [word for pair in words for word in pair] + self.options()
+        size = ["--states", str(self.states), "--symbols", str(self.symbols), "--entries", str(self.entries)]
+        return [*size, "--list-steps", str(self.list_steps), *self.options()]
 
     def options(self) -> list[str]:
         """The options of `bb` and `cover` for the limits."""
