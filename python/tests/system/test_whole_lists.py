@@ -7,6 +7,7 @@ import hashlib
 import json
 import os
 import pathlib
+import runpy
 import signal
 import subprocess
 import sys
@@ -14,12 +15,13 @@ import time
 from typing import Any, Callable
 
 import pytest
+from budlarem.counts import VerdictCounts
 from support import TOP, restore_signals
 from support.program import as_lines, options_of_pass, run_command
 
 sys.path.insert(0, str(TOP))
 
-from tools.whole_lists_page import PAGE, RESULTS, fill  # noqa: E402
+from tools.whole_lists_page import PAGE, RESULTS, estimate, fill  # noqa: E402
 
 SCRIPT = str(TOP / "tools" / "whole_lists")
 WRITTEN: dict[str, Any] = json.loads(RESULTS.read_text(encoding="utf-8"))
@@ -88,10 +90,6 @@ def test_result_is_that_of_the_list_in_one_piece(
 
 def test_halts_behind_which_the_list_would_go_on(tmp_path: pathlib.Path) -> None:
     """A machine that a later pass finds to halt on one of several `---` stays a holdout."""
-    import runpy
-
-    from budlarem.counts import VerdictCounts
-
     lines = ["1RB---_------ halt 5000 3", "1RB1LA_1LA--- halt 7000 4", "1RB---_1LA--- undecided steps"]
     (tmp_path / "verdicts.txt").write_bytes(as_lines([*lines, "1RB---_1RA--- cycler 1 2"]))
     counts = VerdictCounts()
@@ -100,6 +98,31 @@ def test_halts_behind_which_the_list_would_go_on(tmp_path: pathlib.Path) -> None
     assert (found.count, found.wide, found.late) == (2, 2, 1)
     assert (counts.kinds["halt"], counts.kinds["undecided steps"]) == (2, 1)
     assert counts.greatest["halt steps"] == (7000, lines[1])
+
+
+def test_sample(
+    bb: str,
+    cover: str,
+    list_machines: Callable[..., list[str]],
+    tmp_path: pathlib.Path,
+    monkeypatch: pytest.MonkeyPatch,
+) -> None:
+    """Its first shards and its part have the lines of the list, and the estimate is of all parts."""
+    names = runpy.run_path(SCRIPT)
+    monkeypatch.setenv(
+        "PATH", "%s:%s:%s" % (os.path.dirname(bb), os.path.dirname(cover), TOP / "tools" / "out")
+    )
+    names["PARTS"]["3x2"] = 3
+    found = names["sample"](names["Size"]("3x2", tmp_path, 1), 1_000)
+    part = list_machines(3, "--steps", "1000", "--part", "1/3")
+    assert sum(found["part"]["counts"].values()) == len(part)
+    items = list_machines(3, "--steps", "1000", "--shards", "4")
+    roots = [item.split(" ")[0] for item in items if item.endswith(" below")]
+    sizes = [len(list_machines(3, "--steps", "1000", "--below", root)) for root in roots]
+    first = found["first"]
+    assert first["lines"] == sum(sizes[: first["shards"]]) >= 1_000
+    assert sum(sizes[: first["shards"] - 2]) < 1_000 and first["of"] == len(roots)
+    assert estimate(found, WRITTEN["sizes"])["All lines"] == "%.1f × 10^3" % (3 * len(part) / 1_000)
 
 
 def test_interruption(tmp_path: pathlib.Path) -> None:
