@@ -134,6 +134,17 @@ coq: ## build the second checker and its proofs by Coq, coq/out/checker
 coq-check: ## let coqchk look at the second checker's proofs too
 	@$(MAKE) --no-print-directory -C coq check
 
+## Whole lists
+
+programs := $(if $(shell command -v rt),bb cover library,plain plain-library)
+
+.PHONY: whole-lists
+whole-lists: lister $(programs) ## decide all machines of eight sizes, in an hour on four cores; fill docs/whole-lists.md
+	tools/whole_lists --sample 6x2
+	tools/whole_lists --sample 4x3
+	tools/whole_lists
+	tools/whole_lists --page
+
 ## All of it
 
 .PHONY: release test test-all bench clean
