@@ -165,6 +165,7 @@ def test_refusals(tmp_path: pathlib.Path) -> None:
         (["--symbols", "3"], "--symbols goes with --states"),
         (["--states", "2", "--page"], "--states and --page don't go together"),
         (["--threads", "0"], "--threads is 0, but must be 1 or more"),
+        (["--page"], "has no summary of all sizes"),
     ):
         require_end(start(tmp_path / "none", *words), 2, sentence)
         assert not (tmp_path / "none").exists()
