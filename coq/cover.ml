@@ -50,6 +50,7 @@ let set_number name text =
   | Some n -> set_once given name n
   | None -> refuse (text ^ " is no number for " ^ name)
 
+let is_option word = String.length word > 1 && word.[0] = '-'
 let takes_value name = name = "--below" || List.mem_assoc name numbers
 let set name text = if name = "--below" then set_once below name text else set_number name text
 let take word = if !file = None then file := Some word else refuse ("unexpected " ^ word)
@@ -63,13 +64,13 @@ let rec read_words words =
     if !skeleton then refuse "--skeleton is given twice";
     skeleton := true;
     read_words rest
-  | name :: text :: rest when takes_value name -> set name text; read_words rest
+  | name :: text :: rest when takes_value name && not (is_option text) -> set name text; read_words rest
   | word :: rest ->
     match String.index_opt word '=' with
     | Some at when takes_value (String.sub word 0 at) ->
       set (String.sub word 0 at) (String.sub word (at + 1) (String.length word - at - 1));
       read_words rest
-    | _ when String.length word > 1 && word.[0] = '-' -> refuse ("unexpected " ^ word)
+    | _ when is_option word -> refuse ("unexpected " ^ word)
     | _ -> take word; read_words rest
 
 let check_range name =
@@ -85,6 +86,29 @@ let natural n = if n = 0 then Lists.N0 else Lists.Npos (positive n)
 let characters text = List.of_seq (String.to_seq text)
 let text_of chars = String.of_seq (List.to_seq chars)
 
+(* Whether some machine's text begins with this one. *)
+let begins_machine text =
+  let groups = String.split_on_char '_' text in
+  let first = List.hd groups in
+  let symbols = if List.length groups > 1 then String.length first / 3 else 10 in
+  let is_begun group at =
+    match group.[at - at mod 3], at mod 3 with
+    | '-', _ -> group.[at] = '-'
+    | digit, 0 -> '0' <= digit && Char.code digit - Char.code '0' < symbols
+    | _, 1 -> group.[at] = 'L' || group.[at] = 'R'
+    | _ -> 'A' <= group.[at] && group.[at] <= 'Z' in
+  let fits at group =
+    let length = String.length group in
+    length <= 3 * symbols && (at = List.length groups - 1 || length = 3 * symbols)
+    && List.for_all (is_begun group) (List.init length Fun.id) in
+  2 <= symbols && symbols <= 10 && List.length groups <= 25 && List.for_all Fun.id (List.mapi fits groups)
+
+(* 1 plus the length of the longest beginning of a machine's text. *)
+let column text =
+  let rec grow n =
+    if n < String.length text && begins_machine (String.sub text 0 (n + 1)) then grow (n + 1) else n in
+  1 + grow 0
+
 let task () =
   List.iter (fun (name, _) -> check_range name) numbers;
   if 2 * value "--depth" - 1 > value "--cells" then stop 2 "cover: depth does not fit in cells";
@@ -94,7 +118,9 @@ let task () =
   let first text =
     match Lists.machine_of (characters text) with
     | Some machine -> machine
-    | None -> stop 2 "cover: the text of --below is no machine" in
+    | None ->
+      let at = string_of_int (column text) in
+      stop 2 ("cover: the text of --below is no machine: refused at column " ^ at) in
   Lists.{ bounds; below = Option.map first !below; skeleton = !skeleton }
 
 let rec read_all task channel buffer reader =
