@@ -44,7 +44,7 @@ WRONG = [
     Edit("counts an undecided line as decided", "(plus (undecided n) 1)", "(undecided n)"),
     Edit("takes a halt at any step", "if is_stop (zstep M z) then if N.eqb", "if true then if N.eqb"),
     Edit("takes another size", "| None => is_blank M end", "| None => true end"),
-    Edit("ends before the walk", "| Some _, [] => true", "| Some _, _ => true"),
+    Edit("ends before the walk", "Some _, [] => true", "Some _, _ => true"),
     Edit("goes on below the last undefined entry", "if has_another M q (under z) then", "if true then"),
 ]
 
@@ -67,22 +67,30 @@ def compare(cover: str, coq_cover: str, words: Sequence[str], given: bytes) -> C
     return theirs
 
 
+def shift_number(verdict: str, source: random.Random) -> str:
+    """Add one to a number of a verdict, or subtract it; undecided ones stay."""
+    fields = verdict.split(" ")
+    places = [at for at, field in enumerate(fields) if field.isdecimal()]
+    if places:
+        at = source.choice(places)
+        fields[at] = str(max(0, int(fields[at]) + source.choice([-1, 1])))
+    return " ".join(fields)
+
+
 def break_line(line: str, source: random.Random) -> str:
     """Change a line's machine, its verdict, a number or a character."""
     machine, _, verdict = line.partition(" ")
     place = source.randrange(len(line))
     entry = 4 * source.randrange(len(machine) // 4) if source.random() < 0.5 else 0
+    changed = machine[:entry] + source.choice(["1RA", "0LB", "1RZ", "---"]) + machine[entry + 3 :]
     return source.choice(
         [
             machine + " undecided " + source.choice(["steps", "cells"]),
             machine + " halt %d %d" % (source.randrange(8), source.randrange(5)),
-            re.sub(r"\d+$", lambda found: str(int(found[0]) + source.choice([-1, 1])), verdict)
-            and machine + " " + re.sub(r"\d+$", lambda found: str(int(found[0]) + 1), verdict),
-            machine[:entry]
-            + source.choice(["1RA", "0LB", "1RZ", "---"])
-            + machine[entry + 3 :]
-            + " "
-            + verdict,
+            machine + " " + shift_number(verdict, source),
+            machine + " " + shift_number(verdict, source),
+            machine + " " + shift_number(verdict, source),
+            changed + " " + verdict,
             line[:place] + source.choice("01RLABZ- _\r\0\xff") + line[place + 1 :],
             line[:place],
             line + " " * source.randrange(3),
