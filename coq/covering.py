@@ -199,7 +199,8 @@ def count_line(counts: list[int], machine: str, verdict: str) -> None:
 
 def cut(job: Job, most: int) -> Iterator[Part]:
     """The parts of a list, of at most so many lines. An incomplete list has some part or a ValueError."""
-    counts, path, before = [0] * 5, [], "no_progress"
+    counts, before = [0] * 5, "no_progress"
+    path: list[str] = []
     least = count_defined(job.lines[0].split(" ")[0])
     machines = [line.split(" ", 1)[0] for line in job.lines]
     for start in range(0, len(job.lines), most):
@@ -269,7 +270,8 @@ def end_text(job: Job, undecided: Sequence[str]) -> str:
         proof = "(Forall_cons _ nonhalt_%d %s)" % (number, proof)
     fields["proof"] = proof
     fields["machines"] = ";\n  ".join(map(machine_term, job.assumed))
-    return ASSUMED % {**fields, "open": texts_term(left)}
+    fields["open"] = texts_term(left)
+    return ASSUMED % fields
 
 
 def files_of(job: Job, stem: str, most: int) -> dict[str, str]:

@@ -142,7 +142,7 @@ def test_broken_lists_are_answered_alike(
     refused = 0
     for k in range(count):
         broken = break_list(lists[SIZES[k % len(SIZES)]], rng)
-        words = rng.choice([[], LIMITS, options((9, 8, 3, 9))])
+        words: list[str] = rng.choice([[], LIMITS, options((9, 8, 3, 9))])
         given = "\n".join(broken).encode("latin-1") + rng.choice([b"", b"\n"])
         refused += compare(cover, coq_cover, words, given).status
     assert refused > count // 2
