@@ -129,10 +129,28 @@ manual: ## write the manual page of the command budlarem from its parser, docs/b
 ## The second checker
 
 .PHONY: coq coq-check
-coq: ## build the second checker and its proofs by Coq, coq/out/checker
+coq: ## build the second checkers and their proofs by Coq, coq/out/checker and coq/out/cover
 	@$(MAKE) --no-print-directory -C coq
 coq-check: ## let coqchk look at the second checker's proofs too
 	@$(MAKE) --no-print-directory -C coq check
+
+## Whole lists
+
+programs := $(if $(shell command -v rt),bb cover library,plain plain-library)
+
+.PHONY: whole-lists
+whole-lists: lister $(programs) ## decide all machines of eight sizes, in an hour on four cores; fill docs/whole-lists.md
+	tools/whole_lists --sample 6x2
+	tools/whole_lists --sample 4x3
+	tools/whole_lists
+	tools/whole_lists --page
+
+four := coq/out/four
+.PHONY: coq-four-states
+coq-four-states: bb lister coq ## turn the complete list of four states into one theorem of Coq
+	@mkdir -p $(four)
+	tools/tree_normal_form --states 4 | ./bb decide --steps 200 > $(four)/verdicts.txt
+	coq/theorem --cover --jobs $$(nproc) $(four)/verdicts.txt $(four)/Covered.v
 
 ## All of it
 

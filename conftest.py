@@ -113,6 +113,12 @@ def checker() -> str:
 
 
 @pytest.fixture(scope="session")
+def coq_cover(checker: str) -> str:
+    """The path of the second checker of whole lists, which Coq extracts too."""
+    return str(pathlib.Path(checker).with_name("cover"))
+
+
+@pytest.fixture(scope="session")
 def lister() -> str:
     """The path of the program that lists machines."""
     require("rustc")

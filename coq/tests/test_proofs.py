@@ -90,7 +90,8 @@ def test_every_theorem_assumes_nothing(checker: str) -> None:
     names = re.findall(r"^Theorem (\w+)", (COQ / "Statements.v").read_text(encoding="utf-8"), flags=re.M)
     status, output, _ = run_command(["make", "-s", "--no-print-directory", "-C", str(COQ)])
     assert status == 0 and names
-    assert output.decode().splitlines() == [CLOSED] * len(names) + ["checker: " + checker]
+    programs = ["checker: " + checker, "cover: " + str(pathlib.Path(checker).with_name("cover"))]
+    assert output.decode().splitlines() == [CLOSED] * len(names) + programs
 
 
 @pytest.mark.parametrize("path", sorted(COQ.glob("**/*.v")), ids=lambda path: str(path.relative_to(COQ)))

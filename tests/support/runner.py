@@ -116,7 +116,6 @@ class RunCase(contextlib.ExitStack):
         self.top, self.list, self.out = top, top / "list.txt", top / "out"
         self.list.write_bytes(LIST)
         self.progress = KeptProgress()
-        self.seen: list[bytes] = []
 
     def run_over(
         self,
@@ -134,7 +133,7 @@ class RunCase(contextlib.ExitStack):
             backend = PoolBackend(executor, 2)
         with contextlib.closing(input.ListFile(path or str(self.list))) as listed:
             with contextlib.closing(folder.Folder(str(self.out))) as opened:
-                how = (most, check, here, keep, listed.require_unchanged, self.seen.append)
+                how = (most, check, here, keep, listed.require_unchanged)
                 options = passes.RunOptions(backend, chunks.identity(), self.progress, listed.name, *how)
                 return passes.run(opened, listed, limits, options)
 

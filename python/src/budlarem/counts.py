@@ -18,7 +18,7 @@ _NUMBERS = {
     "backward": ("levels", "nodes"),
 }
 _GREATEST = {**_NUMBERS, "cycler": ("second", "apart"), "translated": ("second", "shift", "length")}
-_VERDICT = re.compile(rb" [^\n]+")
+_COUNTED = re.compile(rb" (?:halt|backward) [^\n]+")
 
 
 def numbers_of(kind: str, words: Sequence[str]) -> dict[str, int]:
@@ -31,27 +31,25 @@ def numbers_of(kind: str, words: Sequence[str]) -> dict[str, int]:
 
 class VerdictCounts:
     """`kinds` has the count of each kind; `greatest`, by name as `halt steps`, the greatest number and the first
-    line with it; `longest`, for each kind with steps, the lines of the most, `is_distinct` one for each
-    verdict."""
+    line with it; `longest`, for each kind with steps, the lines of the most."""
 
-    def __init__(self, is_distinct: bool = False) -> None:
+    def __init__(self) -> None:
         self.kinds: collections.Counter[str] = collections.Counter()
         self.greatest: dict[str, tuple[int, str]] = {}
         self.longest: dict[str, list[tuple[int, str]]] = {}
-        self._is_distinct = is_distinct
         self._known: set[bytes] = set()
 
     @classmethod
     def of_fields(cls, fields: dict[str, Any]) -> VerdictCounts:
-        """The counts with these `fields`, also from JSON."""
-        counts = cls(is_distinct=True)
+        """The counts with these `fields`, also from JSON. Raises KeyError, TypeError, ValueError."""
+        counts = cls()
+        counts.kinds.update({str(kind): int(count) for kind, count in fields["counts"].items()})
         counts.greatest = {name: (int(most), str(line)) for name, (most, line) in fields["greatest"].items()}
-        counts.longest = {"halt": [(int(steps), str(line)) for steps, line in fields["longest"]]}
         return counts
 
     def fields(self) -> dict[str, Any]:
-        """The greatest numbers, and the longest halts."""
-        return {"greatest": self.greatest, "longest": self.longest.get("halt", [])}
+        """The counts and the greatest numbers."""
+        return {"counts": {kind: self.kinds[kind] for kind in KINDS}, "greatest": self.greatest}
 
     def add(self, line: str) -> str:
         """Counts a verdict line; returns its machine, or an empty text for a refusal."""
@@ -63,16 +61,29 @@ class VerdictCounts:
         self._add_numbers(kind, numbers_of(kind, words), line)
         return machine
 
-    def add_numbers(self, lines: bytes) -> None:
-        """Adds the numbers of a block of whole lines, and counts no kinds. Equal verdicts are read once."""
-        new = set(_VERDICT.findall(lines)) - self._known
+    def add_block(self, lines: bytes) -> bytes:
+        """Counts a block of whole verdict lines, with the numbers of halts and trees; equal verdicts are read
+        once. Returns the undecided lines."""
+        for kind in _NUMBERS:
+            self.kinds[kind] += lines.count(b" %s " % kind.encode())
+        new = set(_COUNTED.findall(lines)) - self._known
         self._known |= new
         for verdict in sorted(new):
             _, kind, *words = verdict.decode().split(" ")
-            if kind in _NUMBERS:
-                end = lines.index(verdict + b"\n") + len(verdict)
-                line = lines[lines.rfind(b"\n", 0, end) + 1 : end]
-                self._add_numbers(kind, numbers_of(kind, words), line.decode())
+            end = lines.index(verdict + b"\n") + len(verdict)
+            line = lines[lines.rfind(b"\n", 0, end) + 1 : end]
+            self._add_numbers(kind, numbers_of(kind, words), line.decode())
+        undecided = _undecided_lines(lines)
+        for kind in UNDECIDED:
+            self.kinds[kind] += undecided.count(b" %s\n" % kind.encode())
+        return undecided
+
+    def merge(self, other: VerdictCounts) -> None:
+        """Adds the counts and the greatest numbers of others, whose lines follow."""
+        self.kinds.update(other.kinds)
+        for name, (most, line) in other.greatest.items():
+            if most > self.greatest.get(name, (-1, ""))[0]:
+                self.greatest[name] = (most, line)
 
     def most(self, *names: str) -> int:
         """The greatest of the numbers with these names; 0 if no line has one."""
@@ -92,9 +103,17 @@ class VerdictCounts:
         runs = self.longest.setdefault(kind, [])
         if len(runs) == LONGEST and steps <= runs[-1][0]:
             return
-        verdict = line.partition(" ")[2]
-        if not self._is_distinct or verdict not in (kept.partition(" ")[2] for _, kept in runs):
-            runs.append((steps, line))
-            runs.sort(key=lambda run: -run[0])
-            if len(runs) > LONGEST:
-                runs.remove(runs[-1] if self._is_distinct else min(runs))
+        runs.append((steps, line))
+        runs.sort(key=lambda run: -run[0])
+        if len(runs) > LONGEST:
+            runs.remove(min(runs))
+
+
+def _undecided_lines(lines: bytes) -> bytes:
+    """The undecided lines of a block."""
+    found, place = [], lines.find(b" undecided ")
+    while place >= 0:
+        end = lines.index(b"\n", place) + 1
+        found.append(lines[lines.rfind(b"\n", 0, place) + 1 : end])
+        place = lines.find(b" undecided ", end)
+    return b"".join(found)

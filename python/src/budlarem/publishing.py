@@ -1,8 +1,9 @@
-"""Publishes a decided list as one archive, which others can check in five ways. The same contents are the
-same bytes."""
+"""Publishes a decided list as one archive, which others can check in five ways; or the holdouts of a list whose
+other verdicts weren't kept, with digests to make them again. The same contents are the same bytes."""
 
 from __future__ import annotations
 
+import collections
 import contextlib
 import dataclasses
 import errno
@@ -25,9 +26,10 @@ from .engine import check_call, decide_bytes
 from .limits import GREATEST, Limits, in_range, words_of
 from .reading.files import BlockReader
 from .runner.chunks import Identity, identity
-from .runner.errors import FolderError
+from .runner.errors import CheckError, FolderError
 from .runner.folder import FinishedRun
 from .runner.input import ListFile, StreamLines
+from .shards import PLAN, SUMMARY, Plan, cover_skeleton, read_plan
 from .verification import find_unconfirmed
 
 Path = Union[str, "os.PathLike[str]"]
@@ -35,11 +37,13 @@ _FILES = {
     "README.txt": "this page",
     "list.txt": "the machines, in the order of the verdicts",
     "verdicts.txt": "the verdicts, one a line",
+    "skeleton.txt": "the walk through all machines, with a line for each shard",
+    "holdouts.txt": "the lines that were kept, undecided ones above all",
     "about.json": "counts, limits, versions and sha256 of the input",
     "recheck.py": "a checker of verdicts, in 150 lines of Python",
     "SHA256SUMS": "the sha256 of each other file",
 }
-README, LIST, VERDICTS, ABOUT, RECHECK, SUMS = _FILES
+README, LIST, VERDICTS, SKELETON, HOLDOUTS, ABOUT, RECHECK, SUMS = _FILES
 FORMAT = 1
 KINDS = ("halt", "cycler", "translated", "backward", "undecided", "refused")
 # The time of each file in an archive.
@@ -89,84 +93,58 @@ class ArchivedFile:
 
 
 @dataclasses.dataclass(frozen=True)
-class Contents:
-    """The contents of an archive. The checker confirmed `confirmed` lines; `machines` is the list, if given.
-    `passes` and `decider` are the limits and the package by which the verdicts were decided, if known."""
+class Archive:
+    """An archive. `counts` are of all lines, of which the checker confirmed `confirmed`. `passes` and `decider` are
+    the limits and the package by which the verdicts were decided, if known."""
 
-    machines: ArchivedFile | None
-    verdicts: ArchivedFile
     counts: VerdictCounts
     confirmed: int
-    passes: tuple[Limits, ...] = ()
-    decider: Identity | None = None
+    passes: tuple[Limits, ...]
+    decider: Identity | None
 
-    def _inputs(self) -> list[ArchivedFile]:
-        return [given for given in (self.machines, self.verdicts) if given is not None]
+    def inputs(self) -> list[ArchivedFile]:
+        """The files that are copied into it."""
+        raise NotImplementedError
+
+    def small(self) -> dict[str, bytes]:
+        """The other files, by name."""
+        raise NotImplementedError
 
     def _counts(self) -> dict[str, int]:
         kinds = {**self.counts.kinds, "undecided": self.counts.undecided()}
         return {kind: kinds.get(kind, 0) for kind in KINDS}
 
-    def _greatest(self) -> tuple[int, int, int]:
-        """The greatest steps, levels and nodes of claims."""
-        most = self.counts.most
-        steps = most("halt steps", "cycler second", "translated second")
-        return steps, most("backward levels"), most("backward nodes")
-
-    def about(self) -> bytes:
-        """The text of `about.json`."""
-        fields: dict[str, Any] = {
+    def _about(self, fields: dict[str, Any]) -> bytes:
+        """The text of `about.json`, with fields behind the counts."""
+        every: dict[str, Any] = {
             "format": FORMAT,
             "lines": sum(self.counts.kinds.values()),
             "counts": self._counts(),
-            "greatest": dict(zip(("steps", "levels", "nodes"), self._greatest())),
+            **fields,
             "passes": [words_of(limits) for limits in self.passes],
             "decided_by": None if self.decider is None else dataclasses.asdict(self.decider),
             "checked_by": dataclasses.asdict(identity()),
-            "sha256": {given.name: given.sha256 for given in self._inputs()},
+            "sha256": {given.name: given.sha256 for given in self.inputs()},
         }
-        return (json.dumps(fields, indent=2) + "\n").encode()
+        return (json.dumps(every, indent=2) + "\n").encode()
 
-    def _check_statement(self) -> str:
-        total = sum(self.counts.kinds.values())
-        first = "When this archive was made, Budlarem's checker confirmed each line that claims something"
-        sentences = [f"{first}: {self.confirmed:,} of {total:,}."]
-        sentences.append("The checker is proved to confirm no false claim, whatever its origin.")
-        if self.machines is not None:
-            sentences.append("Each line of list.txt has its verdict on the same line of verdicts.txt.")
-        if self.passes:
-            sentences.append("Undecided machines were tried with these limits, one pass after another:")
-        elif self.counts.undecided():
-            sentences.append("The limits with which undecided machines were tried aren't known.")
-        lines = [line for text in sentences for line in textwrap.wrap(text, _WIDE - 2)]
-        lines += ["    " + words_of(limits) for limits in self.passes]
-        return "\n".join("  " + line for line in lines)
-
-    def readme(self) -> bytes:
-        """The text of `README.txt`."""
-        own, kinds = identity(), self.counts.kinds
-        title = f"Verdicts on {sum(kinds.values()) - kinds['refused']:,} machines"
-        names = [name for name in _FILES if name != LIST or self.machines is not None]
-        steps, levels, nodes = self._greatest()
-        counts = [f"{count:,} {kind}" for kind, count in self._counts().items() if count]
-        fields = {
+    def _readme(self, page: str, title: str, names: Iterable[str], fields: dict[str, str]) -> bytes:
+        """The text of `README.txt` by a page of this package."""
+        own, counts = identity(), [f"{count:,} {kind}" for kind, count in self._counts().items() if count]
+        every = {
             "title": title,
             "underline": "=" * len(title),
             "counts": textwrap.fill("%s." % ", ".join(counts), _WIDE),
             "version": own.version,
             "commit": own.commit,
             "files": "\n".join("  %-13s %s" % (name, _FILES[name]) for name in names),
-            "checked": self._check_statement(),
-            "bb_limits": f"--steps {steps} --cells {GREATEST.cells} --depth {levels} --nodes {nodes}",
-            "recheck_limits": f"--steps {steps} --nodes {nodes}",
+            **fields,
         }
-        page = (_HERE / "archive.txt").read_text(encoding="utf-8")
-        return string.Template(page).substitute(fields).encode()
+        return string.Template((_HERE / page).read_text(encoding="utf-8")).substitute(every).encode()
 
     def write(self, file: BinaryIO) -> None:
         """Writes the archive. Raises PublishError if a file has changed, RunError, OSError."""
-        small = {README: self.readme(), ABOUT: self.about(), RECHECK: (_HERE / RECHECK).read_bytes()}
-        inputs = {given.name: given for given in self._inputs()}
+        small, inputs = self.small(), {given.name: given for given in self.inputs()}
         sums = {name: hashlib.sha256(data).hexdigest() for name, data in small.items()}
         sums.update({name: given.sha256 for name, given in inputs.items()})
         names = [name for name in _FILES if name in sums]
@@ -186,9 +164,80 @@ class Contents:
                     raise PublishError(_CHANGED % name)
 
 
-def _write_new(path: str, contents: Contents) -> Published:
+@dataclasses.dataclass(frozen=True)
+class Contents(Archive):
+    """An archive of all verdicts; `machines` is the list, if given."""
+
+    machines: ArchivedFile | None
+    verdicts: ArchivedFile
+
+    def inputs(self) -> list[ArchivedFile]:
+        return [given for given in (self.machines, self.verdicts) if given is not None]
+
+    def _greatest(self) -> tuple[int, int, int]:
+        """The greatest steps, levels and nodes of claims."""
+        most = self.counts.most
+        steps = most("halt steps", "cycler second", "translated second")
+        return steps, most("backward levels"), most("backward nodes")
+
+    def small(self) -> dict[str, bytes]:
+        about = self._about({"greatest": dict(zip(("steps", "levels", "nodes"), self._greatest()))})
+        return {README: self.readme(), ABOUT: about, RECHECK: (_HERE / RECHECK).read_bytes()}
+
+    def _check_statement(self) -> str:
+        total = sum(self.counts.kinds.values())
+        first = "When this archive was made, Budlarem's checker confirmed each line that claims something"
+        sentences = [f"{first}: {self.confirmed:,} of {total:,}."]
+        sentences.append("The checker is proved to confirm no false claim, whatever its origin.")
+        if self.machines is not None:
+            sentences.append("Each line of list.txt has its verdict on the same line of verdicts.txt.")
+        if self.passes:
+            sentences.append("Undecided machines were tried with these limits, one pass after another:")
+        elif self.counts.undecided():
+            sentences.append("The limits with which undecided machines were tried aren't known.")
+        lines = [line for text in sentences for line in textwrap.wrap(text, _WIDE - 2)]
+        lines += ["    " + words_of(limits) for limits in self.passes]
+        return "\n".join("  " + line for line in lines)
+
+    def readme(self) -> bytes:
+        """The text of `README.txt`."""
+        kinds, (steps, levels, nodes) = self.counts.kinds, self._greatest()
+        title = f"Verdicts on {sum(kinds.values()) - kinds['refused']:,} machines"
+        fields = {
+            "checked": self._check_statement(),
+            "bb_limits": f"--steps {steps} --cells {GREATEST.cells} --depth {levels} --nodes {nodes}",
+            "recheck_limits": f"--steps {steps} --nodes {nodes}",
+        }
+        inputs = [given.name for given in self.inputs()]
+        return self._readme("archive.txt", title, [README, *inputs, ABOUT, RECHECK, SUMS], fields)
+
+
+@dataclasses.dataclass(frozen=True)
+class HoldoutContents(Archive):
+    """An archive of the lines that were kept. `fields` are those of `about.json`; `checked` and `again` are parts of
+    the page: the checks that were made, and how to make the rest again."""
+
+    files: tuple[ArchivedFile, ...]
+    fields: dict[str, Any]
+    checked: str
+    again: str
+
+    def inputs(self) -> list[ArchivedFile]:
+        return list(self.files)
+
+    def small(self) -> dict[str, bytes]:
+        names = [README, *(given.name for given in self.files), ABOUT, SUMS]
+        parts = {
+            "checked": textwrap.indent(textwrap.fill(self.checked, _WIDE - 2), "  "),
+            "again": self.again,
+        }
+        title = f"The holdouts of {sum(self.counts.kinds.values()):,} machines"
+        return {README: self._readme("holdouts.txt", title, names, parts), ABOUT: self._about(self.fields)}
+
+
+def _write_new(path: str, contents: Archive) -> Published:
     """Writes an archive whole or not at all. Raises FileExistsError, OSError, also if its folder was moved
-    meanwhile, and what `Contents.write` does."""
+    meanwhile, and what `Archive.write` does."""
     digest = hashlib.sha256()
 
     def fill(number: int) -> None:
@@ -297,9 +346,13 @@ def publish(
     have its verdict at its place. `passes` are the limits by which the verdicts were decided; a run's folder
     has them. `progress` is called with the number of checked lines. The same contents are the same bytes.
 
+    The archive of a run with `--keep left`, or of a folder of `budlarem shards`, has the lines that were kept, and
+    digests and commands to make the others again. That run must have checked them, and its list must be given.
+
     Raises PublishError, a ValueError, if `path` exists or doesn't end in `.tar`, list and verdicts don't match,
     or a file changes meanwhile. Raises UnconfirmedError, a PublishError, for a verdict that isn't confirmed.
-    Raises OSError if a file can't be read or written. Nothing is left at `path` then.
+    Raises OSError if a file can't be read or written, RunError if `cover` isn't found for a folder of shards.
+    Nothing is left at `path` then.
     """
     out, given = os.fspath(path), os.fspath(verdicts)
     in_range("threads", threads, 1, 1_024)
@@ -319,27 +372,133 @@ def publish(
         counts = VerdictCounts() if listed is None else _count_beside(listed, lines)
         for line in lines.lines() if listed is None else ():
             counts.add(line.decode())
-        return Contents(listed, lines, counts, confirmed, tuple(passes), decider)
+        return Contents(counts, confirmed, tuple(passes), decider, listed, lines)
 
     try:
         if not os.path.isdir(given):
             return _write_new(out, contents_of(given, passes))
+        if os.path.exists(os.path.join(given, PLAN)):
+            return _write_new(out, _contents_of_shards(given, listed))
         with contextlib.closing(FinishedRun(given)) as run:
-            _require_whole(run)
+            run.require_journals()
+            if run.keep.only_holdouts:
+                lines = ArchivedFile(run.verdicts, HOLDOUTS)
+                _confirm_all(lines, limits, threads, progress)
+                return _write_new(out, _contents_of_holdouts(run, lines, listed))
             decided = (one.limits for one in run.passes)
             contents = contents_of(run.verdicts, decided, run.identity)
             run.require_verdicts(contents.verdicts.checksum, contents.counts.kinds)
             return _write_new(out, contents)
     except FolderError as error:
         raise PublishError(str(error)) from None
+    except CheckError as error:
+        raise UnconfirmedError(str(error)) from None
     except FileExistsError:
         raise PublishError("%s was made by another process meanwhile, and stays as it is" % out) from None
 
 
-def _require_whole(run: FinishedRun) -> None:
-    """Raises PublishError if a run kept only some verdicts, FolderError if its journals don't match."""
-    if run.keep.only_holdouts:
-        what = f"has only the verdicts that --keep {run.keep} kept, and all are published"
-        advice = "decide the list without --keep, in another folder"
-        raise PublishError(f"{os.path.dirname(run.verdicts)} {what}; {advice}")
-    run.require_journals()
+def _contents_of_holdouts(
+    run: FinishedRun, lines: ArchivedFile, listed: ArchivedFile | None
+) -> HoldoutContents:
+    """The archive of a run that kept its holdouts. Raises PublishError, FolderError, OSError."""
+    folder = os.path.dirname(run.verdicts)
+    if listed is None:
+        advice = "give the list by --list, so that the rest can be made again"
+        raise PublishError(f"{folder} has only the verdicts that --keep {run.keep} kept; {advice}")
+    if not all(one.is_checked for one in run.passes):
+        advice = "decide the list with --check, in another folder"
+        raise PublishError(f"{folder} dropped verdicts that no checker confirmed; {advice}")
+    if (count := _count_around(listed, lines)) != run.lines:
+        raise PublishError(f"{listed.path} has {count} lines, and the run in {folder} had {run.lines}")
+    run.require_verdicts(lines.checksum, run.counts)
+    counts, passes = VerdictCounts(), tuple(one.limits for one in run.passes)
+    counts.kinds.update(run.counts)
+    words = " ".join("--pass " + words_of(limits) for limits in passes)
+    again = [
+        "sha256sum LIST            # prints the sha256 of `list` in about.json",
+        f"budlarem run LIST --out FOLDER --check --keep {run.keep} {words}",
+        "cmp FOLDER/verdicts.txt holdouts.txt",
+    ]
+    return HoldoutContents(
+        counts,
+        run.lines - counts.undecided() - counts.kinds["refused"],
+        passes,
+        run.identity,
+        (lines,),
+        {"kept": str(run.keep), "list": listed.sha256},
+        "The checker confirmed each verdict before it was dropped. It confirmed the kept lines again when this"
+        " archive was made, and each is on a machine of the list, in its order.",
+        "\n".join("      " + line for line in again),
+    )
+
+
+def _count_around(listed: ArchivedFile, lines: ArchivedFile) -> int:
+    """The number of lines of a list. Raises PublishError unless it has the machines of some verdict lines, in
+    their order; refused ones aren't compared."""
+    machines, count = enumerate(listed.lines(), 1), 0
+    for number, line in enumerate(lines.lines(), 1):
+        machine = line.partition(b" ")[0]
+        if machine == b"refused":
+            continue
+        place = next((place for place, one in machines if one == machine), None)
+        if place is None:
+            where = f"line {number} of {lines.path} is on {machine.decode()}"
+            raise PublishError(f"{where}, which {listed.path} doesn't have behind the machine before")
+        count = place
+    return count + sum(1 for _ in machines)
+
+
+def _contents_of_shards(folder: str, listed: ArchivedFile | None) -> HoldoutContents:
+    """The archive of a finished folder of shards. Raises PublishError, FolderError, CheckError, RunError,
+    OSError."""
+    if listed is not None:
+        raise PublishError("%s has shards, which have their own list; leave --list out" % folder)
+    plan, path = read_plan(folder), os.path.join(folder, SUMMARY)
+    try:
+        with open(path, encoding="utf-8") as file:
+            summary = json.load(file)
+        counts, cover, known = (
+            VerdictCounts.of_fields(summary),
+            str(summary["cover"]),
+            dict(summary["sha256"]),
+        )
+    except FileNotFoundError:
+        raise PublishError("%s isn't finished; `budlarem shards %s` resumes" % (folder, folder)) from None
+    except (KeyError, TypeError, ValueError) as error:
+        raise PublishError("%s isn't as `budlarem shards` writes it: %s" % (path, error)) from None
+    files = tuple(ArchivedFile(os.path.join(folder, name), name) for name in (SKELETON, HOLDOUTS))
+    for given in files:
+        collections.deque(given.blocks(), maxlen=0)
+        if given.sha256 != known.get(given.name):
+            raise PublishError(
+                "%s isn't that of the summary; run `budlarem shards %s`" % (given.path, folder)
+            )
+    found = cover_skeleton(files[0].path, plan).rstrip("\n")
+    if found != cover:
+        raise PublishError("%s has %r, and cover prints %r" % (path, cover, found))
+    return HoldoutContents(
+        counts,
+        sum(counts.kinds.values()) - counts.undecided(),
+        (plan.limits,),
+        None,
+        files,
+        {"greatest": counts.greatest, "plan": dataclasses.asdict(plan), "cover": cover},
+        "cover --below confirmed every claim of each shard, and that the shard is the whole walk below its machine."
+        " cover --skeleton confirmed the skeleton when this archive was made: it %s" % found,
+        _shards_again(plan),
+    )
+
+
+def _shards_again(plan: Plan) -> str:
+    """The commands that make the shards of a plan again."""
+    options = " ".join(plan.options())
+    commands = [
+        "cover --skeleton %s skeleton.txt" % options,
+        "tree_normal_form --below MACHINE --steps %d | bb decide %s > shard.txt" % (plan.list_steps, options),
+        "sha256sum shard.txt       # prints the sha256 on MACHINE's line of skeleton.txt",
+        "cover --below MACHINE %s shard.txt" % options,
+        "budlarem shards FOLDER " + " ".join(plan.shards_options()),
+        "cmp FOLDER/skeleton.txt skeleton.txt",
+        "cmp FOLDER/holdouts.txt holdouts.txt",
+    ]
+    return "\n".join("      " + line for line in commands)

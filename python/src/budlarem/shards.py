@@ -4,8 +4,10 @@ The folder of a sharded list has
 
 - `plan.json`: size, entries, limits
 - `machines.txt`: the machines of the skeleton, in walk order; one that ends in `below` stands for its shard
-- `shards/MACHINE`: the line of each finished shard
+- `shards/MACHINE`: of each finished shard the line, the counts as JSON, and the undecided lines
 - `skeleton.txt`: the machines decided, and the lines of the shards in their places
+- `holdouts.txt`: the undecided lines, in walk order
+- `summary.json`: the plan, the line of `cover`, the counts, the sha256 of both files
 
 Jobs share nothing but this folder: they may run on the cores, by `xargs`, as array jobs or over dask. Three
 programs in a pipe do the work, found in the PATH: `tree_normal_form` lists, `bb` decides, `cover` checks.
@@ -22,13 +24,22 @@ import os
 import re
 import shutil
 import subprocess
-from typing import IO, Any, Callable, Iterator, Sequence
+import time
+from typing import IO, Any, Callable, Iterator, NamedTuple, Sequence
 
 from ._files import write_whole
+from .counts import VerdictCounts
 from .limits import Limits
 from .runner.errors import CheckError, FolderError, RunError
 
 LISTER, DECIDER, CHECKER = PROGRAMS = ("tree_normal_form", "bb", "cover")
+PLAN, MACHINES, SKELETON, HOLDOUTS, SUMMARY = FILES = (
+    "plan.json",
+    "machines.txt",
+    "skeleton.txt",
+    "holdouts.txt",
+    "summary.json",
+)
 _BLOCK = 1 << 16
 _COVERS = re.compile(r"covers below \S+: (\d+) lines?, (\d+) undecided, (\d+) of them ")
 
@@ -60,35 +71,71 @@ class Plan:
         except (KeyError, TypeError, ValueError) as error:
             raise FolderError("plan.json is no plan of shards: %s" % error) from None
 
+    def list_command(self, *words: str) -> list[str]:
+        """The command that lists its machines."""
+        size = ["--states", str(self.states), "--symbols", str(self.symbols)]
+        return [LISTER, *size, "--steps", str(self.list_steps), *words]
+
+    def shards_options(self) -> list[str]:
+        """The options of `budlarem shards` that make this plan."""
+        size = ["--states", str(self.states), "--symbols", str(self.symbols), "--entries", str(self.entries)]
+        return [*size, "--list-steps", str(self.list_steps), *self.options()]
+
     def options(self) -> list[str]:
         """The options of `bb` and `cover` for the limits."""
         return [word for name in Limits.RANGES for word in ("--" + name, str(getattr(self.limits, name)))]
+
+
+class VerdictReader:
+    """Reads verdict lines in blocks: their `sha256`, `size` in bytes, `counts`, and undecided lines, `holdouts`."""
+
+    def __init__(self) -> None:
+        self.sha256, self.size, self.counts = hashlib.sha256(), 0, VerdictCounts()
+        self.holdouts: list[bytes] = []
+        self._rest = b""
+
+    def read(self, block: bytes) -> None:
+        """Reads a block, which may end within a line."""
+        self.sha256.update(block)
+        self.size += len(block)
+        lines, newline, self._rest = (self._rest + block).rpartition(b"\n")
+        self.holdouts.append(self.counts.add_block(lines + newline))
+
+
+class Shard(NamedTuple):
+    """A finished shard: its line in the skeleton, its counts, the bytes of all its lines, its undecided lines, and
+    the seconds of its job."""
+
+    line: str
+    counts: VerdictCounts
+    size: int
+    holdouts: bytes
+    seconds: float
 
 
 def create(folder: str, plan: Plan) -> None:
     """Creates a folder for a plan, or returns if it has that plan. Raises FolderError if it has another one,
     RunError if the machines can't be listed, OSError."""
     os.makedirs(os.path.join(folder, "shards"), exist_ok=True)
-    path = os.path.join(folder, "plan.json")
+    path = os.path.join(folder, PLAN)
     with contextlib.suppress(FileNotFoundError):
         if read_plan(folder) != plan:
             raise FolderError("%s has another plan; choose another folder, or remove it" % path)
         return
-    size = ["--states", str(plan.states), "--symbols", str(plan.symbols), "--steps", str(plan.list_steps)]
-    with _Pipe([[LISTER, *size, "--shards", str(plan.entries)]]) as machines:
-        write_whole(os.path.join(folder, "machines.txt"), machines.blocks())
+    machines = pipe_blocks([plan.list_command("--shards", str(plan.entries))])
+    write_whole(os.path.join(folder, MACHINES), machines)
     write_whole(path, [plan.to_json().encode()])
 
 
 def read_plan(folder: str) -> Plan:
     """The plan of a folder. Raises FolderError, OSError."""
-    with open(os.path.join(folder, "plan.json"), encoding="utf-8") as file:
+    with open(os.path.join(folder, PLAN), encoding="utf-8") as file:
         return Plan.from_json(file.read())
 
 
 def read_machines(folder: str) -> Iterator[tuple[str, bool]]:
     """The machines of the skeleton, in walk order, each with whether it is a shard. Raises OSError."""
-    with open(os.path.join(folder, "machines.txt"), encoding="ascii") as file:
+    with open(os.path.join(folder, MACHINES), encoding="ascii") as file:
         for line in file:
             machine, *below = line.split()
             yield machine, bool(below)
@@ -98,10 +145,30 @@ def shard_line(folder: str, machine: str) -> str | None:
     """The line of a finished shard; None if it isn't finished. Raises OSError."""
     with contextlib.suppress(FileNotFoundError):
         with open(os.path.join(folder, "shards", machine), encoding="ascii", errors="replace") as file:
-            line = file.read()
-        if re.fullmatch(re.escape(machine) + r" below \d+ \d+ \d+ [0-9a-f]{64}\n", line):
+            line, fields = file.readline(), file.readline()
+        is_line = re.fullmatch(re.escape(machine) + r" below \d+ \d+ \d+ [0-9a-f]{64}\n", line)
+        if is_line and fields.startswith("{") and fields.endswith("}\n"):
             return line
     return None
+
+
+def read_shard(folder: str, machine: str) -> Shard:
+    """A finished shard. Raises FolderError if its file was changed, OSError."""
+    path = os.path.join(folder, "shards", machine)
+    with open(path, "rb") as file:
+        line, text, holdouts = file.readline().decode("ascii"), file.readline(), file.read()
+    try:
+        fields = json.loads(text)
+        numbers = int(fields["bytes"]), holdouts, float(fields["seconds"])
+        shard = Shard(line, VerdictCounts.of_fields(fields), *numbers)
+        lines, undecided = map(int, line.split()[2:4])
+    except (KeyError, TypeError, ValueError) as error:
+        raise FolderError("%s is no finished shard: %s; remove it, and resume" % (path, error)) from None
+    found = sum(shard.counts.kinds.values()), shard.counts.undecided(), holdouts.count(b"\n")
+    if found != (lines, undecided, undecided):
+        sentence = "%s counts %d lines, %d undecided, and has %d of them; remove it, and resume"
+        raise FolderError(sentence % (path, *found))
+    return shard
 
 
 def pending(folder: str) -> list[str]:
@@ -116,35 +183,99 @@ def run_shard(folder: str, machine: str) -> str:
     plan, line = read_plan(folder), shard_line(folder, machine)
     if line is not None:
         return line
-    digest = hashlib.sha256()
+    for program in PROGRAMS:
+        _find(program)
+    began, reader = time.monotonic(), VerdictReader()
     decide = [
         [LISTER, "--below", machine, "--steps", str(plan.list_steps)],
         [DECIDER, "decide", *plan.options()],
     ]
-    with _Pipe(decide) as verdicts:
-        found = _cover(["--below", machine, *plan.options()], verdicts.blocks(), digest.update)
+    found = _cover(["--below", machine, *plan.options()], pipe_blocks(decide), reader.read)
     counts = _COVERS.match(found)
     if counts is None:
         raise CheckError("cover refuses the shard of %s: %s" % (machine, found.rstrip("\n")))
-    line = "%s below %s %s\n" % (machine, " ".join(counts.groups()), digest.hexdigest())
-    write_whole(os.path.join(folder, "shards", machine), [line.encode("ascii")])
+    line = "%s below %s %s\n" % (machine, " ".join(counts.groups()), reader.sha256.hexdigest())
+    fields = {**reader.counts.fields(), "bytes": reader.size, "seconds": round(time.monotonic() - began, 3)}
+    blocks = [line.encode("ascii"), json.dumps(fields).encode("ascii") + b"\n", *reader.holdouts]
+    write_whole(os.path.join(folder, "shards", machine), blocks)
     return line
 
 
 def join(folder: str) -> str:
-    """Writes the skeleton of the finished shards; returns the line that `cover` prints of it. Raises FolderError
-    if a shard isn't finished, CheckError if `cover` refuses the skeleton, RunError, OSError."""
+    """Writes skeleton, holdouts and summary of the finished shards; returns the line that `cover` prints of the
+    skeleton. Raises FolderError if a shard isn't finished or was changed, CheckError if `cover` refuses the
+    skeleton, RunError, OSError."""
     plan, left = read_plan(folder), pending(folder)
     if left:
         raise FolderError("%d shards aren't finished; the first is %s" % (len(left), left[0]))
-    path = os.path.join(folder, "skeleton.txt")
-    write_whole(path, _skeleton(folder, plan))
+    skeleton, holdouts, summary = (os.path.join(folder, name) for name in FILES[2:])
+    write_whole(skeleton, _skeleton(folder, plan))
+    found = cover_skeleton(skeleton, plan)
+    total = Total()
+    write_whole(holdouts, _holdouts(folder, total))
+    fields = {
+        "plan": dataclasses.asdict(plan),
+        "cover": found.rstrip("\n"),
+        "shards": total.shards,
+        "seconds": round(total.seconds, 3),
+        **total.counts.fields(),
+        "sha256": {SKELETON: sha256_of(skeleton), HOLDOUTS: sha256_of(holdouts)},
+    }
+    write_whole(summary, [json.dumps(fields, indent=1).encode("ascii") + b"\n"])
+    return found
+
+
+def cover_skeleton(path: str, plan: Plan) -> str:
+    """The line that `cover` prints of a skeleton. Raises CheckError if it refuses the skeleton, RunError,
+    OSError."""
     with open(path, "rb") as file:
         blocks = iter(lambda: file.read(_BLOCK), b"")
         found = _cover(["--skeleton", *plan.options()], blocks, lambda _: None)
     if not found.startswith("covers "):
         raise CheckError("cover refuses %s: %s" % (path, found.rstrip("\n")))
     return found
+
+
+def digests(plan: Plan) -> dict[str, str]:
+    """The sha256 of the list in one piece, and of its verdicts. Raises RunError."""
+    pipe, found = [plan.list_command()], {}
+    for name in ("list", "verdicts"):
+        sha256 = hashlib.sha256()
+        for block in pipe_blocks(pipe):
+            sha256.update(block)
+        found[name] = sha256.hexdigest()
+        pipe.append([DECIDER, "decide", *plan.options()])
+    return found
+
+
+def sha256_of(path: str) -> str:
+    """The sha256 of a file. Raises OSError."""
+    sha256 = hashlib.sha256()
+    with open(path, "rb") as file:
+        for block in iter(lambda: file.read(_BLOCK), b""):
+            sha256.update(block)
+    return sha256.hexdigest()
+
+
+class Total:
+    """The number of shards, the sum of their seconds, and the counts of all lines."""
+
+    def __init__(self) -> None:
+        self.shards, self.seconds, self.counts = 0, 0.0, VerdictCounts()
+
+
+def _holdouts(folder: str, total: Total) -> Iterator[bytes]:
+    """The undecided lines in walk order; adds up the counts of all lines."""
+    with open(os.path.join(folder, SKELETON), "rb") as file:
+        for line in file:
+            machine, word = line.split(b" ", 2)[:2]
+            if word != b"below":
+                yield total.counts.add_block(line)
+                continue
+            shard = read_shard(folder, machine.decode("ascii"))
+            total.counts.merge(shard.counts)
+            total.shards, total.seconds = total.shards + 1, total.seconds + shard.seconds
+            yield shard.holdouts
 
 
 def _skeleton(folder: str, plan: Plan) -> Iterator[bytes]:
@@ -173,37 +304,30 @@ def _require_success(program: str, status: int) -> None:
         raise RunError("%s ended %s" % (program, cause))
 
 
-class _Pipe:
-    """Programs in a pipe, whose last output is read. Raises RunError if one fails or can't be found."""
-
-    def __init__(self, commands: Sequence[Sequence[str]]) -> None:
-        self._names = [command[0] for command in commands]
-        self._running: list[subprocess.Popen[bytes]] = []
-        given: int | IO[bytes] | None = subprocess.DEVNULL
-        for name, *words in commands:
-            self._running.append(subprocess.Popen([_find(name), *words], stdin=given, stdout=subprocess.PIPE))
+def pipe_blocks(commands: Sequence[Sequence[str]]) -> Iterator[bytes]:
+    """The output of programs in a pipe, in blocks. Raises RunError if one fails or can't be found; none is
+    started then."""
+    paths = [_find(command[0]) for command in commands]
+    running: list[subprocess.Popen[bytes]] = []
+    given: int | IO[bytes] | None = subprocess.DEVNULL
+    try:
+        for path, command in zip(paths, commands):
+            running.append(subprocess.Popen([path, *command[1:]], stdin=given, stdout=subprocess.PIPE))
             if not isinstance(given, int) and given is not None:
                 given.close()
-            given = self._running[-1].stdout
-
-    def __enter__(self) -> _Pipe:
-        return self
-
-    def __exit__(self, *_: object) -> None:
-        for process in self._running:
+            given = running[-1].stdout
+        assert given is not None and not isinstance(given, int)
+        yield from iter(functools.partial(given.read, _BLOCK), b"")
+        # If one fails, those before it may fail too.
+        for command, process in reversed([*zip(commands, running)]):
+            _require_success(command[0], process.wait())
+    finally:
+        for process in running:
             if process.stdout is not None:
                 process.stdout.close()
             if process.poll() is None:
                 process.kill()
             process.wait()
-
-    def blocks(self) -> Iterator[bytes]:
-        """The output, in blocks; once it ends, each program must have succeeded."""
-        last = self._running[-1].stdout
-        assert last is not None
-        yield from iter(functools.partial(last.read, _BLOCK), b"")
-        for name, process in zip(self._names, self._running):
-            _require_success(name, process.wait())
 
 
 def _cover(options: Sequence[str], blocks: Iterator[bytes], see: Callable[[bytes], object]) -> str:

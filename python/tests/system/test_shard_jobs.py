@@ -2,6 +2,9 @@
 
 from __future__ import annotations
 
+import collections
+import hashlib
+import json
 import os
 import pathlib
 import signal
@@ -16,6 +19,7 @@ from support.clusters import cluster
 from support.program import as_lines, run_command
 
 Run = Callable[..., "subprocess.CompletedProcess[str]"]
+Lister = Callable[..., list[str]]
 PLAN = ["--states", "3", "--entries", "2"]
 
 
@@ -75,9 +79,44 @@ def test_array_jobs(run: Run, whole: Callable[[int], str], tmp_path: pathlib.Pat
     assert run("shard", folder, machines[0]).stdout == lines[0]
     assert run("shards", folder, "--pending").stdout == ""
     cut = folder / "shards" / machines[1]
-    cut.write_text(lines[1][:-2])
-    assert run("shards", folder, "--pending").stdout == machines[1] + "\n"
-    assert counts_of(run("shards", folder)) == whole(3) and cut.read_text() == lines[1]
+    for text in (lines[1][:-2], lines[1]):
+        cut.write_text(text)
+        assert run("shards", folder, "--pending").stdout == machines[1] + "\n"
+    assert counts_of(run("shards", folder)) == whole(3) and cut.read_text().startswith(lines[1])
+
+
+def test_summary_and_holdouts(bb: str, run: Run, list_machines: Lister, tmp_path: pathlib.Path) -> None:
+    """They are those of the list in one piece."""
+    folder, limits = tmp_path / "out", ["--steps", "50"]
+    assert run("shards", folder, *PLAN, "--list-steps", "50", *limits).returncode == 0
+    lines = run_command(
+        [bb, "decide", *limits], as_lines(list_machines(3, "--steps", "50"))
+    ).output.splitlines()
+    holdouts = [line for line in lines if b" undecided " in line]
+    assert holdouts and (folder / "holdouts.txt").read_bytes().splitlines() == holdouts
+    summary = json.loads((folder / "summary.json").read_text())
+    kinds = collections.Counter(line.split(b" ")[1].decode() for line in lines)
+    found = {kind: count for kind, count in summary["counts"].items() if count}
+    assert found == {"undecided steps" if kind == "undecided" else kind: kinds[kind] for kind in kinds}
+    halts = [line.decode() for line in lines if b" halt " in line]
+    for place, name in ((2, "halt steps"), (3, "halt score")):
+        most, line = summary["greatest"][name]
+        assert line in halts and most == int(line.split(" ")[place])
+        assert most == max(int(halt.split(" ")[place]) for halt in halts)
+    for name, sha256 in summary["sha256"].items():
+        assert sha256 == hashlib.sha256((folder / name).read_bytes()).hexdigest()
+
+
+@pytest.mark.parametrize("change", [b"", b"1RB1RB_1LA0LB_------ undecided steps\n"])
+def test_changed_shards_are_refused(run: Run, tmp_path: pathlib.Path, change: bytes) -> None:
+    """A shard whose undecided lines aren't as many as its line says."""
+    assert run("shards", tmp_path / "out", *PLAN, "--list-steps", "50", "--steps", "50").returncode == 0
+    path = next(one for one in (tmp_path / "out" / "shards").iterdir() if b" undecided " in one.read_bytes())
+    path.write_bytes(b"".join(path.read_bytes().splitlines(True)[:2]) + change * 1_000)
+    done = run("shards", tmp_path / "out")
+    assert done.returncode == 2 and "%s counts " % path in done.stderr and "remove it" in done.stderr
+    path.unlink()
+    assert run("shards", tmp_path / "out").returncode == 0
 
 
 def test_interruption(programs: pathlib.Path, run: Run, tmp_path: pathlib.Path) -> None:
@@ -123,11 +162,35 @@ def test_another_plan_is_refused(run: Run, tmp_path: pathlib.Path) -> None:
         (["--states", "3", "--entries", "7"], "--entries is 7, but must be 1 to 6"),
         (["--states", "3", "--threads", "0"], "--threads is 0, but must be 1 or more"),
         (["--states", "3", "--cells", "0"], "cells is 0, but may be 1 to 67,108,864"),
+        (["--states", "26"], "--states is 26, but must be 1 to 25"),
+        (["--states", "0"], "--states is 0, but must be 1 to 25"),
+        (["--states", "3", "--symbols", "11"], "--symbols is 11, but must be 2 to 10"),
+        (["--states", "3", "--list-steps", "1e8"], "--list-steps is 100000000, but must be 0 to 10,000,000"),
+        (["--entries", "2"], "--entries goes with --states, which makes a plan"),
+        (["--list-steps", "2"], "--list-steps goes with --states, which makes a plan"),
+        (["--steps", "1000"], "--steps goes with --states, which makes a plan"),
+        (["--plan"], "--plan goes with --states, which makes a plan"),
+        (["--states", "3", "--plan", "--pending"], "give one of them"),
+        (["--states", "3", "--plan", "--threads", "2"], "--threads is for shards that are run"),
+        (["--pending", "--scheduler", "x"], "--scheduler is for shards that are run"),
+        (["--threads", "2", "--scheduler", "x"], "--threads is for this computer, --scheduler for others"),
     ],
 )
 def test_refused_options(run: Run, tmp_path: pathlib.Path, words: list[str], error: str) -> None:
     done = run("shards", tmp_path / "out", *words)
     assert (done.returncode, done.stdout) == (2, "") and error in done.stderr
+    assert not (tmp_path / "out").exists()
+
+
+def test_machine_that_is_no_shard(run: Run, tmp_path: pathlib.Path) -> None:
+    """Neither a machine of another place of the walk nor one that the skeleton has decided."""
+    run("shards", tmp_path / "out", *PLAN, "--plan")
+    listed = (tmp_path / "out" / "machines.txt").read_text().splitlines()
+    decided = next(line for line in listed if not line.endswith(" below") and line[0] != "-")
+    for machine in (decided, "1RB1LB_1LA---_------", "../plan.json"):
+        done = run("shard", tmp_path / "out", machine)
+        assert (done.returncode, done.stdout) == (2, "")
+        assert done.stderr.startswith("budlarem: %s is no shard of " % machine)
 
 
 def test_shard_whose_list_ends_too_soon(run: Run, tmp_path: pathlib.Path) -> None:
@@ -156,8 +219,21 @@ def test_program_that_fails(
     assert run("shards", tmp_path / "out").returncode == 0
 
 
-def test_program_that_is_missing(tmp_path: pathlib.Path) -> None:
-    command = [sys.executable, "-m", "budlarem", "shards", str(tmp_path / "out"), *PLAN]
+def test_program_that_is_missing(programs: pathlib.Path, run: Run, tmp_path: pathlib.Path) -> None:
+    """No program starts unless all are there."""
     environment = {**os.environ, "PATH": str(tmp_path)}
-    done = subprocess.run(command, capture_output=True, text=True, env=environment)
-    assert done.returncode == 3 and "tree_normal_form isn't in the PATH" in done.stderr
+
+    def run_without(*words: str) -> str:
+        command = [sys.executable, "-m", "budlarem", *words]
+        done = subprocess.run(command, capture_output=True, text=True, env=environment)
+        assert done.returncode == 3
+        return done.stderr
+
+    out = str(tmp_path / "out")
+    assert "tree_normal_form isn't in the PATH" in run_without("shards", out, *PLAN)
+    assert run("shards", out, *PLAN, "--plan").returncode == 0
+    (tmp_path / "tree_normal_form").write_text("#!/bin/sh\n: > %s/started\n" % tmp_path)
+    (tmp_path / "tree_normal_form").chmod(0o755)
+    machine = run("shards", out, "--pending").stdout.split()[0]
+    assert "bb isn't in the PATH" in run_without("shard", out, machine)
+    assert not (tmp_path / "started").exists()

@@ -449,16 +449,6 @@ def test_what_is_kept(case: RunCase) -> None:
         require_error(case, FolderError, "started with --keep left", limits=limits)
 
 
-def test_all_are_seen_before_they_are_dropped(case: RunCase) -> None:
-    for place, executor in enumerate((None, Answering())):
-        case.out, case.seen = case.top / str(place), []
-        for _ in range(2):
-            case.run_over(executor, limits=[SMALL], keep=chunks.Retention(True), check=True)
-            seen = b"".join(case.seen).splitlines()
-            assert sorted(seen) == sorted(expected_verdicts(LIST, [SMALL]).splitlines())
-        assert case.verdicts() == kept_lines([SMALL], 10**12)
-
-
 def test_keep_passes_are_added(case: RunCase) -> None:
     keep = chunks.Retention(True)
     case.run_over(limits=[SMALL], keep=keep, check=True)

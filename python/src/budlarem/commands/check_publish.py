@@ -75,6 +75,9 @@ versions, the sha256 of each, a page that explains the lines, and recheck.py, a 
 checker has to confirm each claim first, and each line of LIST has to have its verdict at the same place. Files
 may be gzips; the archive has them uncompressed.
 
+Of a run with --keep left, or a folder of `budlarem shards`, the archive has the lines that were kept, digests,
+counts, and the commands to make the rest again.
+
 Status 1 if a verdict isn't confirmed, 2 if something can't be published; nothing is written then."""
 
 
@@ -124,7 +127,7 @@ def add_publish(commands: Subcommands) -> None:
     parser = add_command(commands, "publish", do_publish, help, _PUBLISH, columns, "two spaces")
     add = parser.add_argument
     add("out", metavar="OUT.tar", help="the archive; an existing file isn't replaced")
-    help = "verdict lines, or the folder of `budlarem run`"
+    help = "verdict lines, or the folder of `budlarem run` or `budlarem shards`"
     add("--verdicts", required=True, metavar="FILE", help=help)
     add("--list", metavar="LIST", help="the machines, one a line, in the order of the verdicts")
     help = "limits by which the verdicts were decided, for the readers; a run's folder has them"

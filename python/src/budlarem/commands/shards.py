@@ -8,6 +8,7 @@ from __future__ import annotations
 
 import argparse
 import contextlib
+import dataclasses
 import functools
 import importlib
 import os
@@ -21,13 +22,19 @@ from .._text import escape_controls
 from ..limits import Limits
 from ..runner.errors import CheckError, FolderError, RunError, UsageError
 from ..runner.progress import TerminalLine
-from ..shards import Plan, create, join, pending, read_plan, run_shard
-from .shared import Subcommands, add_command, add_limits, add_number, limits_of
+from ..shards import Plan, create, join, pending, read_machines, read_plan, run_shard
+from .shared import Subcommands, add_command, add_number
 
+# The options of a plan beside --states: default, least, most and help.
+_SIZES = {
+    "symbols": (2, 2, 10, "symbols of the machines, 2 to 10"),
+    "entries": (3, 1, 250, "a machine with so many entries that leads to others is a shard"),
+    "list_steps": (200, 0, 10_000_000, "steps of the runs that make the list"),
+}
 _SHARDS = """Lists, decides and checks all machines of a size in shards: each the walk below one machine, an array
-job of its own. FOLDER gets the plan, a line for each finished shard, and the skeleton with these lines in their
-places; the line that cover prints of it goes to standard output. The programs tree_normal_form, bb and cover are
-found in the PATH.
+job of its own. FOLDER gets the plan, a file for each finished shard, the skeleton with a line for each, the
+undecided lines, and a summary; the line that cover prints of the skeleton goes to standard output. The programs
+tree_normal_form, bb and cover are found in the PATH.
 
 Without --states, FOLDER has a plan already, and the shards that aren't finished are run. --plan only makes the
 plan. --pending prints the machines of the unfinished shards, one a line, as for
@@ -39,10 +46,12 @@ MACHINE below N U G SHA256. A finished shard isn't run again."""
 
 def do_shards(asked: argparse.Namespace) -> int:
     """Runs the unfinished shards of a list, and joins them."""
+    plan = _plan_of(asked)
+    _require_one_use(asked)
     _end_at_signals(asked.folder)
     try:
-        if asked.states is not None:
-            create(asked.folder, _plan_of(asked))
+        if plan is not None:
+            create(asked.folder, plan)
         else:
             read_plan(asked.folder)
         if asked.pending:
@@ -58,6 +67,9 @@ def do_shards(asked: argparse.Namespace) -> int:
 def do_shard(asked: argparse.Namespace) -> int:
     """Runs one shard."""
     try:
+        if (asked.machine, True) not in read_machines(asked.folder):
+            sentence = "%s is no shard of %s; `budlarem shards %s --pending` prints the unfinished ones"
+            raise FolderError(sentence % (asked.machine, asked.folder, asked.folder))
         sys.stdout.write(run_shard(asked.folder, asked.machine))
         return 0
     except (CheckError, FolderError, RunError) as error:
@@ -66,7 +78,7 @@ def do_shard(asked: argparse.Namespace) -> int:
 
 def _print_error(error: Exception) -> int:
     """Prints an error; returns its status."""
-    print("budlarem: %s" % error, file=sys.stderr)
+    print("budlarem: %s" % escape_controls(str(error)), file=sys.stderr)
     return 1 if isinstance(error, CheckError) else 2 if isinstance(error, FolderError) else 3
 
 
@@ -85,12 +97,39 @@ def _end_at_signals(folder: str) -> None:
             signal.signal(number, end)
 
 
-def _plan_of(asked: argparse.Namespace) -> Plan:
-    """The plan of the options. Raises UsageError."""
-    most = asked.states * asked.symbols
-    if not 1 <= asked.entries <= most:
-        raise UsageError("--entries is %d, but must be 1 to %d" % (asked.entries, most))
-    return Plan(asked.states, asked.symbols, asked.entries, asked.list_steps, limits_of(asked))
+def _plan_of(asked: argparse.Namespace) -> Plan | None:
+    """The plan of the options; None without --states. Raises UsageError, LimitsError."""
+    names = (*_SIZES, *Limits.RANGES)
+    given = {name: getattr(asked, name) for name in names if getattr(asked, name) is not None}
+    if asked.states is None:
+        for name in [*given, *(["plan"] if asked.plan else [])]:
+            sentence = "--%s goes with --states, which makes a plan; without it, %s has one already"
+            raise UsageError(sentence % (name.replace("_", "-"), asked.folder))
+        return None
+    sizes = {name: given.pop(name, default) for name, (default, *_) in _SIZES.items()}
+    for name, number, (least, most) in (
+        ("states", asked.states, (1, 25)),
+        *((name, number, _SIZES[name][1:3]) for name, number in sizes.items()),
+    ):
+        most = min(most, asked.states * sizes["symbols"]) if name == "entries" else most
+        if not least <= number <= most:
+            words = (name.replace("_", "-"), number, least, "{:,}".format(most))
+            raise UsageError("--%s is %d, but must be %d to %s" % words)
+    return Plan(asked.states, **sizes, limits=Limits(**given))
+
+
+def _require_one_use(asked: argparse.Namespace) -> None:
+    """Raises UsageError for options that contradict each other."""
+    if asked.plan and asked.pending:
+        raise UsageError("--plan makes a plan, --pending prints what it leaves to be run; give one of them")
+    if asked.scheduler is not None and asked.threads is not None:
+        raise UsageError("--threads is for this computer, --scheduler for others; give one of them")
+    if asked.threads is not None and asked.threads < 1:
+        raise UsageError("--threads is %d, but must be 1 or more" % asked.threads)
+    for name in ("threads", "scheduler"):
+        if (asked.plan or asked.pending) and getattr(asked, name) is not None:
+            other = "plan" if asked.plan else "pending"
+            raise UsageError("--%s is for shards that are run, and --%s runs none" % (name, other))
 
 
 def _run_all(asked: argparse.Namespace) -> None:
@@ -101,9 +140,7 @@ def _run_all(asked: argparse.Namespace) -> None:
         return
     job = functools.partial(run_shard, os.path.abspath(asked.folder))
     if asked.scheduler is None:
-        threads = len(os.sched_getaffinity(0)) if asked.threads is None else asked.threads
-        if threads < 1:
-            raise UsageError("--threads is %d, but must be 1 or more" % threads)
+        threads = asked.threads or len(os.sched_getaffinity(0))
         return _wait_for(ThreadPoolExecutor(threads), job, machines)
     # Its imports take a while.
     distributed = importlib.import_module("distributed")
@@ -134,10 +171,10 @@ def add_shards(commands: Subcommands) -> None:
     shards = add_command(commands, "shards", do_shards, "decide and check a whole size in shards", _SHARDS)
     shards.add_argument("folder", metavar="FOLDER", help="the folder of the plan and the results")
     add_number(shards, "--states", "states of the machines, 1 to 25; makes the plan")
-    add_number(shards, "--symbols", "symbols of the machines, 2 to 10", 2)
-    add_number(shards, "--entries", "a machine with so many entries that leads to others is a shard", 3)
-    add_number(shards, "--list-steps", "steps of the runs that make the list", 200)
-    add_limits(shards, Limits.RANGES)
+    for name, (default, *_, what) in _SIZES.items():
+        add_number(shards, "--" + name.replace("_", "-"), "%s (default: %d)" % (what, default))
+    for name, default in dataclasses.asdict(Limits()).items():
+        add_number(shards, "--" + name, "{:,} to {:,} (default: {:,})".format(*Limits.RANGES[name], default))
     add_number(shards, "--threads", "cores used (default: all)")
     shards.add_argument("--scheduler", metavar="ADDRESS", help="of dask, whose workers share FOLDER")
     shards.add_argument("--plan", action="store_true", help="make the plan, and run nothing")

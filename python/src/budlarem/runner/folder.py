@@ -15,7 +15,7 @@ import re
 import shlex
 import stat
 import string
-from typing import Any, Callable, Iterable, Iterator, NamedTuple, Sequence
+from typing import Any, Callable, Iterable, Iterator, Mapping, NamedTuple, Sequence
 
 from .._files import Checksum, Directory, FileId, KindError, Pin, id_of, kind_of, write_atomically
 from .._files import write_blocks
@@ -400,10 +400,11 @@ def _figures_of(fields: dict[str, Any]) -> tuple[int, Counts, Checksum | None]:
 
 
 class PassSummary(NamedTuple):
-    """A pass in a summary. `checksum` covers the output of its chunks."""
+    """A pass in a summary. `checksum` covers the output of its chunks; `is_checked`: the checker confirmed it."""
 
     limits: Limits
     chunks: int
+    is_checked: bool
     lines: int
     counts: Counts
     checksum: Checksum | None
@@ -433,7 +434,8 @@ class FinishedRun:
                 fields = json.load(file)
             pairs = ((Limits(**one["limits"]), one) for one in fields["passes"])
             self.passes = [
-                PassSummary(limits, int(one["pieces"]), *_figures_of(one)) for limits, one in pairs
+                PassSummary(limits, int(one["pieces"]), bool(one.get("checked", False)), *_figures_of(one))
+                for limits, one in pairs
             ]
             self.keep, self.identity = parse_retention([fields["kept"]]), Identity.of_fields(fields)
             self.lines, self.counts, self.checksum = _figures_of(fields)
@@ -477,7 +479,7 @@ class FinishedRun:
         text = "%s doesn't match %s: %s; run that folder's command again, which writes both"
         return FolderError(text % (self._top.at(name), other, why))
 
-    def require_verdicts(self, checksum: Checksum, counts: collections.Counter[str]) -> None:
+    def require_verdicts(self, checksum: Checksum, counts: Mapping[str, int]) -> None:
         """Raises FolderError unless verdicts with this checksum and these counts are those of the summary."""
         for kind, known in self.counts.items():
             if known != counts[kind]:

@@ -272,8 +272,7 @@ class Backend(Protocol):
 class RunOptions:
     """How the passes of a run are decided. `list_name` is for messages; `require_list` raises if the list has
     changed, and is called before chunks are recorded; `most_lines` bounds a chunk; `is_checked_here` has the
-    checker of this process confirm each verdict. `on_verdicts` is called with the verdict lines of each
-    decided chunk before any is dropped, from any thread."""
+    checker of this process confirm each verdict."""
 
     backend: Backend
     identity: Identity
@@ -284,7 +283,6 @@ class RunOptions:
     is_checked_here: bool = False
     keep: Retention = Retention()
     require_list: Callable[[], None] = lambda: None
-    on_verdicts: Callable[[bytes], None] = lambda verdicts: None
 
 
 @dataclasses.dataclass(frozen=True)
@@ -366,7 +364,6 @@ class PassRun:
     def _store(self, chunk: Chunk) -> None:
         """Stores the output of a chunk, or that it is confirmed now."""
         if chunk.record is None and chunk.written is not None:
-            self._options.on_verdicts(chunk.written)
             chunk.kept = self._options.keep.select(chunk.written)
             data, seconds, counts = (chunk.given, chunk.kept), chunk.seconds, chunk.counts
             chunk.record = Record.of(chunk.first, chunk.lines, *data, seconds, counts)

@@ -1,0 +1,188 @@
+"""`tools/whole_lists` over small sizes, beside the program over each list in one piece; its document."""
+
+from __future__ import annotations
+
+import collections
+import hashlib
+import json
+import os
+import pathlib
+import runpy
+import signal
+import subprocess
+import sys
+import time
+from typing import Any, Callable
+
+import pytest
+from budlarem.counts import VerdictCounts
+from support import TOP, restore_signals
+from support.program import as_lines, options_of_pass, run_command
+
+sys.path.insert(0, str(TOP))
+
+from tools.whole_lists_page import PAGE, RESULTS, estimate, fill  # noqa: E402
+
+SCRIPT = str(TOP / "tools" / "whole_lists")
+WRITTEN: dict[str, Any] = json.loads(RESULTS.read_text(encoding="utf-8"))
+# Machines in tree normal form, as bbchallenge.org counts them for two symbols; the most steps of known machines.
+MACHINES = {"2x2": 61, "3x2": 5_417, "4x2": 858_909, "5x2": 181_385_789}
+KNOWN_STEPS = {"2x2": 6, "3x2": 21, "4x2": 107, "2x3": 38, "2x4": 3_932_964}
+# Halts of five states that Coq-BB5 counts, and those that it leaves to its other deciders.
+HALTS, LATER_HALTS = 48_379_711, 158
+pytestmark = pytest.mark.usefixtures("bb", "cover", "library", "lister")
+
+
+def start(out: pathlib.Path, *words: str) -> subprocess.Popen[bytes]:
+    """Starts the script, in a group of processes of its own."""
+    how: dict[str, Any] = {"stdout": subprocess.PIPE, "stderr": subprocess.PIPE, "start_new_session": True}
+    return subprocess.Popen([SCRIPT, "--out", str(out), *words], preexec_fn=restore_signals, **how)
+
+
+def require_end(process: subprocess.Popen[bytes], status: int = 0, sentence: str = "") -> str:
+    """Requires a process to end with this status and a sentence on standard error; what it printed."""
+    output, error = (text.decode() for text in process.communicate(timeout=600))
+    assert process.returncode == status and sentence in error, error
+    return output
+
+
+def words_of(size: str) -> list[str]:
+    states, symbols = size.split("x")
+    return ["--states", states, "--symbols", symbols, "--threads", "2"]
+
+
+def result_in(out: pathlib.Path, size: str) -> dict[str, Any]:
+    found: dict[str, Any] = json.loads((out / size / "result.json").read_text())
+    return found
+
+
+def decide_whole(bb: str, machines: list[str], limits: str) -> list[str]:
+    done = run_command([bb, "decide", *options_of_pass(limits)], as_lines(machines))
+    return done.output.decode().splitlines()
+
+
+@pytest.mark.parametrize("size", ["2x2", "2x3", "3x2", pytest.param("4x2", marks=pytest.mark.slow)])
+def test_result_is_that_of_the_list_in_one_piece(
+    bb: str, cover: str, list_machines: Callable[..., list[str]], tmp_path: pathlib.Path, size: str
+) -> None:
+    require_end(start(tmp_path, *words_of(size)))
+    found, (states, symbols) = result_in(tmp_path, size), size.split("x")
+    machines = list_machines(int(states), "--symbols", symbols, "--steps", "1000")
+    lines = decide_whole(bb, machines, found["passes"][0]["limits"])
+    covered = run_command([cover], as_lines(lines)).output.decode().rstrip()
+    assert found["cover"].split(": ")[1] == covered.split(": ")[1]
+    digests = [hashlib.sha256(as_lines(each)).hexdigest() for each in (machines, lines)]
+    assert [found["sha256"][name] for name in ("list", "verdicts")] == digests
+    holdouts = [line.split(" ")[0] for line in lines if " undecided " in line]
+    for one in found["passes"][1:]:
+        later = decide_whole(bb, holdouts, one["limits"])
+        assert one["lines"] == len(holdouts)
+        lines += [line for line in later if " undecided " not in line]
+        holdouts = [line.split(" ")[0] for line in later if " undecided " in line]
+    written = (tmp_path / size / "holdouts.txt").read_bytes()
+    assert (written, found["holdouts"]) == (as_lines(holdouts), len(holdouts))
+    assert found["sha256"]["holdouts"] == hashlib.sha256(written).hexdigest()
+    kinds = collections.Counter(line.split(" ")[1] for line in lines)
+    assert {kind: found["counts"][kind] for kind in kinds if kind != "undecided"} == {
+        kind: count for kind, count in kinds.items() if kind != "undecided"
+    }
+
+
+def test_halts_behind_which_the_list_would_go_on(tmp_path: pathlib.Path) -> None:
+    """A machine that a later pass finds to halt on one of several `---` stays a holdout."""
+    lines = ["1RB---_------ halt 5000 3", "1RB1LA_1LA--- halt 7000 4", "1RB---_1LA--- undecided steps"]
+    (tmp_path / "verdicts.txt").write_bytes(as_lines([*lines, "1RB---_1RA--- cycler 1 2"]))
+    counts = VerdictCounts()
+    found = runpy.run_path(SCRIPT)["Holdouts"](tmp_path / "verdicts.txt", counts)
+    assert b"".join(found.machines()) == b"1RB---_------\n1RB---_1LA---\n"
+    assert (found.count, found.wide, found.late) == (2, 2, 1)
+    assert (counts.kinds["halt"], counts.kinds["undecided steps"]) == (2, 1)
+    assert counts.greatest["halt steps"] == (7000, lines[1])
+
+
+def test_sample(
+    bb: str,
+    cover: str,
+    list_machines: Callable[..., list[str]],
+    tmp_path: pathlib.Path,
+    monkeypatch: pytest.MonkeyPatch,
+) -> None:
+    """Its first shards and its part have the lines of the list, and the estimate is of all parts."""
+    names = runpy.run_path(SCRIPT)
+    monkeypatch.setenv(
+        "PATH", "%s:%s:%s" % (os.path.dirname(bb), os.path.dirname(cover), TOP / "tools" / "out")
+    )
+    names["PARTS"]["3x2"] = 3
+    found = names["sample"](names["Size"]("3x2", tmp_path, 1), 1_000)
+    part = list_machines(3, "--steps", "1000", "--part", "1/3")
+    assert sum(found["part"]["counts"].values()) == len(part)
+    items = list_machines(3, "--steps", "1000", "--shards", "4")
+    roots = [item.split(" ")[0] for item in items if item.endswith(" below")]
+    sizes = [len(list_machines(3, "--steps", "1000", "--below", root)) for root in roots]
+    first = found["first"]
+    assert first["lines"] == sum(sizes[: first["shards"]]) >= 1_000
+    assert sum(sizes[: first["shards"] - 2]) < 1_000 and first["of"] == len(roots)
+    assert estimate(found, WRITTEN["sizes"])["All lines"] == "%.1f × 10^3" % (3 * len(part) / 1_000)
+
+
+def test_interruption(tmp_path: pathlib.Path) -> None:
+    """It is ended by a signal after some shards, with all that it runs; the same command resumes it."""
+    words = words_of("4x2")
+    process, shards = start(tmp_path, *words), tmp_path / "4x2" / "walk" / "shards"
+    until = time.monotonic() + 300
+    while len(list(shards.glob("1*"))) < 5 and process.poll() is None and time.monotonic() < until:
+        time.sleep(0.01)
+    os.kill(process.pid, signal.SIGINT)
+    require_end(process, 130, "resumes")
+    finished = {path.name: path.stat().st_mtime_ns for path in shards.glob("1*")}
+    for _ in range(50):
+        try:
+            os.killpg(process.pid, 0)
+        except ProcessLookupError:
+            break
+        time.sleep(0.1)
+    else:
+        pytest.fail("something that it ran is left")
+    require_end(start(tmp_path, *words))
+    assert result_in(tmp_path, "4x2")["lines"] == MACHINES["4x2"]
+    assert len(finished) >= 5
+    assert finished == {name: (shards / name).stat().st_mtime_ns for name in finished}
+
+
+def test_holdouts_are_those_of_the_document(tmp_path: pathlib.Path) -> None:
+    output = require_end(start(tmp_path, "--holdouts", "2x3", "--threads", "2"))
+    path = tmp_path / "2x3" / "holdouts.txt"
+    assert output == "%s  %s\n" % (WRITTEN["sizes"]["2x3"]["sha256"]["holdouts"], path)
+    assert output.split()[0] == hashlib.sha256(path.read_bytes()).hexdigest()
+    programs = tmp_path / "programs.json"
+    programs.write_text(programs.read_text().replace('"commit": "', '"commit": "0'))
+    require_end(start(tmp_path, *words_of("2x2")), 2, "was begun with other programs")
+
+
+def test_refusals(tmp_path: pathlib.Path) -> None:
+    for words, sentence in (
+        (["--states", "6"], "6x2 is none of the sizes 2x2, "),
+        (["--symbols", "3"], "--symbols goes with --states"),
+        (["--states", "2", "--page"], "--states and --page don't go together"),
+        (["--threads", "0"], "--threads is 0, but must be 1 or more"),
+        (["--page"], "has no summary of all sizes"),
+    ):
+        require_end(start(tmp_path / "none", *words), 2, sentence)
+        assert not (tmp_path / "none").exists()
+
+
+def test_document_has_the_figures_of_the_run() -> None:
+    page = PAGE.read_text(encoding="utf-8")
+    assert fill(page, WRITTEN) == page
+    with pytest.raises(ValueError, match="0 places for the table counts"):
+        fill(page.replace("<!-- counts -->", ""), WRITTEN)
+
+
+def test_figures_agree_with_published_ones() -> None:
+    sizes = WRITTEN["sizes"]
+    lines = {size: one["lines"] for size, one in sizes.items() if size in MACHINES}
+    assert lines == {size: MACHINES[size] for size in lines} and lines
+    steps = {size: one["greatest"]["halt steps"][0] + 1 for size, one in sizes.items() if size in KNOWN_STEPS}
+    assert steps == {size: KNOWN_STEPS[size] for size in steps} and steps
+    if "5x2" in sizes:
+        assert sizes["5x2"]["counts"]["halt"] == HALTS + LATER_HALTS
