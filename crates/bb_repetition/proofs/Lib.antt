@@ -1,3 +1,4 @@
+mod Divisors
 mod GoingOn
 mod Quotients
 mod SeenStarts
