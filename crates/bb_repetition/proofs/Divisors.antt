@@ -105,7 +105,7 @@ divided_at_first number divisor some = record {
   half = inl (λ i. number);
 }
 
-some_quotient : (n d q : ℕ) → 0 < n → n ≡ d * q → 0 < q
+pub some_quotient : (n d q : ℕ) → 0 < n → n ≡ d * q → 0 < q
 some_quotient n d zero some is = absurd (omega (arith, some, is))
 some_quotient n d (suc q) some is = omega arith
 
