@@ -2,7 +2,7 @@
 use Rattle.std.proofs.Common.{◌≡◌, ℕ, zero, suc, ◌+◌, ◌-◌, ◌*◌, ◌/◌, ◌%◌, ◌<◌, ◌≤◌, ◌^◌, ◌⊎◌, inl, inr, ap, sym, subst, ◌∙◌}
 use Rattle.std.proofs.Common.{arith, pow-suc}
 use Rattle.std.proofs.Math.Nat.{eq_of_mul-eq-mul_left, mul-le-mul_left, mul-le-mul_right, mul_assoc, mul_comm}
-use Rattle.std.proofs.Math.Nat.{pow-le-pow_right}
+use Rattle.std.proofs.Math.Nat.{one-le-pow, pow-le-pow_right}
 use Rattle.std.proofs.lemmas.Bool.{cases_lt, cases_eq}
 use Rattle.bb_machine.specs.Machine.{Table}
 use Rattle.laws_of_repetition.specs.Repetition.{IsMultipleOf, transition_at, Repeats}
@@ -248,3 +248,18 @@ room_for_test distance rest old mid period some here within less start =
     let counted = here.counted in
     let times : here.primes * (4 * distance) ≤ 40 * (4 * distance) = mul-le-mul_right (4 * distance) (omega (arith, few)) in
     omega (arith, counted, times, within, less, start)
+
+pub rest_within : (distance rest old new : ℕ) → CountsSoFar distance rest old new → rest ≤ distance
+rest_within distance rest old new here =
+    let few = here.few in
+    let above : 0 < 2 = omega arith in
+    let one : 1 ≤ 2 ^ here.primes = one-le-pow here.primes 2 above in
+    let low : 1 * rest ≤ 2 ^ here.primes * rest = mul-le-mul_right rest one in
+    omega (arith, low, few)
+
+-- the steps of a test that fails count as those of one prime more
+pub counts_early : (distance rest old mid new period : ℕ) → 1 < rest → CountsSoFar distance rest old mid
+    → period ≤ distance → new ≤ mid + 4 * period → CountsTests distance old new
+counts_early distance rest old mid new period above here within now =
+    counts_at_end distance 1 old new (omega arith)
+    (counts_more distance rest 1 old mid new period here within now (omega (arith, above)))
