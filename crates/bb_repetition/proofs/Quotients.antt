@@ -1,10 +1,9 @@
 -- A quotient of a period, which is a period or isn't, and the exact recurrence from the least period.
-use Rattle.std.proofs.Common.{◌≡◌, ℕ, zero, suc, ◌+◌, ◌-◌, ◌*◌, ◌/◌, ◌%◌, ◌<◌, ◌≤◌, Bool, true, false, inl, inr, ap, sym, subst, ◌∙◌}
+use Rattle.std.proofs.Common.{◌≡◌, ℕ, ◌+◌, ◌-◌, ◌<◌, ◌≤◌, Bool, true, false, subst, ◌∙◌}
 use Rattle.std.proofs.Common.{arith, ℤ}
-use Rattle.std.proofs.Math.Nat.{div-add-mod, eq_of_mul-eq-mul_left, mul_assoc, mul_comm}
 use Rattle.bb_machine.specs.Machine.{Table}
 use Rattle.laws_of_repetition.specs.Repetition.{IsMultipleOf, transition_at, Repeats, RepeatsExactly}
-use Rattle.laws_of_repetition.specs.Seen.{Differs, IsSeenStart}
+use Rattle.laws_of_repetition.specs.Seen.{IsSeenStart}
 use Rattle.laws_of_repetition.specs.Shift.{IsShift}
 use Rattle.laws_of_repetition.proofs.Facts.{exact_from, seen_is_period, shift_is_one}
 use Rattle.bb_repetition.specs.Lockstep.{TellsRepeats}

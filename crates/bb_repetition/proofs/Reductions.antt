@@ -1,9 +1,9 @@
 -- A period divided by the primes of a known one, as far as the quotients are periods.
-use Rattle.std.proofs.Common.{◌≡◌, ℕ, zero, suc, ◌+◌, ◌-◌, ◌*◌, ◌/◌, ◌%◌, ◌<◌, ◌≤◌, ◌^◌, ◌⊎◌, inl, inr, ap, sym, subst, ◌∙◌}
+use Rattle.std.proofs.Common.{◌≡◌, ℕ, zero, suc, ◌+◌, ◌*◌, ◌/◌, ◌%◌, ◌<◌, ◌≤◌, ◌^◌, ◌⊎◌, inl, inr, ap, sym, subst, ◌∙◌}
 use Rattle.std.proofs.Common.{arith, pow-suc}
 use Rattle.std.proofs.Math.Nat.{eq_of_mul-eq-mul_left, mul-le-mul_left, mul-le-mul_right, mul_assoc, mul_comm}
 use Rattle.std.proofs.Math.Nat.{one-le-pow, pow-le-pow_right}
-use Rattle.std.proofs.lemmas.Bool.{cases_lt, cases_eq}
+use Rattle.std.proofs.lemmas.Bool.{cases_lt}
 use Rattle.bb_machine.specs.Machine.{Table}
 use Rattle.laws_of_repetition.specs.Repetition.{IsMultipleOf, transition_at, Repeats}
 use Rattle.laws_of_repetition.specs.Seen.{Differs, IsPrime}
@@ -140,13 +140,12 @@ module _ (table : Table) (first distance period rest divisor : ℕ)
     (here : IsTried table first distance period rest divisor) (above : 1 < divisor) (divides : rest % divisor ≡ 0)
     (period' rest' : ℕ) (reduced : IsReduced table first period divisor period')
     (part : IsPartWithout rest divisor rest') where
-
   none_after : HasNoneBelow rest' (divisor + 1)
   none_after = none_more rest' divisor
       (λ k more below by_k. here.none k more below
-          (divides_product rest k (part.power * (rest' / k)) (part.is
-          ∙ ap (λ x. part.power * x) (quotient_of rest' k by_k) ∙ sym (mul_assoc part.power k (rest' / k))
-          ∙ ap (λ x. x * (rest' / k)) (mul_comm part.power k) ∙ mul_assoc k part.power (rest' / k))))
+      (divides_product rest k (part.power * (rest' / k)) (part.is
+      ∙ ap (λ x. part.power * x) (quotient_of rest' k by_k) ∙ sym (mul_assoc part.power k (rest' / k))
+      ∙ ap (λ x. x * (rest' / k)) (mul_comm part.power k) ∙ mul_assoc k part.power (rest' / k))))
       part.no_more
 
   open_after : (r less : ℕ) → IsPrime r → period' ≡ r * less → (rest' % r ≡ 0) ⊎ Differs table first less

@@ -1,4 +1,4 @@
-use Rattle.std.proofs.Common.{◌≡◌, ◌∙◌, ◌+◌, ◌-◌, ◌*◌, ◌<◌, ◌≤◌, ◌^◌, arith, refl}
+use Rattle.std.proofs.Common.{◌∙◌, arith, refl}
 use Rattle.bb_repetition.proofs.Reductions.{at_least, counts_at_first, counts_early, counts_more, least_at_end}
 use Rattle.bb_repetition.proofs.Reductions.{less_of_remainder, rest_within, room_for_test, tried_at_first, tried_more}
 use Rattle.bb_repetition.proofs.period.least_period.Goals as goal

@@ -1,5 +1,4 @@
-use Rattle.std.proofs.Common.{◌≡◌, ◌∙◌, ◌≤◌, ◌*◌, ◌/◌, arith, false, true, refl, subst}
-use Rattle.bb_repetition.specs.Period.{TellsPeriod}
+use Rattle.std.proofs.Common.{◌≡◌, ◌∙◌, arith, false, true, refl}
 use Rattle.bb_repetition.proofs.Divisors.{half_at_most, quotient_of, some_quotient}
 use Rattle.bb_repetition.proofs.Reductions.{divides_further, multiple_of_itself, reduced_by_remainder, reduced_by_test}
 use Rattle.bb_repetition.proofs.period.reduce.Goals as goal
