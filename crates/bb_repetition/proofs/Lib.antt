@@ -1,4 +1,6 @@
+mod Divisors
 mod GoingOn
 mod Quotients
+mod Reductions
 mod SeenStarts
 mod UseSteps

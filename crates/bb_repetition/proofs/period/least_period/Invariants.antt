@@ -1,0 +1,19 @@
+use Rattle.std.proofs.Common.{◌≡◌, ◌<◌, ◌-◌, ◌*◌}
+use Rattle.bb_repetition.specs.Lockstep.{IsAt}
+use Rattle.bb_repetition.specs.Tapes.{TapesHaveCells}
+use Rattle.bb_repetition.proofs.Reductions.{CountsSoFar, IsTried}
+use Rattle.bb_repetition.proofs.period.least_period.Given as goal
+
+-- the primes below the divisor are tried
+abbrev pub invariant-loop-rest : goal.invariant-loop-rest
+invariant-loop-rest g l = record {
+  saved : g.T.Tape.view l.tapes.pair.saved ≡ g.T.Tape.view l.fn.tapes.pair.saved;
+  tapes : TapesHaveCells g.T.Tape.view l.limits.cells l.tapes;
+  at : IsAt l.machine l.limits l.first l.saved (g.T.Tape.view l.tapes.pair.saved);
+  above : 1 < l.divisor;
+  tried : IsTried l.machine l.first (l.second - l.first) l.period l.rest l.divisor;
+  counted : CountsSoFar (l.second - l.first) l.rest l.fn.meter.steps l.meter.steps;
+}
+
+abbrev pub decreases-loop-rest : goal.decreases-loop-rest
+decreases-loop-rest g l = 2 * l.rest - l.divisor
