@@ -262,3 +262,13 @@ pub counts_early : (distance rest old mid new period : ℕ) → 1 < rest → Cou
 counts_early distance rest old mid new period above here within now =
     counts_at_end distance 1 old new (omega arith)
     (counts_more distance rest 1 old mid new period here within now (omega (arith, above)))
+
+-- after the tests there is room for one period more
+pub room_after_tests : (distance old new period : ℕ) → CountsTests distance old new → distance ≤ 10 ^ 12
+    → old < 2 ^ 48 → period ≤ 10 ^ 12 → new + period < 2 ^ 64
+room_after_tests distance old new period tests within start short =
+    let few = few_primes tests.primes distance 1 (omega arith) (omega (arith, tests.few_primes)) within in
+    let counted = tests.counted in
+    let times : tests.primes * (4 * distance) ≤ 40 * (4 * distance) =
+    mul-le-mul_right (4 * distance) (omega (arith, few)) in
+    omega (arith, counted, times, within, start, short)

@@ -33,8 +33,17 @@ step-requires-in-loop-runner-clause-room g c =
     let near = here.near in
     let apart = here.apart in
     let later = here.later in
-    omega (arith, counted, near, apart, later, c.in_ok-step.ensures.counted, c.requires.room,
-    c.loop-runner-test.true, c.steps.ensures)
+    omega (
+      arith,
+      counted,
+      near,
+      apart,
+      later,
+      c.in_ok-step.ensures.counted,
+      c.requires.room,
+      c.loop-runner-test.true,
+      c.steps.ensures,
+    )
 
 pub returns-in_err-step-2-clause-few : goal.returns-in_err-step-2-clause-few
 returns-in_err-step-2-clause-few g c =
@@ -42,8 +51,16 @@ returns-in_err-step-2-clause-few g c =
     let counted = here.counted in
     let apart = here.apart in
     let later = here.later in
-    omega (arith, counted, apart, later, c.in_ok-step.ensures.counted, c.in_err-step-2.ensures.uncounted,
-    c.loop-runner-test.true, c.steps.ensures)
+    omega (
+      arith,
+      counted,
+      apart,
+      later,
+      c.in_ok-step.ensures.counted,
+      c.in_err-step-2.ensures.uncounted,
+      c.loop-runner-test.true,
+      c.steps.ensures,
+    )
 
 pub returns-clause-few : goal.returns-clause-few
 returns-clause-few g c =
@@ -67,8 +84,16 @@ loop-runner-preserved g c =
       later = omega (arith, steps, later);
       apart = omega (arith, steps, ahead_steps, apart);
       near = omega (arith, ahead_steps, c.loop-runner-test.true, c.steps.ensures);
-      counted = omega (arith, here.counted, apart, later, steps, ahead_steps, c.in_ok-step.ensures.counted,
-          c.in_ok-step-2.ensures.counted);
+      counted = omega (
+        arith,
+        here.counted,
+        apart,
+        later,
+        steps,
+        ahead_steps,
+        c.in_ok-step.ensures.counted,
+        c.in_ok-step-2.ensures.counted,
+      );
       same = rw steps (same_on _ _ _ _ _ _ (transition_of_runner _ _ _ _ _ here.at)
           (transition_of_runner _ _ _ _ _ (one_on _ _ _ _ _ _ apart here.ahead))
           (c.has_same_transition.ensures.0 (let test = c.if-not-has_same_transition.false in cc)) here.same);

@@ -1,1 +1,32 @@
+use Rattle.std.proofs.Common.{arith}
+use Rattle.std.proofs.lemmas.Int.{ints}
+use Rattle.bb_repetition.proofs.Quotients.{exact_of_parts, shift_of_start}
+use Rattle.bb_repetition.proofs.Reductions.{room_after_tests}
 use Rattle.bb_repetition.proofs.recurrence.find_recurrence.Goals as goal
+
+pub find_shift-requires-clause-room : goal.find_shift-requires-clause-room
+find_shift-requires-clause-room g c =
+    let accepted = c.show_accepted.ensures.accepted in
+    let inside = c.requires.inside in
+    let few = c.least_period.ensures.few in
+    let within = c.in_ok-period.ensures.within in
+    let started = c.in_ok-start.ensures.counted in
+    let order = c.requires.order in
+    let room = c.requires.room in
+    let steps = inside.within_steps in
+    room_after_tests _ _ _ _ few (omega (arith, steps, accepted.steps))
+    (omega (arith, started, room, order, steps, accepted.steps)) (omega (arith, within, order, steps, accepted.steps))
+
+pub returns-clause-exact : goal.returns-clause-exact
+returns-clause-exact g c =
+    exact_of_parts _ _ _ _ _ c.requires.pair c.in_ok-period.ensures.least c.in_ok-start.ensures.start
+
+pub returns-clause-shift : goal.returns-clause-shift
+returns-clause-shift g c =
+    let exact =
+    exact_of_parts _ _ _ _ _ c.requires.pair c.in_ok-period.ensures.least c.in_ok-start.ensures.start in
+    let early = c.in_ok-start.ensures.start.no_later in
+    let is = shift_of_start _ _ _ _ _ exact early c.in_ok-shift.ensures.shift in
+    let low = c.in_ok-shift.ensures.near.low in
+    let high = c.in_ok-shift.ensures.near.high in
+    omega (arith, ints, is, low, high)

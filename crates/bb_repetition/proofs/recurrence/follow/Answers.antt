@@ -1,4 +1,4 @@
-use Rattle.std.proofs.Common.{◌≡◌, rules, sym, subst, arith}
+use Rattle.std.proofs.Common.{◌≡◌, sym, subst, arith}
 use Rattle.bb_sim.specs.Runner.{steps_of}
 use Rattle.bb_repetition.specs.LastUses.{AreSeen}
 use Rattle.bb_repetition.proofs.GoingOn.{at_own, one_on, transition_of_runner}
@@ -27,8 +27,13 @@ loop-runner-preserved g c =
           (rw c.steps-in-loop-runner.ensures at c.start_after-start.ensures) here.seen_start);
       seen_uses = subst (λ k. AreSeen c.args.machine.now k c.record.new.self) (sym ahead_steps)
           c.record.ensures;
-      counted = omega (arith, here.counted, steps, c.in_ok-step.ensures.counted,
-          c.in_ok-step-2.ensures.counted);
+      counted = omega (
+        arith,
+        here.counted,
+        steps,
+        c.in_ok-step.ensures.counted,
+        c.in_ok-step-2.ensures.counted,
+      );
     }
 
 pub returns-clause-uses : goal.returns-clause-uses

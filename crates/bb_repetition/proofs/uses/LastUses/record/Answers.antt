@@ -1,4 +1,4 @@
-use Rattle.std.proofs.Common.{◌≡◌, ◌+◌, ◌≢◌, slice_index_or, slice_set, inl, inr, sym, subst, arith}
+use Rattle.std.proofs.Common.{◌+◌, slice_index_or, slice_set, inl, inr, sym, subst}
 use Rattle.std.proofs.Common.{get_or-set_same, get_or-set_other, rules, ap, ◌∙◌}
 use Rattle.std.proofs.lemmas.Bool.{cases_eq}
 use Rattle.bb_machine.specs.declared.entry.Next.TheVariants.{State}
