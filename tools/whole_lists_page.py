@@ -74,7 +74,7 @@ def greatest_of(found: Fields) -> Iterator[str]:
 def times_of(found: Fields) -> Iterator[str]:
     steps, names = ("walk", "later"), ("clock", "cores")
     yield from head(
-        "Size", "First pass", "Its core time", "Later passes", "Their core time", "A machine of these"
+        "Size", "First pass", "Its core time", "Later passes", "Their core time", "Core time of a machine"
     )
     for name, one in found["sizes"].items():
         times = ["%.1f s" % one["seconds"][step][each] for step in steps for each in names]
