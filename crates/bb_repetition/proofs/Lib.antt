@@ -1,3 +1,4 @@
+mod ConfirmedPairs
 mod Divisors
 mod GoingOn
 mod Quotients

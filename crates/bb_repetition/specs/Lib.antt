@@ -1,4 +1,5 @@
 pub mod Factors
+pub mod Finding
 pub mod LastUses
 pub mod Lockstep
 pub mod Period

@@ -6,7 +6,11 @@ mod factors;
 mod lockstep;
 pub mod period;
 pub mod recurrence;
+#[cfg(test)]
+mod tests;
 pub mod uses;
+pub mod verdict;
 
 pub use recurrence::{Recurrence, Tapes, find_recurrence};
 pub use uses::{LastUse, LastUses};
+pub use verdict::{Finding, find};

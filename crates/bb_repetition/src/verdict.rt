@@ -1,0 +1,85 @@
+//! The recurrence behind a verdict from any source.
+ghost use Rattle.std.specs.Prelude.{◌≡◌, ◌-◌, ◌<◌, ◌≤◌, IfOk, IsTrue, MatchOption, OnErr};
+ghost use Rattle.bb_cert.specs.claims.Claim.{Claim};
+ghost use Rattle.bb_cert.specs.checker.Answer.{IsAnswer};
+ghost use Rattle.bb_cert.specs.declared.checker.answer.Answer.{Answer};
+ghost use Rattle.bb_cert.specs.tree.Path.{depth_of};
+ghost use Rattle.bb_sim.specs.Span.{Inside};
+ghost use Rattle.laws_of_repetition.specs.Repetition.{Repeats};
+ghost use Rattle.bb_repetition.specs.Finding.{IsFinding, NamesNone, NamesPair};
+ghost use Rattle.bb_repetition.specs.Tapes.{TapesHaveCells};
+
+use crate::recurrence::{Recurrence, Tapes, find_recurrence};
+use bb_cert::{Answer, Path, Verdict, check};
+use bb_machine::{Limits, Machine};
+use bb_sim::Meter;
+use bb_tape::{Memory, Tape};
+use laws_of_repetition::laws::pairs_repeat;
+
+/// What is found for a verdict.
+#[derive(Clone, Copy, Debug, PartialEq, Eq)]
+pub enum Finding {
+    /// It is a pair that the checker confirms, and the run repeats like this.
+    Recurs(Recurrence),
+    /// It is a pair to which the checker gives this answer, not `ok`.
+    Answered(Answer),
+    /// It is no pair.
+    NoPair,
+}
+
+/// Finds how the run of a machine repeats exactly, if a verdict is a pair that the checker confirms under these
+/// limits. Resets `meter`, and counts there the steps of the check and those of `find_recurrence`.
+///
+/// After an error the contents of the tapes are unspecified; the next call resets them.
+pub fn find<T: Tape>(
+    machine: &Machine,
+    verdict: &Verdict,
+    limits: &Limits,
+    tapes: &mut Tapes<T>,
+    path: &mut Path,
+    meter: &mut Meter,
+) -> Result<Finding, Memory>
+    requires tapes { TapesHaveCells T.view limits.now.cells tapes.old }
+    requires path { limits.now.depth ≤ depth_of path.old }
+    ensures found { IfOk result (IsFinding machine.now limits.now verdict.now) }
+    ensures tapes { TapesHaveCells T.view limits.now.cells tapes.new }
+    ensures depth { depth_of path.new ≡ depth_of path.old }
+    ensures memory { OnErr result (IsTrue T.GROWS) }
+{
+    let Some((first, second)) = pair_of(verdict) else {
+        return Ok(Finding::NoPair);
+    };
+    limits.show_accepted();
+    let answer = check(machine, verdict, limits, &mut tapes.pair, path, meter)?;
+    if answer != Answer::Ok {
+        return Ok(Finding::Answered(answer));
+    }
+    show_repeats(machine, verdict, limits, first, second);
+    let found = find_recurrence(machine, limits, first, second, tapes, meter)?;
+    Ok(Finding::Recurs(found))
+}
+
+/// The steps of a pair.
+fn pair_of(verdict: &Verdict) -> Option<(u64, u64)>
+    ensures { MatchOption result (NamesNone verdict.now) (λ pair. NamesPair verdict.now pair.0 pair.1) }
+{
+    match *verdict {
+        Verdict::Cycler { first, second } => Some((first, second)),
+        Verdict::Translated { first, second, .. } => Some((first, second)),
+        Verdict::Halt { .. } => None,
+        Verdict::Backward { .. } => None,
+        Verdict::Undecided(_) => None,
+    }
+}
+
+/// States what follows from a confirmed pair, for proofs. It does nothing at run time.
+fn show_repeats(machine: &Machine, verdict: &Verdict, limits: &Limits, first: u64, second: u64)
+    requires pair { NamesPair verdict.now first second }
+    requires ok { IsAnswer machine.now limits.now verdict.now Answer.Ok }
+    requires claim { Claim machine.now verdict.now }
+    ensures order { first < second }
+    ensures repeats { Repeats machine.now first (second - first) }
+    ensures inside { Inside machine.now limits.now second }
+{
+    pairs_repeat();
+}
