@@ -139,7 +139,7 @@ coq-check: ## let coqchk look at the second checker's proofs too
 programs := $(if $(shell command -v rt),bb cover library,plain plain-library)
 
 .PHONY: whole-lists
-whole-lists: lister $(programs) ## decide all machines of eight sizes, in an hour on four cores; fill docs/whole-lists.md
+whole-lists: lister $(programs) ## decide all machines of eight sizes, some 50 minutes on four cores; fill docs/whole-lists.md
 	tools/whole_lists --sample 6x2
 	tools/whole_lists --sample 4x3
 	tools/whole_lists
