@@ -1,4 +1,4 @@
--- A run that goes on inside the limits steps on.
+-- A run inside the limits steps on.
 use Rattle.std.proofs.Common.{◌≡◌, ℕ, ◌+◌, ◌<◌, Some, refl, ap, sym, subst, ◌∙◌, arith}
 use Rattle.std.proofs.Common.{suc, pos, neg_ℤ, ◌≤ℤ◌, ◌-ℤ◌}
 use Rattle.std.proofs.lemmas.Int.{ints}
@@ -28,7 +28,7 @@ steps_on table bounds n last NoCells goes before answers =
     let grows = span_grows table (n + 1) last (omega (arith, before)) in
     absurd (let few = goes.inside.within_cells in omega (arith, answers.2, few, grows))
 
--- what a runner uses next is what its step uses
+-- the next transition of a runner is that of its step
 pub transition_of_runner : (table : Table) (bounds : Bounds) (n : ℕ) (runner : Runner) (view : TapeView)
     → IsAt table bounds n runner view → transition_at table n ≡ Some (transition_here runner view)
 transition_of_runner table bounds n runner view at =

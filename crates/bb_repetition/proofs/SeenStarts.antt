@@ -1,4 +1,4 @@
--- From where on two copies of a run use the same places, one step more.
+-- The start of the same transitions in two copies of a run, one step more.
 use Rattle.std.proofs.Common.{◌≡◌, ◌≢◌, ℕ, ◌+◌, ◌<◌, ◌≤◌, ◌↔◌, Bool, true, false, IsTrue, MatchBool, Some, inl, inr, refl, sym, subst}
 use Rattle.std.proofs.Common.{arith}
 use Rattle.std.proofs.lemmas.Bool.{cases_lt}
@@ -14,7 +14,7 @@ differ_of : (table : Table) (n m : ℕ) (x y : Transition) → transition_at tab
     → (x ≡ y → ⊥) → transition_at table m ≢ transition_at table n
 differ_of table n m x y at_n at_m apart same = apart cc
 
--- where there is nothing before, all is seen
+-- before the first step
 pub seen_at_first : (table : Table) (distance : ℕ) → IsSeenStart table 0 distance 0
 seen_at_first table distance = record {
   no_later = omega arith;
@@ -62,7 +62,7 @@ same_on table first n distance x y at_n at_m same before m late soon = elim (cas
       (same_of table n (n + distance) x y at_n at_m same)
 ]
 
--- a step from `first` on whose place isn't that of so many steps later
+-- a step from `first` on with another transition than so many steps later
 pub differs_at : (table : Table) (first n distance : ℕ) (x y : Transition) → transition_at table n ≡ Some x
     → transition_at table (n + distance) ≡ Some y → (x ≡ y → ⊥) → first ≤ n → Differs table first distance
 differs_at table first n distance x y at_n at_m apart late all =

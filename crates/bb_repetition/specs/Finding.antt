@@ -1,4 +1,4 @@
--- What is found for a verdict: this project's own.
+-- The result for a verdict: this project's own.
 use Rattle.std.specs.Prelude.{◌≡◌, ◌≢◌, ℕ, ◌≤◌}
 use Rattle.bb_machine.specs.Limits.{Bounds}
 use Rattle.bb_machine.specs.Machine.{Table}
@@ -31,7 +31,7 @@ pub record IsRecurrence (table : Table) (second : ℕ) (found : Recurrence) : Ty
   pub shift : IsShift table found.start found.period found.shift
   pub uses : AreSeen table second found.uses
 
--- the exact recurrence of a pair that the checker confirms; else the checker's answer; or no pair is named
+-- the exact recurrence of a confirmed pair; else the checker's answer to it; or no pair is named
 abbrev pub IsFinding : Table → Bounds → Verdict → Finding → Type 0
 IsFinding table bounds verdict (Recurs found) = IsAnswer table bounds verdict Ok
     × ((first second : ℕ) → NamesPair verdict first second

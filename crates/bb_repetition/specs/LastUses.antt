@@ -1,4 +1,4 @@
--- The last use of a part of a table, and what is known of it after some steps. The notions of a use are those of
+-- The last use of a part of a table, and the knowledge of it after some steps. The notions of a use are those of
 -- `laws_of_repetition`.
 use Rattle.std.specs.Prelude.{◌≡◌, ℕ, ◌+◌, ◌<◌, ◌≤◌, slice_index_or}
 use Rattle.bb_machine.specs.declared.machine.TheConstants.{MAX_STATES}
@@ -14,7 +14,7 @@ IsUse table part last.Never = NeverUses table part
 IsUse table part (last.Step n) = IsLastUse table part n
 IsUse table part last.Forever = UsesForEver table part
 
--- of the steps before n, `after` is the one after the last that uses a part, 0 where none does
+-- before step n, `after` is the step after the last use of a part, 0 without one
 pub record IsSeenUse (table : Table) (part : TablePart) (n after : ℕ) : Type 0 where
   pub no_later : after ≤ n
   pub here : (m : ℕ) → after ≡ m + 1 → Uses table part m

@@ -1,4 +1,4 @@
--- Runs of one machine that are advanced together.
+-- Runs of one machine, advanced together.
 use Rattle.std.specs.Prelude.{◌≡◌, ℕ, ◌+◌, ◌<◌, ◌≤◌, Bool, true, false}
 use Rattle.std.specs.Prelude.{ℤ, pos, neg_ℤ, ◌+ℤ◌, ◌≤ℤ◌}
 use Rattle.bb_machine.specs.Limits.{Bounds}
@@ -13,7 +13,7 @@ use Rattle.bb_sim.specs.Span.{Inside}
 use Rattle.laws_of_repetition.specs.Repetition.{Transition, transition_at}
 use Rattle.laws_of_repetition.specs.Seen.{Differs}
 
--- the transition that a runner uses next
+-- the next transition of a runner
 abbrev pub transition_here : Runner → TapeView → Transition
 transition_here runner view = record { state = state_of runner; symbol = cell view.content (position_of runner) }
 

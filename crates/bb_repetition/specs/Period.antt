@@ -9,13 +9,13 @@ abbrev pub TellsPeriod : Table → ℕ → ℕ → Bool → Type 0
 TellsPeriod table first period true = Repeats table first period
 TellsPeriod table first period false = Differs table first period
 
--- a period that divides a known one, and that divided by the number is none
+-- a period; it divides a known one, and its quotient by the number is none
 pub record IsReduced (table : Table) (first known divisor period : ℕ) : Type 0 where
   pub divides : IsMultipleOf period known
   pub repeats : Repeats table first period
   pub no_less : (less : ℕ) → period ≡ divisor * less → Differs table first less
 
--- a period that divided by a prime is none
+-- a period; its quotient by any prime is none
 pub record IsLeastFrom (table : Table) (first period : ℕ) : Type 0 where
   pub repeats : Repeats table first period
   pub no_less : (q less : ℕ) → IsPrime q → period ≡ q * less → Differs table first less

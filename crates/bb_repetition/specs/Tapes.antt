@@ -1,4 +1,4 @@
--- The tapes with which a repetition is found.
+-- The tapes for finding a recurrence.
 use Rattle.std.specs.Prelude.{◌≡◌, ℕ}
 use Rattle.bb_tape.specs.TapeView.{TapeView}
 use Rattle.bb_cert.specs.checker.Pair.{PairHasCells}

@@ -15,7 +15,7 @@ pub(crate) fn without(number: u64, divisor: u64) -> u64
     rest
 }
 
-/// The next number to try as a divisor: the next one, or the number itself where it can have no other.
+/// The next divisor to try: the next number, or the number itself if it can have no other.
 pub(crate) fn next_divisor(number: u64, divisor: u64) -> u64
     requires above { 1 < divisor }
     requires below { divisor < number }

@@ -4,7 +4,7 @@
 
 mod factors;
 mod lockstep;
-pub mod period;
+mod period;
 pub mod recurrence;
 #[cfg(test)]
 mod tests;

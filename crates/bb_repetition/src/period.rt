@@ -1,4 +1,4 @@
-//! The least period of a run of which a period is known.
+//! The least period of a run, from a known one.
 ghost use Rattle.std.specs.Prelude.{◌≡◌, ◌+◌, ◌-◌, ◌*◌, ◌/◌, ◌%◌, ◌<◌, ◌≤◌, ◌^◌, IfOk, IsTrue, OnErr, OnOk};
 ghost use Rattle.laws_of_repetition.specs.Repetition.{IsMultipleOf, Repeats};
 ghost use Rattle.bb_repetition.specs.Lockstep.{IsAt, IsOpen};
@@ -12,7 +12,7 @@ use bb_machine::{Limits, Machine};
 use bb_sim::{Meter, Runner};
 use bb_tape::{Memory, Tape};
 
-/// The least period from the first step of a pair on. The saved tape and `saved` are those of that step. It
+/// The least period from the first step of a pair on. The saved tape and `saved` are those of this step. It
 /// tests quotients of the distance by primes: at most twice the logarithm of the distance to base 2.
 pub(crate) fn least_period<T: Tape>(
     machine: &Machine,

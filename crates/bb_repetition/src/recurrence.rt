@@ -1,4 +1,4 @@
-//! The exact recurrence of a run of which a pair is known.
+//! The exact recurrence of a run, from a known pair.
 ghost use Rattle.std.specs.Prelude.{◌≡◌, ◌+◌, ◌-◌, ◌*◌, ◌<◌, ◌≤◌, ◌^◌, IfOk, IsTrue, MatchBool, OnErr, OnOk};
 ghost use Rattle.bb_sim.specs.Span.{Inside};
 ghost use Rattle.laws_of_repetition.specs.Repetition.{Repeats, RepeatsExactly};
@@ -20,7 +20,7 @@ use bb_tape::{Memory, Tape};
 /// How a run repeats.
 #[derive(Clone, Copy, Debug, PartialEq, Eq)]
 pub struct Recurrence {
-    /// The first step from which on it repeats.
+    /// The first step of the repetition, counted from 0.
     pub start: u64,
     /// After so many steps it uses the same transitions again.
     pub period: u64,
@@ -35,15 +35,15 @@ pub struct Recurrence {
 pub struct Tapes<T> {
     /// The tape of the run, and the one saved at the first step of a pair.
     pub pair: Pair<T>,
-    /// The tape of the run that is ahead.
+    /// The tape of the run ahead.
     pub ahead: T,
 }
 
-/// Finds the exact recurrence of a run that repeats from `first` on with the distance to `second` as a period,
-/// where `second` is inside the limits. It makes no step past `second`.
+/// Finds the exact recurrence of a run. It repeats from `first` on, and the distance to `second` is a period.
+/// `second` is inside the limits, and no step is made past it.
 ///
 /// The steps are counted in `meter`: `first + second` for the start and the last uses, the period for the shift,
-/// and at most 4 * log2(`second - first`) times that distance for the least period.
+/// and at most 4 * log2(`second - first`) times the distance for the least period.
 ///
 /// After an error the contents of the tapes are unspecified; the next call resets them.
 pub fn find_recurrence<T: Tape>(
@@ -167,7 +167,7 @@ fn follow<T: Tape>(
     Ok(start)
 }
 
-/// From where on two runs use the same transitions, after a step in which they do, or don't.
+/// The start of the same transitions in two runs, after a step with the same transition or another one.
 #[inline(always)]
 fn start_after(start: u64, step: u64, same: bool) -> u64
     requires { step + 1 < 2 ^ 64 }
@@ -176,7 +176,8 @@ fn start_after(start: u64, step: u64, same: bool) -> u64
     if same { start } else { step + 1 }
 }
 
-/// How far the head goes in a period from the first step of a pair on, where the saved tape and `saved` are.
+/// The distance of the head in a period after the first step of a pair. The saved tape and `saved` are those of
+/// this step.
 fn find_shift<T: Tape>(
     machine: &Machine,
     limits: &Limits,

@@ -9,7 +9,7 @@ use bb_tape::{Memory, RingTape};
 use std::alloc::Global;
 use std::process::Abort;
 
-/// What is found for a verdict line, with rings for these limits.
+/// The result for a verdict line, with rings for these limits.
 fn find_in(alloc: Global, limits: &Limits, line: &[u8]) -> Result<Finding, Memory> {
     let pair = Pair {
         run: RingTape::new(alloc, limits.cells())?,

@@ -1,4 +1,4 @@
-//! The last use of each state by a run that repeats.
+//! The last use of each state by a repeating run.
 ghost use Rattle.std.specs.Prelude.{◌≡◌, ◌+◌, ◌<◌, ◌≤◌, ◌^◌};
 ghost use Rattle.bb_machine.specs.Machine.{Table};
 ghost use Rattle.bb_sim.specs.Runner.{state_of, steps_of};
@@ -39,7 +39,7 @@ impl LastUses {
         }
     }
 
-    /// Records the state that a runner's next step uses.
+    /// Records the state of a runner's next step.
     #[inline(always)]
     pub(crate) fn record<T: Tape>(
         &mut self,

@@ -16,18 +16,18 @@ use bb_sim::Meter;
 use bb_tape::{Memory, Tape};
 use laws_of_repetition::laws::pairs_repeat;
 
-/// What is found for a verdict.
+/// The result for a verdict.
 #[derive(Clone, Copy, Debug, PartialEq, Eq)]
 pub enum Finding {
-    /// It is a pair that the checker confirms, and the run repeats like this.
+    /// A pair, confirmed by the checker, and the recurrence of the run.
     Recurs(Recurrence),
-    /// It is a pair to which the checker gives this answer, not `ok`.
+    /// A pair, and the checker's answer to it, not `ok`.
     Answered(Answer),
-    /// It is no pair.
+    /// No pair.
     NoPair,
 }
 
-/// Finds how the run of a machine repeats exactly, if a verdict is a pair that the checker confirms under these
+/// Finds the exact recurrence of a machine's run, if a verdict is a pair and the checker confirms it under these
 /// limits. Resets `meter`, and counts there the steps of the check and those of `find_recurrence`.
 ///
 /// After an error the contents of the tapes are unspecified; the next call resets them.
@@ -72,7 +72,7 @@ fn pair_of(verdict: &Verdict) -> Option<(u64, u64)>
     }
 }
 
-/// States what follows from a confirmed pair, for proofs. It does nothing at run time.
+/// States the consequences of a confirmed pair, for proofs. It does nothing at run time.
 fn show_repeats(machine: &Machine, verdict: &Verdict, limits: &Limits, first: u64, second: u64)
     requires pair { NamesPair verdict.now first second }
     requires ok { IsAnswer machine.now limits.now verdict.now Answer.Ok }
