@@ -45,11 +45,11 @@ fn recurrences_are_exact(rt: HostRuntime) {
     for (line, start, period, shift) in &PAIRS {
         let found = find_in(rt.alloc(), &limits, line).expect(&rt, "memory");
         let Finding::Recurs(recurrence) = found else {
-            panic!(&rt; "no recurrence");
+            panic!(rt; "no recurrence");
         };
-        assert_eq!(&rt; recurrence.start, *start);
-        assert_eq!(&rt; recurrence.period, *period);
-        assert_eq!(&rt; recurrence.shift, *shift);
+        assert_eq!(rt; recurrence.start, *start);
+        assert_eq!(rt; recurrence.period, *period);
+        assert_eq!(rt; recurrence.shift, *shift);
     }
 }
 
@@ -68,6 +68,6 @@ fn other_lines_have_their_answers(rt: HostRuntime) {
     let limits = Limits::new(100, 64, 30, 1_000).expect(&rt, "limits");
     for (line, wanted) in &OTHERS {
         let found = find_in(rt.alloc(), &limits, line).expect(&rt, "memory");
-        assert!(&rt; found == *wanted);
+        assert!(rt; found == *wanted);
     }
 }
