@@ -33,9 +33,10 @@ $(foreach line,$(lines),$(eval $(call crate_rule,$(firstword $(subst :, ,$(line)
 
 ## Programs
 
-.PHONY: bb cover lister
+.PHONY: bb cover recurrence lister
 bb: crates/bb/out/proved ## prove and build the program, crates/bb/out/bb
 cover: crates/cover/out/proved ## prove and build the program that checks whether a list is complete
+recurrence: crates/recurrence/out/proved ## prove and build the program that finds exact repetitions
 lister: tools/out/tree_normal_form ## build the program that lists machines in tree normal form
 
 tools/out/tree_normal_form: tools/tree_normal_form.rs
@@ -99,7 +100,7 @@ plain: $(plain)/target/release/bb ## write the crates as a Cargo workspace witho
 $(plain)/target/release/bb: $(plain_sources) crates.txt
 	@plain/erase.py $(plain)
 	@cargo fmt --version >/dev/null 2>&1 && cd $(plain) && MAKEFLAGS= cargo fmt --all || true
-	@cd $(plain) && MAKEFLAGS= cargo build --release --quiet -p bb -p cover
+	@cd $(plain) && MAKEFLAGS= cargo build --release --quiet -p bb -p cover -p recurrence
 	@echo "$(plain) is built by cargo and not proved; docs/plain.md says how to confirm its lists" >&2
 	@touch $@
 
@@ -136,7 +137,7 @@ coq-check: ## let coqchk look at the second checker's proofs too
 
 ## Whole lists
 
-programs := $(if $(shell command -v rt),bb cover library,plain plain-library)
+programs := $(if $(shell command -v rt),bb cover recurrence library,plain plain-library)
 
 .PHONY: whole-lists
 whole-lists: lister $(programs) ## decide all machines of eight sizes, some 50 minutes on four cores; fill docs/whole-lists.md
@@ -155,7 +156,7 @@ coq-four-states: bb lister coq ## turn the complete list of four states into one
 ## All of it
 
 .PHONY: release test test-all bench clean
-release: bb cover library web npm lister ## build the folder that runs without the repository, dist/
+release: bb cover recurrence library web npm lister ## build the folder that runs without the repository, dist/
 	tools/release
 test: ## the gate, the build and the tests, without the slow ones
 	./test

@@ -63,6 +63,12 @@ def cover(request: pytest.FixtureRequest) -> str:
 
 
 @pytest.fixture(scope="session")
+def recurrence(request: pytest.FixtureRequest) -> str:
+    """The path of the program that finds exact repetitions."""
+    return str(proved_or_plain(request, "recurrence", "crates/recurrence/out/recurrence"))
+
+
+@pytest.fixture(scope="session")
 def library(request: pytest.FixtureRequest) -> pathlib.Path:
     """The path of libbb.so; libbb.a is beside it."""
     return proved_or_plain(request, "library", "crates/bb_c/out/libbb.so")
@@ -116,6 +122,12 @@ def checker() -> str:
 def coq_cover(checker: str) -> str:
     """The path of the second checker of whole lists, which Coq extracts too."""
     return str(pathlib.Path(checker).with_name("cover"))
+
+
+@pytest.fixture(scope="session")
+def coq_recurrence(checker: str) -> str:
+    """The path of the second checker of exact repetition, which Coq extracts too."""
+    return str(pathlib.Path(checker).with_name("recurrence"))
 
 
 @pytest.fixture(scope="session")

@@ -1,7 +1,8 @@
 (* The program over the proved checker of lists, and not proved itself: the words, the bytes of FILE or of
    standard input, the line, and the exit status. *)
 
-let usage = "usage: cover [--steps T] [--cells S] [--depth D] [--nodes N] [--below MACHINE] [--skeleton] [FILE]"
+let usage =
+  "usage: cover [--steps T] [--cells S] [--depth D] [--nodes N] [--below MACHINE] [--skeleton] [FILE]"
 
 let help = usage ^ "
 

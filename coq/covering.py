@@ -1,7 +1,7 @@
 """The files of Coq in which it is a theorem that a list of verdict lines settles every machine of a size.
 
-`coq/theorem --cover` writes them. A list is cut into parts. The theorem of a part says that its lines lead from
-one place of the walk to the next. Each place is computed here from the lines, and its use checked by Coq: a
+`coq/theorem --cover` writes them. A list is cut into parts. The theorem of a part says that its lines lead
+from one place of the walk to the next. Each place is computed here from the lines. Coq checks its use: a
 wrong one fails the proof.
 """
 
@@ -39,7 +39,8 @@ Lemma leads : leads %(task)s no_progress lines undecided place.
 Proof. exact (%(proof)s). Qed.
 
 """
-WHOLE = """Theorem covered : forall M, is_machine M = true -> states M = %(states)d -> symbols M = %(symbols)d ->
+WHOLE = """Theorem covered : forall M,
+  is_machine M = true -> states M = %(states)d -> symbols M = %(symbols)d ->
   halts_soon lines M \\/ never_halts M \\/ completes_one_of undecided M.
 Proof. exact (covered_by lines undecided place %(states)d %(symbols)d leads eq_refl). Qed.
 Print Assumptions covered.
@@ -70,13 +71,13 @@ SHARD = """Theorem covered : is_walk [first] lines /\\ have_totals lines %(count
 Proof. exact (shard_walks first lines undecided place leads eq_refl). Qed.
 Print Assumptions covered.
 """
-SHARD_SKELETON = """(** Whatever the shards' lines are, if each shard is a walk below its machine that has its counts. *)
+SHARD_SKELETON = """(** For any lines of the shards that are walks below their machines with these counts. *)
 Theorem covered : forall parts, Forall2 (stands_for true) lines parts ->
   is_walk [first] (List.concat parts) /\\ have_totals (List.concat parts) %(counts)s.
 Proof. exact (shard_skeleton_walks first lines undecided place leads eq_refl). Qed.
 Print Assumptions covered.
 """
-SKELETON = """(** Whatever the shards' lines are, if each shard is a walk below its machine that has its counts. *)
+SKELETON = """(** For any lines of the shards that are walks below their machines with these counts. *)
 Theorem covered : forall parts open, Forall2 (stands_for true) lines parts ->
   are_undecided (List.concat parts) open ->
   forall M, is_machine M = true -> states M = %(states)d -> symbols M = %(symbols)d ->
@@ -148,7 +149,7 @@ def entries_of(groups: Machine) -> list[str]:
     ]
 
 
-def count_defined(machine: str) -> int:
+def count_defined_entries(machine: str) -> int:
     """How many entries of a machine's text aren't undefined."""
     return len(machine.replace("_", "")) // 3 - machine.count("---")
 
@@ -201,20 +202,20 @@ def cut(job: Job, most: int) -> Iterator[Part]:
     """The parts of a list, of at most so many lines. An incomplete list has some part or a ValueError."""
     counts, before = [0] * 5, "no_progress"
     path: list[str] = []
-    least = count_defined(job.lines[0].split(" ")[0])
+    least = count_defined_entries(job.lines[0].split(" ")[0])
     machines = [line.split(" ", 1)[0] for line in job.lines]
     for start in range(0, len(job.lines), most):
         lines = job.lines[start : start + most]
         undecided = []
         for line in lines:
             machine, _, verdict = line.partition(" ")
-            path[count_defined(machine) - least :] = [machine]
+            path[count_defined_entries(machine) - least :] = [machine]
             count_line(counts, machine, verdict)
             if verdict in UNDECIDED:
                 undecided.append(machine)
         end = start + len(lines)
         following = machines[end] if end < len(machines) else None
-        above = path if following is None else path[: count_defined(following) - least]
+        above = path if following is None else path[: count_defined_entries(following) - least]
         after = place_term(above or machines[:1], following, counts)
         yield Part(lines, undecided, before, after)
         before = after
@@ -275,8 +276,8 @@ def end_text(job: Job, undecided: Sequence[str]) -> str:
 
 
 def files_of(job: Job, stem: str, most: int) -> dict[str, str]:
-    """The files of a list by their names, the one with its theorem last. They are called after it, if the list
-    has more than so many lines: `List_1`, `List_2` and so on.
+    """The files of a list by their names, the one with its theorem last. They are called after it, if the
+    list has more than so many lines: `List_1`, `List_2` and so on.
     """
     parts = list(cut(job, most))
     undecided = [machine for part in parts for machine in part.undecided]

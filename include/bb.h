@@ -1,11 +1,12 @@
-/* Verdicts on small Turing machines, answers to verdicts, traces, and looks at replies, as calls.
+/* Verdicts on small Turing machines, answers to verdicts, exact repetitions, traces, and looks at replies,
+ * as calls.
  *
  * The lines are those of the program `bb`, which README.md describes. docs/library.md says how to build and
  * link this, and what is proved of it.
  *
  * Limits. `steps`: of one simulation, 0 to 1,000,000,000,000. `cells`: of one tape, 1 to 67,108,864; a call
- * that decides makes three tapes of as many bytes, one that checks two, one that traces one. `depth`: levels
- * of the backward tree, 0 to 10,000. `nodes`: of that tree, 0 to 1,000,000,000,000. 2 * depth - 1 must be at
+ * that decides or finds repetitions makes three tapes of as many bytes, one that checks two, one that traces
+ * one. `depth`: levels of the backward tree, 0 to 10,000. `nodes`: of that tree, 0 to 1,000,000,000,000. 2 * depth - 1 must be at
  * most `cells`.
  *
  * Deciders. Each of `cyclers`, `translated` and `backward` is on or off; they are asked in that order.
@@ -23,8 +24,8 @@
  *
  * A call keeps nothing: neither pointers nor memory. So calls in different threads don't disturb each other.
  *
- * `*count` is the number of bytes of the reply; `bb_look` and `bb_check_cost` have none. Where the status is BB_CLEAN or
- * BB_NOT_CLEAN they stand at the beginning of `out`, and the rest of `out` is as it was. Where it is
+ * `*count` is the number of bytes of the reply; `bb_look` and `bb_check_cost` have none. Where the status is
+ * BB_CLEAN or BB_NOT_CLEAN they stand at the beginning of `out`, and the rest of `out` is as it was. Where it is
  * BB_SHORT, `out` is as it was, and `*count` is how long it has to be. Else `out` is as it was, and `*count`
  * is 0. No byte 0 is put behind the reply.
  */
@@ -71,6 +72,8 @@
 #define BB_DECIDE_LINE_ROOM(line_len) ((size_t)(line_len) + (size_t)97)
 #define BB_CHECK_ROOM(lines) ((size_t)7 * (size_t)(lines))
 #define BB_CHECK_LINE_ROOM 6
+#define BB_RECURRENCE_ROOM(list_len, lines) \
+    ((size_t)7 * (size_t)(list_len) + (size_t)90 * (size_t)(lines))
 
 #ifdef __cplusplus
 extern "C" {
@@ -115,6 +118,13 @@ uint32_t bb_trace(uint64_t steps, uint64_t cells, uint64_t from, uint64_t every,
  * unchanged after BB_LIMITS. */
 uint32_t bb_check_cost(uint64_t steps, uint64_t cells, uint64_t depth, uint64_t nodes, const uint8_t *list,
                        size_t list_len, uint64_t cost[4]);
+
+/* The exact repetition of each pair of a list of verdict lines, each with a newline: the line of the program
+ * `recurrence`, `<machine> recurs <start> <period> <shift> <use of A> ..`, with the last use of each entry if
+ * `entries`; the answer to a pair that doesn't hold, `open` for a line without a pair, `unread` for no verdict line.
+ * The status is BB_CLEAN if each reply is a repetition or `open`. */
+uint32_t bb_recurrence(uint64_t steps, uint64_t cells, bool entries, const uint8_t *list, size_t list_len,
+                       uint8_t *out, size_t out_len, size_t *count);
 
 /* Looks at the replies to the lines of a list: whether each line has one of its form, in order, each with a
  * newline, and whether there are no more. A reply has its form where it is the line's bytes, a space and a

@@ -27,7 +27,7 @@ from plain.erase import FLAGS, version, write_workspace  # noqa: E402
 
 README = """# Budlarem without its proofs
 
-The programs `bb` and `cover`, and the library for C, in plain Rust. `cargo build --release` builds them into
+The programs `bb`, `cover` and `recurrence`, and the library for C, in plain Rust. `cargo build --release` builds them into
 target/release, with rustc 1.87 or later and no network; `cargo test` runs their tests.
 
 This build isn't proved. Each contract stands as a comment above its function. `plain.md` says what differs from

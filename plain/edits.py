@@ -32,9 +32,11 @@ from support.examples import read_examples  # noqa: E402
 from support.machines import random_machines, spoil  # noqa: E402
 from support.program import ROWS, as_lines, options  # noqa: E402
 from support.second_checker import made_claims, tight_claims  # noqa: E402
-from test_plain import COMMANDS, EDGES, EDGES_OF_COVER, FOUR, GIVEN, PLANS, WORDS  # noqa: E402
+from test_plain import COMMANDS, EDGES, EDGES_OF_LISTS, FOUR, GIVEN, PLANS, WORDS  # noqa: E402
 
-CRATES = ("bb_machine", "bb_sim", "bb_narrow", "bb_cert", "bb_decide", "bb_lines", "bb_run")
+CRATES = ("bb_machine", "bb_sim", "bb_narrow", "bb_cert", "bb_decide", "bb_lines", "bb_run", "bb_repetition")
+PROGRAMS = ("bb", "cover", "recurrence")
+BUILT = ("build", *(word for name in PROGRAMS for word in ("-p", name)))
 TESTED = ("tests_of_verdicts", "tests_of_runs", "tests_of_parts", "bb", "bb_c")
 # One build for programs and tests.
 QUICK = """
@@ -96,7 +98,9 @@ def read_invisible() -> List[str]:
 
 def run(probe: Probe, programs: pathlib.Path, cwd: pathlib.Path) -> Result:
     """Run a probe; one that takes too long differs by its status."""
-    command = probe.command.replace("BB", str(programs / "bb")).replace("COVER", str(programs / "cover"))
+    command = probe.command
+    for name in PROGRAMS:
+        command = command.replace(name.upper(), str(programs / name))
     try:
         done = subprocess.run(
             ["timeout", str(SECONDS), "sh", "-c", command], input=probe.given, capture_output=True, cwd=cwd
@@ -133,6 +137,7 @@ def probes(programs: pathlib.Path, lists: pathlib.Path) -> Iterator[Probe]:
         verdicts[words] = run(decide, programs, lists)[1]
         forged = re.sub(rb"\d(?=\n)", lambda digit: b"%d" % (source.randrange(10)), verdicts[words])
         yield Probe("check " + words, "BB check " + words, verdicts[words])
+        yield Probe("recurrence " + words, "RECURRENCE --entries --steps 900", verdicts[words])
         yield Probe("forged " + words, "BB check " + words, forged)
         yield Probe("errors " + words, "BB decide " + words, with_errors(source, machines))
         yield Probe("errors in verdicts " + words, "BB check " + words, with_errors(source, verdicts[words]))
@@ -148,8 +153,9 @@ def probes(programs: pathlib.Path, lists: pathlib.Path) -> Iterator[Probe]:
     three = run(Probe("", "BB decide " + " ".join(FOUR), (lists / "three.txt").read_bytes()), programs, lists)
     yield Probe("cover", "COVER " + " ".join(FOUR), three[1])
     (lists / "verdicts.txt").write_bytes(three[1])
-    for command in EDGES_OF_COVER:
+    for command in EDGES_OF_LISTS:
         yield Probe("cover: " + command.strip(), command.replace("PROGRAM", "COVER"), b"")
+        yield Probe("recurrence: " + command.strip(), command.replace("PROGRAM", "RECURRENCE"), b"")
     for command in EDGES:
         yield Probe(command.strip(), command.replace("PROGRAM", "BB"), b"")
     for _ in range(300):
@@ -167,7 +173,7 @@ class Workspace:
         write_workspace(folder)
         path = folder / "Cargo.toml"
         path.write_text(path.read_text().replace(PROFILES, QUICK))
-        assert self.cargo("build", "-p", "bb", "-p", "cover") == 0
+        assert self.cargo("build", *BUILT) == 0
         alike = []
         for probe, result in expected:
             start = time.monotonic()
@@ -200,7 +206,7 @@ class Workspace:
 
     def commands(self) -> Optional[str]:
         """Return which command differs, or the compiler where it refuses the edit."""
-        if self.cargo("build", "-p", "bb", "-p", "cover") != 0:
+        if self.cargo("build", *BUILT) != 0:
             return "the compiler"
         for probe, expected in self.expected:
             if self.run(probe) != expected:

@@ -183,7 +183,7 @@ def tokens(source: Source, text: str) -> Iterator[Token]:
         at += len(token.text)
 
 
-def require_known(source: Source, found: List[Token]) -> None:
+def check_names(source: Source, found: List[Token]) -> None:
     """Refuse an attribute or a macro without a rule."""
     code = [token for token in found if token.kind not in ("space", "comment", "clause", "ghost")]
     for first, second, third in zip(code, code[1:], code[2:]):
@@ -313,7 +313,7 @@ def _message(item: Match[str]) -> str:
 def plain(source: Source) -> str:
     """Return a source in plain Rust."""
     found = list(tokens(source, source.path.read_text(encoding="utf-8")))
-    require_known(source, found)
+    check_names(source, found)
     text = with_messages(without_proofs(found))
     for _, pattern, replacement in RULES:
         text = re.sub(pattern, replacement, text, flags=re.S)

@@ -3,16 +3,12 @@
 from __future__ import annotations
 
 import functools
-import pathlib
 import random
 import re
-import subprocess
 from typing import Callable, Sequence
 
 import pytest
-from support import TOP
 from support.program import CommandResult, as_lines, options, processor_time, replies, run_command
-from support.terminals import on_terminal
 
 # States and symbols of whole lists.
 SIZES = [(1, 2), (2, 2), (3, 2), (1, 3), (2, 3), (1, 4), (1, 10)]
@@ -119,56 +115,6 @@ def test_what_is_wrong_with_a_list_is_named(cover: str, decide_all: Decide) -> N
     ]
     for given, sentence in rows:
         assert run_command([cover, *LIMITS], as_lines(given)) == (1, sentence.encode() + b"\n", b"")
-
-
-@pytest.mark.parametrize(
-    "words, status, error",
-    [
-        ("--steps 1000000000001", 2, b"cover: steps out of range\n"),
-        ("--cells 0", 2, b"cover: cells out of range\n"),
-        ("--depth 10001", 2, b"cover: depth out of range\n"),
-        ("--nodes 1000000000001", 2, b"cover: nodes out of range\n"),
-        ("--cells 1 --depth 2", 2, b"cover: depth does not fit in cells\n"),
-        ("/no/such/file", 3, b"cover: read failed\n"),
-        ("--stepz 1", 2, None),
-        ("a b", 2, None),
-    ],
-)
-def test_wrong_words(cover: str, words: str, status: int, error: bytes | None) -> None:
-    done = run_command([cover, *words.split()])
-    assert (done.status, done.output) == (status, b"") and done.error
-    assert error is None or done.error == error
-
-
-@pytest.mark.parametrize("word", ["--help", "--version"])
-def test_help_and_version(cover: str, word: str) -> None:
-    status, output, error = run_command([cover, word])
-    assert status == 0 and output and not error
-
-
-def test_failed_write(cover: str, decide_all: Decide) -> None:
-    given = as_lines(decide_all(2, 2))
-    with open("/dev/full", "wb") as full:
-        done = subprocess.run([cover], input=given, stdout=full, stderr=subprocess.PIPE)
-        status, shown = on_terminal([cover, *LIMITS], given, full)
-    assert (done.returncode, done.stderr) == (3, b"cover: write failed\n")
-    cause = "cover: write failed\nstandard output: No space left on device (os error 28)\n"
-    assert status == 3 and shown.endswith(cause)
-
-
-def test_progress_on_a_terminal(cover: str, decide_all: Decide, tmp_path: pathlib.Path) -> None:
-    (tmp_path / "list").write_bytes(as_lines(decide_all(3, 2)))
-    status, shown = on_terminal([cover, *LIMITS, str(tmp_path / "list")], b"", subprocess.DEVNULL)
-    assert status == 0 and re.match(r"\r0% 0 lines\x1b\[K(\r\d+% \d+ lines\x1b\[K)*\r\x1b\[K$", shown)
-
-
-@pytest.mark.parametrize(
-    "path, cause",
-    [("/no/such/file", "No such file or directory (os error 2)\n"), (str(TOP), "Is a directory")],
-)
-def test_failed_read_on_a_terminal(cover: str, path: str, cause: str) -> None:
-    status, shown = on_terminal([cover, *LIMITS, path], b"", subprocess.DEVNULL)
-    assert status == 3 and "cover: read failed\n%s: %s" % (path, cause) in shown
 
 
 @pytest.mark.timing

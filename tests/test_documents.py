@@ -36,9 +36,9 @@ FORMER = r"`[^`]+` is gone|`[^`]+` is (?=`)|\(it was `[^`]+`\)|in place of `[^`]
 VERDICT = r"(?:<machine> |[\dA-Z_-]+ )?([a-z]+)(?: [LR])?(?: (?:\d+|<[\w ]+>|steps|cells))+"
 FILE = r"[\w./-]*/[\w./-]*|[\w.-]*\.(?:rt|antt|edit|md|py|mjs|html|h|c|rs|v|ml|txt|png|svg|wasm|a|so)"
 COMMAND = r"\./\w+ |(?:bb|budlarem|make(?! -)) |(?:coq|tools|benchmarks|scripts)/\S+ "
-VERSION = r'^(?:#define BB_VERSION "|VERSION = "|## |.*(?:\.version\("|"bb ))([0-9.]+)'
-VERSIONED = """crates/bb_command/src/command.rt crates/cover/src/command.rt crates/bb/src/tests.rt docs/bb.1
-    include/bb.h python/src/budlarem/_version.py CHANGELOG.md""".split()
+VERSION = r'^(?:#define BB_VERSION "|VERSION = "|## |.*(?:\.version\("|"(?:bb|recurrence) ))([0-9.]+)'
+VERSIONED = """crates/bb_command/src/command.rt crates/cover/src/command.rt crates/recurrence/src/command.rt crates/bb/src/tests.rt docs/bb.1
+    docs/recurrence.1 include/bb.h python/src/budlarem/_version.py CHANGELOG.md""".split()
 DOCUMENTS = [*TOP.glob("*.md"), *TOP.glob("docs/*.md"), TOP / "examples" / "README.md"]
 # Lines, and what is missing of each.
 BROKEN = [

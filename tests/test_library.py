@@ -28,7 +28,7 @@ refused 14
 
 0RB---_0LA--- backward 2 4
 """.splitlines()
-CALLS = ["bb_check", "bb_check_cost", "bb_check_line", "bb_decide", "bb_decide_line", "bb_look", "bb_trace"]
+CALLS = "bb_check bb_check_cost bb_check_line bb_decide bb_decide_line bb_look bb_recurrence bb_trace".split()
 C, CPP = ["gcc", "-std=c99"], ["g++", "-x", "c++"]
 C_WORDS = ["-Wall", "-Wextra", "-Werror", "-O2", "-pthread", "-I", str(TOP / "include")]
 VALGRIND = ["valgrind", "-q", "--error-exitcode=9", "--leak-check=full"]

@@ -72,8 +72,8 @@ EDGES += [
     "printf '1RA1RA cycler 1 100001\\n0RB0LB_0LA0RA halt 1000000000000 1\\n'"
     " | timeout 2 PROGRAM check --steps 1000000000000 --cells 200000",
 ]
-# The same for `cover`; `verdicts.txt` is a list of verdicts.
-EDGES_OF_COVER = """exec PROGRAM <&-
+# The same for `cover` and `recurrence`; `verdicts.txt` is a list of verdicts.
+EDGES_OF_LISTS = """exec PROGRAM <&-
     exec PROGRAM </tmp
     exec PROGRAM <verdicts.txt >&-
     exec PROGRAM <verdicts.txt >/dev/full
@@ -104,6 +104,12 @@ def covers(plain: pathlib.Path) -> Programs:
     return str(build("cover", "crates/cover/out/cover")), str(plain / "cover")
 
 
+@pytest.fixture(scope="module")
+def recurrences(plain: pathlib.Path) -> Programs:
+    """The same for `recurrence`."""
+    return str(build("recurrence", "crates/recurrence/out/recurrence")), str(plain / "recurrence")
+
+
 def without_text_of_clap(text: bytes) -> bytes:
     """Drop a text of clap's: help, or a sentence with the usage or a hint to help."""
     text = text.replace(b" (plain)\n", b"\n")
@@ -126,13 +132,16 @@ def folder(tmp_path: pathlib.Path, four_states: list[str]) -> pathlib.Path:
     return tmp_path
 
 
-def test_all_machines_of_four_states(programs: Programs, covers: Programs, four_states: list[str]) -> None:
+def test_all_machines_of_four_states(
+    programs: Programs, covers: Programs, recurrences: Programs, four_states: list[str]
+) -> None:
     lines = as_lines(four_states)
     decided = require_same(programs, lambda bb: run_command([bb, "decide", *FOUR], lines))
     require_same(programs, lambda bb: run_command([bb, "check", *FOUR], decided.output))
     checked = require_same(covers, lambda cover: run_command([cover, *FOUR], decided.output))
     assert checked.status == 0
-    print("%d machines decided, checked and covered by both" % len(four_states))
+    require_same(recurrences, lambda path: run_command([path, "--entries"], decided.output))
+    print("%d machines decided, checked, covered and searched by both" % len(four_states))
 
 
 @pytest.mark.parametrize("limits", ROWS)
@@ -191,19 +200,21 @@ def test_streams_and_memory(programs: Programs, folder: pathlib.Path, command: s
     require_same(programs, run)
 
 
-@pytest.mark.parametrize("command", EDGES_OF_COVER, ids=str.strip)
-def test_streams_and_memory_of_cover(
+@pytest.mark.parametrize("command", EDGES_OF_LISTS, ids=str.strip)
+def test_streams_and_memory_of_lists(
     programs: Programs,
     covers: Programs,
+    recurrences: Programs,
     folder: pathlib.Path,
     list_machines: Callable[..., list[str]],
     command: str,
 ) -> None:
     decided = run_command([programs[0], "decide"], as_lines(list_machines(2)))
     (folder / "verdicts.txt").write_bytes(decided.output)
-    require_same(
-        covers, lambda cover: run_command(["sh", "-c", command.replace("PROGRAM", cover)], cwd=str(folder))
-    )
+    for builds in (covers, recurrences):
+        require_same(
+            builds, lambda path: run_command(["sh", "-c", command.replace("PROGRAM", path)], cwd=str(folder))
+        )
 
 
 @pytest.mark.parametrize("words", [[b"\xff"], ["decide", b"\xff"], ["decide", "a" * 5000], ["decide", ""]])
@@ -253,9 +264,10 @@ def test_two_folders_give_the_same_bytes(tmp_path: pathlib.Path) -> None:
     built = []
     for folder in (tmp_path / "one", tmp_path / "another folder"):
         subprocess.run([str(TOP / "plain" / "erase.py"), str(folder)], check=True)
-        command = ["cargo", "build", "--release", "--quiet", "-p", "bb", "-p", "cover", "-p", "bb_c"]
+        command = ["cargo", "build", "--release", "--quiet", "-p", "bb", "-p", "cover", "-p", "recurrence"]
+        command += ["-p", "bb_c"]
         subprocess.run(command, cwd=folder, check=True)
         release = folder / "target" / "release"
-        names = ("bb", "cover", "libbb_c.a", "libbb_c.so")
+        names = ("bb", "cover", "recurrence", "libbb_c.a", "libbb_c.so")
         built.append({name: (release / name).read_bytes() for name in names})
     assert [name for name in built[0] if built[0][name] != built[1][name]] == []

@@ -78,7 +78,8 @@ def test_exceptions_are_pages() -> None:
     assert set(EXCEPTED) <= set(PAGES)
 
 
-def test_help_reads_easily(bb: str, cover: str) -> None:
-    commands = [[bb, *command.split(), "--help"] for command in COMMANDS] + [[cover, "--help"]]
+def test_help_reads_easily(bb: str, cover: str, recurrence: str) -> None:
+    commands = [[bb, *command.split(), "--help"] for command in COMMANDS]
+    commands += [[cover, "--help"], [recurrence, "--help"]]
     pages = "\n\n".join(run_command(command).output.decode() for command in commands)
     require_easy(re.sub(r"(?m)^ +", "", pages))

@@ -28,9 +28,9 @@ BLOCKS = {
     1: ["Count undefined entries as a step", "Count verdicts", "Check that no line is missing"]
     + ["Use all cores without Python", "Copy the program", "Resume after an interruption"]
     + ["Call the engine from a program"],
-    2: ["Raise the limits for undecided machines", "Judge published claims", "Publish a decided list"]
-    + ["Use several cores", "Decide a long list", "Draw a picture"],
-    3: ["Prepare a list", "Find wrong claims"],
+    2: ["Raise the limits for undecided machines", "Find exact starts and periods"]
+    + ["Publish a decided list", "Use several cores", "Decide a long list", "Draw a picture"],
+    3: ["Prepare a list", "Find wrong claims", "Judge published claims"],
 }
 # A line of a list, and the machine that is taken out of it, or why there is none; None for a line that is
 # passed over in silence.
@@ -286,7 +286,7 @@ def test_package_answers_claims(folder: Folder) -> None:
 
 @pytest.mark.usefixtures("package")
 def test_judging_what_others_publish(folder: Folder) -> None:
-    judge, look = RECIPES["Judge published claims"]
+    judge, look, _ = RECIPES["Judge published claims"]
     folder.write("machines.txt", b"1RB1LB_1LA1RZ\n1RA1RA\n0RB---_0LA---\n")
     folder.write("theirs.txt", b"1LB1RB_1RA1LZ halt 6 4\n1RA1RA halt 6 4\nx\n1RZ1RZ halt 1 1\n")
     assert folder.run(judge).status == 0
@@ -295,6 +295,25 @@ def test_judging_what_others_publish(folder: Folder) -> None:
     assert rows == list(zip(words, b"1 2 3 4 3 4".split()))
     shown = [row.split(b"\t")[0] for row in folder.run(look).output.splitlines()]
     assert shown == [words[1], words[2], words[4], words[5]]
+
+
+@pytest.mark.usefixtures("package")
+def test_exact_starts_and_periods(folder: Folder) -> None:
+    folder.write(
+        "verdicts.txt",
+        b"0RB---_0LA--- cycler 2 4\n1RB---_1LB0RB translated L 7 8 1 1\n1RA1RA undecided steps\n",
+    )
+    find, most = RECIPES["Find exact starts and periods"]
+    assert folder.run(find).status == 0
+    assert folder.read("recurrences.txt").splitlines()[2] == b"open"
+    assert folder.run(most) == (0, b"1 1RB---_1LB0RB\n", b"")
+    folder.write(
+        "theirs.txt", b"machine,start,period\n0RB---_0LA---,2,4\n0RB---_0LA---,0,2\n1RB---_1LB0RB,3,1\n"
+    )
+    judge, _, exact = RECIPES["Judge published claims"]
+    folder.run(judge.replace("--list machines.txt ", ""))
+    status, output, _ = folder.run(exact)
+    assert (status, output.count(b"\n"), output[:11]) == (0, 1, b"confirmed\t2")
 
 
 @pytest.mark.usefixtures("package")

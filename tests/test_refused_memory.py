@@ -35,6 +35,8 @@ RUNS = {
     ("bb", "list", 0): ["trace --upto=10", "--help"],
     ("cover", "begun", 4): [LIMITS, LIMITS + " begun"],
     ("cover", "begun", 0): [*ENDS_EARLY, "--help"],
+    ("recurrence", "claims", 4): ["", "--steps=1000 --cells=64 --entries", "--cells=64 claims"],
+    ("recurrence", "claims", 0): ["--cells=0", "--steps=x", "--help"],
 }
 COMMANDS = [(" ".join([run[0], words]).strip(), *run[1:]) for run, more in RUNS.items() for words in more]
 
@@ -66,10 +68,11 @@ def refuse_in_turn(command: list[str], given: bytes, folder: pathlib.Path) -> li
 
 
 @pytest.mark.parametrize("run", COMMANDS, ids=[run[0] for run in COMMANDS])
-def test_refused_allocation(bb: str, cover: str, folder: pathlib.Path, run: tuple[str, str, int]) -> None:
-    programs: dict[str, str] = {"bb": bb, "cover": cover}
+def test_refused_allocation(
+    request: pytest.FixtureRequest, folder: pathlib.Path, run: tuple[str, str, int]
+) -> None:
     name, *words = run[0].split()
-    command, given = [programs[name], *words], INPUTS[run[1]]
+    command, given = [request.getfixturevalue(name), *words], INPUTS[run[1]]
     ends, whole = refuse_in_turn(command, given, folder), run_command(command, given, cwd=str(folder))
     faults = [b"%s: %s\n" % (name.encode(), fault) for fault in FAULTS]
     before_tapes = len(ends) - run[2]

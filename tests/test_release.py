@@ -8,10 +8,10 @@ import subprocess
 import pytest
 from support import TOP, require
 
-PROGRAMS = ["bb", "cover", "many_cores", "tree_normal_form"]
+PROGRAMS = ["bb", "cover", "recurrence", "many_cores", "tree_normal_form"]
 ALWAYS = {
     *PROGRAMS,
-    *"CONTENTS README.txt bb.1 budlarem.1 bb.h decide.c libbb.a libbb.so bb.wasm bb.html bb.mjs".split(),
+    *"CONTENTS README.txt bb.1 budlarem.1 recurrence.1 bb.h decide.c libbb.a libbb.so bb.wasm bb.html bb.mjs".split(),
 }
 ALWAYS |= {"%s.%s" % (name, shell) for name in ("bb", "budlarem") for shell in ("bash", "zsh", "fish")}
 

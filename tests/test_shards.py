@@ -187,6 +187,22 @@ def test_a_shard_without_one_of_its_lines_is_refused(
         assert (status, error) == (1, b"") and output.startswith(b"line %d: " % line)
 
 
+@pytest.mark.slow
+def test_shards_of_five_states_without_one_of_their_lines(
+    bb: str, cover: str, list_machines: ListMachines, rng: random.Random
+) -> None:
+    """A hundred shards of some thousand lines, at random."""
+    items = list_machines(5, "--shards", "6", "--steps", str(STEPS))
+    for item in rng.sample([item for item in items if item.endswith(" below")], 100):
+        machine = item.split(" ")[0]
+        machines = list_machines(5, "--steps", str(STEPS), "--below", machine)
+        lines = run_command([bb, "decide", *LIMITS], as_lines(machines)).output.decode().splitlines()
+        assert run_command([cover, "--below", machine, *LIMITS], as_lines(lines)).status == 0
+        changed, line = lose(lines, rng.randrange(len(lines)))
+        status, output, error = run_command([cover, "--below", machine, *LIMITS], as_lines(changed))
+        assert (status, error) == (1, b"") and output.startswith(b"line %d: " % line)
+
+
 def test_shard_of_another_machine_is_refused(cover: str, shard: Shard) -> None:
     (one, _), (two, lines) = list(shard(3, 2, 2).shards.items())[:2]
     done = run_command([cover, "--below", one, *LIMITS], as_lines(lines))

@@ -6,7 +6,12 @@ import pytest
 from support import TOP, list_files
 
 # Shell scripts that hand their words on to a program, each with the fixture that builds it.
-WRAPPERS = {"bb": "bb", "cover": "cover", "tools/tree_normal_form": "list_machines"}
+WRAPPERS = {
+    "bb": "bb",
+    "cover": "cover",
+    "recurrence": "recurrence",
+    "tools/tree_normal_form": "list_machines",
+}
 # The classes that it extends have no types.
 UNTYPED = "python/setup.py"
 # After so many seconds an executable counts as having begun its work.

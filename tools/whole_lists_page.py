@@ -11,6 +11,15 @@ DOCS = pathlib.Path(__file__).resolve().parents[1] / "docs"
 PAGE, RESULTS = DOCS / "whole-lists.md", DOCS / "whole-lists.json"
 KINDS = ("halt", "cycler", "translated", "backward")
 GREATEST = {"halt steps": "Steps of a halt", "halt score": "Score of a halt"}
+RECURRENCES = {
+    "start": "Start",
+    "period": "Period",
+    "shift": "Cells of a shift",
+    "quasihalts": "Steps before a quasihalt",
+}
+# The greatest known numbers of steps after which a machine of a size quasihalts.
+QUASIHALTS = {"2x2": (6,), "3x2": (55,), "2x3": (59,), "4x2": (66_349, 32_779_478)}
+NO_RECURRENCES = "This run has no recurrences: it was made before `tools/whole_lists` counted them."
 TREES = {"backward levels": "Levels of a tree", "backward nodes": "Nodes of a tree"}
 # Lines of verdicts on a second pass: the seconds of a machine at these limits.
 Fields = dict[str, Any]
@@ -71,13 +80,76 @@ def greatest_of(found: Fields) -> Iterator[str]:
                 yield row(name, words, most, "`%s`" % line)
 
 
-def times_of(found: Fields) -> Iterator[str]:
-    steps, names = ("walk", "later"), ("clock", "cores")
-    yield from head(
-        "Size", "First pass", "Its core time", "Later passes", "Their core time", "Core time of a machine"
-    )
+def recurrences_in(found: Fields) -> Iterator[tuple[str, Fields]]:
+    """The recurrences of each size's list, and of its completions, by name."""
     for name, one in found["sizes"].items():
-        times = ["%.1f s" % one["seconds"][step][each] for step in steps for each in names]
+        if "recurrences" in one:
+            yield name, {"lines": one["lines"], **one["recurrences"]}
+            if "completions" in one["recurrences"]:
+                yield name + ", completed", one["recurrences"]["completions"]
+
+
+def recurrences_of(found: Fields) -> Iterator[str]:
+    rows = dict(recurrences_in(found))
+    if not rows:
+        yield NO_RECURRENCES
+        return
+    yield from head(
+        "Size",
+        "Machines",
+        "Recur",
+        "Quasihalt",
+        *map("Greatest {}".format, ("start", "period", "shift", "quasihalt")),
+    )
+    for name, one in rows.items():
+        most = [one["greatest"].get(key, (0, ""))[0] for key in RECURRENCES]
+        yield row(name, one["lines"], one["counts"]["recurs"], one["counts"]["quasihalts"], *most)
+
+
+def recurrence_lines_of(found: Fields) -> Iterator[str]:
+    rows = dict(recurrences_in(found))
+    if not rows:
+        yield NO_RECURRENCES
+        return
+    yield from head("Size", "", "", "Line")
+    for name, one in rows.items():
+        for key, words in RECURRENCES.items():
+            if key in one["greatest"]:
+                most, line = one["greatest"][key]
+                yield row(name, words, most, "`%s`" % line)
+
+
+def quasihalts_of(found: Fields) -> Iterator[str]:
+    """The known quasihalting steps beside those of the run, with their lines."""
+    rows = dict(recurrences_in(found))
+    if not rows:
+        yield NO_RECURRENCES
+        return
+    yield from head("Size", "Known", "Here", "Line")
+    for name, known in QUASIHALTS.items():
+        if name in rows:
+            lines = [
+                rows[each]["greatest"]["quasihalts"] for each in (name, name + ", completed") if each in rows
+            ]
+            lines += [(int(line.split()[-1]), line) for line in rows[name].get("known", {}).get("lines", ())]
+            for most in known:
+                here = next((line for number, line in lines if number == most), None)
+                yield row(name, most, "the same" if here else "not found", "`%s`" % here if here else "")
+
+
+def times_of(found: Fields) -> Iterator[str]:
+    titles = {"walk": "First pass", "later": "Later passes", "recurrences": "Recurrences of these"}
+    some = any("recurrences" in one["seconds"] for one in found["sizes"].values())
+    steps = [step for step in titles if some or step != "recurrences"]
+    names = [
+        word
+        for step in steps
+        for word in (titles[step], "Their core time" if step != "walk" else "Its core time")
+    ]
+    yield from head("Size", *names, "Core time of a machine")
+    for name, one in found["sizes"].items():
+        seconds = [one["seconds"].get(step, {}) for step in steps]
+        times = ["%.1f s" % each.get(kind, 0) for each in seconds for kind in ("clock", "cores")]
         lines = one["passes"][1]["lines"]
         each = "%.2f ms" % (1_000 * one["seconds"]["later"]["cores"] / lines) if lines else "-"
         yield row(name, *times, each)
@@ -144,6 +216,9 @@ TABLES: dict[str, Callable[[Fields], Iterator[str]]] = {
     "passes": passes_of,
     "holdouts": holdouts_of,
     "greatest": greatest_of,
+    "recurrences": recurrences_of,
+    "recurrence lines": recurrence_lines_of,
+    "quasihalts": quasihalts_of,
     "times": times_of,
     "covers": covers_of,
     "digests": digests_of,

@@ -10,7 +10,7 @@ set -eu
 [ $# -eq 0 ] || { echo "build_module.sh: it takes no arguments" >&2; exit 2; }
 web=$(cd "$(dirname "$0")" && pwd)
 module=$web/out/bb.wasm
-calls='bb_decide bb_decide_line bb_check bb_check_line bb_trace'
+calls='bb_decide bb_decide_line bb_check bb_check_line bb_trace bb_recurrence'
 room=$(mktemp -d)
 trap 'rm -rf "$room"' EXIT
 trap 'exit 130' INT

@@ -5,47 +5,43 @@ from __future__ import annotations
 import pathlib
 import random
 import re
-import shutil
-import subprocess
-from typing import Callable, NamedTuple, Sequence
+from typing import Callable, Sequence
 
 import pytest
 from support.program import CommandResult, as_lines, options, replies, run_command
-from support.second_checker import COQ
+from support.second_checker import COQ, Edit, build_wrong
 
 # Each machine of these lists that leads to others halts within so many steps.
 STEPS = 200
 LIMITS = options((STEPS, 512, 40, 1_000))
 SIZES = ((2, 2), (3, 2), (2, 3))
-CLOSED = b"Closed under the global context"
 Lists = dict[tuple[int, int], list[str]]
-
-
-class Edit(NamedTuple):
-    """A wrong checker of lists: what is wrong with it, and the change of `Cover.v` that makes it."""
-
-    name: str
-    old: str
-    new: str
-
-
 WRONG = [
-    Edit("asks for no order", "      if is_next t p M then", "      if true then"),
+    Edit("asks for no order", "Cover.v", "      if is_next t p M then", "      if true then"),
     Edit(
         "leaves out an entry",
+        "Cover.v",
         "(seq 0 (Nat.min (states M) (S (used_states M)))) in\n  let root",
         "(seq 0 (Nat.min (states M) (used_states M))) in\n  let root",
     ),
     Edit(
         "leaves out moves to the left",
+        "Cover.v",
         "to R w ++ if root then [] else to L w)\n    (seq",
         "to R w ++ if root then [] else [])\n    (seq",
     ),
-    Edit("counts an undecided line as decided", "(plus (undecided n) 1)", "(undecided n)"),
-    Edit("takes a halt at any step", "if is_stop (zstep M z) then if N.eqb", "if true then if N.eqb"),
-    Edit("takes another size", "| None => is_blank M end", "| None => true end"),
-    Edit("ends before the walk", "Some _, [] => true", "Some _, _ => true"),
-    Edit("goes on below the last undefined entry", "if has_another M q (under z) then", "if true then"),
+    Edit("counts an undecided line as decided", "Cover.v", "(plus (undecided n) 1)", "(undecided n)"),
+    Edit(
+        "takes a halt at any step", "Cover.v", "if is_stop (zstep M z) then if N.eqb", "if true then if N.eqb"
+    ),
+    Edit("takes another size", "Cover.v", "| None => is_blank M end", "| None => true end"),
+    Edit("ends before the walk", "Cover.v", "Some _, [] => true", "Some _, _ => true"),
+    Edit(
+        "goes on below the last undefined entry",
+        "Cover.v",
+        "if has_another M q (under z) then",
+        "if true then",
+    ),
 ]
 
 
@@ -226,7 +222,7 @@ def test_theorem_of_a_whole_list(lists: Lists, tmp_path: pathlib.Path, states: i
     assert done.status == 0 and b"accepts this as one theorem" in done.output, done.error
     text = (tmp_path / "Made.v").read_text()
     size = "states M = %d -> symbols M = %d ->" % (states, symbols)
-    assert "Theorem covered : forall M, is_machine M = true -> " + size in text
+    assert "Theorem covered : forall M,\n  is_machine M = true -> " + size in text
     undecided = [line.split(" ")[0] for line in lines if " undecided " in line]
     written = re.findall('"(.*)"', text.partition("Definition undecided")[2].partition("%bytes")[0])
     assert written == undecided or not undecided
@@ -284,15 +280,7 @@ def test_wrong_checker_of_lists_is_noticed(
     cover: str, lists: Lists, tmp_path: pathlib.Path, edit: Edit
 ) -> None:
     """A proof fails; built without its proofs, it answers some list otherwise."""
-    folder = pathlib.Path(shutil.copytree(COQ, tmp_path / "coq", ignore=shutil.ignore_patterns("tests")))
-    source = folder / "Cover.v"
-    text = source.read_text(encoding="utf-8")
-    assert text.count(edit.old) == 1
-    source.write_text(text.replace(edit.old, edit.new), encoding="utf-8")
-    done = run_command(["make", "-C", str(folder)])
-    failed = re.search(r"Proofs/\w+\.v", done.error.decode())
-    assert done.status != 0 and failed
-    made = build_without_proofs(folder)
+    made = build_wrong(tmp_path, edit, "cover")
     rng = random.Random(1)
     wrong = 0
     for k in range(300):
@@ -300,17 +288,4 @@ def test_wrong_checker_of_lists_is_noticed(
         data = "".join(line + "\n" for line in given).encode("latin-1")
         wrong += run_command([cover, *LIMITS], data) != run_command([made, *LIMITS], data)
     assert wrong > 0
-    print("%s: %s fails, %d lists notice it" % (edit.name, failed[0], wrong))
-
-
-def build_without_proofs(folder: pathlib.Path) -> str:
-    """Build the checker of lists of a folder without its proofs."""
-    out = folder / "unproved"
-    out.mkdir()
-    for name in ("Machines", "Answers", "Covers", "Check", "Lines", "Cover", "CoverProgram", "ExtractCover"):
-        command = ["coqc", "-q", "-noglob", "-Q", ".", "Budlarem", "-o", name + ".vo", "../%s.v" % name]
-        subprocess.run(command, cwd=out, check=True, stdout=subprocess.DEVNULL)
-    shutil.copy(folder / "cover.ml", out)
-    command = ["ocamlfind", "ocamlopt", "lists.mli", "lists.ml", "cover.ml", "-o", "cover"]
-    subprocess.run(command, cwd=out, check=True)
-    return str(out / "cover")
+    print("%d lists notice it" % wrong)

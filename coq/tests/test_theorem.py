@@ -52,8 +52,31 @@ def test_theorem_of_a_line(claims: list[str], tmp_path: pathlib.Path, kind: str)
 
 @pytest.mark.usefixtures("checker")
 @pytest.mark.parametrize(
+    "line, status",
+    [
+        ("1RB1LB_1LB1LA recurs 6 1 -1 5 * quasihalts 6", 0),
+        ("1RB1LB_1LB1LA recurs 6 1 -1 5 * quasihalts 7", 1),
+        ("1RB1LB_1LB1LA recurs 6 1 1 5 * quasihalts 6", 1),
+        ("0RB---_0LA--- recurs 0 2 0 * * entries * - * -", 0),
+        ("0RB---_0LA--- recurs 0 4 0 * *", 1),
+        ("1RB1LB_1LA1RZ recurs 0 1 1 * *", 1),
+    ],
+)
+def test_theorem_of_a_recurs_line(tmp_path: pathlib.Path, line: str, status: int) -> None:
+    require_end(tmp_path, [line], status, FAILS if status else HOLDS)
+
+
+@pytest.mark.usefixtures("checker")
+@pytest.mark.parametrize(
     "line, sentence",
-    [("1RA1RA undecided steps", "claims nothing"), ("1RC1RA halt 0 0", "no line of a claim")],
+    [
+        ("1RA1RA undecided steps", "claims nothing"),
+        ("1RC1RA halt 0 0", "no line of a claim"),
+        ("1RA1RA recurs 0 1 1 * *", "no line of a claim"),
+        ("1RA1RA recurs 0 1 -0 *", "no line of a claim"),
+        ("1RA1RA recurs 0 1 1 * entries *", "no line of a claim"),
+        ("1RC1RA recurs 0 1 1 * *", "no line of a claim"),
+    ],
 )
 def test_line_of_no_claim_is_refused(tmp_path: pathlib.Path, line: str, sentence: str) -> None:
     require_end(tmp_path, [line], 2, sentence)
@@ -72,3 +95,6 @@ def test_theorem_of_many_lines(claims: list[str], tmp_path: pathlib.Path) -> Non
     with open(listed, "a", encoding="ascii") as file:
         file.write("1RB1LB_1LA1RZ halt 6 5\n")
     require_end(tmp_path, ["--list", str(listed)], 1, "1RB1LB_1LA1RZ halt 6 5: false")
+    with open(listed, "a", encoding="ascii") as file:
+        file.write("1RA1RA recurs 0 1 1 *\n")
+    require_end(tmp_path, ["--list", str(listed)], 2, "this is no verdict line: 1RA1RA recurs 0 1 1 *")

@@ -186,6 +186,30 @@ static void require_costs(void) {
     REQUIRE(costs("1RA1RA cycler 1 2\n", 0, BB_LIMITS, AS_IT_WAS));
 }
 
+/* Whether the repetitions of a list end with this status and these replies, and with room for one byte less are
+ * too long. */
+static bool recurs(const char *list, bool entries, uint64_t cells, uint32_t status, const char *wanted) {
+    size_t length = strlen(wanted);
+    reset();
+    bool holds = wrote(bb_recurrence(1000, cells, entries, bytes(list), strlen(list), out, ROOM, &count), status, wanted);
+    reset();
+    uint32_t found = bb_recurrence(1000, cells, entries, bytes(list), strlen(list), out, length - 1, &count);
+    return holds && found == BB_SHORT && count == length;
+}
+
+static void require_recurrences(void) {
+    static const char PAIRS[] = "1RB---_1RB--- translated R 1 2 1 1\n0RB---_0LA--- cycler 2 4";
+    REQUIRE(recurs(PAIRS, false, 64, BB_CLEAN,
+                   "1RB---_1RB--- recurs 1 1 1 0 * quasihalts 1\n0RB---_0LA--- recurs 0 2 0 * *\n"));
+    REQUIRE(recurs(PAIRS, true, 64, BB_CLEAN,
+                   "1RB---_1RB--- recurs 1 1 1 0 * quasihalts 1 entries 0 - * -\n"
+                   "0RB---_0LA--- recurs 0 2 0 * * entries * - * -\n"));
+    REQUIRE(recurs("1RA1RA cycler 1 2\n1RA1RA cycler 1 1001\n1RB1LB_1LA1RZ halt 6 4\nrefused 1\n1RA1RA\n", false, 64,
+                   BB_NOT_CLEAN, "bad\nover\nopen\nopen\nunread\n"));
+    reset();
+    REQUIRE(refused(bb_recurrence(1000, 0, false, bytes(PAIRS), strlen(PAIRS), out, ROOM, &count)));
+}
+
 static void *decide_often(void *wrong) {
     for (int at = 0; at < 20; at++) {
         if (!wrote(decide(LIST, ROOM), BB_NOT_CLEAN, VERDICTS)) *(bool *)wrong = true;
@@ -211,6 +235,7 @@ int main(void) {
     require_limits();
     require_looks();
     require_costs();
+    require_recurrences();
     require_threads();
     return failed > 0;
 }

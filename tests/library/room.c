@@ -21,8 +21,12 @@ int main(void) {
     REQUIRE(BB_CHECK_ROOM(few * 8u) == 5600000000u);
     REQUIRE(BB_CHECK_ROOM(1 + 2) == 21);
     REQUIRE(BB_CHECK_LINE_ROOM == 6);
+    REQUIRE(BB_RECURRENCE_ROOM(length, lines) == 18976743259u);
+    REQUIRE(BB_RECURRENCE_ROOM(few * 8u, few) == 14600000000u);
+    REQUIRE(BB_RECURRENCE_ROOM(1 + 2, 3 + 4) == 651);
     REQUIRE(sizeof BB_DECIDE_ROOM(1, 1) == sizeof(size_t));
     REQUIRE(sizeof BB_DECIDE_LINE_ROOM(1) == sizeof(size_t));
     REQUIRE(sizeof BB_CHECK_ROOM(1) == sizeof(size_t));
+    REQUIRE(sizeof BB_RECURRENCE_ROOM(1, 1) == sizeof(size_t));
     return failed > 0;
 }

@@ -1,10 +1,16 @@
-"""Lines that the program's checker and the second one, in Coq, must answer alike, most of them false."""
+"""Lines that the program's checker and the second one, in Coq, must answer alike, most of them false.
+
+Wrong checkers in Coq are built here too, without their proofs.
+"""
 
 import collections
 import itertools
+import pathlib
 import random
 import re
-from typing import Callable, Iterator, Sequence
+import shutil
+import subprocess
+from typing import Callable, Iterator, NamedTuple, Sequence
 
 from . import TOP
 from .claims import forge, pairs_of, refusals, tight_limits, trees_of
@@ -23,6 +29,25 @@ LISTS = (("5", "--steps", "1000", "--every", "900"), ("2", "--symbols", "3"), ("
 # Limits of steps, cells, levels and nodes, and lines.
 Claims = tuple[Sequence[int], list[str]]
 ListMachines = Callable[..., list[str]]
+# What each program is made of: files of Coq without proofs, and files of OCaml.
+OF_LINES = "Machines Answers Check Lines Repetition Recurrence Extract"
+PROGRAMS = {
+    "checker": (OF_LINES, "checker.mli checker.ml answering.ml main.ml"),
+    "recurrence": (OF_LINES, "checker.mli checker.ml answering.ml recurrence.ml"),
+    "cover": (
+        "Machines Answers Covers Check Lines Cover CoverProgram ExtractCover",
+        "lists.mli lists.ml cover.ml",
+    ),
+}
+
+
+class Edit(NamedTuple):
+    """A wrong checker: what is wrong with it, and the change of a text of a file that makes it."""
+
+    name: str
+    file: str
+    old: str
+    new: str
 
 
 def decide(bb: str, limits: Sequence[int], machines: Sequence[str]) -> list[str]:
@@ -102,3 +127,37 @@ def long_claims(bb: str, list_machines: ListMachines, source: random.Random) -> 
     sample += mixture + decide(bb, LIMITS, [seldom_halting(source, 3, 3) for _ in range(20_000)])
     yield from (("made claims", claims) for claims in made_claims(bb, source, sample, 800_000))
     yield from (("tight limits", claims) for claims in tight_claims(source, sample, 3_000))
+
+
+def copy_folder(to: pathlib.Path, built: bool = False) -> pathlib.Path:
+    """Copy `coq/`, with or without what is built; the proofs need nothing else of the repository."""
+    skipped = shutil.ignore_patterns("tests", *(() if built else ("out",)))
+    return pathlib.Path(shutil.copytree(COQ, to / "coq", ignore=skipped))
+
+
+def replace_once(path: pathlib.Path, old: str, new: str) -> None:
+    """Replace a text that a file must have once."""
+    text = path.read_text(encoding="utf-8")
+    assert text.count(old) == 1, old
+    path.write_text(text.replace(old, new), encoding="utf-8")
+
+
+def build_wrong(to: pathlib.Path, edit: Edit, program: str) -> str:
+    """Change a copy of `coq/`, require a proof to fail, and build a program without its proofs."""
+    folder = copy_folder(to, built=True)
+    replace_once(folder / edit.file, edit.old, edit.new)
+    done = run_command(["make", "-C", str(folder)])
+    failed = re.search(r"Proofs/\w+\.v", done.error.decode())
+    assert done.status != 0 and failed
+    print("%s: %s fails" % (edit.name, failed[0]))
+    out = folder / "unproved"
+    out.mkdir()
+    modules, sources = (names.split() for names in PROGRAMS[program])
+    for name in modules:
+        command = ["coqc", "-q", "-noglob", "-Q", ".", "Budlarem", "-o", name + ".vo", "../%s.v" % name]
+        subprocess.run(command, cwd=out, check=True, stdout=subprocess.DEVNULL)
+    for source in sources:
+        if (folder / source).exists():
+            shutil.copy(folder / source, out)
+    subprocess.run(["ocamlfind", "ocamlopt", *sources, "-o", program], cwd=out, check=True)
+    return str(out / program)

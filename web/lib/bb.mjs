@@ -4,6 +4,7 @@
  *     const engine = await load(bytes);
  *     engine.decide(["1RB1LB_1LA1RZ"]);           // ["1RB1LB_1LA1RZ halt 6 4"]
  *     engine.check(["1RB1LB_1LA1RZ halt 6 4"]);   // ["ok"]
+ *     engine.recurrence(["0RB---_0LA--- cycler 4 16"]);   // ["0RB---_0LA--- recurs 0 2 0 * *"]
  *     engine.trace("1RB1LB_1LA1RZ", { steps: 2 }).lines;   // ["0 A 0 0 0", "1 B 1 0 10", "2 A 0 0 11"]
  *
  * The engine is compiled from proved code; this module is not proved. Lines are those of the program `bb`,
@@ -13,6 +14,7 @@
  * @typedef {import("./limits.mjs").Limit} Limit
  * @typedef {{steps?: Integer, cells?: Integer, depth?: Integer, nodes?: Integer}} Limits
  * @typedef {Limits & {cyclers?: boolean, translated?: boolean, backward?: boolean}} Plan
+ * @typedef {{steps?: Integer, cells?: Integer, entries?: boolean}} RecurrenceOptions
  * @typedef {{steps: Integer, cells?: Integer, from?: Integer, every?: Integer}} TraceOptions
  * @typedef {{bytes: Uint8Array, clean: boolean}} Reply output, and whether the program's status is 0
  * @typedef {(...words: (bigint | boolean | number)[]) => number} Call addresses are numbers, other integers
@@ -31,7 +33,11 @@ const COUNT_BYTES = 8;
 const VERDICT_BYTES = 98;
 const ANSWER_BYTES = 7;
 const STEP_BYTES = 64;
+// The most bytes of replies on recurrences, for each byte of the list and for each line.
+const RECURRENCE_FOLD = 7;
+const RECURRENCE_BYTES = 90;
 const FIRST_TRACE_BYTES = 4_194_304;
+const RECURRENCE_LIMITS = /** @type {Limit[]} */ (["steps", "cells"]);
 const TRACE_LIMITS = /** @type {Limit[]} */ (["steps", "cells", "from", "every"]);
 
 /** The engine; its calls are those of `include/bb.h`. */
@@ -70,6 +76,16 @@ export class Engine {
   }
 
   /**
+   * The exact recurrence behind each pair that the checker confirms: the machine, `recurs`, start, period and
+   * shift, and the last use of each state; with `entries` also of each entry. Other lines get `bad`, `over`,
+   * `open` or `unread`. Throws as `decide` does.
+   * @param {readonly string[]} lines @param {RecurrenceOptions} [options]
+   */
+  recurrence(lines, options = {}) {
+    return decodeLines(this.recurrenceBytes(encodeLines(lines), options).bytes);
+  }
+
+  /**
    * One line for each step `from`, `from + every`, .. up to `steps`: step, state, head, lowest visited
    * position, and the cells from there. `clean` is false if the limit of cells cut the trace or the text is
    * not a machine. Throws as `decide` does.
@@ -98,6 +114,17 @@ export class Engine {
   checkBytes(list, limits = {}, lines = countLines(list)) {
     const words = parseLimits(limits, LIMITS);
     return copyReply(this.invoke("bb_check", LIMITS, words, list, ANSWER_BYTES * lines));
+  }
+
+  /**
+   * `recurrence` from bytes to bytes.
+   * @param {Uint8Array} list @param {RecurrenceOptions} [options] @param {number} [lines] as in `decideBytes`
+   */
+  recurrenceBytes(list, options = {}, lines = countLines(list)) {
+    const { entries = false, ...limits } = options;
+    const words = [...parseLimits(limits, RECURRENCE_LIMITS), ...parseSwitches({ entries })];
+    const space = RECURRENCE_FOLD * list.length + RECURRENCE_BYTES * lines;
+    return copyReply(this.invoke("bb_recurrence", RECURRENCE_LIMITS, words, list, space));
   }
 
   /**

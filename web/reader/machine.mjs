@@ -5,6 +5,8 @@
  * @typedef {{state: number, symbol: number, entry: Entry | null}} Rule `entry` is null if undefined
  * @typedef {{states: number, symbols: number, rules: Rule[]}} Machine
  * @typedef {{kind: Kind, numbers: number[], side: string, text: string}} Verdict
+ * @typedef {{machine: string, start: number, period: number, shift: number, quasihalts: number | null,
+ *   uses: string[], entries: string[]}} Recurrence `uses` of states and `entries`: a step, `*` for ever, `-` never
  * @typedef {"halt" | "cycler" | "translated" | "backward" | "undecided" | "refused"} Kind
  */
 
@@ -53,6 +55,26 @@ export function parseVerdictLine(/** @type {string} */ line) {
   const numbers = rest.filter((field) => /^\d+$/.test(field)).map(Number);
   const side = kind === "translated" || kind === "undecided" ? rest[0] ?? "" : "";
   return { machine, verdict: { kind, numbers, side, text: line.slice(machine.length + 1) } };
+}
+
+/** @returns {Recurrence | null} the recurrence of a reply; null for an answer */
+export function parseRecurrence(/** @type {string} */ line) {
+  const [machine, word, start, period, shift, ...words] = line.split(" ");
+  if (word !== "recurs") {
+    return null;
+  }
+  const states = machine.split("_").length;
+  const at = words.indexOf("quasihalts");
+  const entries = words.includes("entries") ? words.slice(words.indexOf("entries") + 1) : [];
+  const quasihalts = at < 0 ? null : Number(words[at + 1]);
+  const numbers = { start: Number(start), period: Number(period), shift: Number(shift) };
+  return { machine, ...numbers, quasihalts, uses: words.slice(0, states), entries };
+}
+
+/** The steps of a recurrence to be marked: its start, the step a period later, and the last use of each state. */
+export function markedSteps(/** @type {Recurrence} */ { start, period, uses }) {
+  const last = uses.filter((use) => use !== "*" && use !== "-").map(Number);
+  return [...new Set([...last, start, start + period])].sort((one, other) => one - other);
 }
 
 const NO_STEPS = "Undecided: no halt within the limit of steps, and no enabled decider succeeded.";

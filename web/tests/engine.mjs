@@ -11,7 +11,9 @@ import { unpackRow } from "../worker/packed-rows.mjs";
 import { RowCache } from "../worker/row-cache.mjs";
 
 const bytes = readFileSync(process.argv[2]);
-const CALLS = { decide: "decideBytes", check: "checkBytes", trace: "traceBytes" };
+const CALLS = {
+  decide: "decideBytes", check: "checkBytes", recurrence: "recurrenceBytes", trace: "traceBytes",
+};
 
 /** @param {import("../lib/bb.mjs").Engine} engine @param {Job} job */
 function runCall(engine, { call, given, plan }) {

@@ -13,6 +13,7 @@ from support.machines import CHAMPION, random_machines, seldom_halting
 from support.node import Engine, documented_script
 from support.program import FOUR, MAX_CELLS, MOST, SWITCHES, CommandResult, all_plans, as_lines
 from support.program import plan_of, processor_time, random_plan, run_command
+from support.recurrences import reply_to_pair
 from support.traces import trace
 
 Plan = dict[str, Any]
@@ -20,7 +21,8 @@ Same = Callable[[str, Plan, bytes], bytes]
 LISTS = list(read_examples("decide", "check"))
 slow = pytest.mark.slow
 each_way = pytest.mark.parametrize("same", ["engine", "tab"], indirect=True)
-MOST_BYTES = 65_536
+# The size of the module; exact repetition is a fifth of it.
+MOST_BYTES = 81_920
 SMALL = {"steps": 100, "cells": 64, "depth": 20, "nodes": 100}
 REFUSED_LIMITS = (
     "--steps 1000000000001, --cells 0, --cells 67108865, --depth 10001, --nodes 1000000000001, --cells 598, "
@@ -119,6 +121,23 @@ def test_noise(engine: Engine, rng: random.Random, name: str) -> None:
         engine.require_same(name, {}, noise + b"\n\n1RZ---")
     for line in (b"1RB1LB_" * 1_500_000, b"\xff" * 10_000_000, b"1RZ--- halt 1 1" + b" " * 10_000_000):
         engine.require_same(name, {}, line)
+
+
+def test_recurrences(engine: Engine, bb: str, list_machines: Callable[..., list[str]]) -> None:
+    """Those of the pairs of three states, with entries, are those of a brute force; other lines have answers."""
+    decided = run_command([bb, "decide"], as_lines(list_machines(3))).output.decode().splitlines()
+    pairs = [line for line in decided if line.split(" ")[1] in ("cycler", "translated")]
+    found = engine.call("recurrence", {"entries": True}, as_lines(pairs))
+    assert (found.status, found.reply) == (0, as_lines(reply_to_pair(line, True) for line in pairs))
+    others = ["1RA1RA cycler 1 2", "0RB---_0LA--- cycler 2 400", "1RB1LB_1LA1RZ halt 6 4", "x", pairs[0]]
+    found = engine.call("recurrence", {"steps": 100, "cells": 64}, as_lines(others))
+    assert (found.status, found.reply) == (
+        1,
+        as_lines(["bad", "over", "open", "unread", reply_to_pair(pairs[0])]),
+    )
+    wrong = engine.call("recurrence", {"depth": 1}, b"")
+    assert wrong.status == 2 and "no limit or switch has the name depth" in wrong.answer["message"]
+    assert engine.call("recurrence", {"cells": 0}, b"").answer["limit"] == "cells"
 
 
 @pytest.mark.parametrize("words", REFUSED_LIMITS.split(", "))

@@ -120,7 +120,8 @@ def test_colours_of_the_style(part: int) -> None:
         assert contrast(colours["head"], letter) >= MARK
     for mark in ("mark", "head", "accent"):
         assert contrast(colours[mark], colours["panel"]) >= MARK
-    assert contrast(colours["mark"], colours["panel"]) >= TEXT
+    for label in ("mark", "exact"):
+        assert contrast(colours[label], colours["panel"]) >= TEXT
     assert contrast(colours["good"], colours["wash"]) >= TEXT
 
 

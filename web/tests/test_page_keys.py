@@ -13,8 +13,8 @@ BEFORE = (
 BEHIND = (
     "translated 1, What do these words mean?, Order, Copy, Save, Lines, Previous, Next, Previous undecided, "
     "Next undecided, Copy text, Copy link, Open at bbchallenge.org, Space-time diagram of 1LB0LA_1RA---, "
-    "Zoom in, Zoom out, Whole, Marked steps, Save PNG, Copy PNG, Tape. Step, First step, One step back, Play, "
-    "One step on, Go to step, Go, Table of the machine"
+    "Zoom in, Zoom out, Whole, Marked steps, Exact start, Save PNG, Copy PNG, Tape. Step, First step, "
+    "One step back, Play, One step on, Go to step, Go, Table of the machine, Last uses"
 ).split(", ")
 # Whether the focused control is visible and outlined.
 FOCUS = """

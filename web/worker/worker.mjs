@@ -19,7 +19,7 @@
  */
 import { load } from "../lib/bb.mjs";
 import { lineAt, prepareList, unchangedList } from "../reader/list-reader.mjs";
-import { ANSWERS, KINDS } from "../reader/machine.mjs";
+import { ANSWERS, KINDS, markedSteps, parseRecurrence } from "../reader/machine.mjs";
 import { LONGEST_SHOWN } from "../reader/tokens.mjs";
 import { countValues, readAnswers, readLines, startsOf } from "./replies.mjs";
 import { makePicture, measureGrowth, storeRows, traceAhead, traceRows } from "./trace.mjs";
@@ -126,6 +126,22 @@ function decideOne(/** @type {{machine: string, plan: Record<string, any>}} */ {
   return { line: new TextDecoder().decode(part.bytes).trimEnd(), answer: ANSWERS[part.answers[0]], part };
 }
 
+/**
+ * The reply on the recurrence behind a verdict line, and the rows of its start, of the step a period later, and of
+ * the last use of each state.
+ * @param {Engine} host @param {{line: string, plan: Record<string, any>}} request
+ */
+function findRecurrence(host, { line, plan: { steps, cells } }) {
+  const [reply] = host.recurrence([line], { steps, cells, entries: true });
+  const found = parseRecurrence(reply);
+  const marked = found === null ? [] : markedSteps(found);
+  const rows = marked.flatMap((step) => {
+    const run = { machine: line.split(" ")[0], cells: Number(cells), from: step, every: 1, upto: step };
+    return traceRows(host, run).rows;
+  });
+  return { found, rows };
+}
+
 /** Decides a list and traces a machine repeatedly, so that the browser optimizes the hot code. */
 function warmUp(/** @type {Uint8Array} */ list) {
   const begun = performance.now();
@@ -189,6 +205,7 @@ const HANDLERS = {
     return [{ cached }, [cached.rows.cells.buffer]];
   },
   growth: (message, host) => [{ growth: measureGrowth(host, message) }],
+  recurrence: (message, host) => [findRecurrence(host, message)],
   "decide-one": (message) => [decideOne(message)],
   trace: (message, host) => [traceRows(host, message)],
 };

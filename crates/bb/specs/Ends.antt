@@ -4,19 +4,12 @@ use Rattle.std.specs.String.{string_bytes}
 use Rattle.bb_machine.specs.Limits.{Bounds}
 use Rattle.bb_machine.specs.declared.plan.Plan.{Plan}
 use Rattle.bb_lines.specs.declared.fault.Fault.{Fault}
-use Rattle.bb_lines.specs.declared.fault.Fault.TheVariants.{Memory}
 use Rattle.bb_run.specs.declared.summary.Summary.{Summary}
 use Rattle.bb_run.specs.CheckEnds.{CheckEnds}
 use Rattle.bb_run.specs.Ends.{DecideEnds, DecideInOneRunEnds, TraceEnds}
 use Rattle.bb_command.specs.declared.command.Work.{Work}
 use Rattle.bb_command.specs.declared.command.Work.TheVariants.{Decide, Check, Trace}
-
--- an allocation failed before the work started: nothing is read and nothing written
-pub record IsNotBegun (left left_then held held_then : Option (List ℕ)) (end : Result Summary Fault)
-    : Type 0 where
-  pub fault : end ≡ Err Memory
-  pub unread : left_then ≡ left
-  pub unwritten : held_then ≡ held
+use Rattle.bb_terminal.specs.NotBegun.{IsNotBegun}
 
 -- the result of started work: for a list to decide by `Decides`; a trace reads nothing
 abbrev pub WorkEnds : (Plan → Type 0) → Work → Bounds → Option (List ℕ) → Option (List ℕ) → Option (List ℕ)

@@ -15,13 +15,14 @@ use bb_command::{Advice, Asked, Numbers, Stop, ask, parse_numbers};
 use bb_lines::fault::Fault;
 use bb_lines::watched::Watched;
 use bb_run::Summary;
-use bb_terminal::failures::{open_list, print_failure, read_arguments};
+use bb_terminal::arguments::{read_arguments, words_of};
+use bb_terminal::failures::{open_list, print_failure};
 use bb_terminal::progress::Progress;
 use bb_terminal::streams::Observed;
 use hints::{Hinted, InputHint, plain_number};
 use progress::{Counts, CountsByKind};
 use serve::{serve_in_one_run, status};
-use std::alloc::{AllocError, Global};
+use std::alloc::Global;
 use std::io;
 use std::io::{IsTerminal, Read};
 use std::process::ExitCode;
@@ -43,13 +44,6 @@ fn main(rt: HostRuntime) -> ExitCode {
         }
     };
     ExitCode::from(status)
-}
-
-/// The arguments as words.
-fn words_of<'a>(alloc: Global, arguments: &'a [String]) -> Result<Vec<&'a str>, AllocError>
-    ensures { IfOk result (λ words. map (λ word. word.now) words.items ≡ map string_bytes arguments.now) }
-{
-    arguments.iter().map(|word| word.as_str()).collect(alloc)
 }
 
 /// The request of the arguments.

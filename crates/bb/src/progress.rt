@@ -2,10 +2,10 @@
 
 use bb_command::Work;
 use bb_run::{AnswerCounts, VerdictCounts};
+use bb_terminal::failures::is_output_kept;
+use std::fmt;
 use std::fmt::{Display, Formatter};
 use std::io::IsTerminal;
-use std::os::unix::fs::{FileTypeExt, MetadataExt};
-use std::{fmt, fs};
 
 /// The counts of a list so far: of machines, and of claims.
 #[derive(Default, Drop)]
@@ -90,19 +90,5 @@ fn shorten(count: u64) -> (u64, &'static str) {
         (count / 1_000, "k")
     } else {
         (count / 1_000_000, "M")
-    }
-}
-
-/// Whether standard output is a file or the null device, so that nobody watches it.
-fn is_output_kept(rt: &HostRuntime) -> bool {
-    let Ok(output) = fs::metadata(rt, "/dev/stdout") else {
-        return false;
-    };
-    if output.is_file() {
-        return true;
-    }
-    match fs::metadata(rt, "/dev/null") {
-        Ok(null) => output.file_type().is_char_device() && output.rdev() == null.rdev(),
-        Err(_) => false,
     }
 }

@@ -6,7 +6,8 @@ ghost use Rattle.bb_lines.specs.Watched.{is_marked, watched_inner};
 ghost use Rattle.bb_run.specs.BorneOut.{VerdictsAreBorneOut};
 ghost use Rattle.bb_run.specs.CheckEnds.{CheckEnds};
 ghost use Rattle.bb_run.specs.Ends.{TraceEnds};
-ghost use Rattle.bb.specs.Ends.{IsNotBegun, ServeEnds, ServeInOneRunEnds, end_status};
+ghost use Rattle.bb_terminal.specs.NotBegun.{IsNotBegun};
+ghost use Rattle.bb.specs.Ends.{ServeEnds, ServeInOneRunEnds, end_status};
 
 use crate::progress::Counts;
 use bb_command::{Asked, Work};

@@ -38,6 +38,13 @@ unfolding room total
 room_of_longer [] = omega arith
 room_of_longer (line ∷ lines) = let others = room_of_longer lines in omega arith
 
+-- replies of at most seven times the bytes of their lines, and 89
+room_of_recurrences : (lines : List (List ℕ))
+    → room (λ line. 7 * length line + 89) lines ≡ 7 * total lines + 90 * length lines
+unfolding room total
+room_of_recurrences [] = omega arith
+room_of_recurrences (line ∷ lines) = let others = room_of_recurrences lines in omega arith
+
 total-append : (a b : List (List ℕ)) → total (a ++ b) ≡ total a + total b
 unfolding total
 total-append [] b = omega arith
@@ -87,3 +94,8 @@ pub room_in_list : (bytes : List ℕ)
     → room (λ line. length line + 97) (lines bytes) ≤ length bytes + 98 * length (lines bytes)
 room_in_list bytes =
     omega (arith, room_of_longer (lines bytes), total-lines bytes)
+
+pub recurrence_room_in_list : (bytes : List ℕ)
+    → room (λ line. 7 * length line + 89) (lines bytes) ≤ 7 * length bytes + 90 * length (lines bytes)
+recurrence_room_in_list bytes =
+    omega (arith, room_of_recurrences (lines bytes), total-lines bytes)

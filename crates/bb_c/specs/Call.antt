@@ -10,6 +10,10 @@ use Rattle.bb_cert.specs.verdict.Line.{IsLineOf}
 abbrev pub bounds_of : ℕ → ℕ → ℕ → ℕ → Bounds
 bounds_of steps cells depth nodes = record { steps = steps; cells = cells; depth = depth; nodes = nodes }
 
+-- the limits of a pair, which has no tree
+abbrev pub pair_bounds_of : ℕ → ℕ → Bounds
+pair_bounds_of steps cells = bounds_of steps cells 0 0
+
 abbrev pub plan_of : Bool → Bool → Bool → Plan
 plan_of cyclers translated backward =
     record { cyclers = cyclers; translated = translated; backward = backward }

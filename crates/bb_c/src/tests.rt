@@ -5,6 +5,7 @@ use crate::buffer::{CLEAN, LIMITS, MEMORY, NOT_CLEAN, SHORT};
 use crate::check_cost::bb_check_cost;
 use crate::checking::{bb_check, bb_check_line};
 use crate::deciding::{bb_decide, bb_decide_line};
+use crate::recurring::bb_recurrence;
 use crate::tracing::bb_trace;
 use bb_run::CheckCost;
 use std::process::Abort;
@@ -176,4 +177,46 @@ fn costs_are_added(rt: HostRuntime) {
         bb_check_cost(1_000, 0, 30, 1_000, COSTS, &mut cost),
         LIMITS
     );
+}
+
+/// A pair, a machine that quasihalts, the same by a pair two periods apart, a pair beyond the limits, no pair,
+/// and no claim; and the replies.
+const PAIRS: &[u8] = b"1RB---_1RA--- translated R 2 4 2 1
+1RB---_1RB--- translated R 1 2 1 1
+1RB---_1RB--- translated R 1 3
+1RA1RA translated R 1001 1002 1 1
+1RB1LB_1LA1RZ halt 6 4
+1RA1RA
+";
+static RECURRENCES: [(bool, &[u8]); 2] = [
+    (
+        false,
+        b"1RB---_1RA--- recurs 0 2 2 * *
+1RB---_1RB--- recurs 1 1 1 0 * quasihalts 1
+1RB---_1RB--- recurs 1 1 1 0 * quasihalts 1
+over
+open
+unread
+",
+    ),
+    (
+        true,
+        b"1RB---_1RA--- recurs 0 2 2 * * entries * - * -
+1RB---_1RB--- recurs 1 1 1 0 * quasihalts 1 entries 0 - * -
+1RB---_1RB--- recurs 1 1 1 0 * quasihalts 1 entries 0 - * -
+over
+open
+unread
+",
+    ),
+];
+
+#[test]
+fn recurrences_are_found(rt: HostRuntime) {
+    for (entries, replies) in &RECURRENCES {
+        let mut out = [0; ROOM];
+        let mut count = 0;
+        let status = bb_recurrence(rt.alloc(), 1_000, 64, *entries, PAIRS, &mut out, &mut count);
+        assert_reply(&rt, status, &out, count, (1, *replies));
+    }
 }

@@ -1,10 +1,8 @@
 //! The command line: the work and its limits.
-ghost use Rattle.std.specs.Prelude.{◌≡◌, ◌⊎◌, false, true, IfErr, IfOk, Some, codes, map, option_map};
-ghost use Rattle.std.specs.String.{string_bytes};
+ghost use Rattle.std.specs.Prelude.{◌≡◌, ◌⊎◌, false, true, IfErr, IfOk, Some, map};
 ghost use Rattle.clap.specs.declared.builder.command.Command.TheViews.{out-Command as fields_of};
-ghost use Rattle.clap.specs.Words.{app_of, first_of, found_of, kind_of, rows_of, rule_of, shape_of};
+ghost use Rattle.clap.specs.Words.{app_of, found_of, kind_of, rows_of, rule_of, shape_of};
 ghost use Rattle.clap.specs.Simple.{new_shape};
-ghost use Rattle.clap.specs.declared.builder.texts.Texts.TheVariants.{One};
 ghost use Rattle.bb_command.specs.Command.{
   AreGivenBy,
   AsksToCheck,
@@ -16,31 +14,26 @@ ghost use Rattle.bb_command.specs.Command.{
   IsNumbersStop,
   IsStopOf,
   bounds_of,
-  is_given,
   list_bounds,
-  number_of,
   stop_status,
   trace_bounds,
   words_meant,
 };
 ghost use Rattle.bb_command.specs.CommandLine.{
-  by_default,
-  cells_rule,
   check_shape,
   command_line,
   decide_shape,
   depth_rule,
   nodes_rule,
-  number_rule,
-  positional_rule,
-  steps_rule,
-  switch_rule,
   trace_shape,
 };
 
+use crate::options::{
+    cells, has_option, limit, list_file, number, positional, steps, stop_of, switch, value,
+};
 use bb_machine::{LimitFault, Limits, Plan};
 use clap::error::ErrorKind;
-use clap::{Arg, ArgAction, ArgMatches, Command, Error, value_parser};
+use clap::{Arg, ArgMatches, Command, Error};
 use std::alloc::{AllocError, Global};
 
 /// The work to do.
@@ -127,7 +120,7 @@ fn read_words(alloc: Global, words: &[&str]) -> Result<Asked, Stop>
 {
     let matches = match program(alloc)?.try_get_matches_from(words) {
         Ok(matches) => matches,
-        Err(error) => return Err(stop_of(alloc, &error, words)?),
+        Err(error) => return Err(stop_of_words(alloc, &error, words)?),
     };
     let Some((name, values)) = matches.subcommand() else {
         unreachable!();
@@ -163,7 +156,7 @@ pub fn parse_numbers(alloc: Global, words: &[&str]) -> Result<Numbers, Stop>
 {
     let matches = match program(alloc)?.try_get_matches_from(words) {
         Ok(matches) => matches,
-        Err(error) => return Err(stop_of(alloc, &error, words)?),
+        Err(error) => return Err(stop_of_words(alloc, &error, words)?),
     };
     let Some((name, values)) = matches.subcommand() else {
         unreachable!();
@@ -364,33 +357,6 @@ fn command<'a>(alloc: Global, name: &'a str, about: &'a str, more: &'a str) -> C
     Command::new(alloc, name).about(about).after_help(more)
 }
 
-/// The default number of cells: 2^16.
-const DEFAULT_CELLS: &str = "65536";
-
-fn steps<'a>(alloc: Global) -> Arg<'a>
-    ensures rule { rule_of result ≡ steps_rule }
-    ensures local { result.global ≡ false }
-{
-    limit(
-        alloc,
-        "steps",
-        "1000000",
-        "The most steps of one simulation, 0 to 1000000000000",
-    )
-}
-
-fn cells<'a>(alloc: Global) -> Arg<'a>
-    ensures rule { rule_of result ≡ cells_rule }
-    ensures local { result.global ≡ false }
-{
-    limit(
-        alloc,
-        "cells",
-        DEFAULT_CELLS,
-        "The most cells of one tape, 1 to 67108864",
-    )
-}
-
 fn depth<'a>(alloc: Global) -> Arg<'a>
     ensures rule { rule_of result ≡ depth_rule }
     ensures local { result.global ≡ false }
@@ -415,48 +381,6 @@ fn nodes<'a>(alloc: Global) -> Arg<'a>
     )
 }
 
-/// An option with a default. Help is one literal, so the ranges of `bb_machine::limits` are written out
-/// in it.
-fn limit<'a>(alloc: Global, name: &'a str, default: &'a str, help: &'a str) -> Arg<'a>
-    ensures rule { rule_of result ≡ by_default default.now (number_rule name.now) }
-    ensures local { result.global ≡ false }
-    ensures help { result.help ≡ Some help.entry }
-{
-    number(alloc, name, help).default_value(default)
-}
-
-fn number<'a>(alloc: Global, name: &'a str, help: &'a str) -> Arg<'a>
-    ensures rule { rule_of result ≡ number_rule name.now }
-    ensures local { result.global ≡ false }
-    ensures help { result.help ≡ Some help.entry }
-{
-    Arg::new(alloc, name)
-        .long(name)
-        .value_name("N")
-        .help(help)
-        .value_parser(value_parser!(u64))
-}
-
-fn switch<'a>(alloc: Global, name: &'a str, help: &'a str) -> Arg<'a>
-    ensures rule { rule_of result ≡ switch_rule name.now }
-    ensures local { result.global ≡ false }
-    ensures help { result.help ≡ Some help.entry }
-{
-    Arg::new(alloc, name)
-        .long(name)
-        .help(help)
-        .action(ArgAction::SetTrue)
-}
-
-fn positional<'a>(alloc: Global, name: &'a str, shown: &'a str, help: &'a str) -> Arg<'a>
-    ensures rule { rule_of result ≡ positional_rule name.now }
-    ensures local { result.global ≡ false }
-    ensures help { result.help ≡ Some help.entry }
-    ensures shown { result.val_names ≡ One shown.entry }
-{
-    Arg::new(alloc, name).value_name(shown).help(help)
-}
-
 /// The message after `bb help` with more than one command.
 const MORE_THAN_ONE: &str = "\
 error: 'bb help' takes one command: decide, check or trace
@@ -464,19 +388,18 @@ error: 'bb help' takes one command: decide, check or trace
 For more information, try '--help'.
 ";
 
-/// The stop for a parse error.
-fn stop_of(alloc: Global, error: &Error, words: &[&str]) -> Result<Stop, AllocError>
+/// The stop for a parse error of these words.
+fn stop_of_words(alloc: Global, error: &Error, words: &[&str]) -> Result<Stop, AllocError>
     ensures { IfOk result (IsKindStop (kind_of error.now)) }
 {
     match error.kind() {
-        ErrorKind::OutOfMemory => Ok(Stop::Memory),
-        ErrorKind::DisplayHelp | ErrorKind::DisplayVersion => Ok(Stop::Help(error.to_string(
-            alloc,
-        )?)),
+        ErrorKind::OutOfMemory | ErrorKind::DisplayHelp | ErrorKind::DisplayVersion => {
+            stop_of(alloc, error)
+        }
         _ if words.len() > 3 && words[1] == "help" => {
             Ok(Stop::Words(String::from_str(alloc, MORE_THAN_ONE)?))
         }
-        _ => Ok(Stop::Words(error.to_string(alloc)?)),
+        _ => stop_of(alloc, error),
     }
 }
 
@@ -521,17 +444,6 @@ fn list_limits(matches: &ArgMatches<'_>) -> Result<Limits, Stop>
     accept_limits(&list_numbers(matches))
 }
 
-/// The file of a list.
-fn list_file(alloc: Global, matches: &ArgMatches<'_>) -> Result<Option<String>, AllocError>
-    ensures { IfOk result (λ file.
-        option_map string_bytes file ≡ first_of (codes "file") (rows_of (found_of matches.now))) }
-{
-    match matches.get_str("file") {
-        Some(file) => Ok(Some(String::from_str(alloc, file)?)),
-        None => Ok(None),
-    }
-}
-
 /// The limits with these numbers, if they are accepted.
 fn accept_limits(numbers: &Numbers) -> Result<Limits, Stop>
     ensures ok { IfOk result (λ limits. limits ≡ bounds_of numbers.now) }
@@ -552,19 +464,4 @@ fn trace_of(alloc: Global, matches: &ArgMatches<'_>) -> Result<Asked, Stop>
         limits,
         file: None,
     })
-}
-
-/// The value of a numeric option. Each is required or has a default, and is parsed as a number, so none is
-/// missing.
-fn value(matches: &ArgMatches<'_>, name: &str) -> u64
-    ensures { result ≡ number_of name.now (rows_of (found_of matches.now)) }
-{
-    matches.get_one::<u64>(name).unwrap_or(0)
-}
-
-/// Whether an option without a value is given.
-fn has_option(matches: &ArgMatches<'_>, name: &str) -> bool
-    ensures { result ≡ is_given name.now (rows_of (found_of matches.now)) }
-{
-    matches.get_one::<bool>(name).unwrap_or(false)
 }

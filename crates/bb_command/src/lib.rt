@@ -3,6 +3,7 @@
 
 pub mod advice;
 pub mod command;
+pub mod options;
 
 pub use advice::Advice;
 pub use command::{Asked, Numbers, Stop, Work, ask, parse_numbers};

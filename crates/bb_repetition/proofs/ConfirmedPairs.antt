@@ -1,8 +1,9 @@
 -- A confirmed pair: its steps are in order, the second is inside, and the run repeats.
-use Rattle.std.proofs.Common.{◌≡◌, ℕ, ◌-◌, ◌<◌, ◌≤◌, ◌∙◌, inl, inr, subst, sym, arith}
+use Rattle.std.proofs.Common.{◌≡◌, ℕ, ◌-◌, ◌<◌, ◌≤◌, ◌∙◌, inl, inr, subst, arith}
 use Rattle.std.proofs.lemmas.Bool.{cases_lt}
 use Rattle.bb_machine.specs.Limits.{Bounds}
 use Rattle.bb_machine.specs.Machine.{Table}
+use Rattle.bb_sim.specs.declared.meter.Meter.{Meter}
 use Rattle.bb_sim.specs.Run.{Exists}
 use Rattle.bb_sim.specs.Span.{Inside, span}
 use Rattle.bb_cert.specs.declared.checker.answer.Answer.TheVariants as answer
@@ -10,6 +11,7 @@ use Rattle.bb_cert.specs.declared.verdict.Verdict.{Verdict}
 use Rattle.bb_cert.specs.declared.verdict.Verdict.TheVariants.{Halt, Cycler, Translated, Backward, Undecided}
 use Rattle.bb_cert.specs.checker.Answer.{IsAnswer, NamesTooMuch, NeedsTooMuch, Rule, answer_by, claim_holds, rank}
 use Rattle.bb_cert.specs.checker.Answer.{too_much_named, too_much_needed}
+use Rattle.bb_cert.specs.checker.ClaimMeter.{CountsClaim}
 use Rattle.bb_cert.specs.claims.Claim.{Claim}
 use Rattle.laws_of_repetition.specs.Repetition.{CyclersRepeat, Repeats, TranslatedCyclersRepeat}
 use Rattle.bb_repetition.specs.Finding.{NamesPair}
@@ -24,7 +26,7 @@ late_rule claim_holds is = omega arith
 late_rule rule is = absurd cc
 
 module _ (table : Table) (bounds : Bounds) (verdict : Verdict) (ok : IsAnswer table bounds verdict answer.Ok) where
-  not_named : NamesTooMuch bounds verdict → ⊥
+  pub not_named : NamesTooMuch bounds verdict → ⊥
   not_named names =
       let late = late_rule ok.rule ok.is in
       let early = ok.first too_much_named names in
@@ -36,7 +38,7 @@ module _ (table : Table) (bounds : Bounds) (verdict : Verdict) (ok : IsAnswer ta
       let early = ok.first too_much_needed needs in
       omega (arith, late, early)
 
-few_of : (a b : ℕ) → (a < b → ⊥) → b ≤ a
+pub few_of : (a b : ℕ) → (a < b → ⊥) → b ≤ a
 few_of a b none = elim (cases_lt a b) [
   | inl less ↦ absurd (none less)
   | inr few ↦ few
@@ -70,17 +72,18 @@ confirmed cyclers translated table bounds (Translated side a b extent) first sec
     (few_of bounds.steps b (λ many. not_named table bounds (Translated side a b extent) ok (inr many)))
     (few_of bounds.cells _ (not_needed table bounds (Translated side a b extent) ok))))
 
--- a verdict has one first step, and one second
-pub one_first : (verdict : Verdict) (a b c d : ℕ) → NamesPair verdict a b → NamesPair verdict c d → a ≡ c
-one_first (Cycler first second) a b c d one two = sym one.0 ∙ two.0
-one_first (Translated side first second extent) a b c d one two = sym one.0 ∙ two.0
-one_first (Halt steps score) a b c d one two = absurd one
-one_first (Backward levels nodes) a b c d one two = absurd one
-one_first (Undecided why) a b c d one two = absurd one
+-- a confirmed pair counts its second step, and no tree
+pub record CountsSecond (second : ℕ) (meter : Meter) : Type 0 where
+  pub steps : meter.steps ≡ second
+  pub no_levels : meter.most_levels ≡ 0
+  pub no_nodes : meter.nodes ≡ 0
 
-pub one_second : (verdict : Verdict) (a b c d : ℕ) → NamesPair verdict a b → NamesPair verdict c d → b ≡ d
-one_second (Cycler first second) a b c d one two = sym one.1 ∙ two.1
-one_second (Translated side first second extent) a b c d one two = sym one.1 ∙ two.1
-one_second (Halt steps score) a b c d one two = absurd one
-one_second (Backward levels nodes) a b c d one two = absurd one
-one_second (Undecided why) a b c d one two = absurd one
+pub counts_second : (verdict : Verdict) (first second : ℕ) (meter : Meter) → NamesPair verdict first second
+    → CountsClaim verdict meter → CountsSecond second meter
+counts_second (Cycler a b) first second meter names counts =
+    record { steps = counts.steps ∙ names.1; no_levels = counts.levels; no_nodes = counts.nodes }
+counts_second (Translated side a b extent) first second meter names counts =
+    record { steps = counts.steps ∙ names.1; no_levels = counts.levels; no_nodes = counts.nodes }
+counts_second (Halt steps score) first second meter names counts = absurd names
+counts_second (Backward levels nodes) first second meter names counts = absurd names
+counts_second (Undecided why) first second meter names counts = absurd names

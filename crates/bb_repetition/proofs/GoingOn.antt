@@ -5,13 +5,13 @@ use Rattle.std.proofs.lemmas.Int.{ints}
 use Rattle.bb_machine.specs.Limits.{Bounds}
 use Rattle.bb_machine.specs.Machine.{Table}
 use Rattle.bb_tape.specs.declared.tape.TheConstants.{MAX_CELLS}
-use Rattle.bb_tape.specs.TapeView.{TapeView}
+use Rattle.bb_tape.specs.TapeView.{IsInside, TapeView}
 use Rattle.bb_sim.specs.declared.runner.Moved.{Moved}
 use Rattle.bb_sim.specs.declared.runner.Moved.TheVariants.{Halted, NoSteps, NoCells, Stepped}
 use Rattle.bb_sim.specs.declared.runner.Runner.{Runner}
 use Rattle.bb_sim.specs.Runner.{Answers, position_of, steps_of}
 use Rattle.bb_sim.specs.Run.{Never}
-use Rattle.bb_sim.proofs.Facts.{span_grows, span_is_reached}
+use Rattle.bb_sim.proofs.Facts.{halts_in_Z, head_inside, span_grows, span_is_reached}
 use Rattle.bb_cert.specs.records.Record.{head_at}
 use Rattle.bb_cert.proofs.Facts.{head_at-is, runs_before, steps_of_never}
 use Rattle.laws_of_repetition.specs.Repetition.{transition_at}
@@ -33,6 +33,13 @@ pub transition_of_runner : (table : Table) (bounds : Bounds) (n : ℕ) (runner :
     → IsAt table bounds n runner view → transition_at table n ≡ Some (transition_here runner view)
 transition_of_runner table bounds n runner view at =
     ap (transition_at table) (sym at.steps) ∙ transition_at-is table _ _ at.stands.at
+
+-- its head is in the window
+pub inside_of : (table : Table) (bounds : Bounds) (n last : ℕ) (runner : Runner) (view : TapeView)
+    → IsOpen table bounds last → IsAt table bounds n runner view → IsInside view (position_of runner)
+inside_of table bounds n last runner view goes at =
+    head_inside table runner view at.stands
+    (λ halt. goes.never.never (steps_of runner) (halts_in_Z table runner view at.stands halt))
 
 -- and it has come to that step
 pub at_own : (table : Table) (bounds : Bounds) (n : ℕ) (runner : Runner) (view : TapeView)

@@ -1,7 +1,15 @@
 mod ConfirmedPairs
+mod Counting
 mod Divisors
+mod EntryUses
 mod GoingOn
+mod Quasihalts
 mod Quotients
+mod RecurrenceLaws
+mod RecurrenceReplies
+mod RecurrenceSummaries
+mod ReplyLengths
 mod Reductions
 mod SeenStarts
 mod UseSteps
+mod Writing

@@ -230,7 +230,7 @@ counts_at_end distance rest old new some here =
     record { primes = here.primes; few_primes = omega (arith, low, few); counted = here.counted }
 
 -- a distance within the limits has fewer than 40 prime factors
-few_primes : (p distance rest : ℕ) → 0 < rest → 2 ^ p * rest ≤ distance → distance ≤ 10 ^ 12 → p < 40
+pub few_primes : (p distance rest : ℕ) → 0 < rest → 2 ^ p * rest ≤ distance → distance ≤ 10 ^ 12 → p < 40
 few_primes p distance rest some few within = elim (cases_lt p 40) [
   | inl less ↦ less
   | inr more ↦

@@ -1,7 +1,15 @@
 pub mod Factors
 pub mod Finding
 pub mod LastUses
+pub mod Laws
 pub mod Lockstep
+pub mod Parts
 pub mod Period
 pub mod Recurrence
+pub mod RecurrenceEnds
+pub mod RecurrenceKeptBytes
+pub mod RecurrenceReply
+pub mod RecurrenceSeen
+pub mod RecurrenceSummary
 pub mod Tapes
+pub mod Writing

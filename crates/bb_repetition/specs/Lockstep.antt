@@ -15,7 +15,8 @@ use Rattle.laws_of_repetition.specs.Seen.{Differs}
 
 -- the next transition of a runner
 abbrev pub transition_here : Runner → TapeView → Transition
-transition_here runner view = record { state = state_of runner; symbol = cell view.content (position_of runner) }
+transition_here runner view =
+    record { state = state_of runner; symbol = cell view.content (position_of runner) }
 
 -- a run goes on for ever, and is inside the bounds up to this step
 pub record IsOpen (table : Table) (bounds : Bounds) (last : ℕ) : Type 0 where
@@ -28,8 +29,8 @@ pub record IsAt (table : Table) (bounds : Bounds) (n : ℕ) (runner : Runner) (v
   pub steps : steps_of runner ≡ n
   pub limit : view.limit ≡ bounds.cells
 
--- whether the transitions from `first` on repeat with a distance, as far as the later of both is before `end`;
--- else they don't repeat with it
+-- whether the transitions from `first` on repeat with a distance, as far as the later of both is before
+-- `end`; else they don't repeat with it
 abbrev pub TellsRepeats : Table → ℕ → ℕ → ℕ → Bool → Type 0
 TellsRepeats table first distance end true =
     (n : ℕ) → first ≤ n → n + distance < end → transition_at table (n + distance) ≡ transition_at table n

@@ -1,7 +1,8 @@
 //! Two copies of a run, advanced together. The run goes on for ever, and is inside the limits up to its step
 //! `last`.
 ghost use Rattle.std.specs.Prelude.{◌≡◌, ◌+◌, ◌-◌, ◌*◌, ◌<◌, ◌≤◌, ◌^◌, ◌↔◌, IfOk, IsTrue, OnErr, OnOk};
-ghost use Rattle.bb_sim.specs.Runner.{steps_of};
+ghost use Rattle.bb_tape.specs.TapeView.{IsInside};
+ghost use Rattle.bb_sim.specs.Runner.{position_of, steps_of};
 ghost use Rattle.bb_repetition.specs.Lockstep.{IsAt, IsOpen, TellsRepeats, transition_here};
 
 use bb_machine::{Limits, Machine};
@@ -16,10 +17,12 @@ pub(crate) fn has_same_transition<T: Tape>(
     other: &Runner,
     other_tape: &T,
 ) -> bool
+    requires inside { IsInside (T.view tape.now) (position_of runner.now) }
+    requires other_inside { IsInside (T.view other_tape.now) (position_of other.now) }
     ensures { IsTrue result ↔ (transition_here runner.now (T.view tape.now)
         ≡ transition_here other.now (T.view other_tape.now)) }
 {
-    tape.read(runner.position()) == other_tape.read(other.position())
+    tape.read_inside(runner.position()) == other_tape.read_inside(other.position())
         && runner.state() == other.state()
 }
 
@@ -70,6 +73,7 @@ pub(crate) fn run_to<T: Tape>(
     ensures at { OnOk result (IsAt machine.now limits.now to runner.new (T.view tape.new)) }
     ensures counted { OnOk result
         (meter.new.steps ≡ meter.old.steps + (to - steps_of runner.old)) }
+    ensures no_less { meter.old.steps ≤ meter.new.steps }
     ensures few { meter.new.steps ≤ meter.old.steps + (to - steps_of runner.old) }
     ensures limit { (T.view tape.new).limit ≡ limits.now.cells }
     ensures memory { OnErr result (IsTrue T.GROWS) }
@@ -100,6 +104,7 @@ pub(crate) fn are_alike<T: Tape>(
     requires room { meter.old.steps + 2 * (end - steps_of ahead.old) < 2 ^ 64 }
     ensures tells { IfOk result (TellsRepeats machine.now (steps_of runner.old)
         (steps_of ahead.old - steps_of runner.old) end) }
+    ensures no_less { meter.old.steps ≤ meter.new.steps }
     ensures few { meter.new.steps ≤ meter.old.steps + 2 * (end - steps_of ahead.old) }
     ensures limit { (T.view tape.new).limit ≡ limits.now.cells }
     ensures ahead_limit { (T.view ahead_tape.new).limit ≡ limits.now.cells }

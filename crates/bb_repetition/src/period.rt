@@ -31,6 +31,7 @@ pub(crate) fn least_period<T: Tape>(
     requires room { meter.old.steps < 2 ^ 48 }
     ensures least { IfOk result (IsLeastFrom machine.now first) }
     ensures within { IfOk result (λ period. first + period ≤ second) }
+    ensures no_less { meter.old.steps ≤ meter.new.steps }
     ensures few { CountsTests (second - first) meter.old.steps meter.new.steps }
     ensures saved { (T.view tapes.new.pair.saved) ≡ (T.view tapes.old.pair.saved) }
     ensures tapes { TapesHaveCells T.view limits.now.cells tapes.new }
@@ -74,6 +75,7 @@ fn reduce<T: Tape>(
     requires at { IsAt machine.now limits.now first saved (T.view tapes.old.pair.saved) }
     requires room { meter.old.steps + 4 * known < 2 ^ 64 }
     ensures reduced { IfOk result (IsReduced machine.now first known divisor) }
+    ensures no_less { meter.old.steps ≤ meter.new.steps }
     ensures few { meter.new.steps ≤ meter.old.steps + 4 * known }
     ensures saved { (T.view tapes.new.pair.saved) ≡ (T.view tapes.old.pair.saved) }
     ensures tapes { TapesHaveCells T.view limits.now.cells tapes.new }
@@ -113,6 +115,7 @@ fn repeats_with<T: Tape>(
     requires at { IsAt machine.now limits.now first saved (T.view tapes.old.pair.saved) }
     requires room { meter.old.steps + 2 * period < 2 ^ 64 }
     ensures tells { IfOk result (TellsPeriod machine.now first quotient) }
+    ensures no_less { meter.old.steps ≤ meter.new.steps }
     ensures few { meter.new.steps ≤ meter.old.steps + 2 * period }
     ensures tapes { TapesHaveCells T.view limits.now.cells tapes.new }
     ensures saved { (T.view tapes.new.pair.saved) ≡ (T.view tapes.old.pair.saved) }

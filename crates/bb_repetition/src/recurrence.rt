@@ -6,7 +6,7 @@ ghost use Rattle.laws_of_repetition.specs.Seen.{IsSeenStart};
 ghost use Rattle.laws_of_repetition.specs.Shift.{IsShift};
 ghost use Rattle.bb_repetition.specs.LastUses.{AreSeen};
 ghost use Rattle.bb_repetition.specs.Lockstep.{IsAt, IsNear, IsOpen};
-ghost use Rattle.bb_repetition.specs.Recurrence.{CountsRecurrence};
+ghost use Rattle.bb_repetition.specs.Recurrence.{CountsAtMost, CountsRecurrence};
 ghost use Rattle.bb_repetition.specs.Tapes.{TapesHaveCells};
 
 use crate::lockstep::{has_same_transition, run_to, step};
@@ -26,8 +26,6 @@ pub struct Recurrence {
     pub period: u64,
     /// How many cells the head is farther to the right after a period; negative means to the left.
     pub shift: i64,
-    /// The last use of each state.
-    pub uses: LastUses,
 }
 
 /// The tapes for finding a recurrence. Each call resets those it uses.
@@ -40,10 +38,11 @@ pub struct Tapes<T> {
 }
 
 /// Finds the exact recurrence of a run. It repeats from `first` on, and the distance to `second` is a period.
-/// `second` is inside the limits, and no step is made past it.
+/// `second` is inside the limits, and no step is made past it. Resets `uses`, and records there the last uses
+/// up to `second`.
 ///
-/// The steps are counted in `meter`: `first + second` for the start and the last uses, the period for the shift,
-/// and at most 4 * log2(`second - first`) times the distance for the least period.
+/// The steps are counted in `meter`: `first + second` for the start and the last uses, at most the period for
+/// the shift, and at most 4 * log2(`second - first`) times the distance for the least period.
 ///
 /// After an error the contents of the tapes are unspecified; the next call resets them.
 pub fn find_recurrence<T: Tape>(
@@ -52,6 +51,7 @@ pub fn find_recurrence<T: Tape>(
     first: u64,
     second: u64,
     tapes: &mut Tapes<T>,
+    uses: &mut LastUses,
     meter: &mut Meter,
 ) -> Result<Recurrence, Memory>
     requires tapes { TapesHaveCells T.view limits.now.cells tapes.old }
@@ -62,30 +62,34 @@ pub fn find_recurrence<T: Tape>(
     ensures exact { IfOk result (λ found. RepeatsExactly machine.now found.start found.period) }
     ensures shift { IfOk result (λ found. IsShift machine.now found.start found.period found.shift) }
     ensures early { IfOk result (λ found. found.start ≤ first) }
-    ensures uses { IfOk result (λ found. AreSeen machine.now second found.uses) }
-    ensures few { CountsRecurrence first second meter.old.steps meter.new.steps }
+    ensures uses { OnOk result (AreSeen machine.now second uses.new) }
+    ensures whole { IfOk result (λ found. found.start + found.period ≤ second) }
+    ensures counted { IfOk result (λ found.
+        CountsRecurrence first second found.period meter.old.steps meter.new.steps) }
+    ensures few { CountsAtMost first second meter.old.steps meter.new.steps }
     ensures tapes { TapesHaveCells T.view limits.now.cells tapes.new }
     ensures memory { OnErr result (IsTrue T.GROWS) }
 {
     limits.show_accepted();
-    let mut uses = LastUses::new();
-    let (start, saved) = find_start(machine, limits, first, second, tapes, &mut uses, meter)?;
+    uses.reset(machine);
+    let (start, saved, whole) = find_start(machine, limits, first, second, tapes, uses, meter)?;
     let Ok(()) = tapes.pair.saved.copy_from(&tapes.pair.run) else {
         return Err(Memory);
     };
     let period = least_period(machine, limits, saved, first, second, tapes, meter)?;
-    let shift = find_shift(machine, limits, saved, first, period, second, tapes, meter)?;
+    let shift = find_shift(
+        machine, limits, saved, first, period, second, whole, tapes, meter,
+    )?;
     Ok(Recurrence {
         start,
         period,
         shift,
-        uses,
     })
 }
 
 /// Advances a run to the first step of a pair, and one ahead of it to the second. Returns the first step from
-/// which on both use the same transitions, and the runner at the first step of the pair, and records the last
-/// uses of the states up to the second.
+/// which on both use the same transitions, the runner at the first step of the pair, and the distance of the
+/// head from there to the second step. Records the last uses up to the second step.
 fn find_start<T: Tape>(
     machine: &Machine,
     limits: &Limits,
@@ -94,7 +98,7 @@ fn find_start<T: Tape>(
     tapes: &mut Tapes<T>,
     uses: &mut LastUses,
     meter: &mut Meter,
-) -> Result<(u64, Runner), Memory>
+) -> Result<(u64, Runner, i64), Memory>
     requires goes_on { IsOpen machine.now limits.now second }
     requires tapes { TapesHaveCells T.view limits.now.cells tapes.old }
     requires order { first ≤ second }
@@ -103,6 +107,8 @@ fn find_start<T: Tape>(
     ensures at { IfOk result (λ found.
         IsAt machine.now limits.now first found.1 (T.view tapes.new.pair.run)) }
     ensures start { IfOk result (λ found. IsSeenStart machine.now first (second - first) found.0) }
+    ensures shift { IfOk result (λ found. IsShift machine.now first (second - first) found.2) }
+    ensures near { IfOk result (λ found. IsNear found.2) }
     ensures uses { OnOk result (AreSeen machine.now second uses.new) }
     ensures counted { OnOk result (meter.new.steps ≡ meter.old.steps + first + second) }
     ensures few { meter.new.steps ≤ meter.old.steps + first + second }
@@ -126,7 +132,8 @@ fn find_start<T: Tape>(
         uses,
         meter,
     )?;
-    Ok((start, runner))
+    let whole = ahead.position() - runner.position();
+    Ok((start, runner, whole))
 }
 
 /// Advances both runs of `find_start` to the two steps of a pair.
@@ -149,6 +156,7 @@ fn follow<T: Tape>(
     requires room { meter.old.steps + 2 * first < 2 ^ 64 }
     requires seen { AreSeen machine.now (second - first) uses.old }
     ensures at { OnOk result (IsAt machine.now limits.now first runner.new (T.view tapes.new.pair.run)) }
+    ensures ahead { OnOk result (IsAt machine.now limits.now second ahead.new (T.view tapes.new.ahead)) }
     ensures start { IfOk result (IsSeenStart machine.now first (second - first)) }
     ensures uses { OnOk result (AreSeen machine.now second uses.new) }
     ensures counted { OnOk result (meter.new.steps ≡ meter.old.steps + 2 * first) }
@@ -176,8 +184,9 @@ fn start_after(start: u64, step: u64, same: bool) -> u64
     if same { start } else { step + 1 }
 }
 
-/// The distance of the head in a period after the first step of a pair. The saved tape and `saved` are those of
-/// this step.
+/// The distance of the head in a period after the first step of a pair. The saved tape and `saved` are those
+/// of this step, and `whole` is the distance up to the second step: a run is needed only for a smaller
+/// period.
 fn find_shift<T: Tape>(
     machine: &Machine,
     limits: &Limits,
@@ -185,6 +194,7 @@ fn find_shift<T: Tape>(
     first: u64,
     period: u64,
     second: u64,
+    whole: i64,
     tapes: &mut Tapes<T>,
     meter: &mut Meter,
 ) -> Result<i64, Memory>
@@ -192,13 +202,19 @@ fn find_shift<T: Tape>(
     requires within { first + period ≤ second }
     requires goes_on { IsOpen machine.now limits.now second }
     requires at { IsAt machine.now limits.now first saved (T.view tapes.old.pair.saved) }
+    requires whole { IsShift machine.now first (second - first) whole }
+    requires near { IsNear whole }
     requires room { meter.old.steps + period < 2 ^ 64 }
     ensures shift { IfOk result (IsShift machine.now first period) }
     ensures near { IfOk result IsNear }
+    ensures no_less { meter.old.steps ≤ meter.new.steps }
     ensures few { meter.new.steps ≤ meter.old.steps + period }
     ensures tapes { TapesHaveCells T.view limits.now.cells tapes.new }
     ensures memory { OnErr result (IsTrue T.GROWS) }
 {
+    if period == second - first {
+        return Ok(whole);
+    }
     let Ok(()) = tapes.pair.run.copy_from(&tapes.pair.saved) else {
         return Err(Memory);
     };

@@ -1,28 +1,26 @@
-//! Exact recurrences of known machines. The numbers are those of a brute force over all periods, written apart
-//! from this crate.
+//! Exact recurrences of known machines. The numbers are those of a brute force over all periods, written
+//! apart from this crate.
 
-use crate::{Finding, Tapes, find};
-use bb_cert::{Answer, Line, Pair, Path, read_line};
+use crate::{Finding, LastUses, RecurrenceCounts, find, ring_tapes, run_recurrence};
+use bb_cert::{Answer, Line, read_line};
+use bb_lines::fault::Fault;
+use bb_lines::watched::Watched;
 use bb_machine::Limits;
+use bb_run::Summary;
 use bb_sim::Meter;
-use bb_tape::{Memory, RingTape};
+use bb_tape::Memory;
 use std::alloc::Global;
 use std::process::Abort;
 
-/// The result for a verdict line, with rings for these limits.
+/// The result for a verdict line.
 fn find_in(alloc: Global, limits: &Limits, line: &[u8]) -> Result<Finding, Memory> {
-    let pair = Pair {
-        run: RingTape::new(alloc, limits.cells())?,
-        saved: RingTape::new(alloc, limits.cells())?,
-    };
-    let ahead = RingTape::new(alloc, limits.cells())?;
-    let mut tapes = Tapes { pair, ahead };
-    let mut path = Path::new(alloc, limits.depth())?;
+    let (mut tapes, mut path) = ring_tapes(alloc, limits)?;
+    let mut uses = LastUses::new();
     let mut meter = Meter::new();
     match read_line(line) {
         Some(Line::Claim(machine, verdict)) => {
             find(
-                &machine, &verdict, limits, &mut tapes, &mut path, &mut meter,
+                &machine, &verdict, limits, &mut tapes, &mut path, &mut uses, &mut meter,
             )
         }
         Some(Line::Refusal(_)) => Ok(Finding::NoPair),
@@ -70,4 +68,81 @@ fn other_lines_have_their_answers(rt: HostRuntime) {
         let found = find_in(rt.alloc(), &limits, line).expect(&rt, "memory");
         assert!(rt; found == *wanted);
     }
+}
+
+/// The verdict lines of a list.
+static LIST: &[u8] = b"1RB---_1LB0RB translated L 7 8 1 1
+1LB0RB_1RA0LC_1RC1RA translated R 60 61 1 1
+0RB---_0LA--- cycler 4 16
+0RB---_0LA--- cycler 2 5
+0RB---_0LA--- cycler 2 400
+1RB1LB_1LA1RZ halt 6 4
+refused 3
+0RB---_0LA---
+1RB0RB_1LB1RA translated R 10 19 3 2";
+
+static REPLIES: &[u8] = b"1RB---_1LB0RB recurs 4 1 -1 0 * quasihalts 1
+1LB0RB_1RA0LC_1RC1RA recurs 55 1 1 53 54 * quasihalts 55
+0RB---_0LA--- recurs 0 2 0 * *
+bad
+over
+open
+open
+unread
+1RB0RB_1LB1RA recurs 0 9 3 * *
+";
+
+static REPLIES_WITH_ENTRIES: &[u8] = b"1RB---_1LB0RB recurs 4 1 -1 0 * quasihalts 1 entries 0 - * 3
+1LB0RB_1RA0LC_1RC1RA recurs 55 1 1 53 54 * quasihalts 55 entries 43 53 3 54 * 52
+0RB---_0LA--- recurs 0 2 0 * * entries * - * -
+bad
+over
+open
+open
+unread
+1RB0RB_1LB1RA recurs 0 9 3 * * entries * * * *
+";
+
+/// The end and the replies of a run over the list, and its counts in `counts`.
+fn replies_to_list(
+    rt: &(impl Abort + AllocGlobal),
+    entries: bool,
+    counts: &RecurrenceCounts,
+) -> (Result<Summary, Fault>, Vec<u8>) {
+    let limits = Limits::new(100, 64, 30, 1_000).expect(rt, "limits");
+    let (mut tapes, mut path) = ring_tapes(rt.alloc(), &limits).expect(rt, "memory");
+    let mut reader = Watched::new(LIST);
+    let mut writer = Watched::new(Vec::new(rt.alloc()));
+    let end = run_recurrence(
+        &mut reader,
+        &mut writer,
+        &limits,
+        entries,
+        &mut tapes,
+        &mut path,
+        counts,
+    );
+    (end, writer.into_inner())
+}
+
+#[test]
+fn lists_have_their_replies(rt: HostRuntime) {
+    let counts = RecurrenceCounts::default();
+    let (end, written) = replies_to_list(&rt, false, &counts);
+    let summary = end.expect(&rt, "no fault");
+    assert_eq!(rt; written.as_slice(), REPLIES);
+    assert!(rt; !summary.clean);
+    assert_eq!(rt; summary.peak.most_cells, 13);
+    let pairs = (counts.recurs.get(), counts.quasihalts.get());
+    assert!(rt; pairs == (4, 2));
+    let others = (counts.bad.get(), counts.over.get(), counts.open.get());
+    assert!(rt; others == (1, 1, 2));
+    assert!(rt; counts.unread.get() == 1);
+}
+
+#[test]
+fn entries_have_their_last_uses(rt: HostRuntime) {
+    let counts = RecurrenceCounts::default();
+    let (_, written) = replies_to_list(&rt, true, &counts);
+    assert_eq!(rt; written.as_slice(), REPLIES_WITH_ENTRIES);
 }

@@ -1,17 +1,17 @@
-//! The last use of each state by a repeating run.
-ghost use Rattle.std.specs.Prelude.{◌≡◌, ◌+◌, ◌<◌, ◌≤◌, ◌^◌};
-ghost use Rattle.bb_machine.specs.Machine.{Table};
-ghost use Rattle.bb_sim.specs.Runner.{state_of, steps_of};
-ghost use Rattle.laws_of_repetition.specs.Repetition.{Repeats};
-ghost use Rattle.laws_of_repetition.specs.Uses.{of_state};
+//! The last use of each state, and of each entry, by a repeating run.
+ghost use Rattle.std.specs.Prelude.{◌≡◌, ℕ, ◌+◌, ◌*◌, ◌<◌, ◌≤◌, ◌^◌, length, max, MatchOption};
+ghost use Rattle.bb_machine.specs.Machine.{IsMachine, Table, symbols_of};
+ghost use Rattle.bb_tape.specs.TapeView.{IsInside};
+ghost use Rattle.bb_sim.specs.Runner.{position_of, steps_of};
+ghost use Rattle.laws_of_repetition.specs.Uses.{IsQuasihalt, of_state};
 ghost use Rattle.bb_repetition.specs.Lockstep.{IsAt};
-ghost use Rattle.bb_repetition.specs.LastUses.{AreSeen, IsUse};
+ghost use Rattle.bb_repetition.specs.LastUses.{AreSeen, AreSeenWhole, IsSeenUse, IsUse, of_entry, IsUseBy};
 
-use bb_machine::{Limits, MAX_STATES, Machine};
+use bb_machine::{Limits, MAX_STATES, MAX_SYMBOLS, Machine};
 use bb_sim::Runner;
 use bb_tape::Tape;
 
-/// When a state is used for the last time.
+/// When a state or an entry is used for the last time.
 #[derive(Clone, Copy, Debug, PartialEq, Eq)]
 pub enum LastUse {
     /// No step uses it.
@@ -22,24 +22,35 @@ pub enum LastUse {
     Forever,
 }
 
-/// The last use of each state up to a step.
+/// The most entries of a machine: one for each state and symbol.
+const MAX_ENTRIES: usize = MAX_STATES * MAX_SYMBOLS;
+
+/// The last use of each entry up to a step.
 #[derive(Clone, Copy, Debug, PartialEq, Eq)]
 pub struct LastUses {
-    // The step after the last use of each state, 0 if no step used it.
-    after: [u64; MAX_STATES],
+    // The step after the last use of each entry, 0 if no step used it: the entries of state A, then those of
+    // B.
+    after: [u64; MAX_ENTRIES],
 }
 
 impl LastUses {
     /// No step was made.
-    pub(crate) fn new() -> LastUses
-        ensures { (table : Table) → AreSeen table 0 result }
+    pub fn new() -> LastUses
+        ensures { (table : Table) → IsMachine table → AreSeen table 0 result }
     {
         LastUses {
-            after: [0; MAX_STATES],
+            after: [0; MAX_ENTRIES],
         }
     }
 
-    /// Records the state of a runner's next step.
+    /// Begins anew for a machine. The entries of other states are left as they are.
+    pub(crate) fn reset(&mut self, machine: &Machine)
+        ensures { AreSeen machine.now 0 self.new }
+    {
+        self.after[..MAX_SYMBOLS * machine.states() as usize].fill(0);
+    }
+
+    /// Records the entry of a runner's next step.
     #[inline(always)]
     pub(crate) fn record<T: Tape>(
         &mut self,
@@ -49,40 +60,102 @@ impl LastUses {
         tape: &T,
     )
         requires at { IsAt machine.now limits.now (steps_of runner.now) runner.now (T.view tape.now) }
+        requires inside { IsInside (T.view tape.now) (position_of runner.now) }
         requires room { steps_of runner.now + 1 < 2 ^ 64 }
         requires seen { AreSeen machine.now (steps_of runner.now) self.old }
         ensures { AreSeen machine.now (steps_of runner.now + 1) self.new }
     {
         machine.show_machine();
         match runner.state() {
-            Some(state) => self.after[state as usize] = runner.steps() + 1,
+            Some(state) => {
+                let symbol = tape.read_inside(runner.position());
+                self.after[index_of(state, symbol)] = runner.steps() + 1;
+            }
             None => {}
         }
     }
 
-    /// The last use of a state, if the run repeats from `start` on with a period, and the uses are those up to
-    /// the end of a first period.
-    pub fn last_use(
-        &self,
-        machine: &Machine,
-        state: u8,
-        start: u64,
-        period: u64,
-        made: u64,
-    ) -> LastUse
-        requires state { state < MAX_STATES }
-        requires repeats { Repeats machine.now start period }
-        requires whole { start + period ≤ made }
-        requires seen { AreSeen machine.now made self.now }
+    /// The last use of a state, by a run that repeats from `start` on, if the uses are those up to the end of
+    /// a first period or later.
+    pub fn last_use(&self, machine: &Machine, state: u8, start: u64) -> LastUse
+        requires state { state < length machine.now }
+        requires seen { AreSeenWhole machine.now start self.now }
         ensures { IsUse machine.now (of_state state) result }
     {
-        let after = self.after[state as usize];
-        if after == 0 {
-            return LastUse::Never;
-        }
-        if after > start {
-            return LastUse::Forever;
-        }
-        LastUse::Step(after - 1)
+        use_before(self.step_after(machine, state), start)
     }
+
+    /// The last use of an entry, in the same way.
+    pub fn last_use_of_entry(&self, machine: &Machine, state: u8, symbol: u8, start: u64) -> LastUse
+        requires state { state < length machine.now }
+        requires symbol { symbol < symbols_of machine.now }
+        requires seen { AreSeenWhole machine.now start self.now }
+        ensures { IsUse machine.now (of_entry state symbol) result }
+    {
+        machine.show_machine();
+        use_before(self.after[index_of(state, symbol)], start)
+    }
+
+    /// The number of steps after which the machine quasihalts, if the run repeats from `start` on, and the
+    /// uses are those up to the end of a first period or later: the greatest last use of a state, plus 1.
+    /// `None` if it doesn't quasihalt.
+    pub fn quasihalt(&self, machine: &Machine, start: u64) -> Option<u64>
+        requires seen { AreSeenWhole machine.now start self.now }
+        ensures { MatchOption result ((steps : ℕ) → IsQuasihalt machine.now steps → ⊥)
+            (λ steps. IsQuasihalt machine.now steps) }
+    {
+        let mut steps = 0;
+        for state in 0..machine.states() {
+            steps = with_last_use(steps, self.step_after(machine, state), start);
+        }
+        if steps == 0 { None } else { Some(steps) }
+    }
+
+    /// The step after the last use of a state, 0 if no step used it.
+    fn step_after(&self, machine: &Machine, state: u8) -> u64
+        requires state { state < length machine.now }
+        ensures { (n : ℕ) → AreSeen machine.now n self.now
+            → IsSeenUse machine.now (of_state state) n result }
+    {
+        let mut after = 0;
+        for symbol in 0..machine.symbols() {
+            after = after.max(self.after[index_of(state, symbol)]);
+        }
+        after
+    }
+}
+
+/// The place of an entry among the last uses.
+#[inline(always)]
+fn index_of(state: u8, symbol: u8) -> usize
+    requires state { state < MAX_STATES }
+    requires symbol { symbol < MAX_SYMBOLS }
+    ensures { result ≡ MAX_SYMBOLS * state + symbol }
+{
+    MAX_SYMBOLS * state as usize + symbol as usize
+}
+
+/// The greatest of some last uses, plus 1, 0 without one, with one state more: it has a last use if the step
+/// after the last use seen isn't past `start`.
+fn with_last_use(steps: u64, after: u64, start: u64) -> u64
+    ensures last { after ≤ start → result ≡ max steps after }
+    ensures for_ever { start < after → result ≡ steps }
+{
+    if start < after {
+        return steps;
+    }
+    steps.max(after)
+}
+
+/// The last use by a run that repeats from `start` on, from the step after the last use seen, 0 without one.
+fn use_before(after: u64, start: u64) -> LastUse
+    ensures { IsUseBy after start result }
+{
+    if after == 0 {
+        return LastUse::Never;
+    }
+    if after > start {
+        return LastUse::Forever;
+    }
+    LastUse::Step(after - 1)
 }

@@ -1,15 +1,16 @@
 //! The recurrence behind a verdict from any source.
-ghost use Rattle.std.specs.Prelude.{◌≡◌, ◌-◌, ◌<◌, ◌≤◌, IfOk, IsTrue, MatchOption, OnErr};
+ghost use Rattle.std.specs.Prelude.{◌≡◌, ◌-◌, ◌*◌, ◌<◌, ◌≤◌, IfOk, IsTrue, MatchOption, OnErr};
 ghost use Rattle.bb_cert.specs.claims.Claim.{Claim};
 ghost use Rattle.bb_cert.specs.checker.Answer.{IsAnswer};
 ghost use Rattle.bb_cert.specs.declared.checker.answer.Answer.{Answer};
 ghost use Rattle.bb_cert.specs.tree.Path.{depth_of};
 ghost use Rattle.bb_sim.specs.Span.{Inside};
 ghost use Rattle.laws_of_repetition.specs.Repetition.{Repeats};
-ghost use Rattle.bb_repetition.specs.Finding.{IsFinding, NamesNone, NamesPair};
+ghost use Rattle.bb_repetition.specs.Finding.{CountsFinding, IsFinding, NamesNone, NamesPair};
 ghost use Rattle.bb_repetition.specs.Tapes.{TapesHaveCells};
 
 use crate::recurrence::{Recurrence, Tapes, find_recurrence};
+use crate::uses::LastUses;
 use bb_cert::{Answer, Path, Verdict, check};
 use bb_machine::{Limits, Machine};
 use bb_sim::Meter;
@@ -27,8 +28,10 @@ pub enum Finding {
     NoPair,
 }
 
-/// Finds the exact recurrence of a machine's run, if a verdict is a pair and the checker confirms it under these
-/// limits. Resets `meter`, and counts there the steps of the check and those of `find_recurrence`.
+/// Finds the exact recurrence of a machine's run, if a verdict is a pair and the checker confirms it under
+/// these limits. Resets `meter`, and counts there the steps of the check and those of `find_recurrence`, and
+/// the cells of the check, which runs as far. For a confirmed pair `uses` then has the last uses up to its
+/// second step.
 ///
 /// After an error the contents of the tapes are unspecified; the next call resets them.
 pub fn find<T: Tape>(
@@ -37,15 +40,20 @@ pub fn find<T: Tape>(
     limits: &Limits,
     tapes: &mut Tapes<T>,
     path: &mut Path,
+    uses: &mut LastUses,
     meter: &mut Meter,
 ) -> Result<Finding, Memory>
     requires tapes { TapesHaveCells T.view limits.now.cells tapes.old }
     requires path { limits.now.depth ≤ depth_of path.old }
-    ensures found { IfOk result (IsFinding machine.now limits.now verdict.now) }
+    ensures found { IfOk result (IsFinding machine.now limits.now verdict.now uses.new) }
+    ensures counted { IfOk result (CountsFinding machine.now limits.now verdict.now meter.new) }
+    ensures few_steps { meter.new.steps ≤ 160 * limits.now.steps }
+    ensures few_cells { meter.new.most_cells ≤ limits.now.cells }
     ensures tapes { TapesHaveCells T.view limits.now.cells tapes.new }
     ensures depth { depth_of path.new ≡ depth_of path.old }
     ensures memory { OnErr result (IsTrue T.GROWS) }
 {
+    *meter = Meter::new();
     let Some((first, second)) = pair_of(verdict) else {
         return Ok(Finding::NoPair);
     };
@@ -55,8 +63,10 @@ pub fn find<T: Tape>(
         return Ok(Finding::Answered(answer));
     }
     show_repeats(machine, verdict, limits, first, second);
-    let found = find_recurrence(machine, limits, first, second, tapes, meter)?;
-    Ok(Finding::Recurs(found))
+    let mut own = Meter::new();
+    let found = find_recurrence(machine, limits, first, second, tapes, uses, &mut own);
+    meter.steps += own.steps;
+    Ok(Finding::Recurs(found?))
 }
 
 /// The steps of a pair.

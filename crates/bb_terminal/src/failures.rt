@@ -1,22 +1,13 @@
-//! The arguments of a process, its input, and the messages for failures.
+//! The input of a program, and its reports of failures.
+ghost use Rattle.std.specs.Prelude.{◌≡◌};
 
+use crate::messages::{FaultText, LimitText};
 use bb_command::Stop;
 use bb_lines::fault::Fault;
 use std::fs::File;
 use std::io::{Error, ErrorKind, IsTerminal};
-use std::{env, fs, io};
-
-/// Reads the process's arguments, which must be UTF-8.
-pub fn read_arguments(rt: &HostRuntime) -> Result<Vec<String>, Stop> {
-    match env::args(rt) {
-        Ok(arguments) => Ok(arguments.collect(rt.alloc())?),
-        Err(error) if error.kind() == ErrorKind::InvalidData => {
-            let text = String::from_str(rt.alloc(), "error: an argument is not UTF-8\n")?;
-            Err(Stop::Words(text))
-        }
-        Err(_) => Err(Stop::Memory),
-    }
-}
+use std::os::unix::fs::{FileTypeExt, MetadataExt};
+use std::{fs, io};
 
 /// Opens a file, and returns its size, if it is a regular one.
 pub fn open_list(rt: &HostRuntime, path: &String) -> io::Result<(File, Option<u64>)> {
@@ -45,5 +36,52 @@ pub fn print_failure(
         (Fault::Read, Some(file)) => eprintln!(rt; "{file}: {error}"),
         (Fault::Read, None) => eprintln!(rt; "standard input: {error}"),
         _ => eprintln!(rt; "standard output: {error}"),
+    }
+}
+
+/// Reports a fault of a program with this name, on a terminal with the reason, and returns the exit status.
+pub fn report_fault(
+    rt: &HostRuntime,
+    program: &'static str,
+    file: Option<&str>,
+    fault: Fault,
+    error: Option<&Error>,
+) -> u8
+    ensures { result ≡ 3 }
+{
+    let _ = rt.eprintln(FaultText { program, fault });
+    if let Some(error) = error {
+        let _ = print_failure(rt, file, fault, error);
+    }
+    3
+}
+
+/// Prints help to standard output, and any other cause to standard error.
+pub fn print_stop(rt: &HostRuntime, program: &'static str, stop: &Stop) -> io::Result<()> {
+    match stop {
+        Stop::Help(text) => rt.print(text),
+        Stop::Words(text) => rt.eprint(text),
+        Stop::Limits(fault) => rt.eprintln(LimitText {
+            program,
+            fault: *fault,
+        }),
+        Stop::Memory => rt.eprintln(FaultText {
+            program,
+            fault: Fault::Memory,
+        }),
+    }
+}
+
+/// Whether standard output is a file or the null device, so that nobody watches it.
+pub fn is_output_kept(rt: &HostRuntime) -> bool {
+    let Ok(output) = fs::metadata(rt, "/dev/stdout") else {
+        return false;
+    };
+    if output.is_file() {
+        return true;
+    }
+    match fs::metadata(rt, "/dev/null") {
+        Ok(null) => output.file_type().is_char_device() && output.rdev() == null.rdev(),
+        Err(_) => false,
     }
 }

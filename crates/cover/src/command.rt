@@ -1,26 +1,24 @@
-//! The command line: the list, the walk that it has to be, and its limits.
-ghost use Rattle.std.specs.Prelude.{◌≡◌, [], false, true, IfErr, IfOk, Some, codes, map, option_map};
-ghost use Rattle.std.specs.String.{string_bytes};
+//! The command line: the list, the required walk, and its limits.
+ghost use Rattle.std.specs.Prelude.{◌≡◌, [], false, true, IfErr, IfOk, codes, map};
 ghost use Rattle.clap.specs.Simple.{new_shape};
-ghost use Rattle.clap.specs.Words.{app_of, first_of, found_of, kind_of, rows_of, rule_of};
+ghost use Rattle.clap.specs.Words.{app_of, first_of, found_of, rows_of, rule_of};
 ghost use Rattle.bb_machine.specs.Column.{IsColumn};
-ghost use Rattle.bb_command.specs.Command.{IsKindStop, IsLimitsStop, is_given, list_bounds, number_of};
-ghost use Rattle.bb_command.specs.CommandLine.{by_default, number_rule, positional_rule, switch_rule};
+ghost use Rattle.bb_command.specs.Command.{IsLimitsStop, is_given, list_bounds};
 ghost use Rattle.cover.specs.CommandLine.{IsAskedBy, IsBelow, IsStopOf, command_line, form_by, text_rule};
 ghost use Rattle.cover.specs.CommandLine.{IsTextRefused};
 ghost use Rattle.cover.specs.Status.{refusal_status};
 
 use bb_command::Stop;
+use bb_command::options::{has_option, limit, list_file, positional, stop_of, switch, value};
 use bb_cover::{Form, Task};
 use bb_machine::{Limits, Machine, Refused};
-use clap::error::ErrorKind;
-use clap::{Arg, ArgAction, ArgMatches, Command, Error, value_parser};
+use clap::{Arg, ArgMatches, Command};
 use std::alloc::{AllocError, Global};
 
 /// A parsed command line.
 #[derive(Drop)]
 pub struct Asked {
-    /// The walk that the list has to be, and the limits of its claims.
+    /// The required walk, and the limits of its claims.
     pub task: Task,
     /// The list's file; standard input if none.
     pub file: Option<String>,
@@ -29,7 +27,7 @@ pub struct Asked {
 /// The reason for doing no work.
 #[derive(Drop)]
 pub enum Refusal {
-    /// One that `bb` has too: the words, help, the limits or an allocation.
+    /// A cause common to all programs: the words, help, the limits or an allocation.
     Common(Stop),
     /// The text of `--below` is no machine.
     Machine(Refused),
@@ -79,7 +77,7 @@ pub fn ask(alloc: Global, words: &[&str]) -> Result<Asked, Refusal>
         Err(refused) => return Err(Refusal::Machine(refused)),
     };
     let form = form_of(&matches);
-    let file = file_of(alloc, &matches)?;
+    let file = list_file(alloc, &matches)?;
     Ok(Asked {
         task: Task {
             limits,
@@ -147,8 +145,17 @@ fn program<'a>(alloc: Global) -> Result<Command<'a>, AllocError>
             "The most nodes that a claim may name, 0 to 1000000000000",
         ))?
         .arg(below(alloc))?
-        .arg(skeleton(alloc))?
-        .arg(file(alloc))
+        .arg(switch(
+            alloc,
+            "skeleton",
+            "Takes lines that stand for shards, and adds up their counts",
+        ))?
+        .arg(positional(
+            alloc,
+            "file",
+            "FILE",
+            "The list of verdict lines [default: standard input]",
+        ))
 }
 
 /// The command without its arguments.
@@ -162,17 +169,7 @@ fn base_command<'a>(alloc: Global) -> Command<'a>
         .version("0.2.0")
 }
 
-/// The argument with the list's file.
-fn file<'a>(alloc: Global) -> Arg<'a>
-    ensures rule { rule_of result ≡ positional_rule (codes "file") }
-    ensures local { result.global ≡ false }
-{
-    Arg::new(alloc, "file")
-        .value_name("FILE")
-        .help("The list of verdict lines [default: standard input]")
-}
-
-/// The option with the machine at which the walk begins.
+/// The option with the first machine of the walk.
 fn below<'a>(alloc: Global) -> Arg<'a>
     ensures rule { rule_of result ≡ text_rule (codes "below") }
     ensures local { result.global ≡ false }
@@ -181,43 +178,6 @@ fn below<'a>(alloc: Global) -> Arg<'a>
         .long("below")
         .value_name("MACHINE")
         .help("The machine at which the walk begins [default: one with no entry]")
-}
-
-/// The option for a list with shards.
-fn skeleton<'a>(alloc: Global) -> Arg<'a>
-    ensures rule { rule_of result ≡ switch_rule (codes "skeleton") }
-    ensures local { result.global ≡ false }
-{
-    Arg::new(alloc, "skeleton")
-        .long("skeleton")
-        .help("Takes lines that stand for shards, and adds up their counts")
-        .action(ArgAction::SetTrue)
-}
-
-/// An option with a number. Help is one literal, so the ranges of `bb_machine::limits` are written out in it.
-fn limit<'a>(alloc: Global, name: &'a str, default: &'a str, help: &'a str) -> Arg<'a>
-    ensures rule { rule_of result ≡ by_default default.now (number_rule name.now) }
-    ensures local { result.global ≡ false }
-{
-    Arg::new(alloc, name)
-        .long(name)
-        .value_name("N")
-        .help(help)
-        .value_parser(value_parser!(u64))
-        .default_value(default)
-}
-
-/// The stop for a parse error.
-fn stop_of(alloc: Global, error: &Error) -> Result<Stop, AllocError>
-    ensures { IfOk result (IsKindStop (kind_of error.now)) }
-{
-    match error.kind() {
-        ErrorKind::OutOfMemory => Ok(Stop::Memory),
-        ErrorKind::DisplayHelp | ErrorKind::DisplayVersion => Ok(Stop::Help(error.to_string(
-            alloc,
-        )?)),
-        _ => Ok(Stop::Words(error.to_string(alloc)?)),
-    }
 }
 
 /// The limits, if they are accepted.
@@ -234,7 +194,7 @@ fn limits_of(matches: &ArgMatches<'_>) -> Result<Limits, Stop>
     .map_err(Stop::Limits)
 }
 
-/// The machine at which the walk begins, if one is given.
+/// The first machine of the walk, if one is given.
 fn below_of(matches: &ArgMatches<'_>) -> Result<Option<Machine>, Refused>
     ensures ok { IfOk result (IsBelow (first_of (codes "below") (rows_of (found_of matches.now)))) }
     ensures refused { IfErr result (λ refused.
@@ -253,27 +213,9 @@ fn below_of(matches: &ArgMatches<'_>) -> Result<Option<Machine>, Refused>
 fn form_of(matches: &ArgMatches<'_>) -> Form
     ensures { result ≡ form_by (is_given (codes "skeleton") (rows_of (found_of matches.now))) }
 {
-    if matches.get_one::<bool>("skeleton").unwrap_or(false) {
+    if has_option(matches, "skeleton") {
         Form::Skeleton
     } else {
         Form::Verdicts
     }
-}
-
-/// The list's file.
-fn file_of(alloc: Global, matches: &ArgMatches<'_>) -> Result<Option<String>, AllocError>
-    ensures { IfOk result (λ file.
-        option_map string_bytes file ≡ first_of (codes "file") (rows_of (found_of matches.now))) }
-{
-    match matches.get_str("file") {
-        Some(file) => Ok(Some(String::from_str(alloc, file)?)),
-        None => Ok(None),
-    }
-}
-
-/// The value of a numeric option. Each has a default, and is parsed as a number, so none is missing.
-fn value(matches: &ArgMatches<'_>, name: &str) -> u64
-    ensures { result ≡ number_of name.now (rows_of (found_of matches.now)) }
-{
-    matches.get_one::<u64>(name).unwrap_or(0)
 }

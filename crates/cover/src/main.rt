@@ -10,17 +10,20 @@ use bb_command::Stop;
 use bb_cover::Cover;
 use bb_lines::fault::Fault;
 use bb_lines::watched::Watched;
-use bb_terminal::failures::{open_list, print_failure, read_arguments};
+use bb_terminal::arguments::{read_arguments, words_of};
+use bb_terminal::failures::{open_list, print_stop, report_fault};
 use bb_terminal::progress::Progress;
 use bb_terminal::streams::Observed;
 use command::{Asked, Refusal, ask};
-use report::{FaultText, LineCount, MachineText, Report, StopText};
+use report::{LineCount, MachineText, Report};
 use serve::{cover_list, status};
-use std::alloc::AllocError;
 use std::cell::Cell;
 use std::io;
 use std::io::{IsTerminal, Read};
 use std::process::ExitCode;
+
+/// The program's name, as messages begin.
+const PROGRAM: &str = "cover";
 
 fn main(rt: HostRuntime) -> ExitCode {
     let status = match parse_request(&rt) {
@@ -33,15 +36,8 @@ fn main(rt: HostRuntime) -> ExitCode {
 /// The request of the process's arguments, which must be UTF-8.
 fn parse_request(rt: &HostRuntime) -> Result<Asked, Refusal> {
     let arguments = read_arguments(rt).map_err(Refusal::Common)?;
-    let words: Result<Vec<&str>, AllocError> = arguments
-        .as_slice()
-        .iter()
-        .map(|word| word.as_str())
-        .collect(rt.alloc());
-    match words {
-        Ok(words) => ask(rt.alloc(), words.as_slice()),
-        Err(_) => Err(Refusal::Common(Stop::Memory)),
-    }
+    let words = words_of(rt.alloc(), arguments.as_slice())?;
+    ask(rt.alloc(), words.as_slice())
 }
 
 /// Walks along the list, reports the result, and returns the exit status. A file that can't be opened is a
@@ -62,10 +58,10 @@ fn answer_request(rt: &HostRuntime, asked: &Asked) -> u8 {
                 task: &asked.task,
             };
             if let Err(error) = rt.println(report) {
-                return report_fault(rt, asked, Fault::Write, Some(&error));
+                return report_list_fault(rt, asked, Fault::Write, Some(&error));
             }
         }
-        Err(fault) => return report_fault(rt, asked, *fault, error.as_ref()),
+        Err(fault) => return report_list_fault(rt, asked, *fault, error.as_ref()),
     }
     status(&end)
 }
@@ -95,14 +91,10 @@ fn cover_input<R: Read + Drop>(
     (end, error)
 }
 
-/// Reports a fault, on a terminal with the failed operation and the reason, and returns the exit status.
-fn report_fault(rt: &HostRuntime, asked: &Asked, fault: Fault, error: Option<&io::Error>) -> u8 {
-    let _ = rt.eprintln(FaultText { fault });
-    if let Some(error) = error {
-        let file = asked.file.as_ref().map(|file| file.as_str());
-        let _ = print_failure(rt, file, fault, error);
-    }
-    3
+/// Reports a fault, and returns the exit status.
+fn report_list_fault(rt: &HostRuntime, asked: &Asked, fault: Fault, error: Option<&io::Error>) -> u8 {
+    let file = asked.file.as_ref().map(|file| file.as_str());
+    report_fault(rt, PROGRAM, file, fault, error)
 }
 
 /// Prints the reason for doing no work, and returns the exit status: that of the refusal, or 3 if help or the
@@ -110,10 +102,7 @@ fn report_fault(rt: &HostRuntime, asked: &Asked, fault: Fault, error: Option<&io
 fn report_refusal(rt: &HostRuntime, refusal: &Refusal) -> u8 {
     match (print_refusal(rt, refusal), refusal) {
         (Err(_), Refusal::Common(Stop::Help(_))) => {
-            let _ = rt.eprintln(FaultText {
-                fault: Fault::Write,
-            });
-            3
+            report_fault(rt, PROGRAM, None, Fault::Write, None)
         }
         _ => refusal.status(),
     }
@@ -122,12 +111,7 @@ fn report_refusal(rt: &HostRuntime, refusal: &Refusal) -> u8 {
 /// Prints help to standard output, and any other cause to standard error.
 fn print_refusal(rt: &HostRuntime, refusal: &Refusal) -> io::Result<()> {
     match refusal {
-        Refusal::Common(Stop::Help(text)) => rt.print(text),
-        Refusal::Common(Stop::Words(text)) => rt.eprint(text),
-        Refusal::Common(Stop::Limits(fault)) => rt.eprintln(StopText { fault: *fault }),
-        Refusal::Common(Stop::Memory) => rt.eprintln(FaultText {
-            fault: Fault::Memory,
-        }),
+        Refusal::Common(stop) => print_stop(rt, PROGRAM, stop),
         Refusal::Machine(refused) => rt.eprintln(MachineText {
             column: refused.column,
         }),

@@ -3,8 +3,7 @@
 use arrayvec::ArrayVec;
 use bb_cert::Answer;
 use bb_cover::{Cover, Form, Found, Stop, Task, Text, Why};
-use bb_lines::fault::Fault;
-use bb_machine::{LimitFault, Machine};
+use bb_machine::Machine;
 use std::cell::Cell;
 use std::fmt;
 use std::fmt::{Display, Formatter};
@@ -112,40 +111,6 @@ fn text_of(text: &Text) -> &str {
         return "a machine with no entry";
     }
     str::from_utf8(text.as_slice()).unwrap_or("")
-}
-
-/// Why a run ended early.
-#[derive(Drop)]
-pub struct FaultText {
-    pub fault: Fault,
-}
-
-impl Display for FaultText {
-    fn fmt<W: fmt::Write>(&self, f: &mut Formatter<W>) -> fmt::Result {
-        match self.fault {
-            Fault::Memory => write!(f, "cover: out of memory"),
-            Fault::Read => write!(f, "cover: read failed"),
-            Fault::Write => write!(f, "cover: write failed"),
-        }
-    }
-}
-
-/// Why limits are refused.
-#[derive(Drop)]
-pub struct StopText {
-    pub fault: LimitFault,
-}
-
-impl Display for StopText {
-    fn fmt<W: fmt::Write>(&self, f: &mut Formatter<W>) -> fmt::Result {
-        match self.fault {
-            LimitFault::Steps => write!(f, "cover: steps out of range"),
-            LimitFault::Cells => write!(f, "cover: cells out of range"),
-            LimitFault::Depth => write!(f, "cover: depth out of range"),
-            LimitFault::Nodes => write!(f, "cover: nodes out of range"),
-            LimitFault::DepthCells => write!(f, "cover: depth does not fit in cells"),
-        }
-    }
 }
 
 /// The refusal of the text of `--below`.

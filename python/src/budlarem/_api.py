@@ -2,29 +2,33 @@
 
 from ._library import LibraryError
 from .claims import Claim, WORDS, Word
-from .engine import Configuration, MachineError, Trace, check, check_bytes, decide, decide_bytes, trace
+from .engine import Configuration, MachineError, Trace, check, check_bytes, decide, decide_bytes
+from .engine import recurrences, trace
 from .judging import Judged, Judgement, Judging, judge
 from .extrapolation import Place, at
 from .limits import Limits, LimitsError, Plan
 from .comparison import Agreement, Comparison, compare
-from .decide_list import Carried, decide_carried
+from .decide_list import DecidedLine, decide_lines
 from .normal_forms import Normal, distinct, normal
 from .pictures import Picture, PictureError, picture
 from .publishing import Published, PublishError, UnconfirmedError, publish
 from .reading import Columns, EncodingError, EndlessLineError, Form, Skipped, Reading, Readings, Reason
 from .reading import Rewriting, read
+from .recurrence_claims import Exactness
+from .recurrence import LastUse, Recurrence, UseKind, parse_recurrence
 from .reports import Report, ReportError, report
 from .verdicts import Answer, Backward, Cycler, Extent, Halt, Refused, Translated, Undecided, Verdict
 from .verdicts import is_machine, parse
 
 # fmt: off
 __all__ = [
-    "Agreement", "Answer", "Backward", "Carried", "Claim", "Columns", "Comparison", "Configuration", "Cycler",
-    "EncodingError", "EndlessLineError", "Extent", "Form", "Halt", "Judged", "Judgement", "Judging",
-    "LibraryError", "Limits", "LimitsError", "MachineError", "Normal", "Picture", "PictureError", "Place",
-    "Plan", "PublishError", "Published", "Reading", "Readings", "Reason", "Refused", "Report", "ReportError",
-    "Rewriting", "Skipped", "Trace", "Translated", "UnconfirmedError", "Undecided", "Verdict", "WORDS",
-    "Word", "at", "check", "check_bytes", "compare", "decide", "decide_bytes", "decide_carried", "distinct",
-    "is_machine", "judge", "normal", "parse", "picture", "publish", "read", "report", "trace",
+    "Agreement", "Answer", "Backward", "DecidedLine", "Claim", "Columns", "Comparison", "Configuration", "Cycler",
+    "EncodingError", "EndlessLineError", "Exactness", "Extent", "Form", "Halt", "Judged", "Judgement",
+    "Judging", "LastUse", "LibraryError", "Limits", "LimitsError", "MachineError", "Normal", "Picture",
+    "PictureError", "Place", "Plan", "PublishError", "Published", "Reading", "Readings", "Reason",
+    "Recurrence", "Refused", "Report", "ReportError", "Rewriting", "Skipped", "Trace", "Translated",
+    "UnconfirmedError", "Undecided", "UseKind", "Verdict", "WORDS", "Word", "at", "check", "check_bytes",
+    "compare", "decide", "decide_bytes", "decide_lines", "distinct", "is_machine", "judge", "normal",
+    "parse", "parse_recurrence", "picture", "publish", "read", "recurrences", "report", "trace",
 ]
 # fmt: on

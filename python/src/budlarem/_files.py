@@ -47,8 +47,8 @@ def name_errors(path: str | os.PathLike[str], replaces: bool = False) -> Iterato
     try:
         yield
     except OSError as error:
-        is_named = isinstance(error, KindError) or (error.filename is not None and not replaces)
-        if is_named or error.errno is None:
+        names_file = isinstance(error, KindError) or (error.filename is not None and not replaces)
+        if names_file or error.errno is None:
             raise
         raise OSError(error.errno, error.strerror, os.fspath(path)) from None
 
@@ -105,16 +105,16 @@ class Directory:
         with _name_path(self.path):
             return sorted(os.listdir(self.handle))
 
-    def is_named(self) -> bool:
+    def has_name(self) -> bool:
         """Whether its path still leads to it."""
         try:
             return id_of(os.stat(self.path)) == id_of(os.fstat(self.handle))
         except (FileNotFoundError, NotADirectoryError):
             return False
 
-    def require_named(self) -> None:
+    def require_name(self) -> None:
         """Raises MovedError unless its path still leads to it."""
-        if not self.is_named():
+        if not self.has_name():
             why = "that one was moved, removed or replaced, and nothing is written elsewhere"
             how = "put it back and run the same command to resume"
             raise MovedError(f"{self.path} isn't the folder that was opened any more: {why}; {how}")
@@ -278,7 +278,7 @@ class FileTarget:
 
         def fill_here(number: int) -> None:
             fill(number)
-            if not self._directory.is_named():
+            if not self._directory.has_name():
                 moved = "its folder was moved, removed or replaced meanwhile"
                 raise OSError(errno.ENOENT, moved, self._path)
 

@@ -30,6 +30,7 @@ _CALLS = {
     "bb_decide": (_NUMBER,) * 4 + (_SWITCH,) * 3 + _BUFFERS,
     "bb_check": (_NUMBER,) * 4 + _BUFFERS,
     "bb_check_cost": (_NUMBER,) * 4 + (ctypes.c_char_p, _SIZE, ctypes.POINTER(_NUMBER * 4)),
+    "bb_recurrence": (_NUMBER,) * 2 + (_SWITCH,) + _BUFFERS,
     "bb_trace": (_NUMBER,) * 4 + _BUFFERS,
     "bb_look": (*(ctypes.c_char_p, _SIZE) * 2, ctypes.POINTER(_NUMBER * _KINDS), ctypes.POINTER(_NUMBER)),
 }

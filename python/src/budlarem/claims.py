@@ -54,8 +54,9 @@ _MARKS = SPACES + ",;:|()[]`*\"'\u2013\u2014-"
 @dataclasses.dataclass(frozen=True)
 class Claim:
     """A line and its claim: a verdict, or the `word` of a record with the numbers beside it, or neither.
-    `trouble` is the reason why nothing is judged; `unjudged` has the cells of numbers that mean nothing beside
-    the word. A refusal has its verdict, and no machine."""
+    `start` and `period` are those of a repetition, in a record that has one of them. `trouble` is the reason why
+    nothing is judged; `unjudged` has the cells of numbers that mean nothing beside the word. A refusal has its
+    verdict, and no machine."""
 
     reading: Reading
     verdict: Verdict | None = None
@@ -64,22 +65,29 @@ class Claim:
     steps: int | None = None
     score: int | None = None
     unjudged: tuple[str, ...] = ()
+    start: int | None = None
+    period: int | None = None
+
+    @property
+    def has_recurrence(self) -> bool:
+        """Whether it claims a start or a period, and nothing forbids judging them."""
+        return self.trouble is None and (self.start, self.period) != (None, None)
 
 
 class Claims(Iterable[Claim]):
-    """The claims of the lines of a list. `skipped` counts the skipped lines by kind; `words` translates the
+    """The claims of the lines of a list. `skips` counts the skipped lines by kind; `words` translates the
     words of a table."""
 
     def __init__(self, lines: Iterator[Numbered], form: ListForm, words: dict[str, Word]) -> None:
         self._lines, self._form, self._words = lines, form, words
-        self.skipped: collections.Counter[Skipped] = collections.Counter()
+        self.skips: collections.Counter[Skipped] = collections.Counter()
 
     def __iter__(self) -> Iterator[Claim]:
         for number, line in self._lines:
             if (claim := _claim_of(number, line, self._form, self._words)) is not None:
                 yield claim
             else:
-                self.skipped[skip_kind(line)] += 1
+                self.skips[skip_kind(line)] += 1
 
 
 def claim_in(number: int, line: str) -> Claim | None:
@@ -153,8 +161,26 @@ def _verdict_in(machine: str, text: str) -> Verdict:
 
 
 def _of_row(reading: Reading, layout: Layout, words: dict[str, Word]) -> Claim:
-    assert reading.machine is not None and reading.row is not None
+    assert reading.row is not None
     cells = {role: reading.row[place] for role, place in layout.columns.items()}
+    texts = {role: cells[role] for role in ("start", "period") if cells.get(role)}
+    claim = _of_verdict_cell(reading, cells, words)
+    if not texts or (cells.get("verdict") and claim.trouble is not None):
+        return claim
+    if claim.word in (Word.HALTS, Word.UNDECIDED) or isinstance(claim.verdict, (Halt, Undecided)):
+        said = " ".join("%s %s" % pair for pair in texts.items())
+        return Claim(reading, trouble=_two_statements(cells["verdict"], said))
+    word = Word.NEVER_HALTS if claim.verdict is None else None
+    try:
+        numbers = {role: number_of(text) for role, text in texts.items()}
+        return dataclasses.replace(claim, word=word, trouble=None, **numbers)
+    except ValueError as error:
+        return Claim(reading, trouble=str(error))
+
+
+def _of_verdict_cell(reading: Reading, cells: dict[str, str], words: dict[str, Word]) -> Claim:
+    """The claim of a record by its verdict, and the steps and score of a halt."""
+    assert reading.machine is not None
     if not (cell := cells.get("verdict", "")):
         return Claim(reading, trouble="no word says whether it halts")
     word, verdict = words.get(plain_word(cell)), None

@@ -3,8 +3,9 @@
 from __future__ import annotations
 
 import collections
+import functools
 import re
-from typing import Any, Sequence
+from typing import Any, ClassVar, Sequence, TypeVar
 
 KINDS = ("halt", "cycler", "translated", "backward", "undecided steps", "undecided cells", "refused")
 UNDECIDED = ("undecided steps", "undecided cells")
@@ -18,6 +19,7 @@ _NUMBERS = {
     "backward": ("levels", "nodes"),
 }
 _GREATEST = {**_NUMBERS, "cycler": ("second", "apart"), "translated": ("second", "shift", "length")}
+Counts = TypeVar("Counts", bound="VerdictCounts")
 _COUNTED = re.compile(rb" (?:halt|backward) [^\n]+")
 
 
@@ -33,6 +35,9 @@ class VerdictCounts:
     """`kinds` has the count of each kind; `greatest`, by name as `halt steps`, the greatest number and the first
     line with it; `longest`, for each kind with steps, the lines of the most."""
 
+    # The kinds in the order of their counts.
+    names: ClassVar[tuple[str, ...]] = KINDS
+
     def __init__(self) -> None:
         self.kinds: collections.Counter[str] = collections.Counter()
         self.greatest: dict[str, tuple[int, str]] = {}
@@ -40,7 +45,7 @@ class VerdictCounts:
         self._known: set[bytes] = set()
 
     @classmethod
-    def of_fields(cls, fields: dict[str, Any]) -> VerdictCounts:
+    def of_fields(cls: type[Counts], fields: dict[str, Any]) -> Counts:
         """The counts with these `fields`, also from JSON. Raises KeyError, TypeError, ValueError."""
         counts = cls()
         counts.kinds.update({str(kind): int(count) for kind, count in fields["counts"].items()})
@@ -49,7 +54,7 @@ class VerdictCounts:
 
     def fields(self) -> dict[str, Any]:
         """The counts and the greatest numbers."""
-        return {"counts": {kind: self.kinds[kind] for kind in KINDS}, "greatest": self.greatest}
+        return {"counts": {kind: self.kinds[kind] for kind in self.names}, "greatest": self.greatest}
 
     def add(self, line: str) -> str:
         """Counts a verdict line; returns its machine, or an empty text for a refusal."""
@@ -89,7 +94,7 @@ class VerdictCounts:
         """The greatest of the numbers with these names; 0 if no line has one."""
         return max((self.greatest[name][0] for name in names if name in self.greatest), default=0)
 
-    def undecided(self) -> int:
+    def count_undecided(self) -> int:
         """The number of undecided lines."""
         return sum(self.kinds[kind] for kind in UNDECIDED)
 
@@ -107,6 +112,44 @@ class VerdictCounts:
         runs.sort(key=lambda run: -run[0])
         if len(runs) > LONGEST:
             runs.remove(min(runs))
+
+
+class RecurrenceCounts(VerdictCounts):
+    """The same of replies of `recurrence`: the counts of recurrences, of those that quasihalt, and of answers; the
+    greatest start, period, shift to any side, and number of steps after which one quasihalts."""
+
+    names = ("recurs", "quasihalts", "bad", "over", "open", "unread")
+
+    def add_block(self, lines: bytes) -> bytes:
+        """Counts a block of whole replies; returns nothing."""
+        found = {kind: lines.count(b" %s " % kind.encode()) for kind in ("recurs", "quasihalts")}
+        found["open"] = lines.count(b"open\n")
+        if found["recurs"] + found["open"] < lines.count(b"\n"):
+            found.update({kind: lines.count(b"%s\n" % kind.encode()) for kind in ("bad", "over", "unread")})
+        self.kinds.update(found)
+        for name in _WORDS:
+            most, _ = self.greatest.get(name, (-1, ""))
+            for number in _longer(name, len(str(max(most, 0)))).finditer(lines):
+                if int(number[1]) > most:
+                    most = int(number[1])
+                    line = lines[lines.rfind(b"\n", 0, number.start()) + 1 : lines.index(b"\n", number.end())]
+                    self.greatest[name] = (most, line.decode())
+        return b""
+
+
+# What stands before the numbers of a recurrence whose greatest is kept.
+_WORDS = {
+    "start": "recurs",
+    "period": "recurs [0-9]+",
+    "shift": "recurs [0-9]+ [0-9]+",
+    "quasihalts": "quasihalts",
+}
+
+
+@functools.lru_cache(maxsize=None)
+def _longer(name: str, digits: int) -> re.Pattern[bytes]:
+    """The pattern of a number of at least so many digits."""
+    return re.compile((" %s -?([0-9]{%d,})" % (_WORDS[name], digits)).encode())
 
 
 def _undecided_lines(lines: bytes) -> bytes:

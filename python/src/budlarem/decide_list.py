@@ -15,7 +15,7 @@ from .verdicts import Verdict, is_machine
 
 
 @dataclasses.dataclass(frozen=True)
-class Carried:
+class DecidedLine:
     """A verdict, and the reading of its line. Its text is the verdict line, followed by a tab and the other
     fields of the line, if any."""
 
@@ -32,7 +32,7 @@ class Carried:
         return "%s\t%s" % (self.verdict, fields) if fields else str(self.verdict)
 
 
-def decide_carried(
+def decide_lines(
     lines: Source,
     limits: Limits = Limits(),
     plan: Plan = Plan(),
@@ -40,13 +40,13 @@ def decide_carried(
     threads: int = 1,
     form: Form | None = None,
     columns: Columns = Columns(),
-) -> Iterator[Carried]:
+) -> Iterator[DecidedLine]:
     """Decides the machine of each line, as `read` finds it, and keeps the other fields. A line without a machine
     gets `Refused`, with the column at which `bb` refuses it.
 
     Takes what `read` takes. Raises what `read` and `decide` do.
 
-    >>> [str(carried) for carried in decide_carried(["1RB1LB_1LA1RZ, the champion", "1RA1RA", "x"])]
+    >>> [str(line) for line in decide_lines(["1RB1LB_1LA1RZ, the champion", "1RA1RA", "x"])]
     ['1RB1LB_1LA1RZ halt 6 4\\tthe champion', '1RA1RA translated R 1 2 1 1', 'refused 1']
     """
     return decide_readings(read(lines, form, columns), limits, plan, threads=threads)
@@ -54,7 +54,7 @@ def decide_carried(
 
 def decide_readings(
     readings: Iterable[Reading], limits: Limits = Limits(), plan: Plan = Plan(), *, threads: int = 1
-) -> Iterator[Carried]:
+) -> Iterator[DecidedLine]:
     """The verdict of each reading."""
     waiting: collections.deque[Reading] = collections.deque()
 
@@ -66,4 +66,4 @@ def decide_readings(
             yield " " + reading.line if is_refused else reading.machine or reading.line
 
     verdicts = decide(machines(), limits, plan, threads=threads)
-    return (Carried(verdict, waiting.popleft()) for verdict in verdicts)
+    return (DecidedLine(verdict, waiting.popleft()) for verdict in verdicts)

@@ -1,4 +1,4 @@
-"""Decides, checks and traces by the library."""
+"""Decides, checks, finds recurrences and traces by the library."""
 
 from __future__ import annotations
 
@@ -11,6 +11,7 @@ from ._fork import forbid_fork
 from ._library import NOT_CLEAN, SHORT, Reply, ReplyBuffer, load_library
 from ._text import LONGEST_GIVEN, LONGEST_SHOWN, LONGEST_VALUE
 from .limits import Limits, Plan, in_range, whole
+from .recurrence import RecurrenceReply, parse_recurrence
 from .verdicts import VERDICTS, Answer, Refused, Verdict, require_field_types, verdict_of
 
 # The most bytes of a block that is checked with large tapes; and the cells from which on a call costs the
@@ -21,6 +22,8 @@ Call = Callable[[ReplyBuffer, bytes], None]
 _ANSWERS = {str(answer): answer for answer in Answer}
 # The most bytes of a reply beyond its line, and of an answer.
 _BEYOND, _ANSWER = 98, 7
+# The most bytes of replies on recurrences, for each byte of the list and for each line.
+_RECURRENCE_FOLD, _RECURRENCE_BEYOND = 7, 90
 # The most bytes of replies per byte of their lines, since a machine has six bytes or more and its line one
 # more; and the bytes of verdict lines for each byte of answers.
 _FOLD, _FOR_EACH = 15, 2
@@ -55,6 +58,18 @@ def check_call(limits: Limits) -> Call:
     """The call that checks verdict lines."""
     arguments = limits.numbers()
     return lambda buffer, lines: buffer.call("bb_check", arguments, lines, len(lines) // _FOR_EACH + _ANSWER)
+
+
+def recurrence_call(limits: Limits, entries: bool = False) -> Call:
+    """The call that finds the recurrences behind verdict lines; `entries` adds the last use of each entry. Of the
+    limits it has steps and cells."""
+    arguments = (limits.steps, limits.cells, entries)
+
+    def call(buffer: ReplyBuffer, lines: bytes) -> None:
+        room = _RECURRENCE_FOLD * len(lines) + _RECURRENCE_BEYOND * (lines.count(b"\n") + 1)
+        buffer.call("bb_recurrence", arguments, lines, room)
+
+    return call
 
 
 def _prepare(limits: Limits, plan: Plan, threads: int) -> int:
@@ -140,6 +155,17 @@ def _lines_of(items: Iterable[str | Verdict]) -> Iterator[str]:
             yield item
 
 
+def _claim_replies(
+    lines: Iterable[str | Verdict], call: Callable[[Limits], Call], limits: Limits, threads: int
+) -> Iterator[str]:
+    """The library's reply to each verdict or verdict line."""
+    threads = _prepare(limits, Plan(), threads)
+    pace = BatchPace(MOST_LINES, is_steady=limits.cells >= _LARGE_TAPES)
+    _require_list("lines", lines)
+    batches = batch_texts(_lines_of(lines), "lines", pace)
+    return (reply for _, reply in _reply_lines(batches, call(limits), threads, pace))
+
+
 def check(lines: Iterable[str | Verdict], limits: Limits = Limits(), *, threads: int = 1) -> Iterator[Answer]:
     """The checker's answer to each verdict, in order. `lines` has verdicts, verdict lines, or both.
 
@@ -148,12 +174,26 @@ def check(lines: Iterable[str | Verdict], limits: Limits = Limits(), *, threads:
     >>> [answer.name for answer in check(["1RB1LB_1LA1RZ halt 6 4", "1RB1LB_1LA1RZ halt 6 5", "x"])]
     ['OK', 'BAD', 'UNREAD']
     """
-    threads = _prepare(limits, Plan(), threads)
-    pace = BatchPace(MOST_LINES, is_steady=limits.cells >= _LARGE_TAPES)
-    _require_list("lines", lines)
-    batches = batch_texts(_lines_of(lines), "lines", pace)
-    pairs = _reply_lines(batches, check_call(limits), threads, pace)
-    return (_ANSWERS[answer] for _, answer in pairs)
+    return (_ANSWERS[answer] for answer in _claim_replies(lines, check_call, limits, threads))
+
+
+def recurrences(
+    lines: Iterable[str | Verdict], limits: Limits = Limits(), *, entries: bool = False, threads: int = 1
+) -> Iterator[RecurrenceReply]:
+    """The exact recurrence behind each pair that the checker confirms, in order. A pair that it doesn't confirm
+    gets its answer, another verdict or a refusal `OPEN`, another text `UNREAD`.
+
+    `lines` has verdicts, verdict lines, or both. Of the limits, steps and cells count: each pair that is `OK`
+    within them has its recurrence. `entries` adds the last use of each entry. Reads and raises as `decide` does.
+
+    >>> for found in recurrences(["0RB---_0LA--- cycler 4 16", "1RA1RA cycler 1 2", "1RB1LB_1LA1RZ halt 6 4"]):
+    ...     print(found)
+    0RB---_0LA--- recurs 0 2 0 * *
+    bad
+    open
+    """
+    replies = _claim_replies(lines, lambda given: recurrence_call(given, bool(entries)), limits, threads)
+    return map(parse_recurrence, replies)
 
 
 def _replies(blocks: Blocks, call: Call, threads: int, pace: BatchPace) -> Iterator[bytes]:
@@ -187,14 +227,16 @@ def check_bytes(blocks: Blocks, limits: Limits = Limits(), *, threads: int = 1) 
     return _replies(blocks, check_call(limits), threads, pace)
 
 
-def check_file(file: BinaryReader, limits: Limits, *, threads: int = 1) -> Iterator[tuple[bytes, bytes]]:
-    """Lines of a file, and the bytes that `bb check` writes for them, in large blocks, since large tapes cost
-    more than the lines. A line of more than LONGEST_GIVEN bytes is cut. Raises what `decide` does."""
+def answer_file(
+    file: BinaryReader, call: Call, limits: Limits, *, threads: int = 1
+) -> Iterator[tuple[bytes, bytes]]:
+    """Verdict lines of a file, and the replies of a call under these limits, in large blocks, since large tapes
+    cost more than the lines. A line of more than LONGEST_GIVEN bytes is cut. Raises what `decide` does."""
     threads = _prepare(limits, Plan(), threads)
     most = _LARGE if threads == 1 else _LARGE // 4
     pace = BatchPace(most, is_steady=True)
     blocks = iter(lambda: file.read(most), b"")
-    replies = map_in_order(check_call(limits), batch_bytes(blocks, pace), threads, pace)
+    replies = map_in_order(call, batch_bytes(blocks, pace), threads, pace)
     return ((lines, reply.text) for lines, reply in replies)
 
 

@@ -17,6 +17,8 @@ from .normal_forms import canonical_form
 from .reading import Columns, Form, Reading, Readings, Skipped, read
 from .reading.files import Source
 from .reading.forms import RereadableList
+from .recurrence import Recurrence
+from .recurrence_claims import Exactness, Finding, NumbersJudge, find_start_offset
 from .verdicts import Answer, Halt, Refused, Undecided, Verdict
 from .verification import answers_of
 
@@ -42,17 +44,25 @@ class Judgement(Words):
 
 @dataclasses.dataclass(frozen=True)
 class Judged:
-    """A claim of theirs, its judgement and the reason, and our verdict on its machine, if it has one."""
+    """A claim of theirs, its judgement and the reason, and our verdict on its machine, if it has one. For a claim
+    with a start or a period, `exactness` says whether they hold; `exact` are the exact ones, if known."""
 
     judgement: Judgement
     claim: Claim
     ours: Verdict | None
     reason: str
+    exactness: Exactness | None = None
+    exact: Recurrence | None = None
 
     @property
     def number(self) -> int:
         """The line's number, from 1 on."""
         return self.claim.reading.number
+
+    @property
+    def is_open(self) -> bool:
+        """Whether a machine's claim isn't contradicted."""
+        return self.judgement in (Judgement.CONFIRMED, Judgement.NOT_JUDGED)
 
     def __str__(self) -> str:
         line = escape_controls(self.claim.reading.line.replace("\t", " "))
@@ -114,6 +124,7 @@ def judge(
     plan: Plan = Plan(),
     checker: Limits = GREATEST,
     undefined_steps: bool | None = None,
+    start_offset: int | None = None,
     threads: int = 1,
     progress: ProgressCallback = lambda what, lines: None,
     form: Form | None = None,
@@ -129,7 +140,8 @@ def judge(
     Each machine is decided within `limits` by `plan`, and each claim that our verdict doesn't settle is
     checked within `checker`. `undefined_steps`: they count a step for an undefined transition. By default
     their halts show it: each halt of theirs at such a transition is true of the machine with `1RZ` there, and
-    there is one. `listed` is a list of machines; then `missing` and `foreign` of the result compare the two.
+    there is one. `start_offset`: how much later than the exact start they give each start of a repetition. By
+    default it is the one difference of all starts, if there are two or more. `listed` is a list of machines; then `missing` and `foreign` of the result compare the two.
 
     Both lists are what `read` takes; `listed` may be its result. Their list is read twice; a long one that
     isn't a regular file is copied to the disk first. `progress` is called with a description of work other
@@ -150,11 +162,18 @@ def judge(
         claims = Claims(source.lines(), source.form, words)
         counted = count_progress(claims, "looked at for steps at ---", progress)
         undefined_steps = counts_undefined_steps(counted, limits, checker, threads)
+    if start_offset is None:
+        start_offset = 0
+        if source.form.layout is not None and "start" in source.form.layout.columns:
+            claims = Claims(source.lines(), source.form, words)
+            counted = count_progress(claims, "looked at for their starts", progress)
+            start_offset = find_start_offset(counted, limits, plan, threads)
     readings = listed if listed is None or isinstance(listed, Readings) else read(listed)
     lists = None if readings is None else ListOverlap(readings, progress)
     claims = Claims(source.once(), source.form, words)
     decided = _decide_claims(claims, limits, plan, threads)
-    return Judging(decided, lists, checker, undefined_steps, threads, JudgedList(source, claims, translation))
+    numbers = NumbersJudge(limits, checker, start_offset, threads)
+    return Judging(decided, lists, numbers, undefined_steps, JudgedList(source, claims, translation))
 
 
 def translation_in(
@@ -179,8 +198,8 @@ class JudgedList:
         self._source, self._claims = source, claims
 
     @property
-    def skipped(self) -> collections.Counter[Skipped]:
-        return self._claims.skipped + collections.Counter({Skipped.EMPTY: self._source.counted.empty})
+    def skips(self) -> collections.Counter[Skipped]:
+        return self._claims.skips + collections.Counter({Skipped.EMPTY: self._source.counted.empty})
 
     @property
     def undecoded(self) -> int:
@@ -209,21 +228,19 @@ def _decide_claims(
 
 class Judging(Iterator[Judged]):
     """The judgements, one after another. `undefined_steps` says whether a step is counted for an undefined
-    transition; `theirs` describes the list. At the end `missing` and `foreign` compare it with the other
+    transition, `start_offset` how much later each start is given; `theirs` describes the list. At the end `missing` and `foreign` compare it with the other
     list."""
 
     def __init__(
         self,
         decided: Iterator[tuple[Claim, Verdict | None]],
         lists: ListOverlap | None,
-        checker: Limits,
+        numbers: NumbersJudge,
         undefined_steps: bool,
-        threads: int,
         theirs: JudgedList,
     ) -> None:
-        self.undefined_steps, self.theirs = undefined_steps, theirs
-        self._decided, self._lists = decided, lists
-        self._checker, self._threads = checker, threads
+        self.undefined_steps, self.start_offset, self.theirs = undefined_steps, numbers.offset, theirs
+        self._decided, self._lists, self._numbers = decided, lists, numbers
         self._held: Iterator[Judged] = iter(())
 
     def __next__(self) -> Judged:
@@ -250,8 +267,15 @@ class Judging(Iterator[Judged]):
             if len(batch) == _TOGETHER or time.monotonic() - started > _SECONDS:
                 break
         verdicts = [self._checked_claim(claim) for claim, _, judged in batch if judged is None]
-        answers = iter(answers_of(verdicts, self._checker, self._threads) if verdicts else [])
-        return [judged or self._judge_by_answer(claim, ours, next(answers)) for claim, ours, judged in batch]
+        numbers = self._numbers
+        answers = iter(answers_of(verdicts, numbers.checker, numbers.threads) if verdicts else [])
+        found = [judged or self._judge_by_answer(claim, ours, next(answers)) for claim, ours, judged in batch]
+        # A claim that is contradicted already needs no numbers.
+        places = [place for place, one in enumerate(found) if one.claim.has_recurrence and one.is_open]
+        pairs = [(one.claim, one.ours) for one in (found[place] for place in places) if one.ours is not None]
+        for place, finding in zip(places, numbers.findings(pairs)):
+            found[place] = _with_numbers(found[place], finding)
+        return found
 
     def _checked_claim(self, claim: Claim) -> Verdict:
         """The verdict of a claim for the checker."""
@@ -290,8 +314,7 @@ class Judging(Iterator[Judged]):
         if isinstance(ours, Halt) != (word is Word.HALTS):
             return Judged(Judgement.CONTRADICTED, claim, ours, _disagreement(claim, ours))
         if claim.steps is None and claim.score is None:
-            more = "; not judged: %s" % quote(", ".join(claim.unjudged)) if claim.unjudged else ""
-            return Judged(Judgement.CONFIRMED, claim, ours, "%s, as ours says%s" % (word, more))
+            return Judged(Judgement.CONFIRMED, claim, ours, "%s, as ours says%s" % (word, _unjudged(claim)))
         assert isinstance(ours, Halt)
         halt = halt_with_steps(ours) if self.undefined_steps else ours
         if claim.steps not in (None, halt.steps) or claim.score not in (None, halt.score):
@@ -307,6 +330,29 @@ class Judging(Iterator[Judged]):
         if answer is Answer.BAD:
             return Judged(Judgement.CONTRADICTED, claim, ours, "the checker refutes %s%s" % (words, suffix))
         return Judged(Judgement.NOT_JUDGED, claim, ours, "%s: over the checker's limits" % words)
+
+
+_OF_EXACTNESS = {
+    Exactness.EXACT: Judgement.CONFIRMED,
+    Exactness.TRUE: Judgement.CONFIRMED,
+    Exactness.FALSE: Judgement.CONTRADICTED,
+    None: Judgement.NOT_JUDGED,
+}
+
+
+def _with_numbers(judged: Judged, finding: Finding) -> Judged:
+    """The judgement of a claim with a start or a period: of these alone, or of a verdict beside them too."""
+    judgement, reason = _OF_EXACTNESS[finding.exactness], finding.reason + _unjudged(judged.claim)
+    if judged.claim.verdict is not None:
+        is_worse = judgement is Judgement.CONTRADICTED or judged.judgement is Judgement.CONFIRMED
+        judgement = judgement if is_worse else judged.judgement
+        reason = "%s; %s" % (judged.reason, reason)
+    return Judged(judgement, judged.claim, judged.ours, reason, finding.exactness, finding.exact)
+
+
+def _unjudged(claim: Claim) -> str:
+    """The numbers beside a word that mean nothing, as the end of a reason."""
+    return "; not judged: %s" % quote(", ".join(claim.unjudged)) if claim.unjudged else ""
 
 
 def _disagreement(claim: Claim, ours: Verdict) -> str:

@@ -111,7 +111,7 @@ class Archive:
         raise NotImplementedError
 
     def _counts(self) -> dict[str, int]:
-        kinds = {**self.counts.kinds, "undecided": self.counts.undecided()}
+        kinds = {**self.counts.kinds, "undecided": self.counts.count_undecided()}
         return {kind: kinds.get(kind, 0) for kind in KINDS}
 
     def _about(self, fields: dict[str, Any]) -> bytes:
@@ -193,7 +193,7 @@ class Contents(Archive):
             sentences.append("Each line of list.txt has its verdict on the same line of verdicts.txt.")
         if self.passes:
             sentences.append("Undecided machines were tried with these limits, one pass after another:")
-        elif self.counts.undecided():
+        elif self.counts.count_undecided():
             sentences.append("The limits with which undecided machines were tried aren't known.")
         lines = [line for text in sentences for line in textwrap.wrap(text, _WIDE - 2)]
         lines += ["    " + words_of(limits) for limits in self.passes]
@@ -418,10 +418,11 @@ def _contents_of_holdouts(
         "sha256sum LIST            # prints the sha256 of `list` in about.json",
         f"budlarem run LIST --out FOLDER --check --keep {run.keep} {words}",
         "cmp FOLDER/verdicts.txt holdouts.txt",
+        "budlarem publish ARCHIVE.tar --verdicts FOLDER --list LIST",
     ]
     return HoldoutContents(
         counts,
-        run.lines - counts.undecided() - counts.kinds["refused"],
+        run.lines - counts.count_undecided() - counts.kinds["refused"],
         passes,
         run.identity,
         (lines,),
@@ -478,7 +479,7 @@ def _contents_of_shards(folder: str, listed: ArchivedFile | None) -> HoldoutCont
         raise PublishError("%s has %r, and cover prints %r" % (path, cover, found))
     return HoldoutContents(
         counts,
-        sum(counts.kinds.values()) - counts.undecided(),
+        sum(counts.kinds.values()) - counts.count_undecided(),
         (plan.limits,),
         None,
         files,

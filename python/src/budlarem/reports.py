@@ -219,8 +219,8 @@ _GROWTHS = {Growth.STAYS: "Cells stay", Growth.HALTS: "The run ends"}
 
 def _page(found: Statistics, machines: Sequence[MachineDiagram], title: str) -> str:
     undecided = "No machine is left undecided."
-    if found.undecided():
-        undecided = f"{len(machines):,} of {found.undecided():,} undecided machines are shown."
+    if found.count_undecided():
+        undecided = f"{len(machines):,} of {found.count_undecided():,} undecided machines are shown."
         undecided += " " + _DIAGRAMS if machines else ""
     plots = ("<figure>%s</figure>" % plot(found.bins[name], name) for name in _PLOTS if found.bins[name])
     return string.Template(_PAGE.read_text(encoding="utf-8")).substitute(

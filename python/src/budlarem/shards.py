@@ -28,7 +28,10 @@ import time
 from typing import IO, Any, Callable, Iterator, NamedTuple, Sequence
 
 from ._files import write_whole
-from .counts import VerdictCounts
+from ._fork import forbid_fork
+from ._library import ReplyBuffer
+from .counts import RecurrenceCounts, VerdictCounts
+from .engine import recurrence_call
 from .limits import Limits
 from .runner.errors import CheckError, FolderError, RunError
 
@@ -49,7 +52,8 @@ class Plan:
     """How a list is sharded.
 
     `states`, `symbols`: its size. `entries`: a machine with so many entries that leads to others is a shard.
-    `list_steps`: the steps of the list's runs. `limits`: those of deciding and checking.
+    `list_steps`: the steps of the list's runs. `limits`: those of deciding and checking. `recurrence`: the exact
+    recurrence behind each pair is found and counted too.
     """
 
     states: int
@@ -57,6 +61,7 @@ class Plan:
     entries: int
     list_steps: int
     limits: Limits
+    recurrence: bool = False
 
     def to_json(self) -> str:
         return json.dumps(dataclasses.asdict(self), indent=1) + "\n"
@@ -79,6 +84,7 @@ class Plan:
     def shards_options(self) -> list[str]:
         """The options of `budlarem shards` that make this plan."""
         size = ["--states", str(self.states), "--symbols", str(self.symbols), "--entries", str(self.entries)]
+        size += ["--recurrence"] if self.recurrence else []
         return [*size, "--list-steps", str(self.list_steps), *self.options()]
 
     def options(self) -> list[str]:
@@ -86,11 +92,35 @@ class Plan:
         return [word for name in Limits.RANGES for word in ("--" + name, str(getattr(self.limits, name)))]
 
 
-class VerdictReader:
-    """Reads verdict lines in blocks: their `sha256`, `size` in bytes, `counts`, and undecided lines, `holdouts`."""
+class RecurrenceReader:
+    """Finds the recurrences behind verdict lines within these limits: their `counts`."""
 
-    def __init__(self) -> None:
+    def __init__(self, limits: Limits) -> None:
+        self.counts = RecurrenceCounts()
+        self._call, self._buffer = recurrence_call(limits), ReplyBuffer()
+
+    def read(self, lines: bytes) -> None:
+        """Reads whole lines. Raises CheckError for a pair that isn't confirmed, LibraryError, MemoryError."""
+        forbid_fork()
+        self._call(self._buffer, lines)
+        self.counts.add_block(self._buffer.reply().text)
+        require_confirmed(self.counts)
+
+
+def require_confirmed(counts: RecurrenceCounts) -> None:
+    """Raises CheckError if a reply is none to a confirmed pair, or to another verdict."""
+    wrong = {kind: counts.kinds[kind] for kind in ("bad", "over", "unread") if counts.kinds[kind]}
+    if wrong:
+        raise CheckError("recurrences aren't found: %s" % wrong)
+
+
+class VerdictReader:
+    """Reads verdict lines in blocks: their `sha256`, `size` in bytes, `counts`, and undecided lines, `holdouts`; for
+    a plan with recurrences, the counts of these."""
+
+    def __init__(self, plan: Plan) -> None:
         self.sha256, self.size, self.counts = hashlib.sha256(), 0, VerdictCounts()
+        self.recurrences = RecurrenceReader(plan.limits) if plan.recurrence else None
         self.holdouts: list[bytes] = []
         self._rest = b""
 
@@ -100,17 +130,25 @@ class VerdictReader:
         self.size += len(block)
         lines, newline, self._rest = (self._rest + block).rpartition(b"\n")
         self.holdouts.append(self.counts.add_block(lines + newline))
+        if self.recurrences is not None:
+            self.recurrences.read(lines + newline)
+
+    def fields(self) -> dict[str, Any]:
+        """The counts of verdicts, and of recurrences if found."""
+        found = self.recurrences
+        return {**self.counts.fields(), **({} if found is None else {"recurrences": found.counts.fields()})}
 
 
 class Shard(NamedTuple):
-    """A finished shard: its line in the skeleton, its counts, the bytes of all its lines, its undecided lines, and
-    the seconds of its job."""
+    """A finished shard: its line in the skeleton, its counts, the bytes of all its lines, its undecided lines, the
+    seconds of its job, and the counts of its recurrences; none without them."""
 
     line: str
     counts: VerdictCounts
     size: int
     holdouts: bytes
     seconds: float
+    recurrences: RecurrenceCounts
 
 
 def create(folder: str, plan: Plan) -> None:
@@ -160,11 +198,16 @@ def read_shard(folder: str, machine: str) -> Shard:
     try:
         fields = json.loads(text)
         numbers = int(fields["bytes"]), holdouts, float(fields["seconds"])
-        shard = Shard(line, VerdictCounts.of_fields(fields), *numbers)
+        recurrences = RecurrenceCounts.of_fields(fields.get("recurrences", {"counts": {}, "greatest": {}}))
+        shard = Shard(line, VerdictCounts.of_fields(fields), *numbers, recurrences)
         lines, undecided = map(int, line.split()[2:4])
     except (KeyError, TypeError, ValueError) as error:
         raise FolderError("%s is no finished shard: %s; remove it, and resume" % (path, error)) from None
-    found = sum(shard.counts.kinds.values()), shard.counts.undecided(), holdouts.count(b"\n")
+    found = sum(shard.counts.kinds.values()), shard.counts.count_undecided(), holdouts.count(b"\n")
+    pairs = sum(shard.counts.kinds[kind] for kind in ("cycler", "translated"))
+    if "recurrences" in fields and recurrences.kinds["recurs"] != pairs:
+        sentence = "%s counts %d pairs and %d recurrences; remove it, and resume"
+        raise FolderError(sentence % (path, pairs, recurrences.kinds["recurs"]))
     if found != (lines, undecided, undecided):
         sentence = "%s counts %d lines, %d undecided, and has %d of them; remove it, and resume"
         raise FolderError(sentence % (path, *found))
@@ -185,7 +228,7 @@ def run_shard(folder: str, machine: str) -> str:
         return line
     for program in PROGRAMS:
         _find(program)
-    began, reader = time.monotonic(), VerdictReader()
+    began, reader = time.monotonic(), VerdictReader(plan)
     decide = [
         [LISTER, "--below", machine, "--steps", str(plan.list_steps)],
         [DECIDER, "decide", *plan.options()],
@@ -195,7 +238,7 @@ def run_shard(folder: str, machine: str) -> str:
     if counts is None:
         raise CheckError("cover refuses the shard of %s: %s" % (machine, found.rstrip("\n")))
     line = "%s below %s %s\n" % (machine, " ".join(counts.groups()), reader.sha256.hexdigest())
-    fields = {**reader.counts.fields(), "bytes": reader.size, "seconds": round(time.monotonic() - began, 3)}
+    fields = {**reader.fields(), "bytes": reader.size, "seconds": round(time.monotonic() - began, 3)}
     blocks = [line.encode("ascii"), json.dumps(fields).encode("ascii") + b"\n", *reader.holdouts]
     write_whole(os.path.join(folder, "shards", machine), blocks)
     return line
@@ -211,14 +254,14 @@ def join(folder: str) -> str:
     skeleton, holdouts, summary = (os.path.join(folder, name) for name in FILES[2:])
     write_whole(skeleton, _skeleton(folder, plan))
     found = cover_skeleton(skeleton, plan)
-    total = Total()
+    total = Total(plan)
     write_whole(holdouts, _holdouts(folder, total))
     fields = {
         "plan": dataclasses.asdict(plan),
         "cover": found.rstrip("\n"),
         "shards": total.shards,
         "seconds": round(total.seconds, 3),
-        **total.counts.fields(),
+        **total.fields(),
         "sha256": {SKELETON: sha256_of(skeleton), HOLDOUTS: sha256_of(holdouts)},
     }
     write_whole(summary, [json.dumps(fields, indent=1).encode("ascii") + b"\n"])
@@ -257,11 +300,19 @@ def sha256_of(path: str) -> str:
     return sha256.hexdigest()
 
 
-class Total:
+class Total(VerdictReader):
     """The number of shards, the sum of their seconds, and the counts of all lines."""
 
-    def __init__(self) -> None:
-        self.shards, self.seconds, self.counts = 0, 0.0, VerdictCounts()
+    def __init__(self, plan: Plan) -> None:
+        super().__init__(plan)
+        self.shards, self.seconds = 0, 0.0
+
+    def add(self, shard: Shard) -> None:
+        """Adds a shard."""
+        self.shards, self.seconds = self.shards + 1, self.seconds + shard.seconds
+        self.counts.merge(shard.counts)
+        if self.recurrences is not None:
+            self.recurrences.counts.merge(shard.recurrences)
 
 
 def _holdouts(folder: str, total: Total) -> Iterator[bytes]:
@@ -270,11 +321,11 @@ def _holdouts(folder: str, total: Total) -> Iterator[bytes]:
         for line in file:
             machine, word = line.split(b" ", 2)[:2]
             if word != b"below":
-                yield total.counts.add_block(line)
+                total.read(line)
+                yield total.holdouts.pop()
                 continue
             shard = read_shard(folder, machine.decode("ascii"))
-            total.counts.merge(shard.counts)
-            total.shards, total.seconds = total.shards + 1, total.seconds + shard.seconds
+            total.add(shard)
             yield shard.holdouts
 
 

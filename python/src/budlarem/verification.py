@@ -5,19 +5,22 @@ from __future__ import annotations
 import collections
 import dataclasses
 import io
-from typing import Iterator, NamedTuple, Sequence
+import re
+from typing import Callable, Iterator, NamedTuple, Sequence
 
 from ._calls import BinaryReader, whole_lines
 from ._library import cost_of_check
 from ._text import LONGEST_SHOWN
-from .engine import check_file, decide
+from .engine import Call, answer_file, check_call, decide, recurrence_call
 from .limits import Limits, Plan
+from .recurrence import RecurrenceReply, parse_recurrence
 from .verdicts import Answer, Backward, Cycler, Halt, Translated, Verdict, parse
 
 # With so few cells a call costs little.
-_FEW_CELLS = 65_536
+FEW_CELLS = 65_536
 # The bytes read at once where nothing is checked.
 _BLOCK = 1 << 20
+_RECURRENCE = re.compile(rb"[^ \n]+ recurs [^\n]+")
 
 
 class Unconfirmed(NamedTuple):
@@ -35,21 +38,31 @@ class Unconfirmed(NamedTuple):
 
 @dataclasses.dataclass
 class CheckSummary:
-    """The count of each answer so far, and the first unconfirmed line."""
+    """The count of each answer so far, the first unconfirmed line, and the number of recurrences that quasihalt. A
+    recurrence counts as `OK`."""
 
     counts: collections.Counter[Answer] = dataclasses.field(default_factory=collections.Counter)
     first: Unconfirmed | None = None
+    quasihalts: int = 0
 
-
-def answer_blocks(file: BinaryReader, limits: Limits, threads: int, summary: CheckSummary) -> Iterator[bytes]:
-    """The bytes that `bb check` writes for a file, in blocks, counted in `summary`."""
-    for lines, answers in check_file(file, limits, threads=threads):
-        if summary.first is None:
-            summary.first = find_unconfirmed(lines, answers, sum(summary.counts.values()))
+    def add(self, lines: bytes, replies: bytes) -> None:
+        """Counts the replies to some lines."""
+        answers = _RECURRENCE.sub(b"ok", replies)
+        if self.first is None:
+            self.first = find_unconfirmed(lines, answers, sum(self.counts.values()))
         for answer in Answer:
             # No answer ends as another.
-            summary.counts[answer] += answers.count(b"%s\n" % str(answer).encode())
-        yield answers
+            self.counts[answer] += answers.count(b"%s\n" % str(answer).encode())
+        self.quasihalts += replies.count(b" quasihalts ")
+
+
+def answer_blocks(
+    file: BinaryReader, call: Call, limits: Limits, threads: int, summary: CheckSummary
+) -> Iterator[bytes]:
+    """The replies of a call to the verdict lines of a file, in blocks, counted in `summary`."""
+    for lines, replies in answer_file(file, call, limits, threads=threads):
+        summary.add(lines, replies)
+        yield replies
 
 
 class CheckCost(NamedTuple):
@@ -137,19 +150,32 @@ def _wrong_part(verdict: Verdict, limits: Limits) -> str:
 
 
 def answers_of(claims: Sequence[Verdict], limits: Limits, threads: int) -> list[Answer]:
-    """The checker's answer to each claim. Claims that need more than a few cells are checked twice."""
-    depth = min(limits.depth, _FEW_CELLS // 2)
-    few = Limits(limits.steps, min(limits.cells, _FEW_CELLS), depth, limits.nodes)
-    answers = list(_answers(claims, few, threads))
+    """The checker's answer to each claim."""
+    return list(map(Answer, _replies_to(claims, check_call, limits, threads)))
+
+
+def recurrences_of(claims: Sequence[Verdict], limits: Limits, threads: int) -> list[RecurrenceReply]:
+    """The recurrence behind each pair, or its answer."""
+    return list(map(parse_recurrence, _replies_to(claims, recurrence_call, limits, threads)))
+
+
+def _replies_to(
+    claims: Sequence[Verdict], call: Callable[[Limits], Call], limits: Limits, threads: int
+) -> list[str]:
+    """The reply to each claim. Claims that need more than a few cells are checked twice."""
+    depth = min(limits.depth, FEW_CELLS // 2)
+    few = Limits(limits.steps, min(limits.cells, FEW_CELLS), depth, limits.nodes)
+    replies = list(_replies(claims, call(few), few, threads))
     if few == limits:
-        return answers
-    over = [place for place, answer in enumerate(answers) if answer is Answer.OVER]
-    for place, answer in zip(over, _answers([claims[place] for place in over], limits, threads)):
-        answers[place] = answer
-    return answers
+        return replies
+    over = [place for place, reply in enumerate(replies) if reply == str(Answer.OVER)]
+    more = _replies([claims[place] for place in over], call(limits), limits, threads) if over else ()
+    for place, reply in zip(over, more):
+        replies[place] = reply
+    return replies
 
 
-def _answers(claims: Sequence[Verdict], limits: Limits, threads: int) -> Iterator[Answer]:
+def _replies(claims: Sequence[Verdict], call: Call, limits: Limits, threads: int) -> Iterator[str]:
     lines = "".join("%s\n" % claim for claim in claims).encode()
-    for _, answers in check_file(io.BytesIO(lines), limits, threads=threads):
-        yield from map(Answer, answers.decode().split())
+    for _, replies in answer_file(io.BytesIO(lines), call, limits, threads=threads):
+        yield from replies.decode().splitlines()

@@ -82,7 +82,7 @@ def test_commands_and_options(bb: str, shell: Shell, program: str) -> None:
     assert done.returncode == 0 and not done.stderr
     command = [bb] if program == "bb" else [sys.executable, "-m", "budlarem"]
     page = help_of(command).partition("Commands:" if program == "bb" else "COMMAND\n")[2].partition("\n\n")[0]
-    names = {*re.findall(r"^ {2,4}([a-z]+) ", page, re.MULTILINE), "help"}
+    names = {*re.findall(r"^ {2,4}([a-z]+)(?: |$)", page, re.MULTILINE), "help"}
     assert len(names) > 3
     assert shell.words_at(program, "") - {"--help", "--version"} == names
     # The long options that begin a line of the help.

@@ -291,14 +291,17 @@ def test_forms_of_machines() -> None:
 def test_progress(tmp_path: pathlib.Path) -> None:
     """On a terminal the commands that take long tell how far they are, and leave nothing of it there."""
     lines = [CHAMPION + " halt 47176870 4098", "`1ra1ra` halts"]
+    pair = "0RB---_0LA--- cycler 2 4000002"
     cases: dict[str, tuple[list[str], str]] = {
         "judge": (["--check-steps=1000"], " not-judged"),
         "check": ([], " ok"),
+        "recurrence": ([], " recurs"),
         "publish": (["out.tar", "--verdicts"], "lines checked"),
     }
     for name, (more, word) in cases.items():
         given = tmp_path / (name + ".txt")
-        given.write_bytes(as_lines(lines) * 100 if name == "judge" else as_lines(lines[:1]) * 10)
+        few = as_lines([pair] if name == "recurrence" else lines[:1]) * 10
+        given.write_bytes(as_lines(lines) * 100 if name == "judge" else few)
         words = [word.replace("out.tar", str(tmp_path / "out.tar")) for word in more]
         with open(os.devnull, "wb") as output:
             asked = [sys.executable, "-m", "budlarem", name, *words, str(given)]
@@ -308,7 +311,7 @@ def test_progress(tmp_path: pathlib.Path) -> None:
         left = "\n".join(row[-1] for row in rows)
         assert any(word in text for text in texts) and max(map(len, texts)) < 80, (name, texts[:5])
         lines_left = left.count("\n") if name != "judge" else left.count("small letters read as capital ones")
-        assert lines_left == {"judge": 100, "check": 1, "publish": 0}[name]
+        assert lines_left == {"judge": 100, "check": 1, "recurrence": 1, "publish": 0}[name]
 
 
 def examples() -> Iterator[tuple[str, str]]:
@@ -327,7 +330,7 @@ def test_examples() -> None:
     script = 'budlarem() { "%s" -m budlarem "$@"; }\n' % sys.executable
     for asked, written in shown:
         assert run_command(["sh", "-c", script + asked]).output.decode().rstrip("\n") == written
-    for name in ("read", "check", "trace", "judge", "decide"):
+    for name in ("read", "check", "recurrence", "trace", "judge", "decide"):
         first, second = command("help", name), command(name, "--help")
         assert first[:2] == second[:2] and first.status == 0 and b"Column" in first.output, name
         assert all(len(line) < 80 for line in first.output.splitlines()), name

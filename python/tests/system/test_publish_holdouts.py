@@ -95,9 +95,11 @@ def test_run_that_kept_its_holdouts() -> None:
     about = json.loads(files["about.json"])
     assert about["lines"] == len(lines) and about["counts"]["refused"] == 1
     assert about["counts"]["undecided"] == files["holdouts.txt"].count(b" undecided ") > 0
-    first, again, compare = commands_again(files)
+    first, again, compare, publish_again = commands_again(files)
     assert run_script([first], LIST="list.txt").stdout.split()[0] == about["list"]
     run_script([again + " || [ $? -eq 1 ]", compare], LIST="list.txt", FOLDER="again")
+    run_script([publish_again], LIST="list.txt", FOLDER="again", ARCHIVE="again")
+    assert unpack("again.tar")["holdouts.txt"] == files["holdouts.txt"]
 
 
 def test_shards() -> None:

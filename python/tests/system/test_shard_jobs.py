@@ -7,6 +7,7 @@ import hashlib
 import json
 import os
 import pathlib
+import re
 import signal
 import subprocess
 import sys
@@ -17,6 +18,7 @@ import pytest
 from support import require, restore_signals
 from support.clusters import cluster
 from support.program import as_lines, run_command
+from support.recurrences import reply_to_pair
 
 Run = Callable[..., "subprocess.CompletedProcess[str]"]
 Lister = Callable[..., list[str]]
@@ -105,6 +107,27 @@ def test_summary_and_holdouts(bb: str, run: Run, list_machines: Lister, tmp_path
         assert most == max(int(halt.split(" ")[place]) for halt in halts)
     for name, sha256 in summary["sha256"].items():
         assert sha256 == hashlib.sha256((folder / name).read_bytes()).hexdigest()
+
+
+def test_recurrences(bb: str, run: Run, list_machines: Lister, tmp_path: pathlib.Path) -> None:
+    """They are those of the whole list's pairs, by brute force; a shard that has fewer is refused."""
+    folder = tmp_path / "out"
+    assert run("shards", folder, *PLAN, "--recurrence").returncode == 0
+    lines = run_command([bb, "decide"], as_lines(list_machines(3))).output.decode().splitlines()
+    pairs = [reply_to_pair(line) for line in lines if line.split(" ")[1] in ("cycler", "translated")]
+    found = json.loads((folder / "summary.json").read_text())["recurrences"]
+    assert found["counts"]["recurs"] == len(pairs)
+    assert found["counts"]["open"] == len(lines) - len(pairs)
+    assert found["counts"]["quasihalts"] == sum(" quasihalts " in pair for pair in pairs)
+    assert found["greatest"]["start"][0] == max(int(pair.split(" ")[2]) for pair in pairs)
+    path = next((folder / "shards").iterdir())
+    path.write_text(path.read_text().replace('"recurs": ', '"recurs": 9'))
+    done = run("shards", folder)
+    assert done.returncode == 2 and re.search(
+        r"counts \d+ pairs and 9\d+ recurrences; remove it", done.stderr
+    )
+    assert run("shards", folder, *PLAN).returncode == 2
+    assert "--recurrence goes with --states" in run("shards", folder, "--recurrence").stderr
 
 
 @pytest.mark.parametrize("change", [b"", b"1RB1RB_1LA0LB_------ undecided steps\n"])

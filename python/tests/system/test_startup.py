@@ -17,6 +17,7 @@ from support.program import MAX_CELLS, MAX_STEPS
 from support.runs import LONG_MACHINE
 
 LONG_PASS = "steps=%d,cells=%d" % (MAX_STEPS, MAX_CELLS)
+ENDLESS_PAIR = b"1RA1RA cycler 1 %d\n" % MAX_STEPS
 ENDLESS = LONG_MACHINE[:-1] + b" halt %d 1\n" % MAX_STEPS
 # How a module that Python imported is told, and the first one of the package's own by then.
 _IMPORT = "import time:"
@@ -27,17 +28,20 @@ _STATUSES = {signal.SIGINT: 130, signal.SIGTERM: 143, signal.SIGHUP: 129}
 # What the command says that a signal ended, and whether SIGTERM and SIGHUP end it as other programs.
 _RESUME = r"budlarem: (interrupted|ended by SIG\w+); the same command resumes the run.*\n"
 _SENTENCES = {"run": _RESUME, "publish": r"budlarem: SIG\w+: no archive is written\n", "check": ""}
+_SENTENCES["recurrence"] = ""
 
 
 def commands(tmp_path: pathlib.Path) -> dict[str, list[str]]:
     """Commands that take hours, by name."""
     listed, verdicts = tmp_path / "list.txt", tmp_path / "verdicts.txt"
-    listed.write_bytes(LONG_MACHINE)
-    verdicts.write_bytes(ENDLESS)
+    pairs = tmp_path / "pairs.txt"
+    for path, line in ((listed, LONG_MACHINE), (verdicts, ENDLESS), (pairs, ENDLESS_PAIR)):
+        path.write_bytes(line)
     return {
         "run": ["run", str(listed), "--out", str(tmp_path / "out"), "--pass", LONG_PASS],
         "publish": ["publish", str(tmp_path / "out.tar"), "--verdicts", str(verdicts)],
         "check": ["check", str(verdicts)],
+        "recurrence": ["recurrence", str(pairs)],
     }
 
 
@@ -74,7 +78,12 @@ def result_after_signal(
 
 @pytest.mark.parametrize("step", [40, pytest.param(15, marks=pytest.mark.slow)])
 @pytest.mark.parametrize(
-    "name, number", [*itertools.product(("run", "publish"), _STATUSES), ("check", signal.SIGINT)]
+    "name, number",
+    [
+        *itertools.product(("run", "publish"), _STATUSES),
+        ("check", signal.SIGINT),
+        ("recurrence", signal.SIGINT),
+    ],
 )
 def test_signals(tmp_path: pathlib.Path, name: str, number: signal.Signals, step: int) -> None:
     """Signals among the imports, and some moments later."""
@@ -100,7 +109,12 @@ def test_cut_library(library: pathlib.Path, tmp_path: pathlib.Path, step: int) -
     listed.write_bytes(b"1RB1LB_1LA1RZ\n")
     whole = library.read_bytes()
     decide, run = ["decide", str(listed)], ["run", str(listed), "--out", str(tmp_path / "cut")]
-    commands = (decide, run, ["check", str(listed)], ["trace", "1RB1LB_1LA1RZ", "--upto", "6"])
+    commands = (
+        decide,
+        run,
+        *([name, str(listed)] for name in ("check", "recurrence")),
+        ["trace", "1RB1LB_1LA1RZ", "--upto", "6"],
+    )
     lengths = [7, 20, *range(64, len(whole), len(whole) // (4 * step)), len(whole) - 1]
     for length, more in itertools.product(lengths, commands):
         cut.write_bytes(whole[:length])

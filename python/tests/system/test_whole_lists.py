@@ -16,12 +16,15 @@ from typing import Any, Callable
 
 import pytest
 from budlarem.counts import VerdictCounts
+from budlarem.verdicts import size_of
 from support import TOP, restore_signals
+from support.machines import entries_of
 from support.program import as_lines, options_of_pass, run_command
+from support.recurrences import reply_to_pair
 
 sys.path.insert(0, str(TOP))
 
-from tools.whole_lists_page import PAGE, RESULTS, estimate, fill  # noqa: E402
+from tools.whole_lists_page import NO_RECURRENCES, PAGE, QUASIHALTS, RESULTS, estimate, fill  # noqa: E402
 
 SCRIPT = str(TOP / "tools" / "whole_lists")
 WRITTEN: dict[str, Any] = json.loads(RESULTS.read_text(encoding="utf-8"))
@@ -86,6 +89,53 @@ def test_result_is_that_of_the_list_in_one_piece(
     assert {kind: found["counts"][kind] for kind in kinds if kind != "undecided"} == {
         kind: count for kind, count in kinds.items() if kind != "undecided"
     }
+    require_recurrences(found["recurrences"], lines)
+    if size == "4x2":
+        return
+    filled = [machine for line in lines if " halt " in line for machine in completions_of(line.split(" ")[0])]
+    completed = found["recurrences"]["completions"]
+    limits = [*options_of_pass(completed["passes"][-1]), "--no-backward"]
+    lines = run_command([bb, "decide", *limits], as_lines(filled)).output.decode().splitlines()
+    require_recurrences(completed, lines)
+    holdouts = [line.split(" ")[0] for line in lines if " undecided " in line]
+    assert (completed["lines"], completed["undecided"]) == (len(filled), len(holdouts))
+    assert sorted((tmp_path / size / "completions.txt").read_text().splitlines()) == sorted(holdouts)
+
+
+def require_recurrences(found: dict[str, Any], lines: list[str]) -> None:
+    """Requires the counts and greatest numbers to be those of a brute force over each pair of these lines."""
+    replies = [reply_to_pair(line) for line in lines if line.split(" ")[1] in ("cycler", "translated")]
+    quasihalts = [reply for reply in replies if " quasihalts " in reply]
+    kinds = {kind: found["counts"][kind] for kind in ("recurs", "quasihalts")}
+    assert kinds == {"recurs": len(replies), "quasihalts": len(quasihalts)}
+    for place, name in ((2, "start"), (3, "period"), (4, "shift"), (-1, "quasihalts")):
+        most, line = found["greatest"][name]
+        those = quasihalts if place < 0 else replies
+        assert most == max(abs(int(reply.split(" ")[place])) for reply in those)
+        assert line in those and most == abs(int(line.split(" ")[place]))
+
+
+def completions_of(machine: str) -> list[str]:
+    """The machines that fill the only `---` with an entry into a state."""
+    entries = [one for one in entries_of(*size_of(machine)) if one[2] not in "-Z"]
+    return [machine.replace("---", one) for one in entries] if machine.count("---") == 1 else []
+
+
+def test_known_quasihalting_steps_come_out(tmp_path: pathlib.Path) -> None:
+    """The page names them, with the lines of the run; that of another run says that it has none."""
+    found: dict[str, Any] = {**WRITTEN, "sizes": {}}
+    for size in ("2x2", "2x3"):
+        require_end(start(tmp_path, *words_of(size)))
+        found["sizes"][size] = result_in(tmp_path, size)
+    page = fill(PAGE.read_text(encoding="utf-8"), found)
+    assert "| 2x2 | 6 | the same | `1RB0LB_0LB1LA recurs 6 1 -1 5 * quasihalts 6` |\n" in page
+    assert "| 2x3 | 59 | the same | `1RB2LB1LA_2LB2RA0RA recurs 59 1 -1 58 * quasihalts 59` |\n" in page
+    assert "| 2x2, completed | 88 | 82 | 7 | 9 | 9 | 3 | 6 |\n" in page
+    assert "| 2x2 | Cells of a shift | 2 | `0RB---_0RA--- recurs 0 2 2 * *` |\n" in page
+    assert NO_RECURRENCES not in page
+    for one in found["sizes"].values():
+        del one["recurrences"]
+    assert fill(page, found).count(NO_RECURRENCES) == 3
 
 
 def test_halts_behind_which_the_list_would_go_on(tmp_path: pathlib.Path) -> None:
@@ -127,8 +177,8 @@ def test_sample(
 
 def test_interruption(tmp_path: pathlib.Path) -> None:
     """It is ended by a signal after some shards, with all that it runs; the same command resumes it."""
-    words = words_of("4x2")
-    process, shards = start(tmp_path, *words), tmp_path / "4x2" / "walk" / "shards"
+    words = words_of("3x2")
+    process, shards = start(tmp_path, *words), tmp_path / "3x2" / "walk" / "shards"
     until = time.monotonic() + 300
     while len(list(shards.glob("1*"))) < 5 and process.poll() is None and time.monotonic() < until:
         time.sleep(0.01)
@@ -144,7 +194,7 @@ def test_interruption(tmp_path: pathlib.Path) -> None:
     else:
         pytest.fail("something that it ran is left")
     require_end(start(tmp_path, *words))
-    assert result_in(tmp_path, "4x2")["lines"] == MACHINES["4x2"]
+    assert result_in(tmp_path, "3x2")["lines"] == MACHINES["3x2"]
     assert len(finished) >= 5
     assert finished == {name: (shards / name).stat().st_mtime_ns for name in finished}
 
@@ -184,5 +234,10 @@ def test_figures_agree_with_published_ones() -> None:
     assert lines == {size: MACHINES[size] for size in lines} and lines
     steps = {size: one["greatest"]["halt steps"][0] + 1 for size, one in sizes.items() if size in KNOWN_STEPS}
     assert steps == {size: KNOWN_STEPS[size] for size in steps} and steps
+    for size, known in QUASIHALTS.items():
+        more = sizes[size].get("recurrences", {})
+        given = [line for _, line in more.get("completions", more).get("greatest", {}).values()]
+        given += more.get("known", {}).get("lines", [])
+        assert not more or {int(line.split(" ")[-1]) for line in given if "quasi" in line} >= {*known}, size
     if "5x2" in sizes:
         assert sizes["5x2"]["counts"]["halt"] == HALTS + LATER_HALTS

@@ -60,10 +60,10 @@ def test_files_stay_in_the_directory_that_was_opened(place: DirectoryCase) -> No
     place.write("a", b"1")
     assert contents(place.top) == {str(place.top / "moved" / "a"): b"1"}
     with pytest.raises(MovedError):
-        place.directory.require_named()
+        place.directory.require_name()
     shutil.rmtree(place.inside)
     os.rename(place.top / "moved", place.inside)
-    place.directory.require_named()
+    place.directory.require_name()
 
 
 def test_links_and_pipes_are_no_files(place: DirectoryCase) -> None:
@@ -155,10 +155,10 @@ def test_a_file_where_folders_have_no_locks(case: RunCase) -> None:
         case.callback(first.close)
         with pytest.raises(FolderError, match="another run works in"):
             case.run_over()
-        first.require_named()
+        first.require_name()
         (case.out / "lock").unlink()
         with pytest.raises(RunError, match="lock was removed or replaced"):
-            first.require_named()
+            first.require_name()
 
 
 class Crash(BaseException):

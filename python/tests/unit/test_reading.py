@@ -159,14 +159,14 @@ def test_lines_that_are_passed_over_are_counted() -> None:
     readings = budlarem.read(lines)
     assert [reading.number for reading in readings] == [4, 6]
     right = {Skipped.EMPTY: 3, Skipped.COMMENT: 1, Skipped.FENCE: 2, Skipped.RULE: 1, Skipped.HEADER: 1}
-    assert dict(readings.skipped) == right
+    assert dict(readings.skips) == right
 
 
 def test_empty_lines_have_their_numbers() -> None:
     content = b"\n" * 2_000_000 + b"1RA1RA\n\r\n\n1RA1RA"
     readings = budlarem.read(io.BytesIO(content))
     assert [reading.number for reading in readings] == [2_000_001, 2_000_004]
-    assert readings.skipped[Skipped.EMPTY] == 2_000_002
+    assert readings.skips[Skipped.EMPTY] == 2_000_002
 
 
 def test_bytes_that_are_no_utf_8_are_counted() -> None:

@@ -132,7 +132,7 @@ def test_it_names_all_files(case: RunCase) -> None:
 
 def test_its_commands(case: RunCase) -> None:
     case.list.write_bytes(MACHINE + b"0RB1LD_0RC1RD_0RD---_1LA0RB\n")
-    for more, names in (("--check", "run check publish"), ("--keep=halts=9", "run check")):
+    for more, names in (("--check", "run check publish"), ("--keep=halts=9", "run check publish")):
         case.out = case.top / more
         assert case.call(*SMALL, more)[0] == 0
         found = commands_of_page(case)

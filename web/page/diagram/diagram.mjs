@@ -26,6 +26,7 @@ export class Diagram {
     this.picture = /** @type {Picture | null} */ (null);
     this.sheet = /** @type {HTMLCanvasElement | null} */ (null);
     this.marks = /** @type {import("./paint.mjs").Mark[]} */ ([]);
+    this.marked = /** @type {viewport.Pair | null} */ (null);
     /** @type {View | null} null until the first picture */
     this.view = null;
     this.isOpening = true;
@@ -53,7 +54,7 @@ export class Diagram {
   /** Shows a machine from its start, or its marks. */
   open(/** @type {DiagramRun} */ run, /** @type {import("./paint.mjs").Mark[]} */ marks) {
     this.close();
-    Object.assign(this, { run, marks, tapePlace: { step: 0, position: 0 } });
+    Object.assign(this, { run, marks, marked: run.pair, tapePlace: { step: 0, position: 0 } });
     this.fit(true);
   }
 
@@ -81,10 +82,20 @@ export class Diagram {
     }
   }
 
-  /** Shows the whole, or the opening view. */
-  fit(isOpening = false) {
-    Object.assign(this, { view: null, isOpening, isFitted: true });
+  /** Shows the whole, or the opening view: on the marked pair, or on another one. */
+  fit(isOpening = false, pair = this.marked) {
+    const run = this.run && { ...this.run, pair };
+    Object.assign(this, { run, view: null, isOpening, isFitted: true });
     this.requestPicture();
+  }
+
+  /** Adds a mark to those of the open machine. A marked row gets only its label. */
+  addMark(/** @type {import("./paint.mjs").Mark} */ mark) {
+    const marked = new Map(this.marks.flatMap(({ bands }) => bands.map((band) => [band.step, band])));
+    mark.bands.forEach(({ step, label }) => Object.assign(marked.get(step) ?? {}, { label }));
+    const bands = mark.bands.filter(({ step }) => !marked.has(step));
+    this.marks = [...this.marks, { ...mark, bands }];
+    this.scheduleDraw();
   }
 
   setView(/** @type {View} */ view) {
@@ -230,7 +241,7 @@ export class Diagram {
     const painter = new Painter(canvas, scene);
     painter.paintPicture(picture, this.sheet);
     painter.paintHeads(picture);
-    this.marks.forEach((mark) => painter.paintMark(mark));
+    painter.paintMarks(this.marks);
     painter.paintAxes(this.tapePlace.step);
     this.pointed !== null && painter.paintPlace(this.pointed);
     const isNew = canvas.dataset.state !== "requested";

@@ -2,8 +2,9 @@
  * Paints a diagram: picture, heads, axes and marks.
  *
  * @typedef {import("./diagram.mjs").Picture} Picture
- * @typedef {{step: number, from: number | null, to: number | null, label: string}} Band cells of a row
- * @typedef {{bands: Band[], arrow: boolean}} Mark
+ * @typedef {{step: number, from: number | null, to: number | null, label: string, isMinor?: boolean}} Band cells
+ *   of a row
+ * @typedef {{bands: Band[], arrow: boolean, colour?: string}} Mark `colour`: by default that of marks
  * @typedef {{x: number, y: number, wide: number, high: number}} Box
  */
 import { formatNumber } from "../../reader/machine.mjs";
@@ -151,20 +152,36 @@ export class Painter {
     this.outline(box, colourOf("--accent"), 2, -2);
   }
 
-  /** Outlines bands, with labels below each other, and an arrow from the first to the second on request. */
-  paintMark(/** @type {Mark} */ { bands, arrow }) {
-    const boxes = bands.map((band) => this.boxOf(band));
-    let free = this.area.y + LABEL_PIXELS / 2;
-    boxes.forEach((box, k) => {
-      const wanted = Math.max(box.y + box.high / 2, free);
-      const middle = Math.min(wanted, this.bottom - LABEL_PIXELS / 2);
-      free = middle + LABEL_PIXELS + 2;
-      if (box.y + box.high >= this.area.y && box.y <= this.bottom) {
-        this.paintBand(box, bands[k].label, middle);
-      }
+  /**
+   * Outlines bands, with labels below each other, and an arrow from the first to the second on request. A minor
+   * band has its label only beside rows without another one.
+   */
+  paintMarks(/** @type {Mark[]} */ marks) {
+    const bands = marks.flatMap((mark) => {
+      return mark.bands.map((band) => ({ ...band, box: this.boxOf(band), colour: mark.colour ?? "--mark" }));
     });
-    if (arrow && boxes.length === 2) {
-      this.paintArrow(boxes[0], boxes[1]);
+    const isVisible = (/** @type {Box} */ { y, high }) => y + high > this.area.y && y <= this.bottom;
+    const visible = bands.filter(({ box }) => isVisible(box)).sort((one, other) => one.step - other.step);
+    const taken = visible.map(({ box }) => ({ middle: box.y + box.high / 2, high: box.high, of: box }));
+    let free = this.area.y + LABEL_PIXELS / 2;
+    for (const { box, label, colour, isMinor } of visible) {
+      this.paintBand(box, colour);
+      if (!isMinor) {
+        const wanted = Math.max(box.y + box.high / 2, free);
+        const middle = Math.min(wanted, this.bottom - LABEL_PIXELS / 2);
+        free = middle + LABEL_PIXELS + 2;
+        this.paintLabel(box, label, middle, colour);
+        taken.push({ middle, high: LABEL_PIXELS, of: box });
+      }
+    }
+    for (const { box, label, colour } of visible.filter((band) => band.isMinor)) {
+      const middle = box.y + box.high / 2;
+      const isNear = (/** @type {{middle: number, high: number, of: Box}} */ one) =>
+        one.of !== box && Math.abs(one.middle - middle) < (one.high + LABEL_PIXELS) / 2;
+      taken.some(isNear) || this.paintLabel(box, label, middle, colour);
+    }
+    for (const { bands: [one, two], arrow } of marks) {
+      arrow && two && this.paintArrow(this.boxOf(one), this.boxOf(two));
     }
   }
 
@@ -176,17 +193,21 @@ export class Painter {
     return { x, y, wide: Math.max(LEAST_BAND, end - x), high: Math.max(LEAST_BAND, this.view.high) };
   }
 
-  /** Outlines a band, with a halo, and labels it at a height. */
-  paintBand(/** @type {Box} */ box, /** @type {string} */ label, /** @type {number} */ middle) {
-    const { pen, area, right: end } = this;
+  /** Outlines a band, with a halo. */
+  paintBand(/** @type {Box} */ box, /** @type {string} */ colour) {
     this.outline(box, colourOf("--panel"), 1, -2.5);
-    this.outline(box, colourOf("--mark"), 2, -1);
+    this.outline(box, colourOf(colour), 2, -1);
+  }
+
+  /** @param {Box} box a band @param {string} label @param {number} middle its height @param {string} colour */
+  paintLabel(box, label, middle, colour) {
+    const { pen, area, right: end } = this;
     Object.assign(pen, { font: `600 12px ${FONT}`, textAlign: "left", textBaseline: "middle" });
     const text = pen.measureText(label).width;
     const right = Math.min(box.x + box.wide, end);
     const before = Math.max(area.x + 4, Math.min(box.x, end) - text - 14);
     const left = right + text + 16 < end ? right + 6 : before;
-    pen.fillStyle = colourOf("--mark");
+    pen.fillStyle = colourOf(colour);
     pen.fillRect(left, middle - LABEL_PIXELS / 2, text + 8, LABEL_PIXELS);
     pen.fillStyle = colourOf("--panel");
     pen.fillText(label, left + 4, middle + 1);

@@ -14,6 +14,7 @@ import { Tape } from "../tape/tape.mjs";
 import { WorkerClient } from "../worker-client.mjs";
 import { clearEvidence, showEvidence, diagramSteps } from "./evidence.mjs";
 import { showMachineInfo } from "./machine-info.mjs";
+import { clearRecurrence, showRecurrence } from "./recurrence.mjs";
 
 const NARROW = "(max-width: 900px)";
 // The previous machine's pictures are cleared after this long, and the view is closed for a slow list.
@@ -45,6 +46,8 @@ export class MachineView {
      */
     this.replaceRow = () => false;
     this.about = /** @type {About | null} */ (null);
+    /** The exact start of the open machine, and the step a period later. */
+    this.exact = /** @type {import("../diagram/viewport.mjs").Pair | null} */ (null);
     this.blankTimer = 0;
     this.closeTimer = 0;
     new Gestures(this.diagram, (words, byKeys) => {
@@ -57,6 +60,7 @@ export class MachineView {
       "zoom-out": () => diagram.zoom(1 / ZOOM),
       fit: () => diagram.fit(),
       marked: () => diagram.fit(true),
+      exact: () => this.showExact(),
       png: async () => saveFile(/** @type {Blob} */ (await diagram.toPng()), `${this.about?.machine}.png`),
       "copy-png": () => copyPicture(diagram.toPng(), byId("copy-png")),
       "copy-text": () => copyText(this.about?.machine ?? "", byId("copy-text")),
@@ -119,6 +123,7 @@ export class MachineView {
   leave() {
     this.stopRedeciding();
     clearEvidence();
+    clearRecurrence();
     this.diagram.close();
     this.tape.close();
     byId("place-text").textContent = "";
@@ -138,15 +143,28 @@ export class MachineView {
     byId("legend").replaceChildren(...createLegend(machine));
     byId("diagram").setAttribute("aria-label", `Space-time diagram of ${text}. ${verdictText(verdict)}`);
     /** @type {HTMLAnchorElement} */ (byId("elsewhere")).href = ELSEWHERE + text;
-    byId("marked").hidden = verdict.kind !== "cycler" && verdict.kind !== "translated";
+    const isPair = verdict.kind === "cycler" || verdict.kind === "translated";
+    byId("marked").hidden = !isPair;
     const { last, upto } = diagramSteps(verdict, steps);
     const about = { machine: text, cells };
     showEvidence({ ...about, verdict }, (marks, pair, end) => {
       this.diagram.open({ ...about, last, upto, pair, end }, marks);
       this.tape.open({ ...about, last: upto }, pair?.first ?? 0);
+      isPair && answer === "ok" && showRecurrence(`${text} ${verdict.text}`, plan, (mark, exact) => {
+        this.exact = exact;
+        this.diagram.addMark(mark);
+      });
     });
     const isConfirmed = answer === "ok" || verdict.kind === "undecided";
     showMachineInfo({ ...about, steps, verdict, isConfirmed });
+  }
+
+  /** Shows the exact start in the diagram and on the tape. */
+  showExact() {
+    if (this.exact !== null) {
+      this.diagram.fit(true, this.exact);
+      this.tape.goTo(this.exact.first);
+    }
   }
 
   /** Decides the machine again with larger limits, and replaces its row. */

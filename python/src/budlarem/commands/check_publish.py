@@ -1,19 +1,23 @@
-"""The commands `check` and `publish`."""
+"""The commands `check`, `recurrence` and `publish`."""
 
 from __future__ import annotations
 
 import argparse
+import collections
 import contextlib
 import dataclasses
+import functools
 import os
 import signal
 import sys
 from types import FrameType
 
 from .._text import escape_controls
+from ..engine import Call, check_call, recurrence_call
 from ..limits import GREATEST, Limits, limits_of
 from ..publishing import UnconfirmedError, publish
 from ..reading.files import BytesFile
+from ..recurrence import Recurrence
 from ..runner.errors import RunError
 from ..runner.progress import TerminalLine, short_count
 from ..verdicts import Answer
@@ -33,18 +37,46 @@ With --cost nothing is checked. The output is one line: the most steps and nodes
 most expensive line with its steps and nodes. The status is 0."""
 
 
+_RECURRENCE = """Finds the exact repetition behind the pairs of verdict lines of any origin, and writes a reply to
+each line, the bytes of the program recurrence. A pair that the checker confirms gets MACHINE recurs START PERIOD
+SHIFT, and the last use of each state: a step, * for ever, or - never. ` quasihalts N` follows if one is a step; N
+is the greatest plus 1. Other replies: bad, the pair isn't true; over, it exceeds the limits, or its run needs more
+cells; open, no pair; unread, no verdict line. Steps count from 0; START and PERIOD are the least. A SHIFT to the
+left is negative. With --entries, ` entries` and the last use of each entry follow, in the order of the table.
+
+Standard error gets the counts at the end, and the first line with bad, over or unread, with the reason. Status 1 if
+there is one. FILE may be a gzip. The limits are the greatest by default; the tapes of each thread then take
+201 MB."""
+
+
 def do_check(asked: argparse.Namespace) -> int:
     """Writes the checker's answers."""
-    limits, progress, summary = greatest_limits(asked), TerminalLine(), CheckSummary()
+    limits = greatest_limits(asked)
     if asked.cost:
         return _print_cost(asked.file, limits)
+    return _write_replies(asked, check_call(limits), limits, str(Answer.OK))
+
+
+def do_recurrence(asked: argparse.Namespace) -> int:
+    """Writes the exact recurrences behind pairs."""
+    limits = greatest_limits(asked)
+    return _write_replies(asked, recurrence_call(limits, asked.entries), limits, Recurrence.kind)
+
+
+def _write_replies(asked: argparse.Namespace, call: Call, limits: Limits, confirmed: str) -> int:
+    """Writes the replies of a call to the lines of a file, and prints their counts; `confirmed` names those to
+    confirmed lines. Returns the status."""
+    progress, summary = TerminalLine(), CheckSummary()
+    names = {answer: confirmed if answer is Answer.OK else str(answer) for answer in Answer}
     with contextlib.closing(BytesFile(source_of(asked.file))) as file:
-        for answers in answer_blocks(file, limits, asked.threads, summary):
-            progress.show(lambda: counts_text(summary.counts, Answer))
-            sys.stdout.write(answers.decode())
+        for replies in answer_blocks(file, call, limits, asked.threads, summary):
+            named = collections.Counter({names[answer]: count for answer, count in summary.counts.items()})
+            progress.show(functools.partial(counts_text, named, [*names.values()]))
+            sys.stdout.write(replies.decode())
     progress.clear()
     sys.stdout.flush()
-    counts = ("%s %d" % (answer, summary.counts[answer]) for answer in Answer)
+    counts = ["%s %d" % (names[answer], summary.counts[answer]) for answer in Answer]
+    counts += [] if confirmed == str(Answer.OK) else ["quasihalts %d" % summary.quasihalts]
     print(escape_controls("%s: %s" % (file.name, ", ".join(counts))), file=sys.stderr)
     if summary.first is None:
         return 0
@@ -60,14 +92,19 @@ def _print_cost(path: str | None, limits: Limits) -> int:
 
 
 def add_check(commands: Subcommands) -> None:
-    """Adds the command to a parser."""
+    """Adds `check` and `recurrence` to a parser."""
     columns = [("answer", "ok, bad, over, open or unread")]
     check = add_command(commands, "check", do_check, "check verdict lines", _CHECK, columns)
-    add_file(check)
-    add_greatest_limits(check)
-    add_number(check, "--threads", "cores used", 1)
+    columns = [("reply", "MACHINE recurs START PERIOD SHIFT USE ..; bad, over, open or unread")]
+    help = "the exact repetition behind verdict lines"
+    recurrence = add_command(commands, "recurrence", do_recurrence, help, _RECURRENCE, columns)
+    for parser, names in ((check, [*Limits.RANGES]), (recurrence, ["steps", "cells"])):
+        add_file(parser)
+        add_greatest_limits(parser, names)
+        add_number(parser, "--threads", "cores used", 1)
     help = "print the most that the check can cost, and check nothing"
     check.add_argument("--cost", action="store_true", help=help)
+    recurrence.add_argument("--entries", action="store_true", help="add the last use of each entry")
 
 
 _PUBLISH = """Writes one archive of a decided list that others can check: the list, the verdicts, limits and

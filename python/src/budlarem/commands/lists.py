@@ -15,6 +15,7 @@ from ..comparison import Agreement, compare
 from ..judging import JudgedList, Judgement, judge, translation_in
 from ..limits import GREATEST, Limits
 from ..reading.forms import RereadableList
+from ..recurrence_claims import Exactness
 from ..reports import report
 from ..runner.progress import TerminalLine, short_count
 from ..verdicts import Verdict
@@ -64,7 +65,7 @@ class ClaimReader(ListReader):
                 why = claim.trouble or "no verdict of %s" % claim.reading.machine
                 self.refuse(claim.reading.number, "refused: %s" % why)
         theirs = JudgedList(source, claims, translation)
-        self.print_skipped(theirs.skipped, theirs.undecoded)
+        self.print_skips(theirs.skips, theirs.undecoded)
 
 
 def do_compare(asked: argparse.Namespace) -> int:
@@ -139,6 +140,11 @@ Numbers may have groups of three digits, as 47,176,870.
 If each halt of theirs at a --- is true of the machine with 1RZ there, and there is one, they are taken to count
 a step for ---, and standard error says so. --undefined-steps sets it beforehand.
 
+In a table, columns of the start and the period of a repetition are judged by the exact numbers (`budlarem help
+recurrence`): exact; true, but later or a multiple; or false, with the right numbers. If our verdict has no pair,
+theirs is checked as one. If all starts, two or more, are later than the exact ones by one number, that offset is
+printed and taken off. --start-offset sets it beforehand.
+
 With --list, the refused lines of LIST are printed as by `budlarem read`, and lines follow at the end: no-line,
 for a machine of LIST without a line; not-listed, for a machine of THEIRS that isn't in LIST. Machines are the
 same there up to the names of states and symbols, and left and right."""
@@ -156,6 +162,7 @@ def do_judge(asked: argparse.Namespace) -> int:
         limits=limits_of(asked),
         checker=dataclasses.replace(GREATEST, steps=asked.check_steps),
         undefined_steps=True if asked.undefined_steps else None,
+        start_offset=asked.start_offset,
         threads=asked.threads,
         progress=lambda what, lines: progress.show(lambda: "%s lines %s" % (short_count(lines), what)),
         form=reader.form,
@@ -166,8 +173,10 @@ def do_judge(asked: argparse.Namespace) -> int:
     reader.print_form(theirs.form)
     reader.print_words(theirs.form, theirs.translation, asked.words)
     counts: collections.Counter[Judgement] = collections.Counter()
+    numbers: collections.Counter[Exactness | None] = collections.Counter()
     for judged in judging:
         counts[judged.judgement] += 1
+        numbers[judged.exactness] += 1
         reader.print_rewritten(judged.claim.reading)
         sys.stdout.write("%s\n" % judged)
         progress.show(lambda: counts_text(counts, Judgement))
@@ -179,9 +188,13 @@ def do_judge(asked: argparse.Namespace) -> int:
         parts = ", ".join("%s %d" % (word, len(numbered)) for word, numbered in others.items())
         print("%s: %s" % (asked.list, parts), file=sys.stderr)
     sys.stdout.flush()
-    reader.print_skipped(theirs.skipped, theirs.undecoded)
+    reader.print_skips(theirs.skips, theirs.undecoded)
     if judging.undefined_steps:
         print("%s: a step is counted for each ---" % reader.name, file=sys.stderr)
+    if judging.start_offset:
+        print("%s: an offset of %d in each start" % (reader.name, judging.start_offset), file=sys.stderr)
+    if parts := ", ".join("%s %d" % (kind, numbers[kind]) for kind in Exactness if numbers[kind]):
+        print("%s: starts and periods: %s" % (reader.name, parts), file=sys.stderr)
     parts = ", ".join("%s %d" % (kind, counts[kind]) for kind in Judgement)
     print("%s: %s" % (reader.name, parts), file=sys.stderr)
     return 1 if counts[Judgement.CONTRADICTED] else 0
@@ -201,6 +214,8 @@ def add_judge(commands: Subcommands) -> None:
     judging.add_argument("--list", metavar="LIST", help="the machines that THEIRS should be of")
     add_claims_form(judging)
     judging.add_argument("--undefined-steps", action="store_true", help="they count a step for ---")
+    help = "how much later than the exact start they give each start"
+    add_number(judging, "--start-offset", help)
     add_limits(judging, Limits.RANGES)
     add_number(judging, "--check-steps", "the most steps of a claim", GREATEST.steps)
     add_number(judging, "--threads", "cores used", 1)

@@ -99,13 +99,14 @@ def _end_at_signals(folder: str) -> None:
 
 def _plan_of(asked: argparse.Namespace) -> Plan | None:
     """The plan of the options; None without --states. Raises UsageError, LimitsError."""
-    names = (*_SIZES, *Limits.RANGES)
+    names = (*_SIZES, *Limits.RANGES, "recurrence")
     given = {name: getattr(asked, name) for name in names if getattr(asked, name) is not None}
     if asked.states is None:
         for name in [*given, *(["plan"] if asked.plan else [])]:
             sentence = "--%s goes with --states, which makes a plan; without it, %s has one already"
             raise UsageError(sentence % (name.replace("_", "-"), asked.folder))
         return None
+    given.pop("recurrence", None)
     sizes = {name: given.pop(name, default) for name, (default, *_) in _SIZES.items()}
     for name, number, (least, most) in (
         ("states", asked.states, (1, 25)),
@@ -115,7 +116,7 @@ def _plan_of(asked: argparse.Namespace) -> Plan | None:
         if not least <= number <= most:
             words = (name.replace("_", "-"), number, least, "{:,}".format(most))
             raise UsageError("--%s is %d, but must be %d to %s" % words)
-    return Plan(asked.states, **sizes, limits=Limits(**given))
+    return Plan(asked.states, **sizes, limits=Limits(**given), recurrence=bool(asked.recurrence))
 
 
 def _require_one_use(asked: argparse.Namespace) -> None:
@@ -175,6 +176,8 @@ def add_shards(commands: Subcommands) -> None:
         add_number(shards, "--" + name.replace("_", "-"), "%s (default: %d)" % (what, default))
     for name, default in dataclasses.asdict(Limits()).items():
         add_number(shards, "--" + name, "{:,} to {:,} (default: {:,})".format(*Limits.RANGES[name], default))
+    help = "find and count the exact recurrence behind each pair too"
+    shards.add_argument("--recurrence", action="store_true", default=None, help=help)
     add_number(shards, "--threads", "cores used (default: all)")
     shards.add_argument("--scheduler", metavar="ADDRESS", help="of dask, whose workers share FOLDER")
     shards.add_argument("--plan", action="store_true", help="make the plan, and run nothing")

@@ -37,6 +37,8 @@ _ROLES = {
     "verdict": ("--verdict", "the column of verdicts, or of words such as halt and nonhalt"),
     "steps": ("--steps-column", "the column of the steps of a halt"),
     "score": ("--score", "the column of the scores"),
+    "start": ("--start", "the column of the first steps of repetitions"),
+    "period": ("--period", "the column of their periods"),
 }
 
 
@@ -92,7 +94,7 @@ class ListReader:
         if given is not None and form.layout is None:
             self.print_line("--words is for tables; nothing is translated in the form %s" % form.form)
 
-    def print_skipped(self, skipped: Mapping[Skipped, int], undecoded: int) -> None:
+    def print_skips(self, skipped: Mapping[Skipped, int], undecoded: int) -> None:
         """Prints the number of skipped lines, and of lines that aren't UTF-8."""
         counts = ", ".join("%s %d" % (kind, skipped[kind]) for kind in Skipped if skipped.get(kind))
         if counts:
@@ -134,7 +136,7 @@ class _PrintedReadings(Readings):
                 self._reader.taken += 1
                 self._reader.print_rewritten(reading)
             yield reading
-        self._reader.print_skipped(self.skipped, self.undecoded)
+        self._reader.print_skips(self.skips, self.undecoded)
 
 
 def add_form(parser: argparse.ArgumentParser, roles: Iterable[str] = ("machine",)) -> None:
@@ -178,15 +180,16 @@ def add_limits(parser: argparse.ArgumentParser, names: Iterable[str]) -> None:
         add_number(parser, "--" + name, "{:,} to {:,}".format(*Limits.RANGES[name]), getattr(Limits(), name))
 
 
-def add_greatest_limits(parser: argparse.ArgumentParser) -> None:
+def add_greatest_limits(parser: argparse.ArgumentParser, names: Iterable[str]) -> None:
     """Adds the options of limits whose defaults are the greatest."""
-    for name, bounds in Limits.RANGES.items():
-        add_number(parser, "--" + name, "{:,} to {:,} (default: the greatest)".format(*bounds))
+    for name in names:
+        add_number(parser, "--" + name, "{:,} to {:,} (default: the greatest)".format(*Limits.RANGES[name]))
 
 
 def greatest_limits(asked: argparse.Namespace) -> Limits:
     """The given limits; the others are the greatest that go with the cells. Raises LimitsError."""
-    given = {name: getattr(asked, name) for name in Limits.RANGES if getattr(asked, name) is not None}
+    named = {name: getattr(asked, name, None) for name in Limits.RANGES}
+    given = {name: number for name, number in named.items() if number is not None}
     highest = dataclasses.asdict(GREATEST)
     cells = given.get("cells", highest["cells"])
     highest["depth"] = max(min(highest["depth"], (cells + 1) // 2), 0)

@@ -29,7 +29,7 @@ def read(lines: Source, form: Form | None = None, columns: Columns = Columns()) 
     Without `form` the first hundred lines decide it: `machines` if each is a machine and nothing else,
     `verdicts` if each is a verdict line, `table` if the first one is a header that names a column of machines,
     else `text`. With `columns` it is a table. Later lines are read when needed. The result has the list's
-    `form`, and counts skipped lines in `skipped`.
+    `form`, and counts skipped lines in `skips`.
 
     Raises OSError if a path can't be opened or read, or a gzip is cut. Raises EncodingError for UTF-16 and
     formats that are no text. Raises TypeError if `lines` or an item has the wrong type. Raises ValueError for

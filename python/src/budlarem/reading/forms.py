@@ -100,7 +100,7 @@ def reading_of(number: int, line: str, form: ListForm) -> Reading | None:
 
 
 class Readings(Iterator[Reading]):
-    """The readings of a list's lines. `form` is the list's; `skipped` counts so far the skipped lines, and
+    """The readings of a list's lines. `form` is the list's; `skips` counts so far the skipped lines, and
     `undecoded` those that aren't UTF-8."""
 
     def __init__(self, lines: Source, form: Form | None = None, columns: Columns = Columns()) -> None:
@@ -108,7 +108,7 @@ class Readings(Iterator[Reading]):
         self._given = form, columns
         self._form: ListForm | None = None
         self._ahead: list[Numbered] = []
-        self._skipped: collections.Counter[Skipped] = collections.Counter()
+        self._skips: collections.Counter[Skipped] = collections.Counter()
         self._readings = self._read()
 
     @property
@@ -119,9 +119,9 @@ class Readings(Iterator[Reading]):
         return self._form
 
     @property
-    def skipped(self) -> collections.Counter[Skipped]:
+    def skips(self) -> collections.Counter[Skipped]:
         """The number of skipped lines of each kind so far."""
-        return self._skipped + collections.Counter({Skipped.EMPTY: self._source.empty})
+        return self._skips + collections.Counter({Skipped.EMPTY: self._source.empty})
 
     @property
     def undecoded(self) -> int:
@@ -140,7 +140,7 @@ class Readings(Iterator[Reading]):
             if (reading := reading_of(number, line, form)) is not None:
                 yield reading
             else:
-                self._skipped[skip_kind(line)] += 1
+                self._skips[skip_kind(line)] += 1
 
 
 def skip_kind(line: str) -> Skipped:

@@ -22,6 +22,8 @@ _NAMES: dict[str, frozenset[str]] = {
     "verdict": frozenset("verdict verdicts status result decision halts".split()),
     "steps": frozenset("steps step stepcount numberofsteps".split()),
     "score": frozenset("score ones sigma".split()),
+    "start": frozenset("start preperiod".split()),
+    "period": frozenset({"period"}),
 }
 _SEPARATOR_NAMES = {"\t": "tab", ",": "comma", ";": "semicolon", "|": "|", " ": "space", "": "none"}
 
@@ -34,6 +36,8 @@ class Columns:
     verdict: str | None = None
     steps: str | None = None
     score: str | None = None
+    start: str | None = None
+    period: str | None = None
 
 
 @dataclasses.dataclass(frozen=True)

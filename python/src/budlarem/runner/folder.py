@@ -225,13 +225,16 @@ class RunConfig:
         )
 
     def _check_commands(self, folder: str, listed: Sequence[str]) -> str:
-        """The commands that check the verdicts again, and publish them if all are kept."""
-        check = "    " + shlex.join(["budlarem", "check", os.path.join(folder, VERDICTS)])
-        if self.keep.only_holdouts:
-            return "To check the verdicts that are kept again:\n\n%s" % check
+        """The commands that check the verdicts again, and publish them."""
+        check = shlex.join(["budlarem", "check", os.path.join(folder, VERDICTS)])
         archive = as_argument(os.path.basename(os.path.abspath(folder)) + ".tar")
+        what = "the verdicts again, and to publish them"
+        if self.keep.only_holdouts:
+            what = "the kept verdicts again, and to publish them with digests of the\nrest, if the run had --check"
+            # Without all verdicts the list is needed.
+            listed = listed or ["--list", "LIST"]
         publish = shlex.join(["budlarem", "publish", archive, "--verdicts", folder, *listed])
-        return "To check the verdicts again, and to publish them:\n\n%s\n    %s" % (check, publish)
+        return "To check %s:\n\n    %s\n    %s" % (what, check, publish)
 
     @classmethod
     def read(cls, text: str) -> RunConfig | None:
@@ -306,9 +309,9 @@ class Folder:
         except BlockingIOError:
             raise FolderError("another run works in %s; wait for its end, or end it" % self.path) from None
 
-    def require_named(self) -> None:
+    def require_name(self) -> None:
         """Raises MovedError if its path leads elsewhere, RunError if its lock is lost."""
-        self._top.require_named()
+        self._top.require_name()
         if self._locked and self._top.id_at(LOCK) != id_of(os.fstat(self._locked[0])):
             raise RunError("%s was removed or replaced while the run worked" % self._top.at(LOCK))
 
@@ -487,4 +490,4 @@ class FinishedRun:
                 raise self._mismatch_error(SUMMARY, VERDICTS, why)
         if self.checksum not in (None, checksum):
             raise self._mismatch_error(SUMMARY, VERDICTS, "the bytes differ")
-        self._top.require_named()
+        self._top.require_name()

@@ -222,10 +222,10 @@ class PassFolder:
         os.close(self._file)
         self._inside.close()
 
-    def require_named(self) -> None:
+    def require_name(self) -> None:
         """Raises MovedError if the run's folder or this one was moved, removed or replaced."""
-        self._top.require_named()
-        self._inside.require_named()
+        self._top.require_name()
+        self._inside.require_name()
 
     def reserve(self, size: int) -> int:
         """Reserves a place for some bytes behind all others."""

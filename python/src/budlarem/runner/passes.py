@@ -412,7 +412,7 @@ class PassRun:
                 if chunk.record is not None:
                     self._folder.journal.write(chunk.index, chunk.record)
             self._folder.journal.sync()
-            self._folder.require_named()
+            self._folder.require_name()
         progress = self._options.progress
         for chunk in chunks:
             if chunk.record is not None:
@@ -454,7 +454,7 @@ def run(folder: Folder, source: ListFile, passes: Sequence[Limits], options: Run
         return _run_passes(folder, source, passes, options)
     except OSError:
         # Nothing can be made in a folder that was removed.
-        folder.require_named()
+        folder.require_name()
         raise
 
 
@@ -466,7 +466,7 @@ def _run_passes(folder: Folder, source: ListFile, passes: Sequence[Limits], opti
     folders: list[PassFolder] = []
     with contextlib.ExitStack() as stack:
         for number, limits in enumerate(passes, 1):
-            folder.require_named()
+            folder.require_name()
             found = folder.open_pass(passes[:number], options.keep, options.identity)
             stack.callback(found.close)
             lines = StreamLines(holdouts_of(folders[-1])) if results else source.lines()
@@ -479,7 +479,7 @@ def _run_passes(folder: Folder, source: ListFile, passes: Sequence[Limits], opti
             if config.list_lines is None:
                 config.list_lines = results[0].lines
                 folder.write(RUN, config.text())
-        folder.require_named()
+        folder.require_name()
         checksum = results[0].checksum
         if len(folders) == 1:
             folder.write_verdicts(folders[0])
@@ -488,7 +488,7 @@ def _run_passes(folder: Folder, source: ListFile, passes: Sequence[Limits], opti
     outcome = Outcome.of(results)
     fields = summary_of(source.name, results, outcome, options, started, checksum)
     folder.write(SUMMARY, json.dumps(fields, indent=2) + "\n")
-    folder.require_named()
+    folder.require_name()
     options.progress.clear()
     return outcome
 

@@ -7,7 +7,7 @@ use Rattle.bb_command.proofs.command.parse_numbers.Goals as goal
 
 pub returns-in-Err-clause-stop : goal.returns-in-Err-clause-stop
 returns-in-Err-clause-stop c = no_numbers_by_kind _ c.in_ok-program.ensures _ c.in-Err.error
-    c.in-Err.ensures.kinds _ c.in_ok-stop_of-in-Err.ensures
+    c.in-Err.ensures.kinds _ c.in_ok-stop_of_words-in-Err.ensures
 
 pub returns-then-eq-clause-given : goal.returns-then-eq-clause-given
 returns-then-eq-clause-given c =

@@ -9,7 +9,7 @@ use Rattle.bb_command.proofs.command.read_words.Goals as goal
 
 pub returns-in-Err-clause-stop : goal.returns-in-Err-clause-stop
 returns-in-Err-clause-stop c = stops_by_kind _ c.in_ok-program.ensures _ c.in-Err.error
-    c.in-Err.ensures.kinds _ c.in_ok-stop_of-in-Err.ensures
+    c.in-Err.ensures.kinds _ c.in_ok-stop_of_words-in-Err.ensures
 
 as_trace : (c : Joined-matches)
     → Gives (map (λ word. word.now) c.args.words.now) (codes "trace")

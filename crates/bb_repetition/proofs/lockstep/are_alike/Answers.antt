@@ -1,5 +1,5 @@
 use Rattle.std.proofs.Common.{arith}
-use Rattle.bb_repetition.proofs.GoingOn.{at_own, one_on, transition_of_runner}
+use Rattle.bb_repetition.proofs.GoingOn.{at_own, inside_of, one_on, transition_of_runner}
 use Rattle.bb_repetition.proofs.SeenStarts.{same_on, differs_at}
 use Rattle.bb_repetition.proofs.lockstep.are_alike.Goals as goal
 
@@ -98,3 +98,11 @@ loop-runner-preserved g c =
           (transition_of_runner _ _ _ _ _ (one_on _ _ _ _ _ _ apart here.ahead))
           (c.has_same_transition.ensures.0 (let test = c.if-not-has_same_transition.false in cc)) here.same);
     }
+
+pub has_same_transition-requires-clause-inside : goal.has_same_transition-requires-clause-inside
+has_same_transition-requires-clause-inside g c =
+    inside_of _ _ _ _ _ _ c.requires.goes_on c.loop-runner.invariant.at
+
+pub has_same_transition-requires-clause-other_inside : goal.has_same_transition-requires-clause-other_inside
+has_same_transition-requires-clause-other_inside g c =
+    inside_of _ _ _ _ _ _ c.requires.goes_on c.loop-runner.invariant.ahead

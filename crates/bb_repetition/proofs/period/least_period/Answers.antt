@@ -10,6 +10,7 @@ loop-rest-init g c = record {
   at = c.requires.at;
   above = omega arith;
   tried = tried_at_first _ _ _ c.requires.pair;
+  no_less = omega arith;
   counted = counts_at_first _ _;
 }
 
@@ -44,6 +45,7 @@ loop-rest-preserved-then-rest-divisor-eq0 g c =
       above = omega (arith, above);
       tried = tried_more _ _ _ _ _ _ here.tried here.above c.if-rest-divisor-eq0.true _ _
           c.in_ok-period.ensures.reduced c.without-rest.ensures;
+      no_less = omega (arith, here.no_less, c.in_ok-period.ensures.no_less);
       counted = counts_more _ _ _ _ _ _ _ here.counted here.tried.within c.in_ok-period.ensures.few
           (c.without-rest.ensures.half c.if-rest-divisor-eq0.true);
     }

@@ -1,4 +1,4 @@
-use Rattle.std.proofs.Common.{◌≡◌, ◌<◌, ◌-◌, ◌*◌}
+use Rattle.std.proofs.Common.{◌≡◌, ◌<◌, ◌≤◌, ◌-◌, ◌*◌}
 use Rattle.bb_repetition.specs.Lockstep.{IsAt}
 use Rattle.bb_repetition.specs.Tapes.{TapesHaveCells}
 use Rattle.bb_repetition.proofs.Reductions.{CountsSoFar, IsTried}
@@ -12,6 +12,7 @@ invariant-loop-rest g l = record {
   at : IsAt l.machine l.limits l.first l.saved (g.T.Tape.view l.tapes.pair.saved);
   above : 1 < l.divisor;
   tried : IsTried l.machine l.first (l.second - l.first) l.period l.rest l.divisor;
+  no_less : l.fn.meter.steps ≤ l.meter.steps;
   counted : CountsSoFar (l.second - l.first) l.rest l.fn.meter.steps l.meter.steps;
 }
 

@@ -12,6 +12,7 @@ loop-period-init g c = record {
   less = omega arith;
   divides = multiple_of_itself _;
   repeats = c.requires.repeats;
+  no_less = omega arith;
   counted = omega arith;
 }
 
@@ -40,6 +41,7 @@ loop-period-preserved g c =
       less = omega (arith, half, less);
       divides = divides_further _ _ _ c.loop-period-test.true here.divides;
       repeats = rw tells at c.in_ok-repeats_with.ensures.tells;
+      no_less = omega (arith, here.no_less, c.in_ok-repeats_with.ensures.no_less);
       counted = omega (arith, half, counted, few);
     }
 

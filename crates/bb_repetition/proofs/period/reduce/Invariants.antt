@@ -14,6 +14,7 @@ invariant-loop-period g l = record {
   less : l.period ≤ l.known;
   divides : IsMultipleOf l.period l.known;
   repeats : Repeats l.machine l.first l.period;
+  no_less : l.fn.meter.steps ≤ l.meter.steps;
   counted : l.meter.steps + 4 * l.period ≤ l.fn.meter.steps + 4 * l.known;
 }
 

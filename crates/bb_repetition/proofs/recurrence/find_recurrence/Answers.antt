@@ -30,3 +30,6 @@ returns-clause-shift g c =
     let low = c.in_ok-shift.ensures.near.low in
     let high = c.in_ok-shift.ensures.near.high in
     omega (arith, ints, is, low, high)
+
+pub find_start-requires-clause-seen : goal.find_start-requires-clause-seen
+find_start-requires-clause-seen g c = c.reset.ensures

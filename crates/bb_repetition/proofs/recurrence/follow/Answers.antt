@@ -1,7 +1,7 @@
-use Rattle.std.proofs.Common.{◌≡◌, sym, subst, arith}
+use Rattle.std.proofs.Common.{◌≡◌, ◌+◌, ◌-◌, sym, subst, arith}
 use Rattle.bb_sim.specs.Runner.{steps_of}
 use Rattle.bb_repetition.specs.LastUses.{AreSeen}
-use Rattle.bb_repetition.proofs.GoingOn.{at_own, one_on, transition_of_runner}
+use Rattle.bb_repetition.proofs.GoingOn.{at_own, inside_of, one_on, transition_of_runner}
 use Rattle.bb_repetition.proofs.SeenStarts.{seen_on}
 use Rattle.bb_repetition.proofs.recurrence.follow.Goals as goal
 
@@ -43,3 +43,21 @@ returns-clause-uses g c =
     let end : steps_of c.loop-runner.ahead ≡ c.args.second =
     omega (arith, apart, here.within, c.loop-runner-test.false, c.steps.ensures, c.requires.order) in
     subst (λ k. AreSeen c.args.machine.now k c.loop-runner.uses) end here.seen_uses
+
+pub returns-clause-ahead : goal.returns-clause-ahead
+returns-clause-ahead g c =
+    let here = c.loop-runner.invariant in
+    let end : steps_of c.loop-runner.runner + (c.args.second - c.args.first) ≡ c.args.second =
+    omega (arith, here.within, c.loop-runner-test.false, c.steps.ensures, c.requires.order) in
+    one_on _ _ _ _ _ _ end here.ahead
+
+pub has_same_transition-same-requires-clause-inside : goal.has_same_transition-same-requires-clause-inside
+has_same_transition-same-requires-clause-inside g c =
+    inside_of _ _ _ _ _ _ c.requires.goes_on c.loop-runner.invariant.at
+
+pub has_same_transition-same-requires-clause-other_inside : goal.has_same_transition-same-requires-clause-other_inside
+has_same_transition-same-requires-clause-other_inside g c =
+    inside_of _ _ _ _ _ _ c.requires.goes_on c.loop-runner.invariant.ahead
+
+pub record-requires-clause-inside : goal.record-requires-clause-inside
+record-requires-clause-inside g c = inside_of _ _ _ _ _ _ c.requires.goes_on c.loop-runner.invariant.ahead

@@ -1,35 +1,36 @@
 use Rattle.std.proofs.Common.{◌∙◌, ap, codes, inl, inr, subst}
 use Rattle.bb_machine.specs.Limits.{IsAccepted}
 use Rattle.bb_command.specs.Command.{is_given, list_bounds}
+use Rattle.bb_command.proofs.Facts.{no_fault, rows_given, words_stop}
 use Rattle.cover.specs.CommandLine.{form_by}
-use Rattle.cover.proofs.CommandLines.{rows_given, stopped, taken}
+use Rattle.cover.proofs.CommandLines.{simple, simple_and_free}
 use Rattle.cover.proofs.command.ask.Goals as goal
 
 pub returns-in-Err-clause-stop : goal.returns-in-Err-clause-stop
-returns-in-Err-clause-stop c = inl (stopped _ c.in_ok-program.ensures _ c.in-Err.error
+returns-in-Err-clause-stop c = inl (words_stop _ simple simple_and_free _ c.in_ok-program.ensures _ c.in-Err.error
     c.in-Err.ensures.kinds _ c.in_ok-stop_of-in-Err.ensures)
 
 pub returns-in-Err-limits_of-clause-stop : goal.returns-in-Err-limits_of-clause-stop
 returns-in-Err-limits_of-clause-stop c =
-    let rows = rows_given _ c.in_ok-program.ensures _ _ c.in-Ok.ensures.matches in
+    let rows = rows_given _ simple simple_and_free _ c.in_ok-program.ensures _ _ c.in-Ok.ensures.matches in
     inr (
-      taken _ c.in_ok-program.ensures _ c.in-Ok.ensures.kinds,
+      no_fault _ simple simple_and_free _ c.in_ok-program.ensures _ c.in-Ok.ensures.kinds,
       rw rows at c.in-Err-limits_of.ensures.stop,
     )
 
 pub returns-in-Err-below_of-clause-stop : goal.returns-in-Err-below_of-clause-stop
 returns-in-Err-below_of-clause-stop c =
-    let rows = rows_given _ c.in_ok-program.ensures _ _ c.in-Ok.ensures.matches in (
-      taken _ c.in_ok-program.ensures _ c.in-Ok.ensures.kinds,
+    let rows = rows_given _ simple simple_and_free _ c.in_ok-program.ensures _ _ c.in-Ok.ensures.matches in (
+      no_fault _ simple simple_and_free _ c.in_ok-program.ensures _ c.in-Ok.ensures.kinds,
       subst IsAccepted (c.in-Ok-limits_of.ensures.ok ∙ ap list_bounds rows) c.show_accepted.ensures.accepted,
       rw rows at c.in-Err-below_of.ensures.refused,
     )
 
 pub returns-clause-asked : goal.returns-clause-asked
 returns-clause-asked c =
-    let rows = rows_given _ c.in_ok-program.ensures _ _ c.in-Ok.ensures.matches in
+    let rows = rows_given _ simple simple_and_free _ c.in_ok-program.ensures _ _ c.in-Ok.ensures.matches in
     record {
-      no_fault = taken _ c.in_ok-program.ensures _ c.in-Ok.ensures.kinds;
+      no_fault = no_fault _ simple simple_and_free _ c.in_ok-program.ensures _ c.in-Ok.ensures.kinds;
       limits = c.in-Ok-limits_of.ensures.ok ∙ ap list_bounds rows;
       below = rw rows at c.in-Ok-below_of.ensures.ok;
       form = c.form_of-form.ensures ∙ ap (λ found. form_by (is_given (codes "skeleton") found)) rows;

@@ -1,5 +1,5 @@
 use Rattle.std.proofs.lemmas.Result.{IfOk-weaker}
-use Rattle.cover.proofs.CommandLines.{with_arg}
+use Rattle.bb_command.proofs.Facts.{with_arg}
 use Rattle.cover.proofs.command.program.Goals as goal
 
 pub returns : goal.returns
@@ -9,6 +9,6 @@ returns c =
     let three = with_arg c.in_ok-arg-3.ensures two c.limit-3.ensures.rule c.limit-3.ensures.local in
     let four = with_arg c.in_ok-arg-4.ensures three c.limit-4.ensures.rule c.limit-4.ensures.local in
     let five = with_arg c.in_ok-arg-5.ensures four c.below.ensures.rule c.below.ensures.local in
-    let six = with_arg c.in_ok-arg-6.ensures five c.skeleton.ensures.rule c.skeleton.ensures.local in
+    let six = with_arg c.in_ok-arg-6.ensures five c.switch.ensures.rule c.switch.ensures.local in
     IfOk-weaker c.arg-7.result _ _
-    (λ command adds. with_arg adds six c.file.ensures.rule c.file.ensures.local) c.arg-7.ensures
+    (λ command adds. with_arg adds six c.positional.ensures.rule c.positional.ensures.local) c.arg-7.ensures

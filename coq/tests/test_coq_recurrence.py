@@ -1,0 +1,425 @@
+"""The checker of exact repetition that Coq extracts confirms true numbers, and refuses each wrong one."""
+
+from __future__ import annotations
+
+import itertools
+import pathlib
+import random
+from typing import Callable, Iterator, NamedTuple, Sequence
+
+import pytest
+from support.machines import DIGITS, LETTERS
+from support.program import as_lines, options, replies, run_command
+from support.second_checker import Edit, build_wrong
+from support.simulation import simulate
+
+SIZES = ((2, 2), (3, 2), (2, 3))
+LIMITS = (3_000, 1_024, 30, 100)
+FOUR = (1_000, 1_024, 40, 500)
+FIVE = (20_000, 4_096, 40, 500)
+WORDS = ["bad", "over", "open", "unread"]
+WRONG = [
+    Edit("compares no symbols", "Recurrence.v", "then Nat.eqb (under z) (under y)", "then true"),
+    Edit("takes a repeat for a cycle", "Recurrence.v", "Some (check_cycler M s (s + p))", "Some true"),
+    Edit(
+        "takes any shift",
+        "Recurrence.v",
+        "(Z.of_N (add_nat (back y) 0) + d)",
+        "(Z.of_N (add_nat (beyond y) 0))",
+    ),
+    Edit(
+        "takes a later start",
+        "Recurrence.v",
+        "Some (z, y) => negb (alike z y) | None => false end.",
+        "Some _ => true | None => false end.",
+    ),
+    Edit("tests no small divisor", "Recurrence.v", "if test_divisor M z p e then", "if true then"),
+    Edit(
+        "tests no large divisor",
+        "Recurrence.v",
+        "if test_divisor M z p (p / e) then More (N.succ e) else Stop e",
+        "More (N.succ e)",
+    ),
+    Edit(
+        "notes the step after a use",
+        "Recurrence.v",
+        "then Some n else snd uo",
+        "then Some (N.succ n) else snd uo",
+    ),
+    Edit(
+        "takes the first use of the period for the last",
+        "Recurrence.v",
+        "if N.ltb n s then",
+        "if N.leb n s then",
+    ),
+    Edit("counts no step to the quasihalt", "Recurrence.v", "None => Some (n + 1)%N", "None => Some n"),
+    Edit("looks at no entry", "Recurrence.v", "then Nat.eqb (under z) r else false", "then true else false"),
+    Edit(
+        "prints nothing again", "Recurrence.v", "if String.eqb s (recurrence_line M x) then", "if true then"
+    ),
+]
+
+
+class Step(NamedTuple):
+    """A step of a run: its state and symbol, and the head's position before it."""
+
+    state: int
+    symbol: int
+    head: int
+
+    def uses(self, other: Step) -> bool:
+        """Whether both steps use the same transition."""
+        return self[:2] == other[:2]
+
+
+class Numbers(NamedTuple):
+    """The numbers of a `recurs` line: the last uses are those of the states, then those of the entries."""
+
+    start: int
+    period: int
+    shift: int
+    states: list[str]
+    quasihalt: int | None
+    entries: list[str]
+
+    def line_of(self, machine: str, with_entries: bool) -> str:
+        """The line that has these numbers."""
+        numbers = "%s recurs %d %d %d " % (machine, self.start, self.period, self.shift)
+        line = numbers + " ".join(self.states)
+        if self.quasihalt is not None:
+            line += " quasihalts %d" % self.quasihalt
+        return line + (" entries " + " ".join(self.entries) if with_entries else "")
+
+
+def steps_of(machine: str, count: int) -> list[Step]:
+    """The first steps of a machine's run; it doesn't halt before them."""
+    run = simulate(machine, count)
+    return [Step(c.state, c.tape.get(c.head, 0), c.head) for c in run if c.state is not None][:count]
+
+
+def last_use(steps: Sequence[Step], start: int, is_use: Callable[[Step], bool]) -> str:
+    """The last use of a part of the table, as it is written."""
+    last = max((n for n, step in enumerate(steps) if is_use(step)), default=-1)
+    return "-" if last < 0 else str(last) if last < start else "*"
+
+
+def numbers_of(machine: str, first: int, second: int) -> Numbers:
+    """The numbers of a machine with a true pair, by brute force: each number is tried as a period."""
+    steps = steps_of(machine, first + 3 * (second - first))
+
+    def repeats(n: int, period: int) -> bool:
+        return all(one.uses(other) for one, other in zip(steps[n:], steps[n + period :]))
+
+    period = next(period for period in range(1, second - first + 1) if repeats(first, period))
+    start = first
+    while start > 0 and steps[start - 1].uses(steps[start - 1 + period]):
+        start -= 1
+    groups = machine.split("_")
+    states = [last_use(steps, start, lambda step: step.state == q) for q in range(len(groups))]
+    entries = [
+        last_use(steps, start, lambda step: step[:2] == (q, r))
+        for q in range(len(groups))
+        for r in range(len(groups[0]) // 3)
+    ]
+    last = max((int(use) for use in states if use.isdecimal()), default=None)
+    shift = steps[start + period].head - steps[start].head
+    return Numbers(start, period, shift, states, None if last is None else last + 1, entries)
+
+
+def pair_in(verdict: str) -> tuple[str, int, int] | None:
+    """The machine of a verdict and the steps of its pair, if it has one."""
+    machine, kind, *words = verdict.split(" ")
+    if kind not in ("cycler", "translated"):
+        return None
+    first, second = words[:2] if kind == "cycler" else words[1:3]
+    return machine, int(first), int(second)
+
+
+@pytest.fixture(scope="module")
+def pairs(bb: str, list_machines: Callable[..., list[str]]) -> dict[str, Numbers]:
+    """The numbers of all machines of three small sizes that have a pair."""
+    machines = [machine for s, k in SIZES for machine in list_machines(s, "--symbols", str(k))]
+    found = map(pair_in, replies([bb, "decide", *options(LIMITS)], machines))
+    return {pair[0]: numbers_of(*pair) for pair in found if pair is not None}
+
+
+def answers(coq_recurrence: str, lines: Sequence[str], *words: str) -> list[str]:
+    """The answers to lines; all of them are lines that are answered."""
+    answered = replies([coq_recurrence, *words], lines)
+    assert len(answered) == len(lines) > 0
+    return answered
+
+
+def wrong_numbers(numbers: Numbers) -> Iterator[Numbers]:
+    """Yield the numbers with one of them, or two that go together, changed."""
+    start, period, shift, states, quasihalt, entries = numbers
+    changed = [
+        numbers._replace(start=start + 1),
+        numbers._replace(period=period + 1),
+        numbers._replace(period=2 * period),
+        numbers._replace(period=2 * period, shift=2 * shift),
+        numbers._replace(period=3 * period, shift=3 * shift),
+        numbers._replace(period=period // 2, shift=shift // 2),
+        numbers._replace(period=0),
+        numbers._replace(shift=shift + 1),
+        numbers._replace(shift=shift - 1),
+        numbers._replace(quasihalt=(quasihalt or 0) + 1),
+    ]
+    changed += [numbers._replace(start=start - 1), numbers._replace(start=0)] if start else []
+    changed += [numbers._replace(shift=-shift)] if shift else []
+    if quasihalt is not None:
+        changed += [numbers._replace(quasihalt=quasihalt - 1), numbers._replace(quasihalt=None)]
+    yield from changed
+    for at, use in enumerate(states):
+        for other in wrong_uses(use, numbers):
+            uses = [*states[:at], other, *states[at + 1 :]]
+            yield numbers._replace(states=uses)
+            last = max((int(use) for use in uses if use.isdecimal()), default=None)
+            yield numbers._replace(states=uses, quasihalt=None if last is None else last + 1)
+    for at, use in enumerate(entries):
+        for other in wrong_uses(use, numbers):
+            yield numbers._replace(entries=[*entries[:at], other, *entries[at + 1 :]])
+
+
+def wrong_uses(use: str, numbers: Numbers) -> list[str]:
+    """Other uses than this one."""
+    others = ["*", "-", "0", str(numbers.start), str(numbers.start + numbers.period)]
+    if use.isdecimal():
+        others += [str(int(use) + 1), str(max(0, int(use) - 1))]
+    return [other for other in others if other != use]
+
+
+@pytest.mark.parametrize("with_entries", [False, True])
+def test_true_numbers_are_confirmed(
+    coq_recurrence: str, pairs: dict[str, Numbers], with_entries: bool
+) -> None:
+    lines = [numbers.line_of(machine, with_entries) for machine, numbers in pairs.items()]
+    limits = options(LIMITS[:2])
+    assert answers(coq_recurrence, lines, *limits) == ["ok"] * len(lines)
+    assert sum(" quasihalts " in line for line in lines) > 100
+    print("%d lines confirmed" % len(lines))
+
+
+def test_wrong_numbers_are_refused(coq_recurrence: str, pairs: dict[str, Numbers]) -> None:
+    lines = []
+    for machine, numbers in pairs.items():
+        line = numbers.line_of(machine, True)
+        wrong = (other.line_of(machine, True) for other in wrong_numbers(numbers))
+        lines += [other for other in wrong if other != line]
+    assert answers(coq_recurrence, lines) == ["bad"] * len(lines)
+    print("%d lines refused" % len(lines))
+
+
+def spoil_line(line: str, source: random.Random) -> str:
+    """Change a character, or leave out, double or add a word."""
+    fields = line.split(" ")
+    at, place = source.randrange(2, len(fields)), source.randrange(len(line))
+    return source.choice(
+        [
+            line[:place] + source.choice(DIGITS + LETTERS + "*- _\r\0\xff") + line[place + 1 :],
+            line[:place],
+            " ".join([*fields[:at], *fields[at + 1 :]]),
+            " ".join([*fields[:at], fields[at], *fields[at:]]),
+            " ".join([*fields[:at], source.choice(["*", "-", "0", "7", "-0", "00", "+1"]), *fields[at:]]),
+            line + source.choice([" ", " *", " -", " quasihalts 1", " entries", "\r"]),
+        ]
+    )
+
+
+def test_spoilt_lines_are_refused(coq_recurrence: str, pairs: dict[str, Numbers], rng: random.Random) -> None:
+    """No line is confirmed but those of true numbers."""
+    true = {numbers.line_of(machine, k) for machine, numbers in pairs.items() for k in (False, True)}
+    lines = [spoil_line(line, rng) for line in sorted(true) for _ in range(3)]
+    given = "".join(line + "\n" for line in lines).encode("latin-1")
+    answered = run_command([coq_recurrence], given).output.decode().splitlines()
+    assert len(answered) == len(lines)
+    for line, answer in zip(lines, answered):
+        assert answer in ("bad", "unread") or line in true or line in WORDS, line
+    assert answered.count("bad") > 100 and answered.count("unread") > 100
+
+
+def record_after(steps: Sequence[Step], shift: int, first: int) -> int:
+    """The first step from this one on at which the head is farther out than before."""
+    sign = 1 if shift > 0 else -1
+    outs = [sign * step.head for step in steps]
+    return next(n for n in range(first, len(outs)) if outs[n] > max(outs[:n], default=-1))
+
+
+def test_limits(coq_recurrence: str, pairs: dict[str, Numbers], rng: random.Random) -> None:
+    """With limits that are just enough and just not."""
+    for machine, numbers in rng.sample(sorted(pairs.items()), 150):
+        line, end = numbers.line_of(machine, False), numbers.start + numbers.period
+        steps = steps_of(machine, 2 * end + 400)
+        heads = [step.head for step in steps[: end + 1]]
+        cells = max(heads) - min(heads) + 1
+        seen = record_after(steps, numbers.shift, end) if numbers.shift else end
+        for most, room, answer in [
+            (seen, cells, "ok"),
+            (seen - 1, cells, "over"),
+            (end - 1, cells, "over"),
+            (seen, cells - 1, "over"),
+        ]:
+            if room > 0:
+                assert answers(coq_recurrence, [line], *options((most, room))) == [answer], (line, most, room)
+
+
+@pytest.mark.parametrize(
+    "line, answer",
+    [
+        *((word, "open") for word in WORDS),
+        ("ok", "unread"),
+        ("", "unread"),
+        ("1RB1LB_1LA1RZ halt 6 4", "unread"),
+        ("1RB1LB_1LA1RZ recurs 0 1 1 * *", "bad"),
+        ("1RB1LB_1LA1RZ recurs 6 1 1 5 4 quasihalts 6", "bad"),
+        ("1RA1RA recurs 0 1 1 *", "ok"),
+        ("1RA1RA recurs 0 1 1 * entries * -", "ok"),
+        ("1RA1RA recurs 00 1 1 *", "unread"),
+        ("1RA1RA recurs 0 1 +1 *", "unread"),
+        ("1RA1RA recurs 0 1 1 * *", "unread"),
+        ("1RA1RA recurs 0 1 1", "unread"),
+        ("1RA1RA recurs 0 1 1 * entries *", "unread"),
+        ("1RA1RA recurs 0 1 1 * entries * - -", "unread"),
+        ("1RA1RA recurs 0 18446744073709551615 1 *", "over"),
+        ("1RA1RA recurs 0 18446744073709551616 1 *", "unread"),
+        ("0RB---_0LA--- recurs 0 2 0 * * entries * - * -", "ok"),
+        ("0RB---_0LA--- recurs 0 2 -0 * *", "unread"),
+        # The machines of two and three states with the latest quasihalt that is known.
+        ("1RB1LB_1LB1LA recurs 6 1 -1 5 * quasihalts 6", "ok"),
+        ("1RB0LB_1LA0RC_1LC1LA recurs 55 1 -1 53 54 * quasihalts 55", "ok"),
+        # And of four states, beside the latest of all.
+        ("1RB1RC_1LC1RD_1RA1LD_0RD0LB recurs 2819 1 1 2817 2818 2816 * quasihalts 2819", "ok"),
+    ],
+)
+def test_line(coq_recurrence: str, line: str, answer: str) -> None:
+    done = run_command([coq_recurrence], as_lines([line]))
+    assert done.output.decode() == answer + "\n" and not done.error
+    assert done.status == (0 if answer in ("ok", "open") else 1)
+
+
+def test_longest_line(coq_recurrence: str) -> None:
+    """The last of 25 states comes again at each step; longer lines aren't read."""
+    nexts = [LETTERS[min(state + 1, 24)] for state in range(25)]
+    machine = "_".join("0R%s" % state + "---" * 9 for state in nexts)
+    last = [*map(str, range(24)), "*"]
+    entries = " ".join(step + " -" * 9 for step in last)
+    line = "%s recurs 24 1 1 %s quasihalts 24 entries %s" % (machine, " ".join(last), entries)
+    most = "18446744073709551615"
+    long = "%s recurs %s 1 -%s%s quasihalts %s entries%s" % (
+        machine,
+        most,
+        most,
+        25 * (" " + most),
+        most,
+        250 * (" " + most),
+    )
+    given = [line, long, line + " " * 9_000, line]
+    assert run_command([coq_recurrence], as_lines(given)).output == b"ok\nover\nunread\nok\n"
+
+
+@pytest.mark.parametrize(
+    "words, status",
+    [
+        ("--steps=9 --cells +9", 0),
+        ("--help", 0),
+        ("--steps 1000000000001", 2),
+        ("--cells 0", 2),
+        ("--depth 3", 2),
+        ("--entries", 2),
+        ("--steps 1 --steps 1", 2),
+        ("--steps x", 2),
+        ("a b", 2),
+        ("/no/such/file", 3),
+        ("/", 3),
+    ],
+)
+def test_words(coq_recurrence: str, words: str, status: int) -> None:
+    done = run_command([coq_recurrence, *words.split(" ")], b"open\n")
+    assert done.status == status and bool(done.error) == (status > 1)
+    assert status > 1 or words == "--help" or done.output == b"open\n"
+
+
+def seeming_numbers(machine: str) -> Iterator[Numbers]:
+    """Yield numbers of runs that use the same transitions again for at least two periods, or for ever."""
+    steps = steps_of(machine, 120)
+    for period, start in itertools.product(range(1, 9), range(60)):
+        end = start + period
+        if end + 2 * period > len(steps) or not all(
+            one.uses(other) for one, other in zip(steps[start : end + 1], steps[end:])
+        ):
+            continue
+        shown = steps[: end + period]
+        states = [last_use(shown, start, lambda step: step.state == q) for q in range(machine.count("_") + 1)]
+        last = max((int(use) for use in states if use.isdecimal()), default=None)
+        shift = steps[end].head - steps[start].head
+        yield Numbers(start, period, shift, states, None if last is None else last + 1, [])
+
+
+@pytest.fixture(scope="module")
+def seeming_lines(pairs: dict[str, Numbers], list_machines: Callable[..., list[str]]) -> list[str]:
+    """Lines of runs that seem to repeat: a few of each machine that does, and all of the others."""
+    machines = [machine for s, k in SIZES for machine in list_machines(s, "--symbols", str(k))]
+    return [
+        numbers.line_of(machine, False)
+        for machine in machines
+        for numbers in itertools.islice(seeming_numbers(machine), 5 if machine in pairs else None)
+    ]
+
+
+def test_runs_that_seem_to_repeat(
+    coq_recurrence: str, pairs: dict[str, Numbers], seeming_lines: list[str]
+) -> None:
+    true = {numbers.line_of(machine, False) for machine, numbers in pairs.items()}
+    for line, answer in zip(seeming_lines, answers(coq_recurrence, seeming_lines, *options(LIMITS[:2]))):
+        assert answer == ("ok" if line in true else "bad"), line
+    others = sum(line.split(" ")[0] not in pairs for line in seeming_lines)
+    assert others > 1_000
+    print("%d lines, %d of machines that don't repeat" % (len(seeming_lines), others))
+
+
+@pytest.mark.slow
+@pytest.mark.needs("coqc", "coqchk", "ocamlfind")
+@pytest.mark.parametrize("edit", WRONG, ids=[edit.name for edit in WRONG])
+def test_wrong_checker_of_recurrences_is_noticed(
+    coq_recurrence: str,
+    pairs: dict[str, Numbers],
+    seeming_lines: list[str],
+    rng: random.Random,
+    tmp_path: pathlib.Path,
+    edit: Edit,
+) -> None:
+    """A proof fails; built without its proofs, it answers some line otherwise."""
+    true = [numbers.line_of(machine, True) for machine, numbers in pairs.items()]
+    lines = [*true, *seeming_lines, *(spoil_line(line, rng) for line in true)]
+    for place, (machine, numbers) in enumerate(pairs.items()):
+        if place % 9 == 0 or not numbers.shift:
+            lines += [other.line_of(machine, True) for other in wrong_numbers(numbers)]
+    given = "".join(line + "\n" for line in lines).encode("latin-1")
+    programs = build_wrong(tmp_path, edit, "recurrence"), coq_recurrence
+    found, expected = (run_command([one, *options(LIMITS[:2])], given).output.split() for one in programs)
+    assert len(found) == len(expected) == len(lines) and found != expected
+    print("%d lines notice it" % sum(one != other for one, other in zip(found, expected)))
+
+
+@pytest.mark.slow
+@pytest.mark.parametrize(
+    "listed, limits",
+    [(["4"], FOUR), (["2", "--symbols", "4"], FOUR), (["5", "--steps", "1000", "--every", "900"], FIVE)],
+    ids=["four states", "two states and four symbols", "some of five states"],
+)
+def test_all_replies_of_the_program_are_confirmed(
+    bb: str,
+    recurrence: str,
+    coq_recurrence: str,
+    list_machines: Callable[..., list[str]],
+    listed: list[str],
+    limits: Sequence[int],
+) -> None:
+    """Under the same limits; a line of no pair stays open."""
+    machines = list_machines(int(listed[0]), *listed[1:])
+    words = options(limits[:2])
+    found = replies([recurrence, "--entries", *words], replies([bb, "decide", *options(limits)], machines))
+    assert answers(coq_recurrence, found, *words) == [
+        "ok" if " recurs " in line else "open" for line in found
+    ]
+    print("%d lines confirmed" % sum(" recurs " in line for line in found))

@@ -1,0 +1,174 @@
+"""`judge` over starts and periods, beside a brute force over the steps of each run."""
+
+from __future__ import annotations
+
+import random
+import sys
+from typing import Callable, Sequence
+
+import budlarem
+import pytest
+from budlarem import Cycler, Exactness, Judged, Judgement, Limits, Translated
+from support.program import as_lines, run_command
+from support.recurrences import repeats, reply_to_pair
+from support.simulation import simulate
+
+# Under the first limits most machines have a pair, under the others none.
+SMALL, LEAST = Limits(300, 128, 0, 0), Limits(1, 128, 0, 0)
+HEADER = "machine,start,period"
+RIGHT = {
+    Exactness.EXACT: Judgement.CONFIRMED,
+    Exactness.TRUE: Judgement.CONFIRMED,
+    Exactness.FALSE: Judgement.CONTRADICTED,
+}
+
+
+def judged(
+    rows: Sequence[str], limits: Limits = SMALL, header: str = HEADER, offset: int | None = None
+) -> list[Judged]:
+    checker = Limits(100_000, 1_000, 30, 1_000)
+    return list(budlarem.judge([header, *rows], limits=limits, checker=checker, start_offset=offset))
+
+
+def pairs_of(machines: Sequence[str]) -> dict[str, tuple[int, int, int]]:
+    """The exact start and period of each machine with a pair, by brute force, and the pair's last step."""
+    verdicts = budlarem.decide(machines, SMALL)
+    pairs = [verdict for verdict in verdicts if isinstance(verdict, (Cycler, Translated))]
+    replies = [reply_to_pair(str(pair)).split(" ") for pair in pairs]
+    return {one[0]: (int(one[2]), int(one[3]), pair.second) for one, pair in zip(replies, pairs)}
+
+
+def truth(machine: str, start: int, period: int, exact: tuple[int, int, int]) -> Exactness:
+    """Whether the run repeats so: each step from `start` on is compared, far beyond the pair's last one."""
+    if (start, period) == exact[:2]:
+        return Exactness.EXACT
+    count = 2 * exact[2] + period
+    run = simulate(machine, start + period + count)
+    used = [(now.state, now.tape.get(now.head, 0)) for now in run]
+    return Exactness.TRUE if repeats(used, start, period, count) else Exactness.FALSE
+
+
+@pytest.mark.parametrize(
+    "size, count, most", [("2x2", 100, (9, 7)), ("3x2", 40, (30, 9)), ("2x3", 40, (30, 9))]
+)
+def test_each_start_and_period(
+    list_machines: Callable[..., list[str]], rng: random.Random, size: str, count: int, most: tuple[int, int]
+) -> None:
+    """With a pair of ours the exact numbers judge, without one theirs is checked as a pair: both as the run does."""
+    states, symbols = size.split("x")
+    machines = list_machines(int(states), "--symbols", symbols, "--steps", "100")
+    exact = pairs_of(rng.sample(machines, min(count, len(machines))))
+    claims = [(m, s, p) for m in exact for s in range(most[0]) for p in range(1, most[1])]
+    claims += [(m, s, k * p) for m, (s, p, _) in exact.items() for k in (1, 2, 3)]
+    rows, expected = ["%s,%d,%d" % claim for claim in claims], [
+        truth(*claim, exact[claim[0]]) for claim in claims
+    ]
+    for limits in (SMALL, LEAST):
+        found = judged(rows, limits, offset=0)
+        assert [one.exactness for one in found] == expected
+        assert [one.judgement for one in found] == [RIGHT[kind] for kind in expected]
+        for one in found if limits is SMALL else ():
+            assert one.exact and (one.exact.start, one.exact.period) == exact[one.exact.machine][:2]
+    assert {*expected} == {*Exactness}
+
+
+LEFT, CYCLE = "1RB---_1LB0RB", "0RB---_0LA---"
+# Rows, the judgement of each, and words of its reason.
+ROWS = {
+    LEFT + ",4,1": ("confirmed", "start 4, period 1: exact"),
+    LEFT + ",7,2": ("confirmed", "start 7, period 2: true; the exact ones are start 4, period 1, shift -1"),
+    LEFT
+    + ",3,1": ("contradicted", "start 3, period 1: false; the exact ones are start 4, period 1, shift -1"),
+    LEFT + ",4,": ("confirmed", "start 4: exact"),
+    LEFT + ",,3": ("confirmed", "period 3: true; the exact"),
+    LEFT + ",3,": ("contradicted", "start 3: false; the exact"),
+    LEFT + ",4,0": ("contradicted", "start 4, period 0: false; the exact"),
+    LEFT + ",x,1": ("not-judged", "x is no number"),
+    LEFT + ",,": ("not-judged", "no word says whether it halts"),
+    "1RB1LB_1LA1RZ,4,1": ("contradicted", "never halts; ours is halt 6 4"),
+    "x,4,1": ("unreadable", "no machine in this line"),
+}
+# The same under limits that decide nothing.
+OTHERS = {
+    "1RB1LB_1LA1RZ,3,4": ("contradicted", "start 3, period 4: false; it halts before step 7"),
+    LEFT + ",4,0": ("contradicted", "start 4, period 0: false; no run repeats so"),
+    LEFT + ",4,": ("not-judged", "start 4: no pair of steps, and ours has none"),
+    LEFT + ",1,4": ("contradicted", "start 1, period 4: false; the checker refutes cycler 1 5"),
+    LEFT + ",1,3": ("contradicted", "start 1, period 3: false; the checker refutes translated R 4 7"),
+    CYCLE + ",1,3": ("contradicted", "start 1, period 3: false; the head doesn't move on so"),
+    LEFT + ",99999,2": ("not-judged", "start 99999, period 2: over the checker's limits"),
+    LEFT + ",5000,1": ("not-judged", "start 5000, period 1: over the checker's limits"),
+}
+
+
+def test_reasons() -> None:
+    for rows, limits in ((ROWS, SMALL), (OTHERS, LEAST)):
+        found = judged(list(rows), limits, offset=0)
+        for one, (row, (judgement, reason)) in zip(found, rows.items()):
+            assert str(one.judgement) == judgement and one.reason.startswith(reason), (row, one.reason)
+
+
+def test_words_and_verdicts_beside_numbers() -> None:
+    rows = {
+        LEFT + ",linrecurrence,4,1": "confirmed",
+        LEFT + ",halt,4,1": "not-judged",
+        LEFT + ",unknown,4,1": "not-judged",
+        LEFT + ",decided,4,1": "confirmed",
+        LEFT + ",no such word,4,1": "not-judged",
+        LEFT + ",translated L 7 8,4,1": "confirmed",
+        LEFT + ",translated L 5 8,3,1": "contradicted",
+        LEFT + ",translated R 7 8,4,1": "contradicted",
+        LEFT + ",backward 1 1,4,1": "confirmed",
+        LEFT + ",halt 6 4,4,1": "not-judged",
+        LEFT + ",loop,,": "confirmed",
+    }
+    found = judged(list(rows), header="machine,verdict,start,period")
+    assert dict(zip(rows, (str(one.judgement) for one in found))) == rows
+    assert "two things: halt, and start 4 period 1" in found[1].reason
+    assert found[5].reason.endswith("; start 4, period 1: exact")
+
+
+def test_offset_of_a_whole_list() -> None:
+    rows = [LEFT + ",%d,1", CYCLE + ",%d,2", LEFT + ",%d,3"]
+    for offset, kinds in ((1, ["exact", "exact", "true"]), (0, ["exact", "exact", "true"]), (7, None)):
+        given = [row % (start + offset) for row, start in zip(rows, (4, 0, 4))]
+        judging = budlarem.judge([HEADER, *given], limits=SMALL)
+        assert judging.start_offset == offset
+        found = [str(one.exactness) for one in judging]
+        assert found == (kinds or ["exact", "exact", "true"])
+        assert [str(one.exactness) for one in judged(given, offset=0)] == [
+            kind if offset == 0 else "true" for kind in found
+        ]
+    for starts in ((5, 0, 5), (5, 1, 4), (3, 1, 5)):
+        mixed = budlarem.judge([HEADER, *(row % start for row, start in zip(rows, starts))], limits=SMALL)
+        assert mixed.start_offset == 0
+    assert budlarem.judge([HEADER, LEFT + ",5,1"], limits=SMALL).start_offset == 0
+    earlier = budlarem.judge([HEADER, LEFT + ",3,1", LEFT + ",3,2"], limits=SMALL)
+    assert [one.judgement for one in earlier] == [Judgement.CONFIRMED] * 2 and earlier.start_offset == -1
+
+
+def test_the_command() -> None:
+    words = [
+        sys.executable,
+        "-m",
+        "budlarem",
+        "judge",
+        "-",
+        "--machine",
+        "1",
+        "--start",
+        "2",
+        "--period",
+        "3",
+    ]
+    given = as_lines([LEFT + ";5;1", CYCLE + ";1;2", "1RA1RA;1;1"])
+    cases: list[tuple[list[str], int, list[str]]] = [
+        ([], 0, ["an offset of 1 in each start", "starts and periods: exact 3"]),
+        (["--start-offset", "0"], 0, ["starts and periods: true 3"]),
+        (["--start-offset=2"], 1, ["an offset of 2 in each start", "starts and periods: false 3"]),
+    ]
+    for more, status, printed in cases:
+        found = run_command([*words, *more], given)
+        assert found.status == status
+        lines = found.error.decode().splitlines()
+        assert [line.partition(": ")[2] for line in lines[1:-1]] == printed, lines

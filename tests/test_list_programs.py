@@ -1,0 +1,89 @@
+"""The command lines, failures and progress of `cover` and `recurrence`, which read a list."""
+
+from __future__ import annotations
+
+import pathlib
+import re
+import subprocess
+from typing import NamedTuple
+
+import pytest
+from support import TOP
+from support.program import run_command
+from support.terminals import on_terminal
+
+# The verdict lines of a whole list of one state.
+VERDICTS = b"------ halt 0 0\n0RA--- translated R 1 2 1 1\n1RA--- translated R 1 2 1 1\n"
+PROGRESS = {"cover": r"\d+ lines", "recurrence": r"\d+ recur, \d+ quasihalt, \d+ open"}
+
+
+class Program(NamedTuple):
+    """A program by its name and its path."""
+
+    name: str
+    path: str
+
+
+@pytest.fixture(params=["cover", "recurrence"])
+def program(request: pytest.FixtureRequest) -> Program:
+    return Program(request.param, request.getfixturevalue(request.param))
+
+
+@pytest.mark.parametrize(
+    "words, status, error",
+    [
+        ("--steps 1000000000001", 2, "steps out of range"),
+        ("--cells 0", 2, "cells out of range"),
+        ("/no/such/file", 3, "read failed"),
+        ("--stepz 1", 2, None),
+        ("a b", 2, None),
+    ],
+)
+def test_wrong_words(program: Program, words: str, status: int, error: str | None) -> None:
+    done = run_command([program.path, *words.split()])
+    assert (done.status, done.output) == (status, b"") and done.error
+    assert error is None or done.error.decode() == "%s: %s\n" % (program.name, error)
+
+
+@pytest.mark.parametrize(
+    "words, error",
+    [
+        ("--depth 10001", b"cover: depth out of range\n"),
+        ("--nodes 1000000000001", b"cover: nodes out of range\n"),
+        ("--cells 1 --depth 2", b"cover: depth does not fit in cells\n"),
+    ],
+)
+def test_refused_trees(cover: str, words: str, error: bytes) -> None:
+    assert run_command([cover, *words.split()]) == (2, b"", error)
+
+
+@pytest.mark.parametrize("word", ["--help", "--version"])
+def test_help_and_version(program: Program, word: str) -> None:
+    status, output, error = run_command([program.path, word])
+    assert status == 0 and output and not error
+
+
+def test_failed_write(program: Program) -> None:
+    sentence = "%s: write failed\n" % program.name
+    with open("/dev/full", "wb") as full:
+        done = subprocess.run([program.path], input=VERDICTS, stdout=full, stderr=subprocess.PIPE)
+        status, shown = on_terminal([program.path], VERDICTS, full)
+    assert (done.returncode, done.stderr.decode()) == (3, sentence)
+    cause = sentence + "standard output: No space left on device (os error 28)\n"
+    assert status == 3 and shown.endswith(cause)
+
+
+def test_progress_on_a_terminal(program: Program, tmp_path: pathlib.Path) -> None:
+    (tmp_path / "list").write_bytes(VERDICTS)
+    status, shown = on_terminal([program.path, str(tmp_path / "list")], b"", subprocess.DEVNULL)
+    line = PROGRESS[program.name]
+    assert status == 0 and re.match(r"\r0%% %s\x1b\[K(\r\d+%% %s\x1b\[K)*\r\x1b\[K$" % (line, line), shown)
+
+
+@pytest.mark.parametrize(
+    "path, cause",
+    [("/no/such/file", "No such file or directory (os error 2)\n"), (str(TOP), "Is a directory")],
+)
+def test_failed_read_on_a_terminal(program: Program, path: str, cause: str) -> None:
+    status, shown = on_terminal([program.path, path], b"", subprocess.DEVNULL)
+    assert status == 3 and "%s: read failed\n%s: %s" % (program.name, path, cause) in shown

@@ -1,0 +1,102 @@
+"""`recurrence` beside a brute force from the definitions alone, and its replies to other lines."""
+
+from __future__ import annotations
+
+import subprocess
+from typing import Callable
+
+import pytest
+from support import TOP, require
+from support.program import as_lines, options, processor_time, replies, run_command
+
+LIMITS = options((3_000, 1_024, 30, 100))
+FOUR = options((1_000, 1_024, 40, 500))
+# How many times as long as `bb check` the program may take on a quiet machine; how far above is a failure.
+BAR, FAR = 1.8, 3
+
+
+@pytest.fixture(scope="module")
+def brute_force(tmp_path_factory: pytest.TempPathFactory) -> str:
+    """The path of the program that tries all periods."""
+    require("rustc")
+    built = str(tmp_path_factory.mktemp("brute") / "recurrence")
+    source = TOP / "tests" / "support" / "brute_recurrence.rs"
+    subprocess.run(["rustc", "-O", "--edition", "2021", "-o", built, source], check=True)
+    return built
+
+
+@pytest.mark.parametrize(
+    "states, symbols",
+    [
+        (2, 2),
+        (3, 2),
+        (2, 3),
+        pytest.param(4, 2, marks=pytest.mark.slow),
+        pytest.param(2, 4, marks=pytest.mark.slow),
+    ],
+)
+def test_replies_are_those_of_a_brute_force(
+    bb: str,
+    recurrence: str,
+    brute_force: str,
+    list_machines: Callable[..., list[str]],
+    states: int,
+    symbols: int,
+) -> None:
+    machines = list_machines(states, "--symbols", str(symbols))
+    verdicts = run_command([bb, "decide", *LIMITS], as_lines(machines)).output
+    for words in ("", "--entries"):
+        status, output, error = run_command([recurrence, *words.split()], verdicts)
+        assert (status, error) == (0, b"")
+        assert output == run_command([brute_force, *words.split()], verdicts).output
+    print("%d replies compared, %d recur" % (output.count(b"\n"), output.count(b" recurs ")))
+
+
+@pytest.mark.parametrize(
+    "words, line, reply",
+    [
+        # The machines of two, three and two states with the latest quasihalt that is known.
+        ("", "1RB1LB_1LB1LA {}", "1RB1LB_1LB1LA recurs 6 1 -1 5 * quasihalts 6"),
+        ("", "1RB0LB_1LA0RC_1LC1LA {}", "1RB0LB_1LA0RC_1LC1LA recurs 55 1 -1 53 54 * quasihalts 55"),
+        ("--entries", "0RB---_0LA---  cycler 2 4", "unread"),
+        ("--entries", "0RB---_0LA--- cycler 2 4", "0RB---_0LA--- recurs 0 2 0 * * entries * - * -"),
+        ("", "0RB---_0LA--- cycler 2 5", "bad"),
+        ("--steps=3", "0RB---_0LA--- cycler 2 4", "over"),
+        ("", "1RB1LB_1LA1RZ halt 6 4", "open"),
+        ("", "0RB---_0LA--- backward 2 4", "open"),
+        ("", "1RB1LB_1LA1RZ undecided steps", "open"),
+        ("", "refused 14", "open"),
+        ("", "1RB1LB_1LA1RZ", "unread"),
+    ],
+)
+def test_replies(bb: str, recurrence: str, words: str, line: str, reply: str) -> None:
+    machine = line.split()[0]
+    (verdict,) = replies([bb, "decide"], [machine]) if line.endswith("{}") else [line]
+    status, output, error = run_command([recurrence, *words.split()], as_lines([verdict]))
+    is_clean = reply == "open" or " recurs " in reply
+    assert (status, output.decode(), error) == (0 if is_clean else 1, reply + "\n", b"")
+
+
+def test_greatest_machine(bb: str, recurrence: str) -> None:
+    """The last of 25 states comes again at each step."""
+    nexts = [chr(ord("A") + min(state + 1, 24)) for state in range(25)]
+    machine = "_".join("0R%s" % state + "---" * 9 for state in nexts)
+    (reply,) = replies([recurrence, "--entries"], replies([bb, "decide"], [machine]))
+    last = [*map(str, range(24)), "*"]
+    entries = " ".join(step + " -" * 9 for step in last)
+    assert reply == "%s recurs 24 1 1 %s quasihalts 24 entries %s" % (machine, " ".join(last), entries)
+
+
+@pytest.mark.timing
+def test_lists_take_little_longer_than_a_check(bb: str, recurrence: str, four_states: list[str]) -> None:
+    """Compares processor times, the least of three runs each."""
+    verdicts = run_command([bb, "decide", *FOUR], as_lines(four_states)).output
+
+    def time(*command: str) -> float:
+        before = processor_time()
+        assert run_command(command, verdicts).status == 0
+        return processor_time() - before
+
+    check, found = (min(time(*command) for _ in range(3)) for command in ([bb, "check"], [recurrence]))
+    print("check %.2f s, recurrence %.2f s: %.2f (bar: %.1f)" % (check, found, found / check, BAR))
+    assert found <= FAR * BAR * check
