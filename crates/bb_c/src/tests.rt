@@ -188,6 +188,7 @@ const PAIRS: &[u8] = b"1RB---_1RA--- translated R 2 4 2 1
 1RB1LB_1LA1RZ halt 6 4
 1RA1RA
 ";
+
 static RECURRENCES: [(bool, &[u8]); 2] = [
     (
         false,

@@ -92,7 +92,12 @@ fn cover_input<R: Read + Drop>(
 }
 
 /// Reports a fault, and returns the exit status.
-fn report_list_fault(rt: &HostRuntime, asked: &Asked, fault: Fault, error: Option<&io::Error>) -> u8 {
+fn report_list_fault(
+    rt: &HostRuntime,
+    asked: &Asked,
+    fault: Fault,
+    error: Option<&io::Error>,
+) -> u8 {
     let file = asked.file.as_ref().map(|file| file.as_str());
     report_fault(rt, PROGRAM, file, fault, error)
 }

@@ -6,7 +6,9 @@ ghost use Rattle.bb_command.specs.Command.{IsLimitsStop};
 ghost use Rattle.recurrence.specs.CommandLine.{IsAskedBy, IsStopOf, command_line, pair_bounds};
 
 use bb_command::Stop;
-use bb_command::options::{cells, has_option, list_file, positional, steps, stop_of, switch, value};
+use bb_command::options::{
+    cells, has_option, list_file, positional, steps, stop_of, switch, value,
+};
 use bb_machine::Limits;
 use clap::{ArgMatches, Command};
 use std::alloc::{AllocError, Global};
