@@ -34,11 +34,11 @@ none_seen table machine q s below inside =
     (unused_at_first table (of_entry q s))
 
 -- an entry has its own place
-same_state : (q s p r : ℕ) → s < MAX_SYMBOLS → r < MAX_SYMBOLS → MAX_SYMBOLS * q + s ≡ MAX_SYMBOLS * p + r
+pub same_state : (q s p r : ℕ) → s < MAX_SYMBOLS → r < MAX_SYMBOLS → MAX_SYMBOLS * q + s ≡ MAX_SYMBOLS * p + r
     → q ≡ p
 same_state q s p r inside inside_too same = omega (arith, inside, inside_too, same)
 
-same_symbol : (q s p r : ℕ) → s < MAX_SYMBOLS → r < MAX_SYMBOLS → MAX_SYMBOLS * q + s ≡ MAX_SYMBOLS * p + r
+pub same_symbol : (q s p r : ℕ) → s < MAX_SYMBOLS → r < MAX_SYMBOLS → MAX_SYMBOLS * q + s ≡ MAX_SYMBOLS * p + r
     → s ≡ r
 same_symbol q s p r inside inside_too same = omega (arith, inside, inside_too, same)
 

@@ -3,6 +3,7 @@ mod Counting
 mod Divisors
 mod EntryUses
 mod GoingOn
+mod Histories
 mod Quasihalts
 mod Quotients
 mod RecurrenceLaws

@@ -17,6 +17,7 @@ use Rattle.bb_repetition.specs.Finding.{CountsFinding, IsFinding, NamesPair}
 use Rattle.bb_repetition.specs.RecurrenceReply.{IsRecurrenceReply}
 use Rattle.bb_repetition.specs.Writing.{IsFindingText, IsKnown}
 use Rattle.bb_repetition.proofs.ConfirmedPairs.{few_of, not_named}
+use Rattle.bb_repetition.proofs.Counting.{recurrence_few}
 use Rattle.bb_repetition.proofs.Reductions.{few_primes}
 
 -- a result has all that is written
@@ -137,10 +138,11 @@ cheap table bounds verdict uses (Recurs found) meter accepted is counts =
     let here = is.1 in
     let whole = here.whole in
     let same = one_second verdict _ _ _ _ here.names counts.names in
+    let few = recurrence_few _ _ _ _ _ counts.counted in
     record {
-      steps = all_steps meter.steps counts.first counts.second found.period counts.primes bounds.steps
+      steps = all_steps meter.steps counts.first counts.second found.period counts.counted.primes bounds.steps
           (second_within bounds verdict _ _ counts.names (not_named table bounds verdict is.0))
-          (omega (arith, whole, same)) accepted.steps counts.few_primes counts.few;
+          (omega (arith, whole, same)) accepted.steps counts.counted.few_primes (omega (arith, few));
       cells = few_cells table bounds verdict meter.most_cells counts.window;
       no_levels = counts.no_levels;
       no_nodes = counts.no_nodes;

@@ -1,5 +1,5 @@
 -- The summary of the recurrences of a list, from the effect of each line.
-use Rattle.std.proofs.Common.{◌≡◌, ℕ, ◌+◌, ◌≤◌, ◌⊎◌, max, true, List, [], ◌∷◌, ◌++◌, refl, sym}
+use Rattle.std.proofs.Common.{◌≡◌, ℕ, ◌≤◌, ◌⊎◌, max, true, List, [], ◌∷◌, ◌++◌, refl, sym}
 use Rattle.std.proofs.Common.{subst, ap, ◌∙◌, inl, inr, arith}
 use Rattle.std.specs.List.{FoldsTo}
 use Rattle.std.proofs.lemmas.Bool.{and_from, and_parts}
@@ -24,8 +24,10 @@ use Rattle.bb_repetition.specs.declared.verdict.Finding.{Finding}
 use Rattle.bb_repetition.specs.declared.verdict.Finding.TheVariants.{Answered, NoPair, Recurs}
 use Rattle.bb_repetition.specs.Finding.{CountsFinding, IsFinding, IsPair}
 use Rattle.bb_repetition.specs.RecurrenceSeen.{RecurrenceSaw, SawFinding, is_clean}
-use Rattle.bb_repetition.specs.RecurrenceSummary.{IsConfirmedOf, IsFine, IsFineContent, IsPairWindowOf}
+use Rattle.bb_repetition.specs.RecurrenceSummary.{AreEnough, IsConfirmedOf, IsFine, IsFineContent, IsPairWindowOf}
 use Rattle.bb_repetition.specs.RecurrenceSummary.{IsRecurrenceSummary}
+use Rattle.bb_repetition.specs.Recurrence.{CountsRecurrence}
+use Rattle.bb_repetition.proofs.Counting.{shift_no_less}
 use Rattle.bb_repetition.proofs.RecurrenceReplies.{IsCheap, cheap, one_first, one_second}
 
 -- one line has one content
@@ -42,6 +44,24 @@ pub never_both : (line : List ℕ) (t : Table) (v : Verdict) (column : ℕ) → 
     → IsLineOf (Refusal column) line → ⊥
 never_both line t v column claim refusal =
     cc (line_unique (Claim t v) (Refusal column) line claim refusal)
+
+-- ---- the steps of a pair
+
+enough_on : (first second few many : ℕ) → few ≤ many → AreEnough first second few → AreEnough first second many
+enough_on first second few many order are = record {
+  short = λ s. let is = are.short s in omega (arith, is, order);
+  long = λ s. let is = are.long s in omega (arith, is, order);
+}
+
+enough : (first second period steps : ℕ) → CountsRecurrence first second period second steps
+    → AreEnough first second steps
+enough first second period steps counts =
+    let later = shift_no_less first second period counts.tested steps counts.shift in
+    let tested = counts.no_less in
+    record {
+      short = λ s. let is = counts.start.short s in omega (arith, is, tested, later);
+      long = λ s. let is = counts.start.long s in omega (arith, is, tested, later);
+    }
 
 -- ---- one result
 
@@ -63,14 +83,13 @@ module _ (table : Table) (bounds : Bounds) (verdict : Verdict) (uses : LastUses)
   no_fewer : (finding : Finding) (meter : Meter) → IsFinding table bounds verdict uses finding
       → CountsFinding table bounds verdict meter finding → (line : List ℕ) (first second : ℕ)
       → IsLineOf (Claim table verdict) line → IsConfirmedOf bounds line first second
-      → second + (first + second) ≤ meter.steps
+      → AreEnough first second meter.steps
   no_fewer (Recurs found) meter is counts line first second of ok =
       let v = one_verdict line ok.table table ok.verdict verdict ok.of of in
       let names = rw v at ok.names in
       let a = one_first verdict _ _ _ _ names counts.names in
       let b = one_second verdict _ _ _ _ names counts.names in
-      let low = counts.no_less in
-      omega (arith, low, a, b)
+      rw (a, b) (enough counts.first counts.second _ meter.steps counts.counted)
   no_fewer (Answered answer) meter is counts line first second of ok =
       let t = one_table line ok.table table ok.verdict verdict ok.of of in
       let v = one_verdict line ok.table table ok.verdict verdict ok.of of in
@@ -99,11 +118,10 @@ module _ (bounds : Bounds) (accepted : IsAccepted bounds) (lines : List (List �
       λ e. let now = and_parts old.clean (is_clean saw.finding) (sym saw.clean ∙ e) in (now.0, fine now.1),
       λ are. saw.clean ∙ and_from old.clean (is_clean saw.finding) are.0 (clean are.1),
     );
-    steps = all_more (λ other within a b ok. let few = within a b ok in omega (arith, few, steps)) lines
+    steps = all_more (λ other within a b ok. enough_on a b _ _ (omega (arith, steps)) (within a b ok)) lines
         before.steps (λ a b ok.
-        let few = no_fewer saw.table bounds saw.verdict saw.uses saw.finding saw.meter saw.is_finding saw.counted line a b
-        saw.of ok in
-        omega (arith, few, steps));
+        enough_on a b _ _ (omega (arith, steps)) (no_fewer saw.table bounds saw.verdict saw.uses saw.finding saw.meter
+        saw.is_finding saw.counted line a b saw.of ok));
     few_steps = (let few = before.few_steps in let now = cost_is.steps in omega (arith, few, now, steps));
     cells = elim (window_of saw.table bounds saw.verdict saw.uses saw.finding saw.meter saw.is_finding saw.counted) [
       | inl counted ↦ elim counted.1 [

@@ -1,10 +1,9 @@
 -- How long a reply is, by the length of its line.
-use Rattle.std.proofs.Common.{◌≡◌, ℕ, ℤ, pos, negsuc, neg_ℤ, zero, suc, ◌+◌, ◌-◌, ◌*◌, ◌<◌, ◌≤◌, ◌^◌, ◌≤ℤ◌}
+use Rattle.std.proofs.Common.{◌≡◌, ℕ, ℤ, pos, negsuc, neg_ℤ, zero, suc, ◌+◌, ◌-◌, ◌*◌, ◌≤◌, ◌^◌, ◌≤ℤ◌}
 use Rattle.std.proofs.Common.{Bool, true, false, List, [], ◌∷◌, ◌++◌, length, Option, Some, None, MatchOption}
 use Rattle.std.proofs.Common.{refl, ap, inl, inr, codes, decimal, length-append, arith}
 use Rattle.std.proofs.lemmas.Fmt.{length-decimal-le, length_signed_le}
 use Rattle.std.proofs.lemmas.Int.{ints}
-use Rattle.std.proofs.Math.Nat.{mul-le-mul}
 use Rattle.std.specs.Fmt.{signed_decimal}
 use Rattle.std.specs.Int.Signed.{mag}
 use Rattle.std.specs.List.{AllByRecursion, flat_map}
@@ -24,9 +23,9 @@ use Rattle.bb_cert.specs.verdict.Line.{verdict_text}
 use Rattle.bb_cert.specs.claims.Claim.{Claim}
 use Rattle.bb_cert.specs.records.Record.{head_at}
 use Rattle.bb_cert.proofs.Facts.{head_at-is, runs_before, steps_of_never}
-use Rattle.laws_of_repetition.specs.Repetition.{CyclersRepeat, Repeats, RepeatsExactly, TranslatedCyclersRepeat}
+use Rattle.laws_of_repetition.specs.Repetition.{CyclersRepeat, RepeatsExactly, TranslatedCyclersRepeat}
 use Rattle.laws_of_repetition.specs.Shift.{IsShift}
-use Rattle.laws_of_repetition.specs.Uses.{IsLastUse, IsQuasihalt, TablePart, of_state}
+use Rattle.laws_of_repetition.specs.Uses.{IsQuasihalt, TablePart, of_state}
 use Rattle.laws_of_repetition.proofs.Facts.{last_before_start}
 use Rattle.bb_repetition.specs.declared.uses.LastUse.{LastUse}
 use Rattle.bb_repetition.specs.declared.uses.LastUse.TheVariants as last
@@ -34,7 +33,7 @@ use Rattle.bb_repetition.specs.Finding.{NamesPair}
 use Rattle.bb_repetition.specs.Laws.{RecurrenceRepliesAreShort}
 use Rattle.bb_repetition.specs.LastUses.{IsUse, of_entry}
 use Rattle.bb_repetition.specs.Parts.{AreUses, entries_before, row_before, states_before}
-use Rattle.bb_repetition.specs.RecurrenceReply.{AreNumbers, IsRecurrenceReply, Numbers, entries_text, numbers_text}
+use Rattle.bb_repetition.specs.RecurrenceReply.{AreNumbers, Numbers, entries_text, numbers_text}
 use Rattle.bb_repetition.specs.RecurrenceReply.{printed_entries, quasihalt_text, recurrence_text, use_text, uses_text}
 use Rattle.bb_repetition.proofs.ConfirmedPairs.{IsConfirmed, confirmed}
 
@@ -54,7 +53,7 @@ tail_length states symbols (g ∷ gs) are =
     let full = are.0.full in
     omega (arith, rest, both, group_length g, full)
 
-text_length : (gs : Table) → IsMachine gs → length (text gs) + 1 ≡ length gs * (3 * symbols_of gs + 1)
+pub text_length : (gs : Table) → IsMachine gs → length (text gs) + 1 ≡ length gs * (3 * symbols_of gs + 1)
 text_length [] machine = let some = machine.some_state in absurd (omega (arith, some))
 text_length (g ∷ gs) machine =
     omega (arith, tail_length (length (g ∷ gs)) (symbols_of (g ∷ gs)) (g ∷ gs) machine.groups)

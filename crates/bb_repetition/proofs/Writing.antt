@@ -1,6 +1,7 @@
 -- Last uses that are appended one after another, and the whole reply.
 use Rattle.std.proofs.Common.{◌≡◌, ℕ, ◌+◌, true, false, List, [], ◌∷◌, ◌++◌, length, Option, MatchOption}
-use Rattle.std.proofs.Common.{refl, ap, sym, ◌∙◌, codes, add-one, append_assoc, append-nil, ℤ}
+use Rattle.std.proofs.Common.{refl, ap, sym, ◌∙◌, codes, add-one, append_assoc, append-nil, take, ℤ}
+use Rattle.std.proofs.Math.Seq.{take-append_seam}
 use Rattle.bb_machine.specs.Machine.{Table, symbols_of, text}
 use Rattle.laws_of_repetition.specs.Repetition.{RepeatsExactly}
 use Rattle.laws_of_repetition.specs.Shift.{IsShift}
@@ -10,7 +11,7 @@ use Rattle.bb_repetition.specs.LastUses.{IsUse, of_entry}
 use Rattle.bb_repetition.specs.Parts.{AreUses, entries_before, row_before, states_before}
 use Rattle.bb_repetition.specs.RecurrenceReply.{numbers_text, quasihalt_text}
 use Rattle.bb_repetition.specs.RecurrenceReply.{use_text, uses_text}
-use Rattle.bb_repetition.specs.Writing.{AppendsUses, IsNumbersText}
+use Rattle.bb_repetition.specs.Writing.{AppendsUses, BeginsWith, IsNumbersText}
 
 module _ (table : Table) where
   are_uses_both : (a b : List TablePart) (uses more : List LastUse) → AreUses table a uses → AreUses table b more
@@ -67,6 +68,12 @@ module _ (table : Table) where
       rw add-one (appends_both (entries_before symbols k) (row_before k symbols) old mid new before row)
 
 -- ---- the whole reply
+
+-- the beginning of the line
+pub text_of_line : (table : Table) (line : List ℕ) (n : ℕ) → BeginsWith table line → n ≡ length (text table)
+    → take n line ≡ text table
+text_of_line table line n begins is =
+    ap (λ k. take k line) is ∙ ap (take (length (text table))) begins.1 ∙ take-append_seam (text table) begins.0
 
 module _ (table : Table) (start period : ℕ) (shift : ℤ) (quasihalt : Option ℕ)
     (exact : RepeatsExactly table start period) (is_shift : IsShift table start period shift)

@@ -1,5 +1,5 @@
 -- The result for a verdict: this project's own.
-use Rattle.std.specs.Prelude.{◌≡◌, ◌≢◌, ℕ, ◌+◌, ◌-◌, ◌*◌, ◌≤◌, ◌^◌}
+use Rattle.std.specs.Prelude.{◌≡◌, ◌≢◌, ℕ, ◌+◌, ◌≤◌}
 use Rattle.bb_machine.specs.Limits.{Bounds}
 use Rattle.bb_machine.specs.Machine.{Table}
 use Rattle.bb_sim.specs.declared.meter.Meter.{Meter}
@@ -16,6 +16,7 @@ use Rattle.bb_repetition.specs.declared.verdict.Finding.{Finding}
 use Rattle.bb_repetition.specs.declared.verdict.Finding.TheVariants.{Answered, NoPair, Recurs}
 use Rattle.bb_repetition.specs.declared.uses.LastUses.{LastUses}
 use Rattle.bb_repetition.specs.LastUses.{AreSeen}
+use Rattle.bb_repetition.specs.Recurrence.{CountsRecurrence}
 
 -- the verdict is a pair of these steps
 abbrev pub NamesPair : Verdict → ℕ → ℕ → Type 0
@@ -54,18 +55,13 @@ IsFinding table bounds verdict uses (Answered answer) =
     (answer ≢ Ok) × IsAnswer table bounds verdict answer × IsPair verdict
 IsFinding table bounds verdict uses NoPair = NamesNone verdict
 
--- the cost of a recurrence: the second step for the check, both steps for the start and the last uses, at
--- most the period for the shift, and at most four times the distance times its logarithm to base 2 for the
--- least period
+-- the cost of a recurrence: the second step for the check, and then what the recurrence takes
 pub record CountsPair (table : Table) (bounds : Bounds) (verdict : Verdict) (period : ℕ) (meter : Meter)
     : Type 0 where
   pub first : ℕ
   pub second : ℕ
   pub names : NamesPair verdict first second
-  pub no_less : second + (first + second) ≤ meter.steps
-  pub primes : ℕ
-  pub few_primes : 2 ^ primes ≤ second - first
-  pub few : meter.steps ≤ second + (first + second) + period + primes * (4 * (second - first))
+  pub counted : CountsRecurrence first second period second meter.steps
   pub window : CountsWindow table bounds verdict meter.most_cells
   pub no_levels : meter.most_levels ≡ 0
   pub no_nodes : meter.nodes ≡ 0

@@ -1,5 +1,6 @@
 pub mod Factors
 pub mod Finding
+pub mod History
 pub mod LastUses
 pub mod Laws
 pub mod Lockstep

@@ -1,5 +1,5 @@
 -- The summary of the recurrences of a list: this project's own.
-use Rattle.std.specs.Prelude.{◌≡◌, ℕ, ◌+◌, ◌*◌, ◌≤◌, ◌⊎◌, ◌↔◌, IsTrue, List}
+use Rattle.std.specs.Prelude.{◌≡◌, ℕ, ◌+◌, ◌*◌, ◌<◌, ◌≤◌, ◌⊎◌, ◌↔◌, IsTrue, List}
 use Rattle.std.specs.List.{AllByRecursion}
 use Rattle.bb_machine.specs.Limits.{Bounds}
 use Rattle.bb_machine.specs.Machine.{Table}
@@ -33,10 +33,15 @@ pub record IsConfirmedOf (bounds : Bounds) (line : List ℕ) (first second : ℕ
   pub names : NamesPair verdict first second
   pub is_ok : IsAnswer table bounds verdict Ok
 
--- no confirmed pair takes more steps than these to check it, and to find the start and the last uses
+-- so many steps are enough to check a pair, and to find the start and the last uses
+pub record AreEnough (first second steps : ℕ) : Type 0 where
+  pub short : second ≤ 4096 → second + second ≤ steps
+  pub long : 4096 < second → second + (first + second) ≤ steps
+
+-- no confirmed pair takes more than these
 abbrev pub AreConfirmedWithin : Bounds → List (List ℕ) → ℕ → Type 0
 AreConfirmedWithin bounds lines steps = AllByRecursion (λ line. (first second : ℕ)
-    → IsConfirmedOf bounds line first second → second + (first + second) ≤ steps) lines
+    → IsConfirmedOf bounds line first second → AreEnough first second steps) lines
 
 -- the line's pair is replayed, in a window of this width
 pub record IsPairWindowOf (bounds : Bounds) (line : List ℕ) (width : ℕ) : Type 0 where

@@ -1,6 +1,6 @@
 -- The parts of a reply, as they are appended.
 use Rattle.std.specs.Prelude.{◌≡◌, ℕ, Bool, List, ◌++◌}
-use Rattle.bb_machine.specs.Machine.{Table}
+use Rattle.bb_machine.specs.Machine.{Table, text}
 use Rattle.bb_cert.specs.declared.checker.answer.Answer.TheVariants.{Open}
 use Rattle.bb_cert.specs.checker.Answer.{answer_text}
 use Rattle.laws_of_repetition.specs.Repetition.{RepeatsExactly}
@@ -14,6 +14,10 @@ use Rattle.bb_repetition.specs.LastUses.{AreSeenWhole}
 use Rattle.bb_repetition.specs.declared.uses.LastUse.{LastUse}
 use Rattle.bb_repetition.specs.Parts.{AreUses}
 use Rattle.bb_repetition.specs.RecurrenceReply.{AreNumbers, Numbers, recurrence_text, uses_text}
+
+-- the line begins with the text of the machine
+abbrev pub BeginsWith : Table → List ℕ → Type 0
+BeginsWith table line = (rest : List ℕ) × (line ≡ text table ++ rest)
 
 -- the last uses of these parts were appended
 pub record AppendsUses (table : Table) (parts : List TablePart) (old new : List ℕ) : Type 0 where

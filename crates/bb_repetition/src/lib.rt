@@ -4,6 +4,7 @@
 
 mod counts;
 mod factors;
+mod history;
 pub mod laws;
 mod lockstep;
 mod period;

@@ -1,19 +1,21 @@
 //! The least period of a run, from a known one.
 ghost use Rattle.std.specs.Prelude.{◌≡◌, ◌+◌, ◌-◌, ◌*◌, ◌/◌, ◌%◌, ◌<◌, ◌≤◌, ◌^◌, IfOk, IsTrue, OnErr, OnOk};
 ghost use Rattle.laws_of_repetition.specs.Repetition.{IsMultipleOf, Repeats};
-ghost use Rattle.bb_repetition.specs.Lockstep.{IsAt, IsOpen};
+ghost use Rattle.bb_repetition.specs.History.{KeepsRun};
+ghost use Rattle.bb_repetition.specs.Lockstep.{IsOpen};
 ghost use Rattle.bb_repetition.specs.Period.{CountsTests, IsLeastFrom, IsReduced, TellsPeriod};
 ghost use Rattle.bb_repetition.specs.Tapes.{TapesHaveCells};
 
 use crate::factors::{next_divisor, without};
+use crate::history::MAX_RECORDED;
 use crate::lockstep::{are_alike, run_to};
 use crate::recurrence::Tapes;
 use bb_machine::{Limits, Machine};
 use bb_sim::{Meter, Runner};
 use bb_tape::{Memory, Tape};
 
-/// The least period from the first step of a pair on. The saved tape and `saved` are those of this step. It
-/// tests quotients of the distance by primes: at most twice the logarithm of the distance to base 2.
+/// The least period from the first step of a pair on. It tests quotients of the distance by primes: at most
+/// twice the logarithm of the distance to base 2. A test of a recorded run makes no step.
 pub(crate) fn least_period<T: Tape>(
     machine: &Machine,
     limits: &Limits,
@@ -27,13 +29,15 @@ pub(crate) fn least_period<T: Tape>(
     requires order { first < second }
     requires pair { Repeats machine.now first (second - first) }
     requires goes_on { IsOpen machine.now limits.now second }
-    requires at { IsAt machine.now limits.now first saved (T.view tapes.old.pair.saved) }
+    requires kept { KeepsRun T.view machine.now limits.now first second saved tapes.old }
     requires room { meter.old.steps < 2 ^ 48 }
     ensures least { IfOk result (IsLeastFrom machine.now first) }
     ensures within { IfOk result (λ period. first + period ≤ second) }
     ensures no_less { meter.old.steps ≤ meter.new.steps }
     ensures few { CountsTests (second - first) meter.old.steps meter.new.steps }
+    ensures short { second ≤ 4096 → meter.new.steps ≡ meter.old.steps }
     ensures saved { (T.view tapes.new.pair.saved) ≡ (T.view tapes.old.pair.saved) }
+    ensures history { tapes.new.history ≡ tapes.old.history }
     ensures tapes { TapesHaveCells T.view limits.now.cells tapes.new }
     ensures memory { OnErr result (IsTrue T.GROWS) }
 {
@@ -72,12 +76,14 @@ fn reduce<T: Tape>(
     requires within { first + known ≤ second }
     requires repeats { Repeats machine.now first known }
     requires goes_on { IsOpen machine.now limits.now second }
-    requires at { IsAt machine.now limits.now first saved (T.view tapes.old.pair.saved) }
+    requires kept { KeepsRun T.view machine.now limits.now first second saved tapes.old }
     requires room { meter.old.steps + 4 * known < 2 ^ 64 }
     ensures reduced { IfOk result (IsReduced machine.now first known divisor) }
     ensures no_less { meter.old.steps ≤ meter.new.steps }
     ensures few { meter.new.steps ≤ meter.old.steps + 4 * known }
+    ensures short { second ≤ 4096 → meter.new.steps ≡ meter.old.steps }
     ensures saved { (T.view tapes.new.pair.saved) ≡ (T.view tapes.old.pair.saved) }
+    ensures history { tapes.new.history ≡ tapes.old.history }
     ensures tapes { TapesHaveCells T.view limits.now.cells tapes.new }
     ensures memory { OnErr result (IsTrue T.GROWS) }
 {
@@ -112,15 +118,20 @@ fn repeats_with<T: Tape>(
     requires within { first + period ≤ second }
     requires repeats { Repeats machine.now first period }
     requires goes_on { IsOpen machine.now limits.now second }
-    requires at { IsAt machine.now limits.now first saved (T.view tapes.old.pair.saved) }
+    requires kept { KeepsRun T.view machine.now limits.now first second saved tapes.old }
     requires room { meter.old.steps + 2 * period < 2 ^ 64 }
     ensures tells { IfOk result (TellsPeriod machine.now first quotient) }
     ensures no_less { meter.old.steps ≤ meter.new.steps }
     ensures few { meter.new.steps ≤ meter.old.steps + 2 * period }
+    ensures short { second ≤ 4096 → meter.new.steps ≡ meter.old.steps }
     ensures tapes { TapesHaveCells T.view limits.now.cells tapes.new }
     ensures saved { (T.view tapes.new.pair.saved) ≡ (T.view tapes.old.pair.saved) }
+    ensures history { tapes.new.history ≡ tapes.old.history }
     ensures memory { OnErr result (IsTrue T.GROWS) }
 {
+    if second <= MAX_RECORDED {
+        return Ok(tapes.history.repeats(first, quotient, first + period));
+    }
     let Ok(()) = tapes.pair.run.copy_from(&tapes.pair.saved) else {
         return Err(Memory);
     };

@@ -1,14 +1,17 @@
 //! The exact recurrence of a run, from a known pair.
 ghost use Rattle.std.specs.Prelude.{◌≡◌, ◌+◌, ◌-◌, ◌*◌, ◌<◌, ◌≤◌, ◌^◌, IfOk, IsTrue, MatchBool, OnErr, OnOk};
+ghost use Rattle.bb_sim.specs.Runner.{steps_of};
 ghost use Rattle.bb_sim.specs.Span.{Inside};
 ghost use Rattle.laws_of_repetition.specs.Repetition.{Repeats, RepeatsExactly};
 ghost use Rattle.laws_of_repetition.specs.Seen.{IsSeenStart};
 ghost use Rattle.laws_of_repetition.specs.Shift.{IsShift};
+ghost use Rattle.bb_repetition.specs.History.{IsRecorded, KeepsRun};
 ghost use Rattle.bb_repetition.specs.LastUses.{AreSeen};
 ghost use Rattle.bb_repetition.specs.Lockstep.{IsAt, IsNear, IsOpen};
-ghost use Rattle.bb_repetition.specs.Recurrence.{CountsAtMost, CountsRecurrence};
+ghost use Rattle.bb_repetition.specs.Recurrence.{CountsAtMost, CountsRecurrence, CountsShift, CountsStart};
 ghost use Rattle.bb_repetition.specs.Tapes.{TapesHaveCells};
 
+use crate::history::{History, MAX_RECORDED};
 use crate::lockstep::{has_same_transition, run_to, step};
 use crate::period::least_period;
 use crate::uses::LastUses;
@@ -35,14 +38,18 @@ pub struct Tapes<T> {
     pub pair: Pair<T>,
     /// The tape of the run ahead.
     pub ahead: T,
+    // The entries that a short run uses.
+    pub(crate) history: History,
 }
 
 /// Finds the exact recurrence of a run. It repeats from `first` on, and the distance to `second` is a period.
 /// `second` is inside the limits, and no step is made past it. Resets `uses`, and records there the last uses
 /// up to `second`.
 ///
-/// The steps are counted in `meter`: `first + second` for the start and the last uses, at most the period for
-/// the shift, and at most 4 * log2(`second - first`) times the distance for the least period.
+/// The steps are counted in `meter`. A run of at most 4,096 steps is made once and recorded: it costs `second`,
+/// and `first` and the period more if the period is less than the distance. A longer one costs
+/// `first + second` for the start and the last uses, the period for the shift if that is less than the
+/// distance, and at most 4 * log2(`second - first`) times the distance for the least period.
 ///
 /// After an error the contents of the tapes are unspecified; the next call resets them.
 pub fn find_recurrence<T: Tape>(
@@ -73,9 +80,6 @@ pub fn find_recurrence<T: Tape>(
     limits.show_accepted();
     uses.reset(machine);
     let (start, saved, whole) = find_start(machine, limits, first, second, tapes, uses, meter)?;
-    let Ok(()) = tapes.pair.saved.copy_from(&tapes.pair.run) else {
-        return Err(Memory);
-    };
     let period = least_period(machine, limits, saved, first, second, tapes, meter)?;
     let shift = find_shift(
         machine, limits, saved, first, period, second, whole, tapes, meter,
@@ -87,9 +91,9 @@ pub fn find_recurrence<T: Tape>(
     })
 }
 
-/// Advances a run to the first step of a pair, and one ahead of it to the second. Returns the first step from
-/// which on both use the same transitions, the runner at the first step of the pair, and the distance of the
-/// head from there to the second step. Records the last uses up to the second step.
+/// The first step from which on the run uses the same transitions as from `second - first` steps later on; the
+/// runner at the first step of the pair; and how many cells the head is farther to the right at the second.
+/// Records the last uses up to the second step.
 fn find_start<T: Tape>(
     machine: &Machine,
     limits: &Limits,
@@ -104,8 +108,131 @@ fn find_start<T: Tape>(
     requires order { first ≤ second }
     requires room { meter.old.steps + first + second < 2 ^ 64 }
     requires seen { AreSeen machine.now 0 uses.old }
+    ensures kept { IfOk result (λ found.
+        KeepsRun T.view machine.now limits.now first second found.1 tapes.new) }
+    ensures start { IfOk result (λ found. IsSeenStart machine.now first (second - first) found.0) }
+    ensures shift { IfOk result (λ found. IsShift machine.now first (second - first) found.2) }
+    ensures near { IfOk result (λ found. IsNear found.2) }
+    ensures uses { OnOk result (AreSeen machine.now second uses.new) }
+    ensures counted { OnOk result (CountsStart first second meter.old.steps meter.new.steps) }
+    ensures few { meter.new.steps ≤ meter.old.steps + first + second }
+    ensures tapes { TapesHaveCells T.view limits.now.cells tapes.new }
+    ensures memory { OnErr result (IsTrue T.GROWS) }
+{
+    if second <= MAX_RECORDED {
+        start_of_short(machine, limits, first, second, tapes, uses, meter)
+    } else {
+        start_of_long(machine, limits, first, second, tapes, uses, meter)
+    }
+}
+
+/// Makes one run up to the second step of a pair, and records it.
+fn start_of_short<T: Tape>(
+    machine: &Machine,
+    limits: &Limits,
+    first: u64,
+    second: u64,
+    tapes: &mut Tapes<T>,
+    uses: &mut LastUses,
+    meter: &mut Meter,
+) -> Result<(u64, Runner, i64), Memory>
+    requires goes_on { IsOpen machine.now limits.now second }
+    requires tapes { TapesHaveCells T.view limits.now.cells tapes.old }
+    requires order { first ≤ second }
+    requires short { second ≤ MAX_RECORDED }
+    requires room { meter.old.steps + second < 2 ^ 64 }
+    requires seen { AreSeen machine.now 0 uses.old }
+    ensures recorded { OnOk result (IsRecorded machine.now second tapes.new.history) }
+    ensures start { IfOk result (λ found. IsSeenStart machine.now first (second - first) found.0) }
+    ensures shift { IfOk result (λ found. IsShift machine.now first (second - first) found.2) }
+    ensures near { IfOk result (λ found. IsNear found.2) }
+    ensures uses { OnOk result (AreSeen machine.now second uses.new) }
+    ensures counted { OnOk result (meter.new.steps ≡ meter.old.steps + second) }
+    ensures few { meter.new.steps ≤ meter.old.steps + second }
+    ensures tapes { TapesHaveCells T.view limits.now.cells tapes.new }
+    ensures memory { OnErr result (IsTrue T.GROWS) }
+{
+    let mut runner = Runner::start(machine, &mut tapes.pair.run);
+    record_to(
+        machine,
+        limits,
+        &mut runner,
+        first,
+        second,
+        tapes,
+        uses,
+        meter,
+    )?;
+    let saved = runner;
+    record_to(
+        machine,
+        limits,
+        &mut runner,
+        second,
+        second,
+        tapes,
+        uses,
+        meter,
+    )?;
+    let start = tapes.history.start(first, second - first);
+    Ok((start, saved, runner.position() - saved.position()))
+}
+
+/// Advances a run to a step, and records its entries and last uses.
+fn record_to<T: Tape>(
+    machine: &Machine,
+    limits: &Limits,
+    runner: &mut Runner,
+    to: u64,
+    last: u64,
+    tapes: &mut Tapes<T>,
+    uses: &mut LastUses,
+    meter: &mut Meter,
+) -> Result<(), Memory>
+    requires goes_on { IsOpen machine.now limits.now last }
+    requires tapes { TapesHaveCells T.view limits.now.cells tapes.old }
+    requires at { IsAt machine.now limits.now (steps_of runner.old) runner.old (T.view tapes.old.pair.run) }
+    requires later { steps_of runner.old ≤ to }
+    requires within { to ≤ last }
+    requires short { last ≤ MAX_RECORDED }
+    requires room { meter.old.steps + (to - steps_of runner.old) < 2 ^ 64 }
+    requires seen { AreSeen machine.now (steps_of runner.old) uses.old }
+    requires recorded { IsRecorded machine.now (steps_of runner.old) tapes.old.history }
+    ensures at { OnOk result (IsAt machine.now limits.now to runner.new (T.view tapes.new.pair.run)) }
+    ensures uses { OnOk result (AreSeen machine.now to uses.new) }
+    ensures recorded { OnOk result (IsRecorded machine.now to tapes.new.history) }
+    ensures counted { OnOk result
+        (meter.new.steps ≡ meter.old.steps + (to - steps_of runner.old)) }
+    ensures few { meter.new.steps ≤ meter.old.steps + (to - steps_of runner.old) }
+    ensures tapes { TapesHaveCells T.view limits.now.cells tapes.new }
+    ensures memory { OnErr result (IsTrue T.GROWS) }
+{
+    while runner.steps() < to {
+        let place = uses.record(machine, limits, runner, &tapes.pair.run);
+        tapes.history.record(runner.steps(), place);
+        step(machine, runner, &mut tapes.pair.run, limits, last, meter)?;
+    }
+    Ok(())
+}
+
+/// Advances a run to the first step of a pair, and one ahead of it to the second. Saves the tape of the first
+/// step.
+fn start_of_long<T: Tape>(
+    machine: &Machine,
+    limits: &Limits,
+    first: u64,
+    second: u64,
+    tapes: &mut Tapes<T>,
+    uses: &mut LastUses,
+    meter: &mut Meter,
+) -> Result<(u64, Runner, i64), Memory>
+    requires goes_on { IsOpen machine.now limits.now second }
+    requires tapes { TapesHaveCells T.view limits.now.cells tapes.old }
+    requires order { first ≤ second }
+    requires room { meter.old.steps + first + second < 2 ^ 64 }
+    requires seen { AreSeen machine.now 0 uses.old }
     ensures at { IfOk result (λ found.
-        IsAt machine.now limits.now first found.1 (T.view tapes.new.pair.run)) }
+        IsAt machine.now limits.now first found.1 (T.view tapes.new.pair.saved)) }
     ensures start { IfOk result (λ found. IsSeenStart machine.now first (second - first) found.0) }
     ensures shift { IfOk result (λ found. IsShift machine.now first (second - first) found.2) }
     ensures near { IfOk result (λ found. IsNear found.2) }
@@ -133,10 +260,13 @@ fn find_start<T: Tape>(
         meter,
     )?;
     let whole = ahead.position() - runner.position();
+    let Ok(()) = tapes.pair.saved.copy_from(&tapes.pair.run) else {
+        return Err(Memory);
+    };
     Ok((start, runner, whole))
 }
 
-/// Advances both runs of `find_start` to the two steps of a pair.
+/// Advances both runs of `start_of_long` to the two steps of a pair.
 fn follow<T: Tape>(
     machine: &Machine,
     limits: &Limits,
@@ -184,9 +314,8 @@ fn start_after(start: u64, step: u64, same: bool) -> u64
     if same { start } else { step + 1 }
 }
 
-/// The distance of the head in a period after the first step of a pair. The saved tape and `saved` are those
-/// of this step, and `whole` is the distance up to the second step: a run is needed only for a smaller
-/// period.
+/// How many cells the head is farther to the right a period after the first step of a pair. `whole` is that of
+/// the second step: a run is needed only for a smaller period.
 fn find_shift<T: Tape>(
     machine: &Machine,
     limits: &Limits,
@@ -201,24 +330,23 @@ fn find_shift<T: Tape>(
     requires tapes { TapesHaveCells T.view limits.now.cells tapes.old }
     requires within { first + period ≤ second }
     requires goes_on { IsOpen machine.now limits.now second }
-    requires at { IsAt machine.now limits.now first saved (T.view tapes.old.pair.saved) }
+    requires kept { KeepsRun T.view machine.now limits.now first second saved tapes.old }
     requires whole { IsShift machine.now first (second - first) whole }
     requires near { IsNear whole }
-    requires room { meter.old.steps + period < 2 ^ 64 }
+    requires room { meter.old.steps + first + period < 2 ^ 64 }
     ensures shift { IfOk result (IsShift machine.now first period) }
     ensures near { IfOk result IsNear }
-    ensures no_less { meter.old.steps ≤ meter.new.steps }
-    ensures few { meter.new.steps ≤ meter.old.steps + period }
+    ensures counted { OnOk result (CountsShift first second period meter.old.steps meter.new.steps) }
+    ensures few_short { second ≤ MAX_RECORDED → meter.new.steps ≤ meter.old.steps + first + period }
+    ensures few_long { MAX_RECORDED < second → meter.new.steps ≤ meter.old.steps + period }
     ensures tapes { TapesHaveCells T.view limits.now.cells tapes.new }
     ensures memory { OnErr result (IsTrue T.GROWS) }
 {
     if period == second - first {
         return Ok(whole);
     }
-    let Ok(()) = tapes.pair.run.copy_from(&tapes.pair.saved) else {
-        return Err(Memory);
-    };
-    let mut runner = saved;
+    let mut runner = run_to_first(machine, limits, saved, first, second, tapes, meter)?;
+    let from = runner.position();
     run_to(
         machine,
         &mut runner,
@@ -228,5 +356,47 @@ fn find_shift<T: Tape>(
         second,
         meter,
     )?;
-    Ok(runner.position() - saved.position())
+    Ok(runner.position() - from)
+}
+
+/// A run at the first step of a pair: a saved one, or a new one if the run is short.
+fn run_to_first<T: Tape>(
+    machine: &Machine,
+    limits: &Limits,
+    saved: Runner,
+    first: u64,
+    second: u64,
+    tapes: &mut Tapes<T>,
+    meter: &mut Meter,
+) -> Result<Runner, Memory>
+    requires tapes { TapesHaveCells T.view limits.now.cells tapes.old }
+    requires order { first ≤ second }
+    requires goes_on { IsOpen machine.now limits.now second }
+    requires kept { KeepsRun T.view machine.now limits.now first second saved tapes.old }
+    requires room { meter.old.steps + first < 2 ^ 64 }
+    ensures at { IfOk result (λ runner.
+        IsAt machine.now limits.now first runner (T.view tapes.new.pair.run)) }
+    ensures short { second ≤ MAX_RECORDED → OnOk result (meter.new.steps ≡ meter.old.steps + first) }
+    ensures long { MAX_RECORDED < second → meter.new.steps ≡ meter.old.steps }
+    ensures few { meter.new.steps ≤ meter.old.steps + first }
+    ensures tapes { TapesHaveCells T.view limits.now.cells tapes.new }
+    ensures memory { OnErr result (IsTrue T.GROWS) }
+{
+    if second > MAX_RECORDED {
+        let Ok(()) = tapes.pair.run.copy_from(&tapes.pair.saved) else {
+            return Err(Memory);
+        };
+        return Ok(saved);
+    }
+    let mut runner = Runner::start(machine, &mut tapes.pair.run);
+    run_to(
+        machine,
+        &mut runner,
+        &mut tapes.pair.run,
+        limits,
+        first,
+        second,
+        meter,
+    )?;
+    Ok(runner)
 }

@@ -5,7 +5,7 @@ ghost use Rattle.bb_lines.specs.Watched.{is_marked, watched_inner};
 ghost use Rattle.bb_repetition.specs.RecurrenceEnds.{RecurrenceEnds};
 ghost use Rattle.bb_repetition.specs.RecurrenceSeen.{is_clean};
 ghost use Rattle.bb_repetition.specs.Tapes.{TapesHaveCells};
-ghost use Rattle.bb_repetition.specs.Writing.{IsFindingText, IsKnown};
+ghost use Rattle.bb_repetition.specs.Writing.{BeginsWith, IsFindingText, IsKnown};
 
 use crate::counts::RecurrenceCounts;
 use crate::recurrence::Tapes;
@@ -125,6 +125,7 @@ impl<T: Tape> Responder for Finder<'_, T> {
         };
         finding_into(
             &self.machine,
+            line,
             &finding,
             &self.uses,
             self.entries,
@@ -139,15 +140,18 @@ impl<T: Tape> Responder for Finder<'_, T> {
     }
 }
 
-/// Writes the reply to a verdict on a machine into the empty text, and counts it.
+/// Writes the reply to a verdict on a machine into the empty text, and counts it. The line begins with the
+/// machine's text.
 fn finding_into(
     machine: &Machine,
+    line: &[u8],
     finding: &Finding,
     uses: &LastUses,
     entries: bool,
     counts: &RecurrenceCounts,
     text: &mut ArrayVec<u8, REPLY>,
 )
+    requires line { BeginsWith machine.now line.now }
     requires known { IsKnown machine.now uses.now finding.now }
     requires empty { text.old.items ≡ [] }
     ensures { IsFindingText machine.now entries finding.now text.new.items }
@@ -156,7 +160,7 @@ fn finding_into(
         Finding::Recurs(found) => {
             let quasihalt = uses.quasihalt(machine, found.start);
             counts.add_recurrence(quasihalt.is_some());
-            recurrence_into(machine, found, uses, quasihalt, entries, text);
+            recurrence_into(machine, line, found, uses, quasihalt, entries, text);
         }
         Finding::Answered(answer) => {
             counts.add_answer(*answer);

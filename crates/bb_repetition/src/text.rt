@@ -1,35 +1,37 @@
 //! The reply to a confirmed pair, written.
 ghost use Rattle.std.specs.Prelude.{◌≡◌, ℕ, ◌+◌, ◌<◌, ◌≤◌, [], ◌++◌, codes, decimal, length, MatchOption};
 ghost use Rattle.arrayvec.specs.ArrayVec.{array_vec_len};
-ghost use Rattle.bb_machine.specs.Machine.{symbols_of};
+ghost use Rattle.bb_machine.specs.Machine.{symbols_of, text};
 ghost use Rattle.laws_of_repetition.specs.Repetition.{RepeatsExactly};
 ghost use Rattle.laws_of_repetition.specs.Shift.{IsShift};
 ghost use Rattle.laws_of_repetition.specs.Uses.{IsQuasihalt};
 ghost use Rattle.bb_repetition.specs.LastUses.{AreSeenWhole};
 ghost use Rattle.bb_repetition.specs.Parts.{entries_before, row_before, states_before};
 ghost use Rattle.bb_repetition.specs.RecurrenceReply.{numbers_text, quasihalt_text, use_text};
-ghost use Rattle.bb_repetition.specs.Writing.{AppendsUses, IsNumbersText};
+ghost use Rattle.bb_repetition.specs.Writing.{AppendsUses, BeginsWith, IsNumbersText};
 
 use crate::recurrence::Recurrence;
 use crate::uses::{LastUse, LastUses};
 use arrayvec::ArrayVec;
 use bb_lines::responder::REPLY;
-use bb_machine::Machine;
+use bb_machine::{LINE, Machine};
 use itoa::Buffer;
 
 /// The text of a reply.
 pub(crate) type Text = ArrayVec<u8, REPLY>;
 
 /// Writes a machine and its recurrence into the empty text, with the last use of each entry if `entries`. The
-/// longest has 6,659 bytes.
+/// machine's text is the beginning of `line`. The longest has 6,659 bytes.
 pub(crate) fn recurrence_into(
     machine: &Machine,
+    line: &[u8],
     found: &Recurrence,
     uses: &LastUses,
     quasihalt: Option<u64>,
     entries: bool,
     text: &mut Text,
 )
+    requires line { BeginsWith machine.now line.now }
     requires exact { RepeatsExactly machine.now found.now.start found.now.period }
     requires shift { IsShift machine.now found.now.start found.now.period found.now.shift }
     requires seen { AreSeenWhole machine.now found.now.start uses.now }
@@ -39,8 +41,7 @@ pub(crate) fn recurrence_into(
     ensures numbers { IsNumbersText machine.now entries text.new.items }
     ensures short { array_vec_len text.new ≤ 6659 }
 {
-    machine.show_machine();
-    machine.text_into(text);
+    append(machine_text(machine, line), text);
     numbers_into(found, text);
     states_into(machine, uses, found.start, text);
     quasihalt_into(quasihalt, text);
@@ -48,6 +49,17 @@ pub(crate) fn recurrence_into(
         append(b" entries", text);
         entries_into(machine, uses, found.start, text);
     }
+}
+
+/// The machine's text, at the beginning of its line.
+fn machine_text<'a>(machine: &Machine, line: &'a [u8]) -> &'a [u8]
+    requires line { BeginsWith machine.now line.now }
+    ensures text { result.now ≡ text machine.now }
+    ensures short { length result.now ≤ LINE }
+{
+    machine.show_machine();
+    let group = 3 * machine.symbols() as usize;
+    &line[..machine.states() as usize * (group + 1) - 1]
 }
 
 /// Appends the start, the period and the shift.

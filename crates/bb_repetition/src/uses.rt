@@ -2,8 +2,10 @@
 ghost use Rattle.std.specs.Prelude.{◌≡◌, ℕ, ◌+◌, ◌*◌, ◌<◌, ◌≤◌, ◌^◌, length, max, MatchOption};
 ghost use Rattle.bb_machine.specs.Machine.{IsMachine, Table, symbols_of};
 ghost use Rattle.bb_tape.specs.TapeView.{IsInside};
+ghost use Rattle.bb_sim.specs.Run.{Never};
 ghost use Rattle.bb_sim.specs.Runner.{position_of, steps_of};
 ghost use Rattle.laws_of_repetition.specs.Uses.{IsQuasihalt, of_state};
+ghost use Rattle.bb_repetition.specs.History.{UsesPlace};
 ghost use Rattle.bb_repetition.specs.Lockstep.{IsAt};
 ghost use Rattle.bb_repetition.specs.LastUses.{AreSeen, AreSeenWhole, IsSeenUse, IsUse, of_entry, IsUseBy};
 
@@ -50,7 +52,7 @@ impl LastUses {
         self.after[..MAX_SYMBOLS * machine.states() as usize].fill(0);
     }
 
-    /// Records the entry of a runner's next step.
+    /// Records the entry of a runner's next step, and returns its place.
     #[inline(always)]
     pub(crate) fn record<T: Tape>(
         &mut self,
@@ -58,20 +60,22 @@ impl LastUses {
         limits: &Limits,
         runner: &Runner,
         tape: &T,
-    )
+    ) -> u8
         requires at { IsAt machine.now limits.now (steps_of runner.now) runner.now (T.view tape.now) }
         requires inside { IsInside (T.view tape.now) (position_of runner.now) }
         requires room { steps_of runner.now + 1 < 2 ^ 64 }
         requires seen { AreSeen machine.now (steps_of runner.now) self.old }
-        ensures { AreSeen machine.now (steps_of runner.now + 1) self.new }
+        ensures uses { AreSeen machine.now (steps_of runner.now + 1) self.new }
+        ensures place { Never machine.now → UsesPlace machine.now (steps_of runner.now) result }
     {
         machine.show_machine();
         match runner.state() {
             Some(state) => {
-                let symbol = tape.read_inside(runner.position());
-                self.after[index_of(state, symbol)] = runner.steps() + 1;
+                let place = place_of(state, tape.read_inside(runner.position()));
+                self.after[place as usize] = runner.steps() + 1;
+                place
             }
-            None => {}
+            None => 0,
         }
     }
 
@@ -93,7 +97,7 @@ impl LastUses {
         ensures { IsUse machine.now (of_entry state symbol) result }
     {
         machine.show_machine();
-        use_before(self.after[index_of(state, symbol)], start)
+        use_before(self.after[place_of(state, symbol) as usize], start)
     }
 
     /// The number of steps after which the machine quasihalts, if the run repeats from `start` on, and the
@@ -119,20 +123,20 @@ impl LastUses {
     {
         let mut after = 0;
         for symbol in 0..machine.symbols() {
-            after = after.max(self.after[index_of(state, symbol)]);
+            after = after.max(self.after[place_of(state, symbol) as usize]);
         }
         after
     }
 }
 
-/// The place of an entry among the last uses.
+/// The place of an entry among the last uses: the entries of state A come first, then those of B.
 #[inline(always)]
-fn index_of(state: u8, symbol: u8) -> usize
+fn place_of(state: u8, symbol: u8) -> u8
     requires state { state < MAX_STATES }
     requires symbol { symbol < MAX_SYMBOLS }
     ensures { result ≡ MAX_SYMBOLS * state + symbol }
 {
-    MAX_SYMBOLS * state as usize + symbol as usize
+    MAX_SYMBOLS as u8 * state + symbol
 }
 
 /// The greatest of some last uses, plus 1, 0 without one, with one state more: it has a last use if the step

@@ -1,4 +1,5 @@
 use Rattle.std.proofs.Common.{◌∙◌, arith, refl}
+use Rattle.bb_repetition.proofs.Histories.{kept_on}
 use Rattle.bb_repetition.proofs.Reductions.{at_least, counts_at_first, counts_early, counts_more, least_at_end}
 use Rattle.bb_repetition.proofs.Reductions.{less_of_remainder, rest_within, room_for_test, tried_at_first, tried_more}
 use Rattle.bb_repetition.proofs.period.least_period.Goals as goal
@@ -7,7 +8,9 @@ pub loop-rest-init : goal.loop-rest-init
 loop-rest-init g c = record {
   saved = refl;
   tapes = c.requires.tapes;
-  at = c.requires.at;
+  history = refl;
+  kept = c.requires.kept;
+  short = λ few. refl;
   above = omega arith;
   tried = tried_at_first _ _ _ c.requires.pair;
   no_less = omega arith;
@@ -41,7 +44,9 @@ loop-rest-preserved-then-rest-divisor-eq0 g c =
     record {
       saved = c.in_ok-period.ensures.saved ∙ here.saved;
       tapes = c.reduce.ensures.tapes;
-      at = rw c.in_ok-period.ensures.saved here.at;
+      history = c.in_ok-period.ensures.history ∙ here.history;
+      kept = kept_on _ _ _ _ _ _ _ _ c.in_ok-period.ensures.saved c.in_ok-period.ensures.history here.kept;
+      short = λ few. c.in_ok-period.ensures.short few ∙ here.short few;
       above = omega (arith, above);
       tried = tried_more _ _ _ _ _ _ here.tried here.above c.if-rest-divisor-eq0.true _ _
           c.in_ok-period.ensures.reduced c.without-rest.ensures;
@@ -59,3 +64,10 @@ pub returns-clause-least : goal.returns-clause-least
 returns-clause-least g c =
     let here = c.loop-rest.invariant in
     least_at_end _ _ _ _ _ _ c.loop-rest-test.false here.tried
+
+pub loop-rest-smaller-then-rest-divisor-eq0 : goal.loop-rest-smaller-then-rest-divisor-eq0
+loop-rest-smaller-then-rest-divisor-eq0 g c =
+    let here = c.loop-rest.invariant in
+    let low = at_least _ _ c.loop-rest-test.true here.tried.none in
+    let half = c.without-rest.ensures.half c.if-rest-divisor-eq0.true in
+    omega (arith, low, half, c.loop-rest-test.true)

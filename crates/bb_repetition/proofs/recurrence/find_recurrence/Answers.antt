@@ -1,5 +1,6 @@
-use Rattle.std.proofs.Common.{arith}
+use Rattle.std.proofs.Common.{◌+◌, arith}
 use Rattle.std.proofs.lemmas.Int.{ints}
+use Rattle.bb_repetition.proofs.Counting.{at_most}
 use Rattle.bb_repetition.proofs.Quotients.{exact_of_parts, shift_of_start}
 use Rattle.bb_repetition.proofs.Reductions.{room_after_tests}
 use Rattle.bb_repetition.proofs.recurrence.find_recurrence.Goals as goal
@@ -10,12 +11,23 @@ find_shift-requires-clause-room g c =
     let inside = c.requires.inside in
     let few = c.least_period.ensures.few in
     let within = c.in_ok-period.ensures.within in
-    let started = c.in_ok-start.ensures.counted in
+    let started = c.in_ok-start.ensures.few in
     let order = c.requires.order in
     let room = c.requires.room in
     let steps = inside.within_steps in
-    room_after_tests _ _ _ _ few (omega (arith, steps, accepted.steps))
-    (omega (arith, started, room, order, steps, accepted.steps)) (omega (arith, within, order, steps, accepted.steps))
+    let enough = room_after_tests _ _ _ (c.args.first + c.in_ok-period.period) few (omega (arith, steps, accepted.steps))
+    (omega (arith, started, room, order, steps, accepted.steps)) (omega (arith, within, order, steps, accepted.steps)) in
+    omega (arith, enough)
+
+pub returns-in_err-shift-clause-few : goal.returns-in_err-shift-clause-few
+returns-in_err-shift-clause-few g c =
+    at_most _ _ _ _ _ _ _ c.in_ok-start.ensures.counted c.in_ok-period.ensures.few c.in_ok-period.ensures.short
+    c.in_ok-period.ensures.within c.find_shift.ensures.few_short c.find_shift.ensures.few_long
+
+pub returns-clause-few : goal.returns-clause-few
+returns-clause-few g c =
+    at_most _ _ _ _ _ _ _ c.in_ok-start.ensures.counted c.in_ok-period.ensures.few c.in_ok-period.ensures.short
+    c.in_ok-period.ensures.within c.in_ok-shift.ensures.few_short c.in_ok-shift.ensures.few_long
 
 pub returns-clause-exact : goal.returns-clause-exact
 returns-clause-exact g c =

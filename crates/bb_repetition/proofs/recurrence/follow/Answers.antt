@@ -26,7 +26,7 @@ loop-runner-preserved g c =
           (transition_of_runner _ _ _ _ _ here.ahead) c.has_same_transition-same.ensures
           (rw c.steps-in-loop-runner.ensures at c.start_after-start.ensures) here.seen_start);
       seen_uses = subst (λ k. AreSeen c.args.machine.now k c.record.new.self) (sym ahead_steps)
-          c.record.ensures;
+          c.record.ensures.uses;
       counted = omega (
         arith,
         here.counted,

@@ -3,7 +3,7 @@ use Rattle.std.proofs.lemmas.Int.{ints}
 use Rattle.bb_sim.specs.Runner.{steps_of}
 use Rattle.bb_repetition.specs.LastUses.{AreSeen}
 use Rattle.bb_repetition.proofs.GoingOn.{inside_of, one_on, shift_is, small_head}
-use Rattle.bb_repetition.proofs.recurrence.find_start.Goals as goal
+use Rattle.bb_repetition.proofs.recurrence.start_of_long.Goals as goal
 
 pub follow-requires-clause-seen : goal.follow-requires-clause-seen
 follow-requires-clause-seen g c =

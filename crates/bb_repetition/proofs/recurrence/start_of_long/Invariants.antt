@@ -3,7 +3,7 @@ use Rattle.bb_sim.specs.Runner.{steps_of}
 use Rattle.bb_repetition.specs.LastUses.{AreSeen}
 use Rattle.bb_repetition.specs.Lockstep.{IsAt}
 use Rattle.bb_repetition.specs.Tapes.{TapesHaveCells}
-use Rattle.bb_repetition.proofs.recurrence.find_start.Given as goal
+use Rattle.bb_repetition.proofs.recurrence.start_of_long.Given as goal
 
 -- the run ahead has come so far, and the other one stays at its start
 abbrev pub invariant-loop-uses : goal.invariant-loop-uses
