@@ -14,7 +14,7 @@ use Rattle.bb_sim.specs.Run.{conf}
 use Rattle.bb_sim.proofs.Facts.{run_named}
 use Rattle.laws_of_repetition.specs.Repetition.{Transition, transition_at, transition_of}
 use Rattle.laws_of_repetition.proofs.Facts.{used_by}
-use Rattle.laws_of_repetition.specs.Uses.{IsLastUse, TablePart, Uses, of_state}
+use Rattle.laws_of_repetition.specs.Uses.{IsLastUse, NeverUses, TablePart, Uses, of_state}
 use Rattle.bb_repetition.specs.declared.uses.LastUse.{LastUse}
 use Rattle.bb_repetition.specs.declared.uses.LastUse.TheVariants as last
 use Rattle.bb_repetition.specs.declared.uses.LastUses.{LastUses}
@@ -97,6 +97,13 @@ pub names_table : (table : Table) → IsMachine table → (m : ℕ) (t : Transit
     → IsNextOf (length table) t.state × (t.symbol < symbols_of table)
 unfolding transition_at
 names_table table machine m t at = named_transition table machine m t (conf table m) refl at
+
+-- a state that isn't in the table
+pub no_such_state : (table : Table) → IsMachine table → (q : ℕ) → length table ≤ q → NeverUses table (of_state q)
+no_such_state table machine q past n uses =
+    let named = names_table table machine n uses.transition uses.at in
+    let below = subst (IsNextOf (length table)) uses.is_in named.0 in
+    omega (arith, below, past)
 
 -- ---- a state, by its entries
 

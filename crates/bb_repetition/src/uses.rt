@@ -80,12 +80,14 @@ impl LastUses {
     }
 
     /// The last use of a state, by a run that repeats from `start` on, if the uses are those up to the end of
-    /// a first period or later.
+    /// a first period or later. A state that the machine hasn't is never used.
     pub fn last_use(&self, machine: &Machine, state: u8, start: u64) -> LastUse
-        requires state { state < length machine.now }
         requires seen { AreSeenWhole machine.now start self.now }
         ensures { IsUse machine.now (of_state state) result }
     {
+        if state >= machine.states() {
+            return LastUse::Never;
+        }
         use_before(self.step_after(machine, state), start)
     }
 
