@@ -1,12 +1,12 @@
-//! The limit beside which `measure.py` puts the program and its peer: what plain Rust can do for lists of
-//! machines of two symbols and up to seven states where nothing but time counts.
+//! The limit beside the yardstick of `measure.py`: what plain Rust can do where nothing but time counts.
 //!
-//! It takes the words of `peer` and writes the same bytes. A table is two words. A tape of up to 64 cells
-//! is a word, and the head a bit of it, so that all of a step is in registers and configurations are
-//! compared exactly. A run that needs more cells starts again on a flat tape, of which 64 cells at a time are
-//! in registers. One count of steps ends at the limit and at the next power of two alike. The tree of
-//! what could come before a halt is that of `peer`, and so is the reading of lines that are refused.
-//! It proves nothing, and is no part of the program. Build it by `rustc -O -C codegen-units=1 main.rs`.
+//! It takes the words of `peer` for one run and writes the same bytes, for machines of two symbols and up to
+//! seven states. A machine's table is two words. A tape of up to 63 cells is one word and the head one bit, so
+//! that a step takes registers alone, and configurations are compared exactly. A run that needs more cells
+//! begins again on a flat tape, of which 64 cells at a time are in registers. One count of steps ends both at
+//! the limit and at the next power of two. The tree of what could come before a halt is that of `peer`, and
+//! so is the column of a refusal. It proves nothing, and is no part of the program. Build it by
+//! `rustc -O -C codegen-units=1 main.rs`, as `peer`.
 
 #[path = "../peer/machine.rs"]
 #[allow(dead_code)]
@@ -32,22 +32,15 @@ use table::Table;
 use text::{Answers, Lines};
 use walk::{Frame, backward};
 
+/// Two records that agree: their side and steps, how far the two are apart, and how many cells agree.
+pub type Translated = (char, u64, u64, usize, usize);
+
 /// The verdict of a machine, in the order of the deciders.
 pub enum Verdict {
-    Halt {
-        steps: u64,
-        score: u64,
-    },
-    Cycler {
-        first: u64,
-        second: u64,
-    },
-    /// The side, both steps, the shift and the length.
-    Translated((char, u64, u64, usize, usize)),
-    Backward {
-        levels: usize,
-        nodes: u64,
-    },
+    Halt { steps: u64, score: u64 },
+    Cycler { first: u64, second: u64 },
+    Translated(Translated),
+    Backward { levels: usize, nodes: u64 },
     NoSteps,
     NoCells,
 }
@@ -151,10 +144,13 @@ fn decide<const CYCLES: bool, const RECORDS: bool>(limits: &Limits) -> io::Resul
             }
             answers.add(line, length, &verdict)?;
             lines.pass(length);
-        } else if let Err(refused) = Machine::read(&lines.take()?) {
-            is_clean = false;
-            answers.refuse(refused.front + 1)?;
+            continue;
         }
+        match Machine::read(&lines.take()?) {
+            Ok(_) => unreachable!("all machines are read above"),
+            Err(refused) => answers.refuse(refused.front + 1)?,
+        }
+        is_clean = false;
     }
     answers.flush()?;
     Ok(is_clean)

@@ -6,8 +6,8 @@ use crate::search::{End, Tape};
 use crate::table::{RIGHT, STATE};
 use crate::{Limits, Verdict};
 
-/// The most cells where the head may have been.
-const MOST_CELLS: usize = 63;
+/// The most cells where the head may have been. With `--cfg flat` nearly all runs go to the flat tape.
+const MOST_CELLS: usize = if cfg!(flat) { 1 } else { 63 };
 /// A state that no entry has.
 const NO_STATE: u64 = 63;
 
@@ -77,13 +77,8 @@ impl Narrow {
         if differing & inside | (side.entry ^ run.entry) & STATE == 0 {
             let length = inside.count_ones() as usize;
             let letter = if is_right { 'R' } else { 'L' };
-            return Some(Verdict::Translated((
-                letter,
-                side.step,
-                step,
-                shift as usize,
-                length,
-            )));
+            let shift = shift as usize;
+            return Some(Verdict::Translated((letter, side.step, step, shift, length)));
         }
         if side.count.is_power_of_two() {
             *side = Records {
