@@ -167,7 +167,7 @@ class Bench:
         self.peer, self.limit = (build_plain(name, folder) for name in ("peer", "limit"))
 
     def costs(
-        self, lines: str, commands: Sequence[Sequence[str]], is_same: bool, runs: int | None = None
+        self, lines: str, commands: Sequence[Sequence[str]], is_same: bool, runs: int = 0
     ) -> list[list[Cost]]:
         """Return what the runs of each command over a list cost; all may have to write the same."""
         self.list.write_text(lines, encoding="ascii")
