@@ -1,15 +1,15 @@
 #!/usr/bin/python3
-"""Compare the program with `peer`, a plain Rust program that does the same work, and with the build by cargo.
+"""Compare the program with two plain Rust programs that do the same work, and with the build by cargo.
 
     benchmarks/measure.py [PROGRAM] [--runs N] [--seed N] [--part PART]...
 
-It builds the peer by `rustc -O` (1.65 or later), makes its lists from a seed, requires that both write the
-same bytes and end with the same status, runs both in turn, and prints the least times and their ratio, of a
-search the spread of single runs too. The peer has two forms: in one run, and in turn. The instructions a step
-are those that `valgrind --tool=callgrind` counts, which other work on the machine doesn't change. The part
-`plain` compares the program that `make plain` builds on the same lists, in processor time. All parts take
-about a quarter of an hour, with `--runs 1` about five minutes. The status is 1 where a figure doesn't hold
-its bar.
+It builds the two by `rustc -O` (1.65 or later): `peer`, written as one would by hand, and `limit`, written for
+speed alone. It makes its lists from a seed, requires that all write the same bytes and end with the same
+status, runs them in turn, and prints the least times and their ratios, of a search the spread of single runs
+too. The peer has two forms: in one run, and in turn. The lists of deciding are run 2 N - 1 times. The
+instructions are those that `valgrind --tool=callgrind` counts, which other work on the machine doesn't change.
+The part `plain` compares the program that `make plain` builds on the same lists, in processor time. All parts
+take some twenty minutes, with `--runs 1` about five. The status is 1 where a figure doesn't hold its bar.
 """
 
 import functools
@@ -31,6 +31,8 @@ LIST, DRAWN, HALTING_LIST, REFUSED_BYTES = 100_000, 800_000, 1_000_000, 50_000_0
 TREES, CHECKED, RANDOM, KINDS, OPEN_LONG = 4_000, 2_000, 10_000, 3_000, 300
 # What the build by cargo may take, beside the proved one.
 PLAIN_BAR = 1.25
+# Of so many machines of four states one is in the list whose instructions are counted.
+COUNTED = 100
 
 
 class Case(NamedTuple):
@@ -133,7 +135,13 @@ def searches(program: str, source: random.Random) -> list[Case]:
     return cases
 
 
-def count_instructions(program: str, *form: str) -> str:
+def count_instructions(command: Sequence[str], lines: str) -> int:
+    """Count the instructions of a command over a list."""
+    counting = ["valgrind", "--tool=callgrind", "--callgrind-out-file=/dev/null", *command]
+    return int(re.findall(rb"Collected : (\d+)", run_command(counting, lines.encode()).error)[0])
+
+
+def instructions_a_step(program: str, *form: str) -> str:
     """Count the instructions a step of the simulation, of each search alone, and of the single-pass run."""
     plans = {
         "simulation": SIMULATION,
@@ -141,34 +149,42 @@ def count_instructions(program: str, *form: str) -> str:
         "translated alone": ["--no-cyclers", "--no-backward"],
         "both in one run": ["--no-backward"],
     }
-    counting = ["valgrind", "--tool=callgrind", "--callgrind-out-file=/dev/null", program, "decide"]
     figures = []
     for what, options in plans.items():
-        commands = [[*counting, "--steps", str(steps), *options, *form] for steps in (10**6, 2 * 10**6)]
-        errors = [run_command(command, CHAMPION_LIST.encode()).error for command in commands]
-        counts = [int(re.findall(rb"Collected : (\d+)", error)[0]) for error in errors]
-        figures.append("%s %.1f" % (what, (counts[1] - counts[0]) / 10**6))
+        commands = [
+            [program, "decide", "--steps", str(steps), *options, *form] for steps in (10**6, 2 * 10**6)
+        ]
+        fewer, more = (count_instructions(command, CHAMPION_LIST) for command in commands)
+        figures.append("%s %.1f" % (what, (more - fewer) / 10**6))
     return ", ".join(figures)
 
 
 class Bench:
-    """The program, its peer, the table, and the file of the list."""
+    """The program, the plain ones, the table, and the file of the list."""
 
-    def __init__(self, table: Table, program: str, peer: str, folder: pathlib.Path) -> None:
-        self.table, self.program, self.peer, self.list = table, program, peer, folder / "list"
+    def __init__(self, table: Table, program: str, folder: pathlib.Path) -> None:
+        self.table, self.program, self.list = table, program, folder / "list"
+        self.peer, self.limit = (build_plain(name, folder) for name in ("peer", "limit"))
 
-    def costs(self, lines: str, commands: Sequence[Sequence[str]], is_same: bool) -> list[list[Cost]]:
+    def costs(
+        self, lines: str, commands: Sequence[Sequence[str]], is_same: bool, runs: int = 0
+    ) -> list[list[Cost]]:
         """Return what the runs of each command over a list cost; all may have to write the same."""
         self.list.write_text(lines, encoding="ascii")
         places = range(len(commands))
         outputs = {str(at): self.list.with_name("out-%d" % (at * (not is_same))) for at in places}
         pairs = [(command, self.list, output) for command, output in zip(commands, outputs.values())]
         ways = {name: functools.partial(run, pair) for name, pair in zip(outputs, pairs)}
-        return list(take_turns(self.table.runs, ways, outputs).values())
+        return list(take_turns(runs or self.table.runs, ways, outputs).values())
 
     def clocks(self, lines: str, commands: Sequence[Sequence[str]]) -> list[float]:
         """Return the least times by the clock; all must write the same."""
         return [min(costs).clock for costs in self.costs(lines, commands, True)]
+
+    def deciding(self, lines: str, commands: Sequence[Sequence[str]]) -> list[float]:
+        """Return the least processor times, of nearly twice as many runs; all must write the same."""
+        costs = self.costs(lines, commands, True, 2 * self.table.runs - 1)
+        return [min(cost.processor for cost in row) for row in costs]
 
     def processors(self, lines: str, commands: Sequence[Sequence[str]]) -> list[list[float]]:
         """Return the processor time of each run; all must end with status 0."""
@@ -177,25 +193,40 @@ class Bench:
         return [[cost.processor for cost in row] for row in costs]
 
 
+def build_plain(name: str, folder: pathlib.Path) -> str:
+    """Build a plain Rust program, and return its path."""
+    source, built = TOP / "benchmarks" / name / "main.rs", str(folder / name)
+    subprocess.run(["rustc", "-O", "-C", "codegen-units=1", "-o", built, str(source)], check=True)
+    return built
+
+
 def measure_peer(bench: Bench, seed: int) -> None:
-    """Compare with the plain Rust program."""
-    program, peer, table = bench.program, bench.peer, bench.table
-    table.head("Beside the plain Rust program")
+    """Compare with the plain Rust programs."""
+    program, peer, limit, table = bench.program, bench.peer, bench.limit, bench.table
+    table.head("Beside plain Rust, by the clock", ["Program", "Peer", "Ratio", "Limit", "Ratio"])
     for case in cases_in_turn(seed):
-        commands = [[each, "decide", *case.options] for each in (program, peer)]
-        ours, theirs = bench.clocks(case.lines, commands)
-        table.ratio(case.name, ours, theirs)
-    for case in cases_in_one_run(program, random.Random(seed)):
-        in_turn = [peer, "decide", *case.options]
-        commands = [[program, "decide", *case.options], [*in_turn, "--one-run"], in_turn]
-        ours, one, turn = bench.clocks(case.lines, commands)
-        table.ratio(case.name + ", the peer in one run", ours, one)
-        table.ratio(case.name + ", the peer in turn", ours, turn)
+        commands = [[each, "decide", *case.options] for each in (program, peer, limit)]
+        ours, *theirs = bench.clocks(case.lines, commands)
+        table.times(case.name, ours, theirs)
+    decided = cases_in_one_run(program, random.Random(seed))
+    columns = ["Program", "Peer in one run", "Ratio", "Peer in turn", "Ratio", "Limit", "Ratio"]
+    table.head("Deciding beside plain Rust, in processor time", columns)
+    for case in decided:
+        words = ["decide", *case.options]
+        commands = [[program, *words], [peer, *words, "--one-run"], [peer, *words], [limit, *words]]
+        ours, *theirs = bench.deciding(case.lines, commands)
+        table.times(case.name, ours, theirs)
+    table.head("Places and instructions")
     if has("where the single-pass run begins", "nm"):
         table.row("where the single-pass run begins, modulo 64", str(begins_modulo_64(program)))
-    if has("instructions a step", "valgrind"):
-        table.row("instructions a step of the program", count_instructions(program))
-        table.row("instructions a step of plain Rust", count_instructions(peer, "--one-run"))
+    if has("instructions", "valgrind"):
+        forms = {"the program": [program], "the peer in one run": [peer, "--one-run"], "the limit": [limit]}
+        counted = "".join(decided[0].lines.splitlines(keepends=True)[::COUNTED])
+        for name, (built, *form) in forms.items():
+            all_of_list = count_instructions([built, "decide", *decided[0].options, *form], counted)
+            what = "one of %d machines of four states, million instructions of %s" % (COUNTED, name)
+            table.row(what, "%.1f" % (all_of_list / 10**6))
+            table.row("instructions a step of %s" % name, instructions_a_step(built, *form))
 
 
 def measure_searches(bench: Bench, seed: int) -> None:
@@ -239,7 +270,7 @@ def measure_plain(bench: Bench, seed: int) -> None:
         )
         table.ratio(case.name, plain, proved, PLAIN_BAR)
     if has("instructions a step", "valgrind"):
-        table.row("instructions a step of the build by cargo", count_instructions(built))
+        table.row("instructions a step of the build by cargo", instructions_a_step(built))
 
 
 PARTS = {"peer": measure_peer, "searches": measure_searches, "plain": measure_plain}
@@ -252,9 +283,7 @@ def main() -> int:
     if not has("the comparison", "rustc"):
         return 1
     with tempfile.TemporaryDirectory() as folder:
-        peer, source = folder + "/peer", str(TOP / "benchmarks" / "peer" / "main.rs")
-        subprocess.run(["rustc", "-O", "-C", "codegen-units=1", "-o", peer, source], check=True)
-        bench = Bench(Table(asked.runs), program_of(asked), peer, pathlib.Path(folder))
+        bench = Bench(Table(asked.runs), program_of(asked), pathlib.Path(folder))
         for name in asked.part or PARTS:
             if has(name, *(["cargo"] if name == "plain" else [])):
                 PARTS[name](bench, asked.seed)

@@ -117,8 +117,14 @@ class Table:
     def __init__(self, runs: int) -> None:
         self.runs, self.held, self.missed = runs, 0, 0
 
-    def head(self, what: str) -> None:
-        print("\n%s:\n\n| | Figure | Bar |\n|---|---|---|" % what, flush=True)
+    def head(self, what: str, columns: Sequence[str] = ("Figure", "Bar")) -> None:
+        rule = "---|" * (len(columns) + 1)
+        print("\n%s:\n\n| | %s |\n|%s" % (what, " | ".join(columns), rule), flush=True)
+
+    def times(self, what: str, seconds: float, besides: Sequence[float]) -> None:
+        """Print a time, and each other one with how many times it the first is."""
+        pairs = ["%.3f s | %.2f" % (beside, seconds / beside) for beside in besides]
+        print("| %s | %.3f s | %s |" % (what, seconds, " | ".join(pairs)), flush=True)
 
     def row(self, what: str, figure: str, value: float = 0, bar: float | None = None) -> None:
         """Print a figure in words; with a bar, its value must be at most that."""

@@ -1,5 +1,6 @@
 """Random machines: the checker confirms each verdict, larger limits lose none, and a plain program agrees."""
 
+import pathlib
 import random
 import subprocess
 
@@ -32,20 +33,40 @@ def test_verdicts_are_confirmed_and_larger_limits_keep(bb: str, rng: random.Rand
     assert any(kind_of(line) != "undecided" for lines in runs for line in lines)
 
 
+def build_plain_rust(folder: pathlib.Path, name: str, cfg: str) -> str:
+    """Build a plain Rust program of the benchmarks in one of its forms. It takes rustc 1.65 or later."""
+    require("rustc")
+    built, source = str(folder / name), str(TOP / "benchmarks" / name / "main.rs")
+    command = ["rustc", "-O", "-C", "codegen-units=1", "--cfg", cfg, "-o", built, source]
+    subprocess.run(command, check=True)
+    return built
+
+
 @pytest.fixture(scope="session")
 def peer(tmp_path_factory: pytest.TempPathFactory) -> str:
-    """The plain Rust program that simulates, then searches, each by itself. It takes rustc 1.65 or later."""
-    require("rustc")
-    built = str(tmp_path_factory.mktemp("peer") / "peer")
-    source = str(TOP / "benchmarks" / "peer" / "main.rs")
-    subprocess.run(["rustc", "-O", "-C", "codegen-units=1", "--cfg", "wide", "-o", built, source], check=True)
-    return built
+    """The plain Rust program that simulates, then searches, each by itself."""
+    return build_plain_rust(tmp_path_factory.mktemp("peer"), "peer", "wide")
+
+
+@pytest.fixture(scope="session", params=["narrow", "flat"])
+def limit(request: pytest.FixtureRequest, tmp_path_factory: pytest.TempPathFactory) -> str:
+    """The plain Rust program for speed alone; with `flat` its runs leave the tape of one word at once."""
+    return build_plain_rust(tmp_path_factory.mktemp("limit"), "limit", request.param)
 
 
 def draw_machine(source: random.Random) -> str:
     """Draw a machine: half of them have 2 symbols, seven of ten at most 5 states."""
     states = source.randint(1, 5) if source.random() < 0.7 else source.randint(1, 25)
     return machine(source, states, 2 if source.random() < 0.5 else source.randint(2, 10))
+
+
+def draw_small_line(source: random.Random) -> str:
+    """Draw a machine of 2 symbols and at most 7 states; one of ten lines is cut short, one has a letter wrong."""
+    line, spoilt = machine(source, source.randint(1, 7), 2), source.random()
+    at = source.randrange(len(line))
+    if spoilt < 0.1:
+        return line[:at]
+    return line[:at] + source.choice("aZ_\r\0") + line[at + 1 :] if spoilt < 0.2 else line
 
 
 def draw_options(source: random.Random) -> list[str]:
@@ -70,6 +91,24 @@ def test_plain_program_writes_the_same_bytes(bb: str, peer: str, rng: random.Ran
         assert len(lines) == BATCH
         kinds.update(map(kind_of, lines))
     assert KINDS <= kinds
+    print("%d lines compared" % count)
+
+
+@pytest.mark.parametrize("count", [2_000, pytest.param(100_000, marks=pytest.mark.slow)])
+def test_plain_program_for_speed_writes_the_same_bytes(
+    bb: str, limit: str, rng: random.Random, count: int
+) -> None:
+    """Also of lines that are no machines, one of them long, and without a newline at the end."""
+    kinds: set[str] = set()
+    for _ in range(count // BATCH):
+        lines, words = [draw_small_line(rng) for _ in range(BATCH - 1)], draw_options(rng)
+        given = as_lines([*lines, "1RA1RA" + "x" * 150_000]) + machine(rng, 2, 2).encode()
+        ours, theirs = (run_command([program, "decide", *words], given) for program in (bb, limit))
+        assert ours[:2] == theirs[:2], words
+        written = ours.output.decode().splitlines()
+        assert len(written) == BATCH + 1
+        kinds.update(map(kind_of, written))
+    assert KINDS < kinds
     print("%d lines compared" % count)
 
 

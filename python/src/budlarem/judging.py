@@ -202,8 +202,8 @@ class JudgedList:
         return self._claims.skips + collections.Counter({Skipped.EMPTY: self._source.counted.empty})
 
     @property
-    def undecoded(self) -> int:
-        return self._source.counted.undecoded
+    def non_utf8_lines(self) -> int:
+        return self._source.counted.non_utf8_lines
 
 
 def _decide_claims(
@@ -314,7 +314,9 @@ class Judging(Iterator[Judged]):
         if isinstance(ours, Halt) != (word is Word.HALTS):
             return Judged(Judgement.CONTRADICTED, claim, ours, _disagreement(claim, ours))
         if claim.steps is None and claim.score is None:
-            return Judged(Judgement.CONFIRMED, claim, ours, "%s, as ours says%s" % (word, _unjudged(claim)))
+            return Judged(
+                Judgement.CONFIRMED, claim, ours, "%s, as ours says%s" % (word, _unjudged_suffix(claim))
+            )
         assert isinstance(ours, Halt)
         halt = halt_with_steps(ours) if self.undefined_steps else ours
         if claim.steps not in (None, halt.steps) or claim.score not in (None, halt.score):
@@ -342,7 +344,7 @@ _OF_EXACTNESS = {
 
 def _with_numbers(judged: Judged, finding: Finding) -> Judged:
     """The judgement of a claim with a start or a period: of these alone, or of a verdict beside them too."""
-    judgement, reason = _OF_EXACTNESS[finding.exactness], finding.reason + _unjudged(judged.claim)
+    judgement, reason = _OF_EXACTNESS[finding.exactness], finding.reason + _unjudged_suffix(judged.claim)
     if judged.claim.verdict is not None:
         is_worse = judgement is Judgement.CONTRADICTED or judged.judgement is Judgement.CONFIRMED
         judgement = judgement if is_worse else judged.judgement
@@ -350,7 +352,7 @@ def _with_numbers(judged: Judged, finding: Finding) -> Judged:
     return Judged(judgement, judged.claim, judged.ours, reason, finding.exactness, finding.exact)
 
 
-def _unjudged(claim: Claim) -> str:
+def _unjudged_suffix(claim: Claim) -> str:
     """The numbers beside a word that mean nothing, as the end of a reason."""
     return "; not judged: %s" % quote(", ".join(claim.unjudged)) if claim.unjudged else ""
 

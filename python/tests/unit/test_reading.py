@@ -172,7 +172,7 @@ def test_empty_lines_have_their_numbers() -> None:
 def test_bytes_that_are_no_utf_8_are_counted() -> None:
     readings = budlarem.read(io.BytesIO("1RA1RA \u00e9\n1RA1RA x\n1RA1RA \u00fc".encode("latin-1")))
     assert [reading.machine for reading in readings] == ["1RA1RA"] * 3
-    assert readings.undecoded == 2
+    assert readings.non_utf8_lines == 2
 
 
 def test_tables() -> None:

@@ -65,7 +65,7 @@ class ClaimReader(ListReader):
                 why = claim.trouble or "no verdict of %s" % claim.reading.machine
                 self.refuse(claim.reading.number, "refused: %s" % why)
         theirs = JudgedList(source, claims, translation)
-        self.print_skips(theirs.skips, theirs.undecoded)
+        self.print_skips(theirs.skips, theirs.non_utf8_lines)
 
 
 def do_compare(asked: argparse.Namespace) -> int:
@@ -188,7 +188,7 @@ def do_judge(asked: argparse.Namespace) -> int:
         parts = ", ".join("%s %d" % (word, len(numbered)) for word, numbered in others.items())
         print("%s: %s" % (asked.list, parts), file=sys.stderr)
     sys.stdout.flush()
-    reader.print_skips(theirs.skips, theirs.undecoded)
+    reader.print_skips(theirs.skips, theirs.non_utf8_lines)
     if judging.undefined_steps:
         print("%s: a step is counted for each ---" % reader.name, file=sys.stderr)
     if judging.start_offset:

@@ -94,13 +94,13 @@ class ListReader:
         if given is not None and form.layout is None:
             self.print_line("--words is for tables; nothing is translated in the form %s" % form.form)
 
-    def print_skips(self, skipped: Mapping[Skipped, int], undecoded: int) -> None:
+    def print_skips(self, skipped: Mapping[Skipped, int], non_utf8_lines: int) -> None:
         """Prints the number of skipped lines, and of lines that aren't UTF-8."""
         counts = ", ".join("%s %d" % (kind, skipped[kind]) for kind in Skipped if skipped.get(kind))
         if counts:
             self.print_line("%s skipped: %s" % (pluralize(sum(skipped.values()), "line", "lines"), counts))
-        if undecoded:
-            total = pluralize(undecoded, "line", "lines")
+        if non_utf8_lines:
+            total = pluralize(non_utf8_lines, "line", "lines")
             self.print_line("%s with bytes that are no UTF-8; iconv converts a list" % total)
 
     def print_rewritten(self, reading: Reading) -> None:
@@ -136,7 +136,7 @@ class _PrintedReadings(Readings):
                 self._reader.taken += 1
                 self._reader.print_rewritten(reading)
             yield reading
-        self._reader.print_skips(self.skips, self.undecoded)
+        self._reader.print_skips(self.skips, self.non_utf8_lines)
 
 
 def add_form(parser: argparse.ArgumentParser, roles: Iterable[str] = ("machine",)) -> None:

@@ -95,7 +95,7 @@ class BlockReader(io.RawIOBase):
 
 class Lines(Iterable[Numbered]):
     """The lines of a list that aren't empty, as texts without newlines, numbered from 1 on. `empty` counts the
-    others so far, `undecoded` those that aren't UTF-8.
+    others so far, `non_utf8_lines` those that aren't UTF-8.
 
     Raises OSError if a path can't be opened or read, EncodingError for UTF-16 and formats that are no text,
     EndlessLineError, TypeError if the source is no list, ValueError if it is the text of one.
@@ -106,7 +106,7 @@ class Lines(Iterable[Numbered]):
             raise TypeError("a list's bytes are given as io.BytesIO(..), and a path as a str")
         if isinstance(source, str) and "\n" in source:
             raise ValueError("a str is a path; the lines of a text are given as text.splitlines()")
-        self.empty, self.undecoded = 0, 0
+        self.empty, self.non_utf8_lines = 0, 0
         is_file = isinstance(source, (str, os.PathLike)) or hasattr(source, "read")
         if not is_file or isinstance(source, io.TextIOBase):
             self._lines = self._of_items(iter(source))  # type: ignore[arg-type]
@@ -137,7 +137,7 @@ class Lines(Iterable[Numbered]):
             for number, line in self._split_lines(file):
                 text = line.decode("utf-8", "surrogateescape")
                 if not text.isascii() and any("\udc80" <= character <= "\udcff" for character in text):
-                    self.undecoded += 1
+                    self.non_utf8_lines += 1
                 yield number, text
 
     def _split_lines(self, file: BytesFile) -> Iterator[tuple[int, bytes]]:

@@ -101,7 +101,7 @@ def reading_of(number: int, line: str, form: ListForm) -> Reading | None:
 
 class Readings(Iterator[Reading]):
     """The readings of a list's lines. `form` is the list's; `skips` counts so far the skipped lines, and
-    `undecoded` those that aren't UTF-8."""
+    `non_utf8_lines` those that aren't UTF-8."""
 
     def __init__(self, lines: Source, form: Form | None = None, columns: Columns = Columns()) -> None:
         self._source = Lines(lines)
@@ -124,9 +124,9 @@ class Readings(Iterator[Reading]):
         return self._skips + collections.Counter({Skipped.EMPTY: self._source.empty})
 
     @property
-    def undecoded(self) -> int:
+    def non_utf8_lines(self) -> int:
         """The number of lines so far that aren't UTF-8."""
-        return self._source.undecoded
+        return self._source.non_utf8_lines
 
     def __iter__(self) -> Iterator[Reading]:
         return self._readings
