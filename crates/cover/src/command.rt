@@ -99,56 +99,40 @@ const MOST_LEVELS: &str = "10000";
 
 /// The end of the help, after the options.
 const ABOUT: &str = "\
-In: the verdict lines of a list in tree normal form, in the order of a walk in depth, as
+In: the verdict lines of a list in tree normal form, in the order of a walk in
+depth, as
   tools/tree_normal_form --states 4 | bb decide --steps 1000
-writes them. Each claim is checked. Out: one line. For a complete list it is
-  covers 4 states 2 symbols: 858909 lines, 8455 undecided, 550 of them with more than one ---
-Then each machine of the size halts, at most a step later than one of the list, never
-halts, or completes an undecided one, up to a change. Otherwise the line names the first
-wrong line of the list, and the reason.
+writes them. Each claim is checked; the limits are of what a claim may name or
+need. Out: one line. For a complete list it begins with
+  covers 4 states 2 symbols: 858909 lines, 8455 undecided
+and tells how many of these have more than one ---. Then each machine of the
+size halts, at most a step later than one of the list, never halts, or completes
+an undecided one, up to a change. Otherwise the line names the first wrong line
+of the list, and the reason.
 
-With --below the walk begins at MACHINE: the list is a shard. A skeleton has in place of
-a shard's lines one line, MACHINE below N U G SHA256: its lines, those undecided, those of
-them with more than one ---, and the digest of its file, which isn't read.
+With --below the walk begins at MACHINE: the list is a shard. A skeleton has in
+place of a shard's lines one line, MACHINE below N U G SHA256: its lines, those
+undecided, those of them with more than one ---, and the digest of its file,
+which isn't read.
 
 2 times the depth, less 1, must be at most the cells.
 
-Status: 0 the list covers its size, 1 it doesn't, 2 the command line was refused, 3 memory,
-reading or writing failed.";
+Status: 0 the list covers its size, 1 it doesn't, 2 the command line was
+refused, 3 memory, reading or writing failed.";
 
 fn program<'a>(alloc: Global) -> Result<Command<'a>, AllocError>
     ensures { IfOk result (λ command. app_of command ≡ command_line) }
 {
     base_command(alloc)
-        .arg(limit(
-            alloc,
-            "steps",
-            MOST_STEPS,
-            "The most steps that a claim may name, 0 to 1000000000000",
-        ))?
-        .arg(limit(
-            alloc,
-            "cells",
-            MOST_CELLS,
-            "The most cells that a claim may need, 1 to 67108864",
-        ))?
-        .arg(limit(
-            alloc,
-            "depth",
-            MOST_LEVELS,
-            "The most levels that a claim may name, 0 to 10000",
-        ))?
-        .arg(limit(
-            alloc,
-            "nodes",
-            MOST_STEPS,
-            "The most nodes that a claim may name, 0 to 1000000000000",
-        ))?
+        .arg(limit(alloc, "steps", MOST_STEPS, "Most steps, 0 to 1000000000000"))?
+        .arg(limit(alloc, "cells", MOST_CELLS, "Most cells, 1 to 67108864"))?
+        .arg(limit(alloc, "depth", MOST_LEVELS, "Most levels, 0 to 10000"))?
+        .arg(limit(alloc, "nodes", MOST_STEPS, "Most nodes, 0 to 1000000000000"))?
         .arg(below(alloc))?
         .arg(switch(
             alloc,
             "skeleton",
-            "Takes lines that stand for shards, and adds up their counts",
+            "Takes lines for shards, and adds up their counts",
         ))?
         .arg(positional(
             alloc,
@@ -177,7 +161,7 @@ fn below<'a>(alloc: Global) -> Arg<'a>
     Arg::new(alloc, "below")
         .long("below")
         .value_name("MACHINE")
-        .help("The machine at which the walk begins [default: one with no entry]")
+        .help("The machine to begin at [default: one with no entry]")
 }
 
 /// The limits, if they are accepted.

@@ -2,9 +2,9 @@ use Rattle.std.proofs.Common.{arith}
 use Rattle.bb_repetition.proofs.EntryUses.{no_such_state, use_is}
 use Rattle.bb_repetition.proofs.uses.LastUses.last_use.Goals as goal
 
-pub returns-then-state-ge-states : goal.returns-then-state-ge-states
-returns-then-state-ge-states c =
-    no_such_state _ c.states.ensures.machine _ (omega (arith, c.if-state-ge-states.true, c.states.ensures.value))
+pub returns-then-state-states : goal.returns-then-state-states
+returns-then-state-states c =
+    no_such_state _ c.states.ensures.machine _ (omega (arith, c.if-state-states.true, c.states.ensures.value))
 
 pub returns : goal.returns
 returns c =
