@@ -91,9 +91,9 @@ pub fn find_recurrence<T: Tape>(
     })
 }
 
-/// The first step from which on the run uses the same transitions as from `second - first` steps later on; the
-/// runner at the first step of the pair; and how many cells the head is farther to the right at the second.
-/// Records the last uses up to the second step.
+/// Makes the run up to the second step of a pair, and records the last uses. Returns the first step from which
+/// on the transitions are those of `second - first` steps later, and the runner at the first step of the pair.
+/// The last number tells how many cells the head is farther to the right at the second step.
 fn find_start<T: Tape>(
     machine: &Machine,
     limits: &Limits,
