@@ -141,9 +141,7 @@ export class Engine {
    * @param {Uint8Array} line @param {TraceOptions} options @param {number} [space]
    */
   traceInPlace(line, options, space = 0) {
-    if (options.steps === undefined) {
-      throw new TypeError("a trace needs a limit of steps");
-    }
+    if (options.steps === undefined) throw new TypeError("a trace needs a limit of steps");
     const words = parseLimits(options, TRACE_LIMITS);
     return this.invoke("bb_trace", TRACE_LIMITS, words, line, space || traceSpace(words));
   }
@@ -157,28 +155,20 @@ export class Engine {
    */
   invoke(name, names, words, input, space) {
     const { allocator, calls: { [name]: call } } = this;
-    if (call === undefined) {
-      throw new TypeError(`this module has no ${name}`);
-    }
+    if (call === undefined) throw new TypeError(`this module has no ${name}`);
     allocator.reset();
     const list = allocator.allocate(input.length + 1, 1);
     const out = list && allocator.allocate(space + 1, 1);
     const count = out && allocator.allocate(COUNT_BYTES, COUNT_BYTES);
-    if (count === 0) {
-      throw new MemoryError();
-    }
+    if (count === 0) throw new MemoryError();
     allocator.bytes(list, input.length).set(input);
     const status = call(...words, list, BigInt(input.length), out, BigInt(space), count);
     const length = Number(new DataView(allocator.bytes(0, 0).buffer, count).getBigUint64(0, true));
-    if (status === STATUS_SHORT) {
-      return this.invoke(name, names, words, input, length);
-    }
+    if (status === STATUS_SHORT) return this.invoke(name, names, words, input, length);
     if (status === STATUS_LIMITS) {
       throwLimitsError(names, /** @type {bigint[]} */ (words.slice(0, names.length)));
     }
-    if (status === STATUS_MEMORY) {
-      throw new MemoryError();
-    }
+    if (status === STATUS_MEMORY) throw new MemoryError();
     return { bytes: allocator.bytes(out, length), clean: status === 0 };
   }
 }
@@ -193,9 +183,7 @@ const copyReply = (/** @type {Reply} */ { bytes, clean }) => ({ bytes: bytes.sli
  * @param {{memory?: number}} [limit] the most bytes of memory; a call that needs more throws MemoryError
  */
 export async function load(bytes, limit = {}) {
-  if (!isSupported()) {
-    throw new UnsupportedError();
-  }
+  if (!isSupported()) throw new UnsupportedError();
   const allocator = new Allocator(limit.memory ?? Infinity);
   const module = bytes instanceof WebAssembly.Module ? bytes : await WebAssembly.compile(bytes);
   const instance = await WebAssembly.instantiate(module, { env: allocator.imports() });
@@ -216,9 +204,7 @@ function encodeLines(/** @type {readonly string[]} */ lines) {
   if (!Array.isArray(lines) || lines.some((line) => typeof line !== "string")) {
     throw new TypeError("expected an array of strings");
   }
-  if (lines.some((line) => line.includes("\n"))) {
-    throw new TypeError("a text has a newline");
-  }
+  if (lines.some((line) => line.includes("\n"))) throw new TypeError("a text has a newline");
   return new TextEncoder().encode(lines.map((line) => line + "\n").join(""));
 }
 

@@ -45,18 +45,14 @@ function parseInteger(/** @type {Limit} */ name, /** @type {Integer} */ value) {
   if (typeof value === "number" && !Number.isSafeInteger(value)) {
     throw new LimitsError(name, `${name} is not a whole number that is exact; use a BigInt`);
   }
-  if (value < 0n || value >= 2n ** 64n) {
-    throw rangeError(name);
-  }
+  if (value < 0n || value >= 2n ** 64n) throw rangeError(name);
   return BigInt(value);
 }
 
 /** The values of switches, in order. */
 export function parseSwitches(/** @type {Record<string, boolean>} */ switches) {
   for (const [name, value] of Object.entries(switches)) {
-    if (typeof value !== "boolean") {
-      throw new TypeError(`${name} is neither true nor false`);
-    }
+    if (typeof value !== "boolean") throw new TypeError(`${name} is neither true nor false`);
   }
   return Object.values(switches);
 }

@@ -78,9 +78,7 @@ export class Allocator {
    */
   allocate(size, align) {
     const at = Math.ceil(this.free / align) * align;
-    if (!this.reserve(at + size)) {
-      return 0;
-    }
+    if (!this.reserve(at + size)) return 0;
     this.last = at;
     this.free = at + size;
     return at;
@@ -96,9 +94,7 @@ export class Allocator {
       return old;
     }
     const at = this.allocate(size, align);
-    if (at !== 0) {
-      this.bytes(0, this.free).copyWithin(at, old, old + Math.min(oldSize, size));
-    }
+    if (at !== 0) this.bytes(0, this.free).copyWithin(at, old, old + Math.min(oldSize, size));
     return at;
   }
 
@@ -106,9 +102,7 @@ export class Allocator {
   reserve(/** @type {number} */ end) {
     const memory = /** @type {WebAssembly.Memory} */ (this.memory);
     const missing = Math.ceil((end - memory.buffer.byteLength) / PAGE);
-    if (missing <= 0) {
-      return true;
-    }
+    if (missing <= 0) return true;
     try {
       return end <= this.most && memory.grow(missing) >= 0;
     } catch {

@@ -29,9 +29,7 @@ export function create(name, properties = {}, ...children) {
 export function setInactive(id, property, value, other) {
   const hasFocus = value && document.activeElement === byId(id);
   Object.assign(byId(id), { [property]: value });
-  if (hasFocus) {
-    byId(other).focus({ preventScroll: true });
-  }
+  if (hasFocus) byId(other).focus({ preventScroll: true });
 }
 
 /** Adds click listeners by element id. */

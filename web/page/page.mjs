@@ -30,9 +30,7 @@ async function startRun(isOfLink = false) {
   runs += 1;
   const own = runs;
   const list = await input.read().catch((/** @type {Error} */ error) => error);
-  if (own !== runs) {
-    return;
-  }
+  if (own !== runs) return;
   if (list instanceof Error) {
     showError(failureText(errorFields(list)));
     byId("results").dataset.state = "ended";

@@ -125,9 +125,7 @@ export class WorkerClient {
       const isLast = this.pending === null;
       this.sendPending();
       // Outdated replies are dropped, except rows and pictures.
-      if (isLast || reply.picture || reply.cached) {
-        onReply(reply);
-      }
+      if (isLast || reply.picture || reply.cached) onReply(reply);
     };
     worker.onmessage = (event) => receive(event.data);
     worker.onerror = (event) => receive({ error: "Error", message: event.message });

@@ -73,18 +73,10 @@ export function readLine(given, form = "text") {
     const sentence = `the line has more than ${tokens.LONGEST_LINE.toLocaleString("en")} characters`;
     return refuse("long", sentence, tokens.LONGEST_LINE + 1);
   }
-  if (form === "verdicts") {
-    return readVerdictLine(line, bare);
-  }
-  if (isMachine(bare) && (form === "machines" || !DASHES.test(bare))) {
-    return readMachineFirst(bare);
-  }
-  if (form !== "machines" && /^[^ ]*_/.test(bare) && isVerdictLine(bare)) {
-    return readMachineFirst(bare);
-  }
-  if (isSkipped(bare)) {
-    return NOTHING;
-  }
+  if (form === "verdicts") return readVerdictLine(line, bare);
+  if (isMachine(bare) && (form === "machines" || !DASHES.test(bare))) return readMachineFirst(bare);
+  if (form !== "machines" && /^[^ ]*_/.test(bare) && isVerdictLine(bare)) return readMachineFirst(bare);
+  if (isSkipped(bare)) return NOTHING;
   const reading = readTextLine(line);
   return form === "machines" ? requireAlone(reading, bare) : reading;
 }
@@ -109,12 +101,8 @@ export function isVerdictLine(/** @type {string} */ bare) {
 /** @returns {Reading} */
 function readVerdictLine(/** @type {string} */ line, /** @type {string} */ bare) {
   const place = line.length - line.trimStart().length + 1;
-  if (REFUSED.test(bare)) {
-    return refuse("none", NO_MACHINE, place);
-  }
-  if (isVerdictLine(bare)) {
-    return readMachineFirst(bare);
-  }
+  if (REFUSED.test(bare)) return refuse("none", NO_MACHINE, place);
+  if (isVerdictLine(bare)) return readMachineFirst(bare);
   return isSkipped(bare) ? NOTHING : refuse("verdict", "this is no verdict line", place);
 }
 
@@ -146,9 +134,7 @@ function readTextLine(/** @type {string} */ line) {
 /** The line with `_` for `\\_`, and the original offset of each place, the end included. */
 function unescapeLine(/** @type {string} */ line) {
   const places = Array.from({ length: line.length + 1 }, (_, place) => place);
-  if (!line.includes("\\_")) {
-    return { text: line, places };
-  }
+  if (!line.includes("\\_")) return { text: line, places };
   const kept = places.filter((place) => line.slice(place, place + 2) !== "\\_");
   return { text: kept.map((place) => line.charAt(place)).join(""), places: kept };
 }
@@ -164,13 +150,9 @@ function readTexts(/** @type {string} */ line) {
     const read = findStateLine(line, text) ?? readText(text);
     return Array.isArray(read) ? read : [/** @type {Read} */ ([text, read])];
   });
-  if (found.length === 0) {
-    return explainNoText(line, rows);
-  }
+  if (found.length === 0) return explainNoText(line, rows);
   for (const [text, outcome] of found) {
-    if ("refusal" in outcome && outcome.refusal === "state-line") {
-      return outcome;
-    }
+    if ("refusal" in outcome && outcome.refusal === "state-line") return outcome;
     const isPlain = "machine" in outcome && !tokens.joinWords(text).includes("_");
     const row = isPlain && tokens.findAdjacentRow(line, text, rows);
     if (row) {
@@ -186,9 +168,7 @@ function findStateLine(/** @type {string} */ line, /** @type {tokens.Text} */ te
   const group = tokens.joinWords(text);
   const isOther = group.includes("_") || text.arrays.length > 0 || text.isAddress;
   const found = isOther ? null : STATE.exec(line.slice(0, text.begin));
-  if (found === null || (found[1] === undefined && group === group.toUpperCase())) {
-    return null;
-  }
+  if (found === null || (found[1] === undefined && group === group.toUpperCase())) return null;
   const letter = found[1] ?? found[2];
   const sentence = `${letter} before ${tokens.abbreviate(group)}: a machine of a state a line isn't read`;
   return reasonOf("state-line", sentence, found.index + found[0].indexOf(letter) + 1);
@@ -212,18 +192,12 @@ function explainNoText(/** @type {string} */ line, /** @type {tokens.Word[]} */ 
 
 /** @returns {Read[] | Reason} the text's reading, or those of its words if each is a machine */
 function readText(/** @type {tokens.Text} */ text) {
-  if (!text.isLast) {
-    return reasonOf("none", NO_MACHINE, text.words[0].begin + 1);
-  }
-  if (text.arrays.length > 0) {
-    return [[text, parseArrays(text.arrays)]];
-  }
+  if (!text.isLast) return reasonOf("none", NO_MACHINE, text.words[0].begin + 1);
+  if (text.arrays.length > 0) return [[text, parseArrays(text.arrays)]];
   if (text.words.length === 1) {
     return findAmbiguousDots(text.words[0]) ?? [[text, parseWords(text.words)]];
   }
-  if (tokens.hasOnlyEntries(text)) {
-    return [[text, parseEntries(text.words)]];
-  }
+  if (tokens.hasOnlyEntries(text)) return [[text, parseEntries(text.words)]];
   /** @type {Read[]} */
   const alone = text.words.map((word) => [tokens.textOf([word]), parseWords([word])]);
   const isEach = alone.every(([, outcome]) => "machine" in outcome);
@@ -233,9 +207,7 @@ function readText(/** @type {tokens.Text} */ text) {
     return isEach ? alone : reasonOf("mixed", "some groups are set apart by _, some by spaces", second);
   }
   const together = parseWords(text.words);
-  if (isEach && "machine" in together) {
-    return ambiguousWords(alone.length, second);
-  }
+  if (isEach && "machine" in together) return ambiguousWords(alone.length, second);
   return isEach && machines.size > 1 ? alone : [[text, together]];
 }
 

@@ -57,9 +57,7 @@ export const unchangedList = (/** @type {Uint8Array} */ bytes) => {
  * @returns {PreparedList}
  */
 export function prepareList(bytes, { mode, clean, form }) {
-  if (!clean) {
-    return unchangedList(bytes);
-  }
+  if (!clean) return unchangedList(bytes);
   const read = mode === "check" ? readClaim : readMachine;
   // ASCII lines are cut out of one text: browsers decode short texts slowly.
   const all = decoder.decode(bytes);
@@ -97,13 +95,9 @@ export function concatBytes(/** @type {Uint8Array[]} */ arrays) {
 /** A line's machine, or a line that the engine refuses; null for a skipped line. */
 function readMachine(/** @type {Uint8Array} */ line, /** @type {string} */ text, /** @type {Form} */ form) {
   const isWhole = isMachine(text);
-  if (isWhole && form !== "verdicts" && text.length === line.length && text[0] !== "-") {
-    return line;
-  }
+  if (isWhole && form !== "verdicts" && text.length === line.length && text[0] !== "-") return line;
   const reading = readLine(text, form);
-  if (reading.kind === "machine") {
-    return encoder.encode(reading.machine);
-  }
+  if (reading.kind === "machine") return encoder.encode(reading.machine);
   // A leading space makes the engine refuse a machine that the form doesn't allow.
   return reading.kind === "nothing" ? null : isWhole ? Uint8Array.of(SPACE, ...line) : line;
 }
@@ -111,9 +105,7 @@ function readMachine(/** @type {Uint8Array} */ line, /** @type {string} */ text,
 /** A trimmed verdict line; null for a skipped line. */
 function readClaim(/** @type {Uint8Array} */ line, /** @type {string} */ given) {
   const text = given.replace(/^\ufeff/, "").trim();
-  if (VERDICT.test(text)) {
-    return encoder.encode(text.split("\t")[0]);
-  }
+  if (VERDICT.test(text)) return encoder.encode(text.split("\t")[0]);
   return isSkipped(text) ? null : line;
 }
 
@@ -136,13 +128,9 @@ export function detectForm(/** @type {Iterable<string>} */ lines) {
   const used = /** @type {string[]} */ ([]);
   for (const line of lines) {
     const bare = line.trim();
-    if (used.length === 0 && isTableHeader(bare)) {
-      return "table";
-    }
+    if (used.length === 0 && isTableHeader(bare)) return "table";
     isSkipped(bare) || used.push(bare);
-    if (used.length === FIRST_LINES) {
-      break;
-    }
+    if (used.length === FIRST_LINES) break;
   }
   const isBare = (/** @type {string} */ line) =>
     OF_MACHINES.test(line) && readLine(line, "machines").kind === "machine";

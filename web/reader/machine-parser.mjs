@@ -38,9 +38,7 @@ export function isMachine(/** @type {string} */ text) {
   const size = `${text}_`.indexOf("_");
   const [symbols, states] = [size / 3, (text.length + 1) / (size + 1)];
   const isWhole = Number.isInteger(symbols) && Number.isInteger(states);
-  if (!isWhole || symbols < 2 || symbols > MOST_SYMBOLS || states > STATES.length) {
-    return false;
-  }
+  if (!isWhole || symbols < 2 || symbols > MOST_SYMBOLS || states > STATES.length) return false;
   const key = states * (MOST_SYMBOLS + 1) + symbols;
   const pattern = PATTERNS.get(key) ?? patternOf(states, symbols);
   PATTERNS.set(key, pattern);
@@ -62,13 +60,9 @@ export function parseWords(/** @type {Word[]} */ words) {
   }
   const groups = words.length > 1 ? words : findAll(words[0], /(?<![^_])[^_]*/g);
   const entries = parseGroups(groups);
-  if (!Array.isArray(entries)) {
-    return entries;
-  }
+  if (!Array.isArray(entries)) return entries;
   const rewritten = letterRewritings(groups);
-  if (groups.length === 1) {
-    return divideEntries(entries[0], rewritten);
-  }
+  if (groups.length === 1) return divideEntries(entries[0], rewritten);
   return buildMachine(entries, words.length > 1 ? [...rewritten, "spaces"] : rewritten);
 }
 
@@ -89,9 +83,7 @@ export function parseArrays(/** @type {Word[][]} */ groups) {
 function parseGroups(/** @type {Word[]} */ groups) {
   const parsed = /** @type {Group[]} */ ([]);
   for (const [k, { begin, text }] of groups.entries()) {
-    if (text === "") {
-      return reasonOf("empty-group", `group ${k + 1} is empty`, begin + 1);
-    }
+    if (text === "") return reasonOf("empty-group", `group ${k + 1} is empty`, begin + 1);
     const entries = text.match(/[^]{1,3}/g) ?? [];
     const wrong = entries.findIndex((entry) => !ENTRY.test(entry));
     if (wrong >= 0) {
@@ -144,9 +136,7 @@ function divideEntries(/** @type {Group} */ entries, /** @type {string[]} */ rew
     return buildMachine(chunk(entries, size), size < count ? [...rewritten, "underscores"] : rewritten);
   });
   const found = outcomes.filter((outcome) => "machine" in outcome);
-  if (found.length === 1 || outcomes.length === 1) {
-    return found[0] ?? outcomes[0];
-  }
+  if (found.length === 1 || outcomes.length === 1) return found[0] ?? outcomes[0];
   return found.length === 0
     ? reasonOf("division", `no way to divide ${all} into groups makes a machine`, place)
     : reasonOf("divisions", `${found.length} ways to divide ${all} into groups make a machine`, place);
@@ -155,18 +145,14 @@ function divideEntries(/** @type {Group} */ entries, /** @type {string[]} */ rew
 /** @returns {ParsedMachine | Reason} */
 function buildMachine(/** @type {Group[]} */ groups, /** @type {string[]} */ rewritten) {
   const wrong = checkSizes(groups);
-  if (wrong !== null) {
-    return wrong;
-  }
+  if (wrong !== null) return wrong;
   const capitals = groups.flat().map(([, entry]) => entry.toUpperCase().replace("...", "---"));
   const letters = capitals.map((entry) => entry[2]);
   const haltsByH = letters.includes("H") && !letters.includes("Z") && groups.length <= MOST_BEFORE_H;
   const entries = haltsByH ? capitals.map((entry) => entry.replace("H", "Z")) : capitals;
   for (const [k, [begin]] of groups.flat().entries()) {
     const reason = checkEntry(entries[k], k + 1, begin, groups.length, groups[0].length);
-    if (reason !== null) {
-      return reason;
-    }
+    if (reason !== null) return reason;
   }
   const texts = chunk(entries, groups[0].length).map((group) => group.join(""));
   return { machine: texts.join("_"), rewritten: haltsByH ? [...rewritten, "halting-state"] : rewritten };
@@ -197,16 +183,12 @@ function checkSizes(/** @type {Group[]} */ groups) {
  * @param {number} symbols
  */
 function checkEntry(entry, number, begin, states, symbols) {
-  if (entry === "---") {
-    return null;
-  }
+  if (entry === "---") return null;
   if (Number(entry[0]) >= symbols) {
     const sentence = `entry ${number} writes ${entry[0]}, but there are ${symbols} symbols`;
     return reasonOf("symbol", sentence, begin + 1);
   }
-  if (entry[2] === "Z" || STATES.slice(0, states).includes(entry[2])) {
-    return null;
-  }
+  if (entry[2] === "Z" || STATES.slice(0, states).includes(entry[2])) return null;
   if (entry[2] === "H" && states <= MOST_BEFORE_H) {
     return reasonOf("halting-state", "H: the halting state is Z here", begin + 3);
   }

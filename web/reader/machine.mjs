@@ -33,9 +33,7 @@ export function parseMachine(/** @type {string} */ text) {
 
 /** @returns {Entry | null} */
 function parseEntry(/** @type {string} */ text) {
-  if (text === "---") {
-    return null;
-  }
+  if (text === "---") return null;
   const next = text[2] === "Z" ? -1 : text.charCodeAt(2) - 65;
   return { write: Number(text[0]), move: text[1] === "R" ? 1 : -1, next };
 }
@@ -60,9 +58,7 @@ export function parseVerdictLine(/** @type {string} */ line) {
 /** @returns {Recurrence | null} the recurrence of a reply; null for an answer */
 export function parseRecurrence(/** @type {string} */ line) {
   const [machine, word, start, period, shift, ...words] = line.split(" ");
-  if (word !== "recurs") {
-    return null;
-  }
+  if (word !== "recurs") return null;
   const states = machine.split("_").length;
   const at = words.indexOf("quasihalts");
   const entries = words.includes("entries") ? words.slice(words.indexOf("entries") + 1) : [];

@@ -22,9 +22,7 @@ export const isCommentWithMachine = (/** @type {string} */ bare) =>
 
 /** Whether a trimmed line is skipped. */
 export function isSkipped(/** @type {string} */ bare) {
-  if (startsAsComment(bare)) {
-    return !isCommentWithMachine(bare);
-  }
+  if (startsAsComment(bare)) return !isCommentWithMachine(bare);
   if (bare.startsWith("!") || FENCE.test(bare) || RULE.test(bare)) {
     return tokenize(bare).texts.length === 0;
   }

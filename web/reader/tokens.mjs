@@ -137,9 +137,7 @@ function groupWords(/** @type {string} */ line, /** @type {Word[]} */ words, /**
   return adjacentRuns(line, all).flatMap((run) => {
     const plain = run.filter((word) => !isDashes(word));
     const inner = run.slice(run.indexOf(plain[0]), run.indexOf(plain[plain.length - 1]) + 1);
-    if (plain.length > 0 && inner.every(({ text }) => text.length === 3)) {
-      return [textOf(inner)];
-    }
+    if (plain.length > 0 && inner.every(({ text }) => text.length === 3)) return [textOf(inner)];
     return adjacentRuns(line, plain).map(textOf);
   });
 }
@@ -188,9 +186,7 @@ export function abbreviate(/** @type {string} */ given) {
 }
 
 function escapeCharacter(/** @type {string} */ character) {
-  if (!HIDDEN.test(character)) {
-    return character;
-  }
+  if (!HIDDEN.test(character)) return character;
   const code = character.charCodeAt(0).toString(16).padStart(2, "0");
   return CONTROL.test(character) && !"\t\n".includes(character) ? `\\x${code}` : codePointName(character);
 }

@@ -10,9 +10,7 @@ import { ADVICE, readLine } from "../reader/line-reader.mjs";
 import { REWRITINGS } from "../reader/machine-parser.mjs";
 
 function answerTo(asked) {
-  if (Array.isArray(asked)) {
-    return readLine(...asked);
-  }
+  if (Array.isArray(asked)) return readLine(...asked);
   return "lines" in asked ? detectForm(asked.lines) : encodingOf(Buffer.from(asked.bytes, "hex"));
 }
 

@@ -92,9 +92,7 @@ function countOnes(cells, begin, from, to) {
   const last = begin + (to >> 3);
   const upper = cells[first] >> (from & 7);
   const lower = (2 << (to & 7)) - 1;
-  if (first === last) {
-    return ONES[upper & (lower >> (from & 7))];
-  }
+  if (first === last) return ONES[upper & (lower >> (from & 7))];
   let ones = ONES[upper] + ONES[cells[last] & lower];
   for (let at = first + 1; at < last; at += 1) {
     ones += ONES[cells[at]];

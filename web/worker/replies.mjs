@@ -15,9 +15,7 @@ const LETTER_R = 114;
 const REFUSED = KINDS.indexOf("refused");
 // A kind is recognised by its first letter, an answer by its second.
 for (const letters of [KINDS.map((word) => word[0]), ANSWERS.map((word) => word[1])]) {
-  if (new Set(letters).size < letters.length) {
-    throw new Error("kinds and answers need distinct letters");
-  }
+  if (new Set(letters).size < letters.length) throw new Error("kinds and answers need distinct letters");
 }
 const KIND_BY_LETTER = new Uint8Array(256).fill(REFUSED);
 KINDS.forEach((word, kind) => (KIND_BY_LETTER[word.charCodeAt(0)] = kind));

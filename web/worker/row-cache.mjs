@@ -44,9 +44,7 @@ export class RowCache {
   /** The row of a step, or the last one before if the run or its cells end there. */
   lastRow(/** @type {number} */ upto) {
     const known = this.lastRows.find((one) => one.upto === upto);
-    if (known !== undefined) {
-      return known;
-    }
+    if (known !== undefined) return known;
     const row = this.rowExtent(upto);
     const end = row === null ? this.findEnd(upto) : { step: upto, halts: row.states === "Z" };
     const { low, width } = /** @type {{low: number, width: number}} */ (row ?? this.rowExtent(end.step));
@@ -70,9 +68,7 @@ export class RowCache {
     const verdictWithin = (/** @type {number} */ steps) =>
       engine.decide([machine], { ...SIMULATION, steps, cells })[0].split(" ").slice(1);
     const [kind, step] = verdictWithin(upto);
-    if (kind === "halt") {
-      return { step: Number(step), halts: true };
-    }
+    if (kind === "halt") return { step: Number(step), halts: true };
     // Visiting all cells takes at least a step for each but one, and often not many more.
     let [low, high] = [cells - 1, upto];
     for (let stride = 1; high - low > 1; stride *= 2) {
@@ -117,9 +113,7 @@ export class RowCache {
     this.traceSize(wanted) > MOST_BYTES && this.lastRow(wanted.upto);
     const request = this.fitRequest(wanted);
     const found = this.cached.find((one) => covers(one.request, request)) ?? this.trace(request);
-    if (isView) {
-      this.store(found);
-    }
+    if (isView) this.store(found);
     return { ...pickRows(found, request), every: request.every };
   }
 

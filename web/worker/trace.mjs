@@ -21,9 +21,7 @@ let cache = /** @type {RowCache | null} */ (null);
 const isCached = (/** @type {Run} */ run) => cache?.machine === run.machine && cache.cells === run.cells;
 
 function cacheFor(/** @type {Engine} */ engine, /** @type {Run} */ run) {
-  if (cache === null || !isCached(run)) {
-    cache = new RowCache(engine, run.machine, run.cells);
-  }
+  if (cache === null || !isCached(run)) cache = new RowCache(engine, run.machine, run.cells);
   return cache;
 }
 

@@ -187,9 +187,7 @@ function sortRows(rows, steps, down) {
  */
 const HANDLERS = {
   list: (message) => {
-    if (message.size !== undefined) {
-      [size, pace] = [message.size, Infinity];
-    }
+    if (message.size !== undefined) [size, pace] = [message.size, Infinity];
     answerList(message);
   },
   "warm-up": ({ list }) => warmUp(list),

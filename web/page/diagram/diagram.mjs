@@ -105,14 +105,10 @@ export class Diagram {
 
   /** Requests the view's picture; the last one stays until it comes. */
   requestPicture() {
-    if (this.run === null) {
-      return;
-    }
+    if (this.run === null) return;
     const { machine, cells, upto, ...fit } = this.run;
     const { width, height } = this.area;
-    if (this.picture === null) {
-      byId("diagram-text").textContent = "Drawing …";
-    }
+    if (this.picture === null) byId("diagram-text").textContent = "Drawing …";
     this.canvas.dataset.state = "requested";
     this.requests += 1;
     const { requests, view, isOpening: opens } = this;
@@ -125,9 +121,7 @@ export class Diagram {
 
   /** Draws a picture at once, in time for the next frame. One of an older view is scaled. */
   receivePicture(/** @type {any} */ reply, /** @type {boolean} */ isLast) {
-    if (!isLast && (reply.error || this.view === null)) {
-      return;
-    }
+    if (!isLast && (reply.error || this.view === null)) return;
     if (reply.error) {
       Object.assign(this, { picture: null, sheet: null });
       this.clear();
@@ -149,9 +143,7 @@ export class Diagram {
    * @param {Picture["ahead"]} ahead @param {number} requests
    */
   traceAhead([request, ...others], requests) {
-    if (request === undefined || requests !== this.requests) {
-      return;
-    }
+    if (request === undefined || requests !== this.requests) return;
     const { machine, cells } = request;
     this.aheadClient.request({ type: "trace-ahead", request }, ({ error, cached }) => {
       cached && this.client.post({ type: "store-rows", machine, cells, cached }, [cached.rows.cells.buffer]);
@@ -198,9 +190,7 @@ export class Diagram {
   showStep(/** @type {Place} */ place, /** @type {boolean} */ closes) {
     this.tapePlace = place;
     const { scene } = this;
-    if (scene === null) {
-      return;
-    }
+    if (scene === null) return;
     this.pointed = closes ? null : this.pointed;
     if (closes || (!geometry.isVisible(scene, place) && scene.view.high >= viewport.FRAMED)) {
       this.setView(viewport.closeView(scene.area, place, scene.view));
@@ -211,33 +201,25 @@ export class Diagram {
   /** Moves the pointer of the keys by cells or by part of the view; the view follows. */
   movePointer(/** @type {number} */ right, /** @type {number} */ down, /** @type {boolean} */ far) {
     const { scene, run, tapePlace } = this;
-    if (scene === null || run === null) {
-      return;
-    }
+    if (scene === null || run === null) return;
     const isVisible = geometry.isVisible(scene, tapePlace);
     const middle = isVisible ? null : geometry.placeAt(scene, this.zoomCentre(scene));
     const from = this.pointed ?? middle ?? tapePlace;
     this.pointed = geometry.nextPlace(scene, from, { right, down, far }, run.upto);
     const { right: x, down: y } = geometry.offsetTo(scene, this.pointed);
-    if (x !== 0 || y !== 0) {
-      this.setNearView(geometry.moveView(scene.view, x, y));
-    }
+    if (x !== 0 || y !== 0) this.setNearView(geometry.moveView(scene.view, x, y));
     this.scheduleDraw();
   }
 
   scheduleDraw() {
-    if (this.frame === 0) {
-      this.frame = requestAnimationFrame(() => this.draw());
-    }
+    if (this.frame === 0) this.frame = requestAnimationFrame(() => this.draw());
   }
 
   draw() {
     cancelAnimationFrame(this.frame);
     this.frame = 0;
     const { scene, picture, canvas } = this;
-    if (picture === null || scene === null) {
-      return;
-    }
+    if (picture === null || scene === null) return;
     const painter = new Painter(canvas, scene);
     painter.paintPicture(picture, this.sheet);
     painter.paintHeads(picture);

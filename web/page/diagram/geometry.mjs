@@ -79,9 +79,7 @@ export function zoomCentre(/** @type {Scene} */ scene, /** @type {(Place | null)
 /** The cells and steps of one move of the pointer by keys. */
 function pointerStride(/** @type {View} */ view, /** @type {boolean} */ far) {
   const pixels = far ? FAR_PIXELS : POINTER_PIXELS;
-  if (view.wide >= FRAMED && view.high >= FRAMED && !far) {
-    return { cells: 1, steps: 1 };
-  }
+  if (view.wide >= FRAMED && view.high >= FRAMED && !far) return { cells: 1, steps: 1 };
   const cells = Math.max(1, Math.round(pixels / view.wide)) * view.across;
   return { cells, steps: Math.max(1, Math.round(pixels / view.high)) * view.every };
 }
@@ -130,18 +128,14 @@ export function offsetTo(/** @type {Scene} */ scene, /** @type {Place} */ place)
 
 /** The distance beyond an edge, plus a quarter of the picture; 0 inside. */
 function overshoot(/** @type {number} */ at, /** @type {number} */ low, /** @type {number} */ size) {
-  if (at < low) {
-    return at - low - size / 4;
-  }
+  if (at < low) return at - low - size / 4;
   return at >= low + size ? at - low - (3 * size) / 4 : 0;
 }
 
 /** A description of a place; empty if the picture lacks its row. */
 export function placeText(/** @type {Picture | null} */ picture, /** @type {Place} */ { step, position }) {
   const row = rowOf(picture, step);
-  if (picture === null || row === null) {
-    return "";
-  }
+  if (picture === null || row === null) return "";
   const symbol = symbolAt(picture.rows, row.k, position);
   const head = row.position === position ? "here" : `at ${formatNumber(row.position)}`;
   const cell = symbol < 0 ? "not visited yet" : `symbol ${symbol}`;
@@ -152,9 +146,7 @@ export function placeText(/** @type {Picture | null} */ picture, /** @type {Plac
 /** A description of a picture, and how it is sampled and scaled. */
 export function pictureText(/** @type {Picture} */ picture, /** @type {number} */ width) {
   const { rows: { steps }, cut, every, view, low, high } = picture;
-  if (steps.length === 0) {
-    return "No steps in view.";
-  }
+  if (steps.length === 0) return "No steps in view.";
   const range = `Steps ${formatNumber(steps[0])} to ${formatNumber(steps[steps.length - 1])}`;
   const parts = [every > 1 ? `${range}, every ${formatNumber(every)} steps` : range];
   const [left, right] = [view.left, view.left + Math.ceil(width * cellsPerPixel(view)) - 1];
@@ -163,8 +155,6 @@ export function pictureText(/** @type {Picture} */ picture, /** @type {number} *
   if (view.across > 1) {
     parts.push(`one pixel shows the mean colour of ${formatNumber(view.across)} cells`);
   }
-  if (cut) {
-    parts.push("the limit of cells ends the trace");
-  }
+  if (cut) parts.push("the limit of cells ends the trace");
   return `${parts.join("; ")}.`;
 }

@@ -93,9 +93,7 @@ export class Gestures {
 
   onDown(/** @type {PointerEvent} */ event) {
     const { canvas } = this.diagram;
-    if (event.button !== 0) {
-      return;
-    }
+    if (event.button !== 0) return;
     this.canMove = event.pointerType === "mouse" || document.activeElement === canvas;
     this.canMove && canvas.setPointerCapture(event.pointerId);
     this.fingers.set(event.pointerId, { x: event.clientX, y: event.clientY });
@@ -131,9 +129,7 @@ export class Gestures {
     }
     const now = { x: event.clientX, y: event.clientY };
     const far = Math.hypot(now.x - before.x, now.y - before.y);
-    if (this.moved === 0 && far < CLICK_PIXELS) {
-      return;
-    }
+    if (this.moved === 0 && far < CLICK_PIXELS) return;
     this.moved += far;
     if (this.canMove) {
       this.fingers.set(event.pointerId, now);

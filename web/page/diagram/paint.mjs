@@ -26,9 +26,7 @@ const MARK_PIXELS = 4;
 
 /** A picture's pixels as a canvas, for scaling; null if it has none. */
 export function createSheet(/** @type {Picture} */ { image, columns, rows: { steps: { length } } }) {
-  if (length === 0 || columns < 1) {
-    return null;
-  }
+  if (length === 0 || columns < 1) return null;
   const sheet = document.createElement("canvas");
   Object.assign(sheet, { width: columns, height: length });
   sheet.getContext("2d")?.putImageData(new ImageData(image, columns, length), 0, 0);
@@ -95,9 +93,7 @@ export class Painter {
    */
   paintHeads(/** @type {Picture} */ { rows }) {
     const { pen, view: { wide, high } } = this;
-    if (wide < FRAMED || high < FRAMED) {
-      return;
-    }
+    if (wide < FRAMED || high < FRAMED) return;
     const line = high >= 12 ? 2 : 1.5;
     const font = `bold ${Math.round(high * 0.6)}px ${FONT}`;
     Object.assign(pen, { font, textAlign: "center", textBaseline: "middle" });
@@ -217,9 +213,7 @@ export class Painter {
     const { pen } = this;
     const [x, y] = [one.x + one.wide / 2, one.y + one.high + 1];
     const [toX, toY] = [two.x + two.wide / 2, two.y - 1];
-    if (Math.hypot(toX - x, toY - y) < 8) {
-      return;
-    }
+    if (Math.hypot(toX - x, toY - y) < 8) return;
     const line = new Path2D();
     line.moveTo(x, y);
     line.lineTo(toX, toY);

@@ -71,9 +71,7 @@ function digitsOf(/** @type {string} */ text) {
 export function parseNumber(/** @type {string} */ input) {
   const text = digitsOf(input);
   const power = /^(\d{1,15})(?:\.(\d{1,15}))?e\+?(\d{1,2})$/i.exec(text) ?? /^(1)()0\^(\d{1,2})$/.exec(text);
-  if (power === null) {
-    return /^\d{1,19}$/.test(text) ? BigInt(text) : null;
-  }
+  if (power === null) return /^\d{1,19}$/.test(text) ? BigInt(text) : null;
   const [, whole, fraction = "", zeros] = power;
   const rest = Number(zeros) - fraction.length;
   return rest < 0 ? null : BigInt(whole + fraction) * 10n ** BigInt(rest);
@@ -94,9 +92,7 @@ export function readPlan() {
     }
     plan[name] = number;
   }
-  if (2n * plan.depth > plan.cells + 1n) {
-    return showRefusal("depth", "depth does not fit in cells");
-  }
+  if (2n * plan.depth > plan.cells + 1n) return showRefusal("depth", "depth does not fit in cells");
   return plan;
 }
 
@@ -144,9 +140,7 @@ export function readLink(/** @type {string} */ hash) {
   const isAlone = text !== "" && !text.includes("=");
   const words = new URLSearchParams(isAlone ? { machine: decode(text) } : text);
   const machine = words.get("machine");
-  if (machine === null) {
-    return null;
-  }
+  if (machine === null) return null;
   const limits = LIMITS.filter((name) => words.has(name)).map((name) => [name, words.get(name)]);
   const off = SWITCHES.filter((name) => words.get(name) === "off").map((name) => [name, false]);
   return { machine: machine.slice(0, LONGEST_SHOWN), plan: Object.fromEntries([...limits, ...off]) };

@@ -83,9 +83,7 @@ export class ListError extends Error {
 
 /** A list's bytes, decompressed from gzip. */
 export async function decompress(/** @type {Blob} */ blob) {
-  if (!startsWith(await readFirstBytes(blob), GZIP)) {
-    return blob;
-  }
+  if (!startsWith(await readFirstBytes(blob), GZIP)) return blob;
   const { DecompressionStream: Stream } = /** @type {any} */ (globalThis);
   if (Stream === undefined) {
     throw new ListError("The list is compressed by gzip, which this browser doesn’t decompress.");
@@ -93,9 +91,7 @@ export async function decompress(/** @type {Blob} */ blob) {
   try {
     return await new Response(blob.stream().pipeThrough(new Stream("gzip"))).blob();
   } catch (error) {
-    if (error instanceof DOMException) {
-      throw error;
-    }
+    if (error instanceof DOMException) throw error;
     throw new ListError("The list can’t be read as gzip: it is truncated or damaged.");
   }
 }

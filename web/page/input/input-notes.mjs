@@ -41,9 +41,7 @@ export function showInputNotes(/** @type {InputLine} */ line, /** @type {Verdict
  * @param {boolean} isAccepted whether the program accepts the line
  */
 function refusalText(reading, { numbers: [column], text }, isAccepted) {
-  if (column === undefined) {
-    return NO_VERDICT_LINE;
-  }
+  if (column === undefined) return NO_VERDICT_LINE;
   if (reading?.kind !== "refusal") {
     return `Refused: the error is at column ${formatNumber(column)}; ${ADVICE.none}.`;
   }

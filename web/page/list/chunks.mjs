@@ -34,9 +34,7 @@ export class ChunkReader {
     for (;;) {
       const newline = this.buffered.indexOf(NEWLINE, Math.min(this.size, this.buffered.length) - 1);
       const isEnd = newline < 0 && this.pendingRead === null && this.offset >= this.blob.size;
-      if (newline >= 0 || isEnd) {
-        return this.cutChunk(isEnd ? this.buffered.length : newline + 1);
-      }
+      if (newline >= 0 || isEnd) return this.cutChunk(isEnd ? this.buffered.length : newline + 1);
       this.dropLongTail();
       const bytes = await this.read();
       this.buffered = this.buffered.length === 0 ? bytes : concatBytes([this.buffered, bytes]);
@@ -78,9 +76,7 @@ export class ChunkReader {
     const bytes = last > 0 ? read.subarray(0, last) : read;
     this.offset -= read.length - bytes.length;
     this.pendingRead = this.offset < this.blob.size ? this.startRead() : null;
-    if (!this.isSkipping) {
-      return bytes;
-    }
+    if (!this.isSkipping) return bytes;
     const newline = bytes.indexOf(NEWLINE);
     this.isSkipping = newline < 0;
     return newline < 0 ? bytes.subarray(0, 0) : bytes.subarray(newline);

@@ -162,9 +162,7 @@ export class ListRun {
   }
 
   tick() {
-    if (this.isRunning && this.refreshTimer === 0) {
-      this.showProgress("Running");
-    }
+    if (this.isRunning && this.refreshTimer === 0) this.showProgress("Running");
     if (this.isRunning && performance.now() - this.announcedAt > ANNOUNCE_MILLISECONDS) {
       this.announcedAt = performance.now();
       announce(byId("status").textContent ?? "");
@@ -185,9 +183,7 @@ export class ListRun {
   show(outcome = this.isRunning ? "Running" : this.outcome) {
     clearTimeout(this.refreshTimer);
     this.refreshTimer = 0;
-    if (outcome === "Running" && !this.isRunning) {
-      return;
-    }
+    if (outcome === "Running" && !this.isRunning) return;
     const { info, results: { counts, lines } } = this;
     this.showProgress(outcome);
     const canRedecide = outcome !== "Running" && info.mode !== "check" && counts[UNDECIDED] > 0;

@@ -56,9 +56,7 @@ export class ListView {
     if (!this.wasOpened && results.lines > 0 && (results.hasFirstLine ? !results.isWaiting(0) : !isRunning)) {
       this.rows.choose(0, false);
       this.openRow(this.rows.rows[0] ?? 0, false);
-      if (performance.getEntriesByName(FIRST_VERDICT).length === 0) {
-        performance.mark(FIRST_VERDICT);
-      }
+      if (performance.getEntriesByName(FIRST_VERDICT).length === 0) performance.mark(FIRST_VERDICT);
     }
   }
 
@@ -117,12 +115,8 @@ export class ListView {
     const isSorted = order !== "list" && !isRunning;
     this.turn += 1;
     // The first line to open is the list's first.
-    if (!isSorted || !this.wasOpened) {
-      this.rows.showRows(results, rows, true);
-    }
-    if (isSorted) {
-      this.showSorted(rows.slice(), order === "down");
-    }
+    if (!isSorted || !this.wasOpened) this.rows.showRows(results, rows, true);
+    if (isSorted) this.showSorted(rows.slice(), order === "down");
   }
 
   /**

@@ -83,9 +83,7 @@ export class WorkerPool {
   }
 
   receive(/** @type {PoolWorker} */ one, /** @type {any} */ reply) {
-    if (this.isOver) {
-      return;
-    }
+    if (this.isOver) return;
     if (reply.error) {
       this.fail(reply);
     } else if (reply.at !== undefined) {
@@ -112,9 +110,7 @@ export class WorkerPool {
   splitSlowBatch(/** @type {PoolWorker} */ one) {
     const { note, since, chunks, milliseconds } = one;
     const patience = Math.max(PATIENCE_MILLISECONDS, 3 * milliseconds);
-    if (note === null || note.lines < 2 || performance.now() - since < patience) {
-      return;
-    }
+    if (note === null || note.lines < 2 || performance.now() - since < patience) return;
     one.worker.terminate();
     const size = Math.max(1, Math.floor(note.bytes / SPLIT));
     Object.assign(one, { worker: newWorker(), note: null, size });
@@ -135,9 +131,7 @@ export class WorkerPool {
 
   /** Ends the run if no worker has a chunk, and keeps the workers for the next list. */
   finish() {
-    if (this.isOver || this.workers.some((one) => one.chunks.length > 0)) {
-      return;
-    }
+    if (this.isOver || this.workers.some((one) => one.chunks.length > 0)) return;
     this.isOver = true;
     clearInterval(this.watch);
     for (const { worker, memoryBytes } of this.workers) {

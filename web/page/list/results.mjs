@@ -202,9 +202,7 @@ export class Results {
     const all = new Float64Array(this.lines);
     let begun = performance.now();
     for (const [k, part] of this.partsInOrder().entries()) {
-      if (!isWanted()) {
-        break;
-      }
+      if (!isWanted()) break;
       part.steps ??= readSteps(part.lines ?? part.bytes, part);
       all.set(part.steps, this.firstRows[k]);
       if (performance.now() - begun > BUSY_MILLISECONDS) {
@@ -230,9 +228,7 @@ function linesOf(/** @type {Part} */ part, /** @type {Set<number>} */ kinds) {
   let begin = -1;
   for (let k = 0; k <= part.kinds.length; k += 1) {
     const isIn = k < part.kinds.length && kinds.has(part.kinds[k]) && plans?.[k] !== FIRST_PASS;
-    if (!isIn && begin >= 0) {
-      found.push(part.bytes.subarray(starts[begin], starts[k]));
-    }
+    if (!isIn && begin >= 0) found.push(part.bytes.subarray(starts[begin], starts[k]));
     begin = isIn ? (begin < 0 ? k : begin) : -1;
   }
   return found;

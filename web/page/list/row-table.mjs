@@ -80,9 +80,7 @@ export class RowTable {
     this.locateChosen(results, rows, isInOrder);
     byId("spacer").style.height = `${this.height}px`;
     // A full box keeps its height.
-    if (fewer * this.pixels <= this.inner) {
-      this.inner = this.box.clientHeight;
-    }
+    if (fewer * this.pixels <= this.inner) this.inner = this.box.clientHeight;
     this.box.setAttribute("aria-rowcount", String(rows.length + 1));
     this.top = Math.min(this.top, Math.max(0, rows.length - this.visibleCount));
     this.draw();
@@ -160,9 +158,7 @@ export class RowTable {
     const { bytes } = of;
     const before = this.drawn.get(place);
     const isSame = before?.of === of && before.line === line && before.bytes === bytes;
-    if (before !== undefined && isSame && before.isChosen === isChosen) {
-      return before;
-    }
+    if (before !== undefined && isSame && before.isChosen === isChosen) return before;
     return { element: this.createRow(place), of, line, bytes, isChosen };
   }
 
@@ -195,9 +191,7 @@ export class RowTable {
 
   onClick(/** @type {MouseEvent} */ event) {
     const row = /** @type {HTMLElement} */ (event.target).closest("[data-place]");
-    if (row instanceof HTMLElement) {
-      this.choose(Number(row.dataset.place), true);
-    }
+    if (row instanceof HTMLElement) this.choose(Number(row.dataset.place), true);
   }
 
   onKey(/** @type {KeyboardEvent} */ event) {
@@ -214,9 +208,7 @@ export class RowTable {
 
   /** Chooses a row, and opens its machine on request. */
   choose(/** @type {number} */ place, /** @type {boolean} */ opens) {
-    if (this.rows.length === 0) {
-      return;
-    }
+    if (this.rows.length === 0) return;
     this.chosen = Math.max(0, Math.min(place, this.rows.length - 1));
     this.gap = this.chosen;
     this.line = this.results?.placeOf(this.rows[this.chosen]) ?? null;
@@ -224,8 +216,6 @@ export class RowTable {
       this.scrollTo(this.chosen < this.top ? this.chosen : this.chosen - this.visibleCount + 1);
     }
     this.draw();
-    if (opens) {
-      this.open(this.rows[this.chosen]);
-    }
+    if (opens) this.open(this.rows[this.chosen]);
   }
 }

@@ -56,9 +56,7 @@ export function statusText(outcome, share, info, results) {
 
 /** Names a slow line; empty for others. */
 export function slowLineText(/** @type {{text: string, milliseconds: number} | null} */ line) {
-  if (line === null || line.milliseconds < SLOW_MILLISECONDS) {
-    return "";
-  }
+  if (line === null || line.milliseconds < SLOW_MILLISECONDS) return "";
   const text = line.text.length > LONGEST_QUOTED ? `${line.text.slice(0, LONGEST_QUOTED)}…` : line.text;
   return `Deciding ${text} for ${(line.milliseconds / 1000).toFixed(1)} s.`;
 }

@@ -17,9 +17,7 @@ function predecessors(/** @type {Machine} */ { rules }, /** @type {Node} */ node
   return rules.flatMap(({ state, symbol, entry }) => {
     const left = entry?.move === 1 ? -1 : 1;
     const there = node.known.get(left) ?? entry?.write;
-    if (entry?.next !== node.state || there !== entry.write) {
-      return [];
-    }
+    if (entry?.next !== node.state || there !== entry.write) return [];
     const known = new Map([...node.known].map(([distance, value]) => [distance - left, value]));
     return [{ state, known: known.set(0, symbol) }];
   });

@@ -36,9 +36,7 @@ export function clearEvidence() {
 /** The last step of a verdict's first view, and the last one of its diagram. */
 export function diagramSteps(/** @type {Verdict} */ { kind, numbers }, /** @type {number} */ limit) {
   const [first, second] = numbers;
-  if (kind === "halt") {
-    return { last: first, upto: first };
-  }
+  if (kind === "halt") return { last: first, upto: first };
   if (kind === "cycler" || kind === "translated") {
     const last = second + Math.max(4, Math.ceil((second - first) / 2));
     return { last, upto: Math.max(Math.min(limit, MOST_STEPS), last) };
@@ -66,9 +64,7 @@ export function showEvidence(about, mark) {
   // The two rows of a pair, or the last row of a halt.
   const sample = kind === "halt" ? { every: 1, upto: from } : { every: second - from, upto: second };
   client.request({ type: "trace", machine, cells, from, ...sample }, ({ rows = [] }) => {
-    if (shownVerdict !== verdict) {
-      return;
-    }
+    if (shownVerdict !== verdict) return;
     const { bands, parts } = rowEvidence(verdict, rows);
     box.replaceChildren(...parts);
     const [row] = kind === "halt" ? rows : [];
@@ -133,9 +129,7 @@ function configurationOf(/** @type {Row} */ { state, head, low, cells }) {
 
 /** A row's state and agreeing cells as a text; empty without such cells. */
 function stretchText(/** @type {Row} */ row, /** @type {Band} */ { from, to }) {
-  if (from === null || to === null) {
-    return "";
-  }
+  if (from === null || to === null) return "";
   return row.state + Array.from({ length: to - from + 1 }, (_, k) => symbolAt(row, from + k)).join("");
 }
 

@@ -47,9 +47,7 @@ function firstUses(/** @type {import("../../reader/machine.mjs").Machine} */ { s
   let [state, at] = [0, NORMAL_STEPS];
   for (let step = 0; step < NORMAL_STEPS; step += 1) {
     const { entry } = rules[state * symbols + cells[at]];
-    if (entry === null || entry.next < 0) {
-      break;
-    }
+    if (entry === null || entry.next < 0) break;
     cells[at] = entry.write;
     at += entry.move;
     state = entry.next;
@@ -74,9 +72,7 @@ export function normalForm(/** @type {string} */ text) {
 
 /** @param {About} about @param {string} lastState the state of the run's last row */
 function completionsText({ machine, verdict: { kind } }, lastState) {
-  if (!machine.includes("---")) {
-    return "It has no undefined entry.";
-  }
+  if (!machine.includes("---")) return "It has no undefined entry.";
   return kind === "halt" && lastState !== "Z" ? HALT_ON_UNDEFINED : COMPLETIONS[kind];
 }
 
@@ -137,9 +133,7 @@ function requestLaterRow(/** @type {About} */ about) {
   }
   const { early, farther } = isPair ? laterStep(verdict) : { early: numbers[0], farther: 0n };
   client.request({ type: "trace", machine, cells, from: early, every: 1, upto: early }, ({ rows }) => {
-    if (!rows?.length || current !== about) {
-      return;
-    }
+    if (!rows?.length || current !== about) return;
     const [{ state, head }] = rows;
     showFact("completions", completionsText(about, state));
     const isWithout = kind === "translated" && numbers[2] === undefined;
@@ -163,9 +157,7 @@ function requestGrowth(/** @type {About} */ about) {
 }
 
 function growthText(/** @type {Growth} */ { growth, steps, visited }) {
-  if (growth === "halts") {
-    return `The run ends, with ${formatCount(visited[2], "cell")}.`;
-  }
+  if (growth === "halts") return `The run ends, with ${formatCount(visited[2], "cell")}.`;
   const counts = `${visited.map(formatNumber).join(", ")} after a hundredth, a tenth and all`;
   return `${GROWTHS[growth]}: ${counts} of ${formatCount(steps, "step")}; a guess from these.`;
 }

@@ -98,9 +98,7 @@ export class MachineView {
     }
     const focused = document.activeElement;
     const isHidden = focused instanceof HTMLElement && focused.offsetParent === null;
-    if (isHidden && byId("machine").contains(focused)) {
-      byId("row-next").focus({ preventScroll: true });
-    }
+    if (isHidden && byId("machine").contains(focused)) byId("row-next").focus({ preventScroll: true });
   }
 
   /** Hides the view; its focus moves to the rows. */
@@ -212,9 +210,7 @@ export class MachineView {
 /** The verdict in words, with a warning before an unconfirmed one. */
 function sentenceOf(/** @type {About} */ { verdict, answer, isWaiting }) {
   const words = verdictText(verdict);
-  if (isWaiting) {
-    return `Waiting for the second pass, with the list’s limits. First pass: ${words}`;
-  }
+  if (isWaiting) return `Waiting for the second pass, with the list’s limits. First pass: ${words}`;
   const isSure = answer === "ok" || verdict.kind === "undecided" || verdict.kind === "refused";
   return isSure ? words : `${DOUBTS[answer] ?? DOUBTS.unread} The line claims: ${words}`;
 }

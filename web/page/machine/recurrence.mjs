@@ -33,9 +33,7 @@ export function showRecurrence(line, plan, onFound) {
   byId("recurrence-facts").replaceChildren(create("dd", {}, "…"));
   byId("uses").replaceChildren();
   client.request({ type: "recurrence", line, plan }, ({ found, rows, message }) => {
-    if (current !== line) {
-      return;
-    }
+    if (current !== line) return;
     if (!found) {
       const words = message === undefined ? "The engine doesn’t confirm the pair." : `Not found: ${message}.`;
       byId("recurrence-facts").replaceChildren(create("dd", {}, words));

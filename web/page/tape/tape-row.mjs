@@ -29,14 +29,10 @@ export function highlightEntry(/** @type {Row} */ row) {
 export function stepText(/** @type {Row} */ row, /** @type {string} */ machine) {
   const now = `Step ${formatNumber(row.step)}: ${stateText(row.state)}`;
   const place = `at position ${formatNumber(row.head)}`;
-  if (row.state === "Z") {
-    return `${now}, ${place}.`;
-  }
+  if (row.state === "Z") return `${now}, ${place}.`;
   const entry = nextEntry(row, machine);
   const reads = `${now} reads ${symbolAt(row)} ${place}`;
-  if (entry === null) {
-    return `${reads}; no entry is defined there, so it halts.`;
-  }
+  if (entry === null) return `${reads}; no entry is defined there, so it halts.`;
   const { write, move, next } = entry;
   const goes = next < 0 ? "halts" : `goes to ${stateLetter(next)}`;
   const moves = `moves ${move > 0 ? "right" : "left"}`;

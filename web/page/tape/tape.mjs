@@ -64,9 +64,7 @@ export class Tape {
 
   /** Empties the tape, unless a row has come. */
   clear() {
-    if (this.row === undefined) {
-      byId("tape-cells").replaceChildren();
-    }
+    if (this.row === undefined) byId("tape-cells").replaceChildren();
   }
 
   get row() {
@@ -94,9 +92,7 @@ export class Tape {
 
   /** Goes to a step, or to the last one. */
   goTo(/** @type {number} */ step, closes = false) {
-    if (this.about === null) {
-      return;
-    }
+    if (this.about === null) return;
     const from = this.step;
     this.requests += 1;
     this.step = Math.max(0, Math.min(step, this.about.last));
@@ -206,9 +202,7 @@ export class Tape {
 
   draw() {
     const { row, about } = this;
-    if (row === undefined || about === null) {
-      return;
-    }
+    if (row === undefined || about === null) return;
     const around = Math.max(2, Math.floor((this.box.clientWidth / CELL_PIXELS - 1) / 2));
     const places = Array.from({ length: 2 * around + 1 }, (_, k) => row.head - around + k);
     byId("tape-cells").replaceChildren(...places.map((at) => createCell(row, at)));
