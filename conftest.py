@@ -1,7 +1,5 @@
 """Fixtures, options and the closing line of all tests."""
 
-from __future__ import annotations
-
 import pathlib
 import random
 import subprocess

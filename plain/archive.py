@@ -7,8 +7,6 @@ It writes FOLDER/budlarem-VERSION-src.tar.gz and prints its path. The same commi
 bytes. The status is 1 where git or cargo fails.
 """
 
-from __future__ import annotations
-
 import argparse
 import gzip
 import io

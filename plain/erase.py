@@ -8,8 +8,6 @@ of rules rewrites the calls that differ in Rattle's standard library. Anything e
 stops the command, with file, line and token. The status is 1 then, and 2 for wrong arguments.
 """
 
-from __future__ import annotations
-
 import argparse
 import json
 import os

@@ -6,8 +6,6 @@ commit gives the same bytes. Needs Debian's packages python3-pip, python3-setupt
 binutils, and no network.
 """
 
-from __future__ import annotations
-
 import argparse
 import os
 import pathlib

@@ -1,7 +1,5 @@
 """`cover` over whole lists, and over lists with a line left out, doubled, swapped or changed."""
 
-from __future__ import annotations
-
 import functools
 import random
 import re

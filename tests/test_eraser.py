@@ -1,7 +1,5 @@
 """The eraser of contracts: what it writes, what stops it, and how clean the workspace is."""
 
-from __future__ import annotations
-
 import pathlib
 import re
 import subprocess

@@ -3,8 +3,6 @@
 clap's own texts may differ by its version: of these only the status and the stream are compared.
 """
 
-from __future__ import annotations
-
 import itertools
 import pathlib
 import random

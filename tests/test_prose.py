@@ -3,8 +3,6 @@
 The numbers are alarms. A page that trips one and reads well is named in `EXCEPTED`, with the reason.
 """
 
-from __future__ import annotations
-
 import ast
 import re
 

@@ -1,7 +1,5 @@
 """`recurrence` beside a brute force from the definitions alone, and its replies to other lines."""
 
-from __future__ import annotations
-
 import subprocess
 from typing import Callable
 

@@ -1,7 +1,5 @@
 """Lists checked whole in shards: `cover --below`, `cover --skeleton`, and the lists made for them."""
 
-from __future__ import annotations
-
 import hashlib
 import random
 import re

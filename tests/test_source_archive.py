@@ -1,7 +1,5 @@
 """The archive of the plain workspace: the same bytes twice, built with a bare PATH, without home and network."""
 
-from __future__ import annotations
-
 import os
 import pathlib
 import subprocess

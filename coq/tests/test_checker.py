@@ -1,7 +1,5 @@
 """The checker that Coq extracts and that of the program answer alike, byte for byte, and end alike."""
 
-from __future__ import annotations
-
 import random
 import subprocess
 from typing import Callable, Iterator

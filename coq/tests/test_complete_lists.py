@@ -1,7 +1,5 @@
 """Whole lists: the checker that Coq extracts answers as `cover` does, and wrong ones are noticed."""
 
-from __future__ import annotations
-
 import pathlib
 import random
 import re

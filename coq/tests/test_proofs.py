@@ -1,7 +1,5 @@
 """The proofs in Coq: none assumes anything, a wrong checker fails them, and lines notice a wrong checker."""
 
-from __future__ import annotations
-
 import pathlib
 import random
 import re

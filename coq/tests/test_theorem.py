@@ -1,7 +1,5 @@
 """Theorems that `coq/theorem` makes of lines: of one line each, true and false ones, and of many."""
 
-from __future__ import annotations
-
 import pathlib
 import random
 import subprocess

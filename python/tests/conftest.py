@@ -1,7 +1,5 @@
 """Fixtures of the tests of the package."""
 
-from __future__ import annotations
-
 import os
 import pathlib
 import tempfile

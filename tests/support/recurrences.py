@@ -1,7 +1,5 @@
 """Exact recurrences by brute force: each period and each start is tried, from the definitions alone."""
 
-from __future__ import annotations
-
 from typing import Sequence
 
 from .machines import table_of

@@ -1,7 +1,5 @@
 """`budlarem run --scheduler` beside the program, over real schedulers and workers of dask."""
 
-from __future__ import annotations
-
 import os
 import pathlib
 import random

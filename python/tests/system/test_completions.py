@@ -1,7 +1,5 @@
 """Completion of the command lines of `bb` and `budlarem` in bash, zsh and fish: each shell is asked."""
 
-from __future__ import annotations
-
 import os
 import pathlib
 import re

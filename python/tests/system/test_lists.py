@@ -1,7 +1,5 @@
 """Lists as people have them, what `budlarem check` answers to them, and what `judge` says of them."""
 
-from __future__ import annotations
-
 import gzip
 import json
 import os

@@ -1,7 +1,5 @@
 """The manual page of `budlarem` is the one that its parser makes."""
 
-from __future__ import annotations
-
 import pathlib
 import subprocess
 

@@ -1,7 +1,5 @@
 """The package beside the program, byte for byte where there are bytes."""
 
-from __future__ import annotations
-
 import itertools
 import random
 import signal

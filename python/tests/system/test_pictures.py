@@ -1,7 +1,5 @@
 """Pictures of runs, which are read back and held against what the runs do."""
 
-from __future__ import annotations
-
 import io
 import re
 from typing import Any

@@ -1,7 +1,5 @@
 """`budlarem publish` of a run with `--keep left`, and of a folder of shards: the archive, and its commands."""
 
-from __future__ import annotations
-
 import hashlib
 import json
 import os

@@ -1,7 +1,5 @@
 """`recheck.py`, the package's checker in plain Python, beside the program's checker."""
 
-from __future__ import annotations
-
 import ast
 import collections
 import itertools

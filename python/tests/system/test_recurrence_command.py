@@ -1,7 +1,5 @@
 """`budlarem recurrence` beside a brute force over every period and every start."""
 
-from __future__ import annotations
-
 import gzip
 import pathlib
 import random

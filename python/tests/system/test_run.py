@@ -1,7 +1,5 @@
 """`budlarem run` as a process beside the program, byte for byte, whatever ends it meanwhile."""
 
-from __future__ import annotations
-
 import gzip
 import itertools
 import json

@@ -1,7 +1,5 @@
 """`budlarem shards` and `budlarem shard` as processes, beside `cover` over the list in one piece."""
 
-from __future__ import annotations
-
 import collections
 import hashlib
 import json

@@ -1,7 +1,5 @@
 """`tools/whole_lists` over small sizes, beside the program over each list in one piece; its document."""
 
-from __future__ import annotations
-
 import collections
 import hashlib
 import json

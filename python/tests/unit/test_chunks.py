@@ -1,7 +1,5 @@
 """The parts of the runner: cutting a list, the journal, the look at replies, and the pace."""
 
-from __future__ import annotations
-
 import contextlib
 import dataclasses
 import gzip

@@ -1,7 +1,5 @@
 """Lists, pictures, reports and the command."""
 
-from __future__ import annotations
-
 import collections
 import html
 import importlib.util

@@ -1,7 +1,5 @@
 """Deciding, checking and tracing, through the library."""
 
-from __future__ import annotations
-
 import io
 import itertools
 import os

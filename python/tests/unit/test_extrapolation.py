@@ -1,7 +1,5 @@
 """Where a machine is after many steps, by its verdict, held against plain runs."""
 
-from __future__ import annotations
-
 import itertools
 from typing import Any, Iterator
 

@@ -1,7 +1,5 @@
 """The folder of a run and the files in it: open directories, checksums, locks, and what is a run's own."""
 
-from __future__ import annotations
-
 import contextlib
 import errno
 import fcntl

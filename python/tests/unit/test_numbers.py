@@ -1,7 +1,5 @@
 """Numbers of options as people write them, in each command; and lines that never end."""
 
-from __future__ import annotations
-
 import importlib.util
 import io
 import os

@@ -1,7 +1,5 @@
 """Reading lists as people have them."""
 
-from __future__ import annotations
-
 import gzip
 import io
 import itertools

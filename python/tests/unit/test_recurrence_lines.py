@@ -1,7 +1,5 @@
 """Replies on recurrences: their lines, and the calls of the package."""
 
-from __future__ import annotations
-
 import pickle
 from typing import Any
 

@@ -1,7 +1,5 @@
 """What a run looks at before it decides, the page that it leaves, and what of it can be published."""
 
-from __future__ import annotations
-
 import contextlib
 import gzip
 import os

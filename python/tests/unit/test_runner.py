@@ -1,7 +1,5 @@
 """The runner: whole runs, the writer, what is kept, executors that answer wrongly, and the command."""
 
-from __future__ import annotations
-
 import contextlib
 import dataclasses
 import errno

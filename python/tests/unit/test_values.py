@@ -1,7 +1,5 @@
 """Limits, plans, verdicts and their lines."""
 
-from __future__ import annotations
-
 import dataclasses
 import pickle
 import pydoc
