@@ -57,16 +57,9 @@ def source_of(text: str) -> str:
 
 def policy(script: str, style: str) -> str:
     """Return the content security policy: its own script, workers and engine, and no connections."""
-    allowed = [
-        "default-src 'none'",
-        "script-src %s 'wasm-unsafe-eval'" % source_of(script),
-        "worker-src blob:",
-        "style-src " + source_of(style),
-        "img-src data: blob:",
-        "base-uri 'none'",
-        "form-action 'none'",
-    ]
-    return "; ".join(allowed)
+    allowed = "script-src %s 'wasm-unsafe-eval'; worker-src blob:; style-src %s; img-src data: blob:"
+    sources = allowed % (source_of(script), source_of(style))
+    return "default-src 'none'; %s; base-uri 'none'; form-action 'none'" % sources
 
 
 def page_of(module: bytes) -> str:

@@ -15,31 +15,17 @@ LIMITS = options((STEPS, 512, 40, 1_000))
 SIZES = ((2, 2), (3, 2), (2, 3))
 Lists = dict[tuple[int, int], list[str]]
 WRONG = [
-    Edit("asks for no order", "Cover.v", "      if is_next t p M then", "      if true then"),
-    Edit(
-        "leaves out an entry",
-        "Cover.v",
-        "(seq 0 (Nat.min (states M) (S (used_states M)))) in\n  let root",
-        "(seq 0 (Nat.min (states M) (used_states M))) in\n  let root",
-    ),
-    Edit(
-        "leaves out moves to the left",
-        "Cover.v",
-        "to R w ++ if root then [] else to L w)\n    (seq",
-        "to R w ++ if root then [] else [])\n    (seq",
-    ),
-    Edit("counts an undecided line as decided", "Cover.v", "(plus (undecided n) 1)", "(undecided n)"),
-    Edit(
-        "takes a halt at any step", "Cover.v", "if is_stop (zstep M z) then if N.eqb", "if true then if N.eqb"
-    ),
-    Edit("takes another size", "Cover.v", "| None => is_blank M end", "| None => true end"),
-    Edit("ends before the walk", "Cover.v", "Some _, [] => true", "Some _, _ => true"),
-    Edit(
-        "goes on below the last undefined entry",
-        "Cover.v",
-        "if has_another M q (under z) then",
-        "if true then",
-    ),
+    Edit(name, "Cover.v", *change)
+    for name, *change in (
+        ("asks for no order", "      if is_next t p M then", "      if true then"),
+        ("leaves out an entry", "(S (used_states M)))) in\n  let root", "(used_states M))) in\n  let root"),
+        ("leaves out moves to the left", "[] else to L w)\n    (seq", "[] else [])\n    (seq"),
+        ("counts an undecided line as decided", "(plus (undecided n) 1)", "(undecided n)"),
+        ("takes a halt at any step", "if is_stop (zstep M z) then if N.eqb", "if true then if N.eqb"),
+        ("takes another size", "| None => is_blank M end", "| None => true end"),
+        ("ends before the walk", "Some _, [] => true", "Some _, _ => true"),
+        ("goes on below the last undefined entry", "if has_another M q (under z) then", "if true then"),
+    )
 ]
 
 
@@ -77,21 +63,14 @@ def break_line(line: str, source: random.Random) -> str:
     place = source.randrange(len(line))
     entry = 4 * source.randrange(len(machine) // 4) if source.random() < 0.5 else 0
     changed = machine[:entry] + source.choice(["1RA", "0LB", "1RZ", "---"]) + machine[entry + 3 :]
-    return source.choice(
-        [
-            machine + " undecided " + source.choice(["steps", "cells"]),
-            machine + " halt %d %d" % (source.randrange(8), source.randrange(5)),
-            machine + " " + shift_number(verdict, source),
-            machine + " " + shift_number(verdict, source),
-            machine + " " + shift_number(verdict, source),
-            changed + " " + verdict,
-            line[:place] + source.choice("01RLABZ- _\r\0\xff") + line[place + 1 :],
-            line[:place],
-            line + " " * source.randrange(3),
-            "refused %d" % source.randrange(9),
-            "x" * source.choice([0, 1, 1_023, 1_024, 5_000]),
-        ]
-    )
+    shifted = machine + " " + shift_number(verdict, source)
+    undecided = machine + " undecided " + source.choice(["steps", "cells"])
+    halt = machine + " halt %d %d" % (source.randrange(8), source.randrange(5))
+    mistyped = line[:place] + source.choice("01RLABZ- _\r\0\xff") + line[place + 1 :]
+    spaced, refused = line + " " * source.randrange(3), "refused %d" % source.randrange(9)
+    long = "x" * source.choice([0, 1, 1_023, 1_024, 5_000])
+    others = [changed + " " + verdict, line[:place], spaced, refused, long]
+    return source.choice([undecided, halt, mistyped, *others, *[shifted] * 3])
 
 
 def break_list(lines: Sequence[str], source: random.Random) -> list[str]:
@@ -100,18 +79,9 @@ def break_list(lines: Sequence[str], source: random.Random) -> list[str]:
     other = source.randrange(len(lines))
     swapped = list(lines)
     swapped[at], swapped[other] = swapped[other], swapped[at]
-    return source.choice(
-        [
-            [*lines[:at], *lines[at + 1 :]],
-            [*lines[: at + 1], *lines[at:]],
-            swapped,
-            list(lines[:at]),
-            [*lines, lines[at]],
-            [*lines[:at], break_line(lines[at], source), *lines[at + 1 :]],
-            [*lines[:at], break_line(lines[at], source), *lines[at + 1 :]],
-            [*lines[:at], break_line(lines[at], source), *lines[at + 1 :]],
-        ]
-    )
+    changed = [*lines[:at], break_line(lines[at], source), *lines[at + 1 :]]
+    left_out, doubled = [*lines[:at], *lines[at + 1 :]], [*lines[: at + 1], *lines[at:]]
+    return source.choice([left_out, doubled, swapped, [*lines[:at]], [*lines, lines[at]], *[changed] * 3])
 
 
 @pytest.mark.parametrize("states, symbols", SIZES)
@@ -143,23 +113,16 @@ def test_broken_lists_are_answered_alike(
     print("%d lists compared, %d of them refused" % (count, refused))
 
 
-@pytest.mark.parametrize(
-    "words, status",
-    [
-        ("--below=------_------", 1),
-        ("--below 0RB---_------", 1),
-        ("--below 1rB1LB", 2),
-        ("--below 1RC1LB_1LA1RZ", 2),
-        ("--below 1RB1LA_1LA1RZ1", 2),
-        ("--below=", 2),
-        ("--steps 1000000000001", 2),
-        ("--cells 0", 2),
-        ("--depth 10001", 2),
-        ("--nodes 1000000000001", 2),
-        ("--cells 1 --depth 2", 2),
-        ("/no/such/file", 3),
-    ],
-)
+# Words by the exit status.
+ENDS = {
+    1: ["--below=------_------", "--below 0RB---_------"],
+    2: ["--below 1rB1LB", "--below 1RC1LB_1LA1RZ", "--below 1RB1LA_1LA1RZ1", "--below=", "--cells 0"]
+    + ["--steps 1000000000001", "--depth 10001", "--nodes 1000000000001", "--cells 1 --depth 2"],
+    3: ["/no/such/file"],
+}
+
+
+@pytest.mark.parametrize("words, status", [(words, status) for status in ENDS for words in ENDS[status]])
 def test_words_are_answered_alike(cover: str, coq_cover: str, words: str, status: int) -> None:
     assert compare(cover, coq_cover, words.split(" "), b"").status == status
 

@@ -19,44 +19,20 @@ FOUR = (1_000, 1_024, 40, 500)
 FIVE = (20_000, 4_096, 40, 500)
 WORDS = ["bad", "over", "open", "unread"]
 WRONG = [
-    Edit("compares no symbols", "Recurrence.v", "then Nat.eqb (under z) (under y)", "then true"),
-    Edit("takes a repeat for a cycle", "Recurrence.v", "Some (check_cycler M s (s + p))", "Some true"),
-    Edit(
-        "takes any shift",
-        "Recurrence.v",
-        "(Z.of_N (add_nat (back y) 0) + d)",
-        "(Z.of_N (add_nat (beyond y) 0))",
-    ),
-    Edit(
-        "takes a later start",
-        "Recurrence.v",
-        "Some (z, y) => negb (alike z y) | None => false end.",
-        "Some _ => true | None => false end.",
-    ),
-    Edit("tests no small divisor", "Recurrence.v", "if test_divisor M z p e then", "if true then"),
-    Edit(
-        "tests no large divisor",
-        "Recurrence.v",
-        "if test_divisor M z p (p / e) then More (N.succ e) else Stop e",
-        "More (N.succ e)",
-    ),
-    Edit(
-        "notes the step after a use",
-        "Recurrence.v",
-        "then Some n else snd uo",
-        "then Some (N.succ n) else snd uo",
-    ),
-    Edit(
-        "takes the first use of the period for the last",
-        "Recurrence.v",
-        "if N.ltb n s then",
-        "if N.leb n s then",
-    ),
-    Edit("counts no step to the quasihalt", "Recurrence.v", "None => Some (n + 1)%N", "None => Some n"),
-    Edit("looks at no entry", "Recurrence.v", "then Nat.eqb (under z) r else false", "then true else false"),
-    Edit(
-        "prints nothing again", "Recurrence.v", "if String.eqb s (recurrence_line M x) then", "if true then"
-    ),
+    Edit(name, "Recurrence.v", *change)
+    for name, *change in (
+        ("compares no symbols", "then Nat.eqb (under z) (under y)", "then true"),
+        ("takes a repeat for a cycle", "Some (check_cycler M s (s + p))", "Some true"),
+        ("takes any shift", "(Z.of_N (add_nat (back y) 0) + d)", "(Z.of_N (add_nat (beyond y) 0))"),
+        ("takes a later start", "Some (z, y) => negb (alike z y) | None", "Some _ => true | None"),
+        ("tests no small divisor", "if test_divisor M z p e then", "if true then"),
+        ("tests no large divisor", "if test_divisor M z p (p / e) then", "if true then"),
+        ("notes the step after a use", "then Some n else snd uo", "then Some (N.succ n) else snd uo"),
+        ("takes the first use of the period for the last", "if N.ltb n s then", "if N.leb n s then"),
+        ("counts no step to the quasihalt", "None => Some (n + 1)%N", "None => Some n"),
+        ("looks at no entry", "then Nat.eqb (under z) r else false", "then true else false"),
+        ("prints nothing again", "if String.eqb s (recurrence_line M x) then", "if true then"),
+    )
 ]
 
 
@@ -153,23 +129,15 @@ def answers(coq_recurrence: str, lines: Sequence[str], *words: str) -> list[str]
 def wrong_numbers(numbers: Numbers) -> Iterator[Numbers]:
     """Yield the numbers with one of them, or two that go together, changed."""
     start, period, shift, states, quasihalt, entries = numbers
-    changed = [
-        numbers._replace(start=start + 1),
-        numbers._replace(period=period + 1),
-        numbers._replace(period=2 * period),
-        numbers._replace(period=2 * period, shift=2 * shift),
-        numbers._replace(period=3 * period, shift=3 * shift),
-        numbers._replace(period=period // 2, shift=shift // 2),
-        numbers._replace(period=0),
-        numbers._replace(shift=shift + 1),
-        numbers._replace(shift=shift - 1),
-        numbers._replace(quasihalt=(quasihalt or 0) + 1),
-    ]
-    changed += [numbers._replace(start=start - 1), numbers._replace(start=0)] if start else []
-    changed += [numbers._replace(shift=-shift)] if shift else []
-    if quasihalt is not None:
-        changed += [numbers._replace(quasihalt=quasihalt - 1), numbers._replace(quasihalt=None)]
-    yield from changed
+    yield from (numbers._replace(start=other) for other in (start + 1, *((start - 1, 0) if start else ())))
+    yield from (numbers._replace(period=other) for other in (period + 1, 2 * period, 0))
+    yield from (numbers._replace(period=k * period, shift=k * shift) for k in (2, 3))
+    yield numbers._replace(period=period // 2, shift=shift // 2)
+    yield from (
+        numbers._replace(shift=other) for other in (shift + 1, shift - 1, *([-shift] if shift else []))
+    )
+    others: list[int | None] = [1] if quasihalt is None else [quasihalt + 1, quasihalt - 1, None]
+    yield from (numbers._replace(quasihalt=other) for other in others)
     for at, use in enumerate(states):
         for other in wrong_uses(use, numbers):
             uses = [*states[:at], other, *states[at + 1 :]]
@@ -214,16 +182,14 @@ def spoil_line(line: str, source: random.Random) -> str:
     """Change a character, or leave out, double or add a word."""
     fields = line.split(" ")
     at, place = source.randrange(2, len(fields)), source.randrange(len(line))
-    return source.choice(
-        [
-            line[:place] + source.choice(DIGITS + LETTERS + "*- _\r\0\xff") + line[place + 1 :],
-            line[:place],
-            " ".join([*fields[:at], *fields[at + 1 :]]),
-            " ".join([*fields[:at], fields[at], *fields[at:]]),
-            " ".join([*fields[:at], source.choice(["*", "-", "0", "7", "-0", "00", "+1"]), *fields[at:]]),
-            line + source.choice([" ", " *", " -", " quasihalts 1", " entries", "\r"]),
-        ]
-    )
+    added = source.choice(["*", "-", "0", "7", "-0", "00", "+1"])
+    words = source.choice([[], [fields[at]] * 2, [added, fields[at]]])
+    others = [
+        line[:place] + source.choice(DIGITS + LETTERS + "*- _\r\0\xff") + line[place + 1 :],
+        line[:place],
+    ]
+    others.append(line + source.choice([" ", " *", " -", " quasihalts 1", " entries", "\r"]))
+    return source.choice([*others, *[" ".join([*fields[:at], *words, *fields[at + 1 :]])] * 3])
 
 
 def test_spoilt_lines_are_refused(coq_recurrence: str, pairs: dict[str, Numbers], rng: random.Random) -> None:
@@ -253,14 +219,10 @@ def test_limits(coq_recurrence: str, pairs: dict[str, Numbers], rng: random.Rand
         heads = [step.head for step in steps[: end + 1]]
         cells = max(heads) - min(heads) + 1
         seen = record_after(steps, numbers.shift, end) if numbers.shift else end
-        for most, room, answer in [
-            (seen, cells, "ok"),
-            (seen - 1, cells, "over"),
-            (end - 1, cells, "over"),
-            (seen, cells - 1, "over"),
-        ]:
-            if room > 0:
-                assert answers(coq_recurrence, [line], *options((most, room))) == [answer], (line, most, room)
+        for limits in (seen, cells), (seen - 1, cells), (end - 1, cells), (seen, cells - 1):
+            expected = ["ok" if limits == (seen, cells) else "over"]
+            if limits[1] > 0:
+                assert answers(coq_recurrence, [line], *options(limits)) == expected, (line, limits)
 
 
 @pytest.mark.parametrize(
@@ -305,34 +267,21 @@ def test_longest_line(coq_recurrence: str) -> None:
     entries = " ".join(step + " -" * 9 for step in last)
     line = "%s recurs 24 1 1 %s quasihalts 24 entries %s" % (machine, " ".join(last), entries)
     most = "18446744073709551615"
-    long = "%s recurs %s 1 -%s%s quasihalts %s entries%s" % (
-        machine,
-        most,
-        most,
-        25 * (" " + most),
-        most,
-        250 * (" " + most),
-    )
+    uses, all_entries = 25 * (" " + most), 250 * (" " + most)
+    long = f"{machine} recurs {most} 1 -{most}{uses} quasihalts {most} entries{all_entries}"
     given = [line, long, line + " " * 9_000, line]
     assert run_command([coq_recurrence], as_lines(given)).output == b"ok\nover\nunread\nok\n"
 
 
-@pytest.mark.parametrize(
-    "words, status",
-    [
-        ("--steps=9 --cells +9", 0),
-        ("--help", 0),
-        ("--steps 1000000000001", 2),
-        ("--cells 0", 2),
-        ("--depth 3", 2),
-        ("--entries", 2),
-        ("--steps 1 --steps 1", 2),
-        ("--steps x", 2),
-        ("a b", 2),
-        ("/no/such/file", 3),
-        ("/", 3),
-    ],
-)
+# Words by the exit status.
+ENDS = {
+    0: ["--steps=9 --cells +9", "--help"],
+    2: "--steps 1000000000001,--cells 0,--depth 3,--entries,--steps 1 --steps 1,--steps x,a b".split(","),
+    3: ["/no/such/file", "/"],
+}
+
+
+@pytest.mark.parametrize("words, status", [(words, status) for status in ENDS for words in ENDS[status]])
 def test_words(coq_recurrence: str, words: str, status: int) -> None:
     done = run_command([coq_recurrence, *words.split(" ")], b"open\n")
     assert done.status == status and bool(done.error) == (status > 1)

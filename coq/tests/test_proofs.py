@@ -7,17 +7,8 @@ from typing import Callable
 
 import pytest
 from support.program import run_command
-from support.second_checker import (
-    COQ,
-    PROGRAMS,
-    Claims,
-    Edit,
-    answer,
-    build_wrong,
-    copy_folder,
-    quick_claims,
-    replace_once,
-)
+from support.second_checker import COQ, PROGRAMS, Claims, Edit, answer, build_wrong, copy_folder
+from support.second_checker import quick_claims, replace_once
 
 CLOSED = "Closed under the global context"
 UNPROVED = re.compile(
@@ -28,32 +19,12 @@ PLAIN = {"PATH": "/usr/bin:/bin"}
 
 
 WRONG = [
-    Edit(
-        "compares no cells",
-        "Check.v",
-        "then same_first (back y) (behind z) (behind y) else false",
-        "then true else false",
-    ),
-    Edit(
-        "compares no cells behind the head",
-        "Check.v",
-        "if same_cells (behind z) (behind y) then same_cells (ahead z) (ahead y) else false",
-        "same_cells (ahead z) (ahead y)",
-    ),
+    Edit("compares no cells", "Check.v", "same_first (back y) (behind z) (behind y) else", "true else"),
+    Edit("compares no cells behind the head", "Check.v", "if same_cells (behind z) (behind y)", "if true"),
     Edit("forgets the start", "Check.v", "else if matches_start b then None", "else if false then None"),
-    Edit(
-        "takes a record that is none",
-        "Check.v",
-        "if is_nil (ahead z) then if is_nil (ahead y) then Some y else None else None",
-        "if is_nil (ahead y) then Some y else None",
-    ),
+    Edit("takes a record that is none", "Check.v", "if is_nil (ahead z) then if", "if true then if"),
     Edit("counts a node twice", "Check.v", "(N.pred k) (match h'", "(N.pred (N.pred k)) (match h'"),
-    Edit(
-        "00 is a number",
-        "Lines.v",
-        "then if String.eqb (decimal n) s then Some n else None else None",
-        "then Some n else None",
-    ),
+    Edit("00 is a number", "Lines.v", "if String.eqb (decimal n) s then", "if true then"),
     Edit(
         "takes the score before the halting step",
         "Check.v",
@@ -61,12 +32,7 @@ WRONG = [
         "if is_stop (zstep M z) then match run M (N.pred n) zstart with More y | Stop y => N.eqb (score y) w"
         " end else false",
     ),
-    Edit(
-        "counts the cell that a step into Z leads to",
-        "Lines.v",
-        "let M := map (map without_Z) M in",
-        "let M := M in",
-    ),
+    Edit("counts the cell that a step into Z leads to", "Lines.v", "map (map without_Z) M in", "M in"),
 ]
 
 

@@ -66,18 +66,12 @@ def test_theorem_of_a_recurs_line(tmp_path: pathlib.Path, line: str, status: int
 
 @pytest.mark.usefixtures("checker")
 @pytest.mark.parametrize(
-    "line, sentence",
-    [
-        ("1RA1RA undecided steps", "claims nothing"),
-        ("1RC1RA halt 0 0", "no line of a claim"),
-        ("1RA1RA recurs 0 1 1 * *", "no line of a claim"),
-        ("1RA1RA recurs 0 1 -0 *", "no line of a claim"),
-        ("1RA1RA recurs 0 1 1 * entries *", "no line of a claim"),
-        ("1RC1RA recurs 0 1 1 * *", "no line of a claim"),
-    ],
+    "line",
+    ["1RC1RA halt 0 0", "1RA1RA recurs 0 1 1 * *", "1RA1RA recurs 0 1 -0 *", "1RA1RA undecided steps"]
+    + ["1RA1RA recurs 0 1 1 * entries *", "1RC1RA recurs 0 1 1 * *"],
 )
-def test_line_of_no_claim_is_refused(tmp_path: pathlib.Path, line: str, sentence: str) -> None:
-    require_end(tmp_path, [line], 2, sentence)
+def test_line_of_no_claim_is_refused(tmp_path: pathlib.Path, line: str) -> None:
+    require_end(tmp_path, [line], 2, "claims nothing" if "undecided" in line else "no line of a claim")
 
 
 @pytest.mark.slow

@@ -148,19 +148,7 @@ def test_offset_of_a_whole_list() -> None:
 
 
 def test_the_command() -> None:
-    words = [
-        sys.executable,
-        "-m",
-        "budlarem",
-        "judge",
-        "-",
-        "--machine",
-        "1",
-        "--start",
-        "2",
-        "--period",
-        "3",
-    ]
+    words = [sys.executable, *"-m budlarem judge - --machine 1 --start 2 --period 3".split()]
     given = as_lines([LEFT + ";5;1", CYCLE + ";1;2", "1RA1RA;1;1"])
     cases: list[tuple[list[str], int, list[str]]] = [
         ([], 0, ["an offset of 1 in each start", "starts and periods: exact 3"]),
