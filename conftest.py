@@ -1,12 +1,14 @@
 """Fixtures, options and the closing line of all tests."""
 
+import functools
 import pathlib
 import random
 import subprocess
 from typing import Callable
 
 import pytest
-from support import TOP, build, has_kit, require
+from support import TOP, ListMachines, build, has_kit, require
+from support.program import LIST_LIMITS, LIST_STEPS, replies
 
 
 def pytest_addoption(parser: pytest.Parser) -> None:
@@ -136,7 +138,7 @@ def lister() -> str:
 
 
 @pytest.fixture(scope="session")
-def list_machines(lister: str) -> Callable[..., list[str]]:
+def list_machines(lister: str) -> ListMachines:
     """A function that lists the machines of so many states in tree normal form; more words are passed on."""
 
     def list_states(states: int, *words: str) -> list[str]:
@@ -147,6 +149,18 @@ def list_machines(lister: str) -> Callable[..., list[str]]:
 
 
 @pytest.fixture(scope="session")
-def four_states(list_machines: Callable[..., list[str]]) -> list[str]:
+def decide_all(bb: str, list_machines: ListMachines) -> Callable[[int, int], list[str]]:
+    """A function that returns the verdict lines of the whole list of so many states and symbols."""
+
+    @functools.lru_cache(maxsize=None)
+    def decide(states: int, symbols: int) -> list[str]:
+        machines = list_machines(states, "--symbols", str(symbols), "--steps", str(LIST_STEPS))
+        return replies([bb, "decide", *LIST_LIMITS], machines)
+
+    return decide
+
+
+@pytest.fixture(scope="session")
+def four_states(list_machines: ListMachines) -> list[str]:
     """All machines of four states in tree normal form."""
     return list_machines(4)

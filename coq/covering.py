@@ -7,6 +7,7 @@ wrong one fails the proof.
 
 from __future__ import annotations
 
+import itertools
 import re
 from dataclasses import dataclass
 from typing import Iterator, Sequence
@@ -135,18 +136,13 @@ def machine_term(machine: str) -> str:
 
 def entries_of(groups: Machine) -> list[str]:
     """The entries that may be put into a machine, in the order of a walk."""
-    found = [
-        (q, r, entry) for q, group in enumerate(groups) for r, entry in enumerate(group) if entry != "---"
-    ]
+    every = ((q, r, entry) for q, group in enumerate(groups) for r, entry in enumerate(group))
+    found = [place for place in every if place[2] != "---"]
     states = max([1] + [1 + max(q, STATES.find(entry[2])) for q, _, entry in found])
     symbols = max([1] + [1 + max(r, int(entry[0])) for _, r, entry in found])
+    writes, moves = range(min(len(groups[0]), symbols + 1)), "RL" if found else "R"
     to = STATES[: min(len(groups), states + 1)]
-    return [
-        "%d%s%s" % (write, move, state)
-        for write in range(min(len(groups[0]), symbols + 1))
-        for move in ("RL" if found else "R")
-        for state in to
-    ]
+    return ["%d%s%s" % entry for entry in itertools.product(writes, moves, to)]
 
 
 def count_defined_entries(machine: str) -> int:

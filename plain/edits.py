@@ -84,10 +84,8 @@ def read_edit(path: pathlib.Path) -> Edit:
 def read_edits(name: str) -> List[Edit]:
     """Read the edits of a crate, or the one of this name in it."""
     crate, _, edit = name.partition("/")
-    return [
-        read_edit(path)
-        for path in sorted((TOP / "crates" / crate / "must-fail").glob((edit or "*") + ".edit"))
-    ]
+    folder = TOP / "crates" / crate / "must-fail"
+    return [read_edit(path) for path in sorted(folder.glob((edit or "*") + ".edit"))]
 
 
 def read_invisible() -> List[str]:
@@ -101,10 +99,9 @@ def run(probe: Probe, programs: pathlib.Path, cwd: pathlib.Path) -> Result:
     command = probe.command
     for name in PROGRAMS:
         command = command.replace(name.upper(), str(programs / name))
+    timed = ["timeout", str(SECONDS), "sh", "-c", command]
     try:
-        done = subprocess.run(
-            ["timeout", str(SECONDS), "sh", "-c", command], input=probe.given, capture_output=True, cwd=cwd
-        )
+        done = subprocess.run(timed, input=probe.given, capture_output=True, cwd=cwd)
     except BrokenPipeError:
         return -1, b"", b""
     return done.returncode, done.stdout, done.stderr
@@ -118,10 +115,8 @@ def claims(programs: pathlib.Path, source: random.Random, verdicts: List[str]) -
     """Claims under their limits."""
     made = made_claims(str(programs / "bb"), source, verdicts, 8_000)
     for limits, lines in (*made, *tight_claims(source, verdicts, 15)):
-        words = " ".join(options(limits))
-        yield Probe(
-            "claims " + words, "BB check " + words, "".join(line + "\n" for line in lines).encode("latin-1")
-        )
+        words, given = " ".join(options(limits)), "".join(line + "\n" for line in lines)
+        yield Probe("claims " + words, "BB check " + words, given.encode("latin-1"))
 
 
 def probes(programs: pathlib.Path, lists: pathlib.Path) -> Iterator[Probe]:
@@ -228,9 +223,8 @@ class Workspace:
         self.cargo("build", "-p", "bb_c")
         made, archive = self.folder / "calls", self.folder / "target" / "debug" / "libbb_c.a"
         source = TOP / "tests" / "library" / "calls.c"
-        subprocess.run(
-            ["cc", "-pthread", "-I", TOP / "include", source, archive, "-lm", "-o", made], check=True
-        )
+        compiler: List[object] = ["cc", "-pthread", "-I", TOP / "include", source, archive, "-lm", "-o", made]
+        subprocess.run(list(map(str, compiler)), check=True)
         status = subprocess.run(["timeout", "300", str(made)], capture_output=True).returncode
         return "the library's test" if status else None
 

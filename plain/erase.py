@@ -128,9 +128,8 @@ class Source(NamedTuple):
     name: str
 
     def refuse(self, line: int, token: str) -> NoReturn:
-        sys.exit(
-            "erase: %s:%d: `%s` has no rule" % (os.path.relpath(self.path, TOP), line, token.strip()[:60])
-        )
+        path = os.path.relpath(self.path, TOP)
+        sys.exit("erase: %s:%d: `%s` has no rule" % (path, line, token.strip()[:60]))
 
 
 def braces_end(text: str, at: int) -> int:
@@ -241,12 +240,9 @@ def export_calls(text: str) -> str:
     text = EXPORT.sub(r"pub fn \1(\2)\3{", text)
     if not found:
         return text
+    about = "\n/// The calls for C; `include/bb.h` states the caller's obligations.\n"
     calls = "\n".join(map(_call_for_c, found))
-    return (
-        text
-        + "\n/// The calls for C; `include/bb.h` states the caller's obligations.\npub mod exports {\nuse super::*;\n\n%s}\n"
-        % calls
-    )
+    return text + about + "pub mod exports {\nuse super::*;\n\n%s}\n" % calls
 
 
 def _call_for_c(found: Match[str]) -> str:
@@ -263,12 +259,8 @@ def _call_for_c(found: Match[str]) -> str:
         else:
             taken.append("%s: %s" % (parameter, kind))
             passed.append(parameter)
-    head = '#[unsafe(export_name = "%s")]\npub unsafe extern "C" fn %s(%s)%s' % (
-        name,
-        name,
-        ", ".join(taken),
-        result,
-    )
+    head = '#[unsafe(export_name = "%s")]\npub unsafe extern "C" fn ' % name
+    head += "%s(%s)%s" % (name, ", ".join(taken), result)
     return "%s{\n    super::%s(%s)\n}\n" % (head, name, ", ".join(passed))
 
 
@@ -282,9 +274,8 @@ def end_test(found: Match[str]) -> str:
 
 def with_messages(text: str) -> str:
     """Write out what `thiserror` derives: `Display` by the texts, and `Error`."""
-    text = re.sub(
-        r"(#\[derive\([^)\n]*?)(?:, *\b(?:thiserror::)?Error\b|\b(?:thiserror::)?Error\b, *)", r"\1", text
-    )
+    error = r"\b(?:thiserror::)?Error\b"
+    text = re.sub(r"(#\[derive\([^)\n]*?)(?:, *%s|%s, *)" % (error, error), r"\1", text)
     text = re.sub(r"use thiserror::Error;\n", "", text)
     found = re.compile(r"((?:#\[error[^\n]*\n)?)pub (struct|enum) (\w+) ?(?:;|\{.*?\n\})", re.S)
     impls = "".join(_message(item) for item in found.finditer(text) if "#[error(" in item[0])
@@ -293,10 +284,9 @@ def with_messages(text: str) -> str:
 
 def _message(item: Match[str]) -> str:
     if item[2] == "enum":
-        arms = re.findall(r'#\[error\(("[^"]*")\)\]\s*(?:///[^\n]*\s*)*(\w+)', item[0])
-        body = "f.write_str(match self {\n%s        })" % "".join(
-            "            %s::%s => %s,\n" % (item[3], variant, message) for message, variant in arms
-        )
+        pairs = re.findall(r'#\[error\(("[^"]*")\)\]\s*(?:///[^\n]*\s*)*(\w+)', item[0])
+        arms = ("            %s::%s => %s,\n" % (item[3], variant, message) for message, variant in pairs)
+        body = "f.write_str(match self {\n%s        })" % "".join(arms)
     else:
         message = ERROR.search(item[1])
         assert message
@@ -349,11 +339,8 @@ def version() -> str:
 def dependency(name: str, known: List[str]) -> str:
     if name in SHIMMED:
         return '%s = { path = "../%s", package = "%s" }\n' % (name, SHIMMED[name], SHIMMED[name])
-    return (
-        '%s = { path = "../%s" }\n' % (name, name)
-        if name in known
-        else '%s = "%s"\n' % (name, VERSIONS[name])
-    )
+    place = '{ path = "../%s" }' % name if name in known else '"%s"' % VERSIONS[name]
+    return "%s = %s\n" % (name, place)
 
 
 def write_crate(crate: Crate, known: List[str], out: pathlib.Path) -> None:
@@ -386,19 +373,15 @@ def write_workspace(out: pathlib.Path) -> None:
         write_crate(crate, known, out)
     members = json.dumps([*shims, *known])
     lints = "".join('%s = "allow"\n' % lint for lint in LINTS)
-    (out / "Cargo.toml").write_text(
-        '[workspace]\nresolver = "2"\nmembers = %s\n\n[workspace.lints.clippy]\n%s%s'
-        % (members, lints, PROFILES)
-    )
+    shape = '[workspace]\nresolver = "2"\nmembers = %s\n\n[workspace.lints.clippy]\n%s%s'
+    (out / "Cargo.toml").write_text(shape % (members, lints, PROFILES))
     config = out / ".cargo" / "config.toml"
     config.parent.mkdir(exist_ok=True)
     config.write_text(FLAGS + (FROM_DEBIAN if list(DEBIAN.glob("clap-4*")) else ""))
 
 
 def main() -> int:
-    words = argparse.ArgumentParser(
-        description=(__doc__ or "").partition("\n\n")[0], formatter_class=argparse.RawDescriptionHelpFormatter
-    )
+    words = argparse.ArgumentParser(description=(__doc__ or "").partition("\n\n")[0])
     words.add_argument("out", metavar="OUT", type=pathlib.Path, help="the workspace's folder")
     out = words.parse_args().out
     out.mkdir(parents=True, exist_ok=True)

@@ -71,9 +71,8 @@ def build(library: pathlib.Path, out: pathlib.Path) -> pathlib.Path:
 
 
 def main() -> None:
-    parser = argparse.ArgumentParser(
-        description=__doc__, formatter_class=argparse.RawDescriptionHelpFormatter
-    )
+    shape = argparse.RawDescriptionHelpFormatter
+    parser = argparse.ArgumentParser(description=__doc__, formatter_class=shape)
     parser.add_argument("--library", type=pathlib.Path, required=True, metavar="FILE", help="the libbb.so")
     parser.add_argument("--out", type=pathlib.Path, default=TOP / "python" / "dist", metavar="FOLDER")
     asked = parser.parse_args()

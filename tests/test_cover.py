@@ -1,36 +1,19 @@
 """`cover` over whole lists, and over lists with a line left out, doubled, swapped or changed."""
 
-import functools
 import random
 import re
 from typing import Callable, Sequence
 
 import pytest
-from support.program import CommandResult, as_lines, options, processor_time, replies, run_command
+from support.program import LIST_LIMITS, CommandResult, Decide, as_lines, least_time, run_command
 
 # States and symbols of whole lists.
 SIZES = [(1, 2), (2, 2), (3, 2), (1, 3), (2, 3), (1, 4), (1, 10)]
 LARGE = [pytest.param(*size, marks=pytest.mark.slow) for size in [(2, 4), (4, 2)]]
-# Each machine of these lists that leads to others halts within so many steps.
-STEPS = 200
-LIMITS = options((STEPS, 512, 40, 1_000))
 # How many times as long as `bb check` `cover` may take on a quiet machine; how far above that is a failure.
 BAR, FAR = 1.5, 3
-Decide = Callable[[int, int], list[str]]
 Changed = tuple[list[str], int]
 Change = Callable[[list[str], int, random.Random], Changed]
-
-
-@pytest.fixture(scope="module")
-def decide_all(bb: str, list_machines: Callable[..., list[str]]) -> Decide:
-    """A function that returns the verdict lines of a whole list."""
-
-    @functools.lru_cache(maxsize=None)
-    def decide(states: int, symbols: int) -> list[str]:
-        machines = list_machines(states, "--symbols", str(symbols), "--steps", str(STEPS))
-        return replies([bb, "decide", *LIMITS], machines)
-
-    return decide
 
 
 def summarize(states: int, symbols: int, lines: Sequence[str]) -> str:
@@ -93,7 +76,7 @@ def test_changed_lists_are_refused_at_their_line(
     lines = decide_all(3, 2)
     for _ in range(count):
         changed, line = change(lines, rng.randrange(len(lines)), rng)
-        status, output, error = run_command([cover, *LIMITS], as_lines(changed))
+        status, output, error = run_command([cover, *LIST_LIMITS], as_lines(changed))
         assert (status, error) == (1, b"") and output.startswith(b"line %d: " % line)
 
 
@@ -112,19 +95,13 @@ def test_what_is_wrong_with_a_list_is_named(cover: str, decide_all: Decide) -> N
         ([root + " halt 201 1"], "line 1: the claim on %s needs more than the limits" % root),
     ]
     for given, sentence in rows:
-        assert run_command([cover, *LIMITS], as_lines(given)) == (1, sentence.encode() + b"\n", b"")
+        assert run_command([cover, *LIST_LIMITS], as_lines(given)) == (1, sentence.encode() + b"\n", b"")
 
 
 @pytest.mark.timing
 def test_cover_takes_little_longer_than_a_check(bb: str, cover: str, decide_all: Decide) -> None:
     """Compares processor times, the least of three runs each."""
     given = as_lines(decide_all(4, 2))
-
-    def time(*command: str) -> float:
-        before = processor_time()
-        run_command([*command, *LIMITS], given)
-        return processor_time() - before
-
-    check, covering = (min(time(*command) for _ in range(3)) for command in ([bb, "check"], [cover]))
+    check, covering = (least_time([*command, *LIST_LIMITS], given) for command in ([bb, "check"], [cover]))
     print("check %.2f s, cover %.2f s: %.2f (bar: %.1f)" % (check, covering, covering / check, BAR))
     assert covering <= FAR * BAR * check

@@ -96,9 +96,7 @@ def test_code_for_other_systems_than_unix(tmp_path: pathlib.Path) -> None:
             text = text.replace(condition, other)
         assert not re.search(r"cfg\w*\(.*\bunix\b", text), path
         path.write_text(text, encoding="utf-8")
-    subprocess.run(
-        ["cargo", "build", "--quiet", "-p", "bb", "-p", "cover", "-p", "recurrence"], cwd=tmp_path, check=True
-    )
+    subprocess.run("cargo build --quiet -p bb -p cover -p recurrence".split(), cwd=tmp_path, check=True)
     bb = str(tmp_path / "target" / "debug" / "bb")
     for example in read_examples():
         found = run_command([bb, *example.words], example.given, cwd=str(TOP))

@@ -9,7 +9,7 @@ from typing import Callable
 
 import budlarem
 import pytest
-from support import TOP, build, require
+from support import TOP, ListMachines, build, require
 from support.program import as_lines, begins_modulo_64, run_command, replies
 from support.simulation import compare_lines
 from support.traces import trace
@@ -63,7 +63,7 @@ def compile_source(library: pathlib.Path, tmp_path: pathlib.Path) -> Compile:
 
 
 @pytest.fixture(scope="module")
-def machines(list_machines: Callable[..., list[str]]) -> list[str]:
+def machines(list_machines: ListMachines) -> list[str]:
     """The first 100,000 machines of four states in tree normal form."""
     return list_machines(4)[:100_000]
 

@@ -11,18 +11,10 @@ import subprocess
 from typing import Callable
 
 import pytest
-from support import TOP, build
+from support import TOP, ListMachines, build
 from support.machines import random_machines, spoil
-from support.program import (
-    ROWS,
-    SIMULATION,
-    CommandResult,
-    as_lines,
-    kind_of,
-    options,
-    processor_time,
-    run_command,
-)
+from support.program import ROWS, SIMULATION, CommandResult, as_lines, kind_of, options, processor_time
+from support.program import replies, run_command
 from support.second_checker import answer, made_claims, tight_claims
 from support.terminals import on_terminal
 
@@ -165,10 +157,8 @@ def test_traces(programs: Programs, rng: random.Random) -> None:
 def test_lines_with_an_error(programs: Programs, covers: Programs, rng: random.Random) -> None:
     machines = list(random_machines(10_000, rng))
     spoilt = as_lines(spoil(rng, machine) for machine in machines)
-    assert (
-        require_same(programs, lambda bb: run_command([bb, "decide", *FOUR], spoilt)).output.count(b"refused")
-        > 5_000
-    )
+    done = require_same(programs, lambda bb: run_command([bb, "decide", *FOUR], spoilt))
+    assert done.output.count(b"refused") > 5_000
     decided = run_command([programs[0], "decide", *FOUR], as_lines(machines)).output.decode().splitlines()
     claims = as_lines(spoil(rng, line) for line in decided)
     require_same(programs, lambda bb: run_command([bb, "check", *FOUR], claims))
@@ -177,9 +167,7 @@ def test_lines_with_an_error(programs: Programs, covers: Programs, rng: random.R
 
 def test_claims(programs: Programs, rng: random.Random, four_states: list[str]) -> None:
     """Claims made by changes of verdicts and by plain runs, and at limits that are just enough and just not."""
-    lines = (
-        run_command([programs[0], "decide", *FOUR], as_lines(four_states[::40])).output.decode().splitlines()
-    )
+    lines = replies([programs[0], "decide", *FOUR], four_states[::40])
     for claims in (*made_claims(programs[0], rng, lines, 40_000), *tight_claims(rng, lines, 50)):
         require_same(programs, lambda bb: answer([bb, "check"], claims))
 
@@ -204,15 +192,13 @@ def test_streams_and_memory_of_lists(
     covers: Programs,
     recurrences: Programs,
     folder: pathlib.Path,
-    list_machines: Callable[..., list[str]],
+    list_machines: ListMachines,
     command: str,
 ) -> None:
     decided = run_command([programs[0], "decide"], as_lines(list_machines(2)))
     (folder / "verdicts.txt").write_bytes(decided.output)
     for builds in (covers, recurrences):
-        require_same(
-            builds, lambda path: run_command(["sh", "-c", command.replace("PROGRAM", path)], cwd=str(folder))
-        )
+        test_streams_and_memory(builds, folder, command)
 
 
 @pytest.mark.parametrize("words", [[b"\xff"], ["decide", b"\xff"], ["decide", "a" * 5000], ["decide", ""]])
@@ -242,7 +228,7 @@ def test_tests_of_the_crates(plain: pathlib.Path) -> None:
 @pytest.mark.timing
 def test_speed(programs: Programs, four_states: list[str]) -> None:
     """Of machines on which nothing is found each makes all its steps, the first in registers, most on tapes."""
-    found = run_command([programs[0], "decide", *FOUR], as_lines(four_states)).output.decode().splitlines()
+    found = replies([programs[0], "decide", *FOUR], four_states)
     undecided = [line.split()[0] for line in found if kind_of(line) == "undecided"]
     given = as_lines(undecided[:: len(undecided) // 200])
     spent: dict[str, list[float]] = {program: [] for program in programs}
@@ -262,9 +248,8 @@ def test_two_folders_give_the_same_bytes(tmp_path: pathlib.Path) -> None:
     built = []
     for folder in (tmp_path / "one", tmp_path / "another folder"):
         subprocess.run([str(TOP / "plain" / "erase.py"), str(folder)], check=True)
-        command = ["cargo", "build", "--release", "--quiet", "-p", "bb", "-p", "cover", "-p", "recurrence"]
-        command += ["-p", "bb_c"]
-        subprocess.run(command, cwd=folder, check=True)
+        command = "cargo build --release --quiet -p bb -p cover -p recurrence -p bb_c"
+        subprocess.run(command.split(), cwd=folder, check=True)
         release = folder / "target" / "release"
         names = ("bb", "cover", "recurrence", "libbb_c.a", "libbb_c.so")
         built.append({name: (release / name).read_bytes() for name in names})

@@ -15,13 +15,13 @@ import signal
 import subprocess
 import sys
 import time
-from typing import Any, Callable
+from typing import Any
 
 import pytest
-from support import TOP, build, require, restore_signals
+from support import TOP, ListMachines, build, require, restore_signals
 from support.machines import mixed_machines
 from support.program import GREATEST, CommandResult, as_lines, decide_in_passes, options, options_of_pass
-from support.program import run_command
+from support.program import run_command, write_script
 
 # How many blocks of commands stand under each heading.
 BLOCKS = {
@@ -85,9 +85,8 @@ CLAIMS_ELSEWHERE = b"""1RB1LB_1LA--- halt 6 4
 """
 # Programs as recipes find them: the package's command, and a `bb` that is killed in the middle of the piece
 # with the line `x`.
-BUDLAREM = "#!/bin/sh\nBB_LIBRARY='%s' PYTHONPATH='%s' exec '%s' -m budlarem \"$@\"\n"
-KILLED = """#!%s
-import os, signal, subprocess, sys
+BUDLAREM = "BB_LIBRARY='%s' PYTHONPATH='%s' exec '%s' -m budlarem \"$@\""
+KILLED = """import os, signal, subprocess, sys
 
 program, words = %r, sys.argv[1:]
 source = open(words.pop(), "rb") if os.path.isfile(words[-1]) else sys.stdin.buffer
@@ -136,10 +135,6 @@ class Folder:
     def write(self, name: str, content: bytes) -> None:
         (self.path / name).write_bytes(content)
 
-    def write_script(self, name: str, text: str) -> None:
-        (self.path / name).write_text(text)
-        (self.path / name).chmod(0o755)
-
     def read(self, name: str) -> bytes:
         return (self.path / name).read_bytes()
 
@@ -169,7 +164,8 @@ def placed_library(folder: Folder, library: pathlib.Path) -> pathlib.Path:
 @pytest.fixture
 def package(folder: Folder, placed_library: pathlib.Path) -> None:
     """The package's command, where the recipes look for it; it takes the library that is built."""
-    folder.write_script("budlarem", BUDLAREM % (placed_library, TOP / "python" / "src", sys.executable))
+    words = (placed_library, TOP / "python" / "src", sys.executable)
+    write_script(folder.path / "budlarem", BUDLAREM % words)
 
 
 def test_each_block_has_its_test() -> None:
@@ -299,17 +295,14 @@ def test_judging_what_others_publish(folder: Folder) -> None:
 
 @pytest.mark.usefixtures("package")
 def test_exact_starts_and_periods(folder: Folder) -> None:
-    folder.write(
-        "verdicts.txt",
-        b"0RB---_0LA--- cycler 2 4\n1RB---_1LB0RB translated L 7 8 1 1\n1RA1RA undecided steps\n",
-    )
+    pairs = b"0RB---_0LA--- cycler 2 4\n1RB---_1LB0RB translated L 7 8 1 1\n"
+    folder.write("verdicts.txt", pairs + b"1RA1RA undecided steps\n")
     find, most = RECIPES["Find exact starts and periods"]
     assert folder.run(find).status == 0
     assert folder.read("recurrences.txt").splitlines()[2] == b"open"
     assert folder.run(most) == (0, b"1 1RB---_1LB0RB\n", b"")
-    folder.write(
-        "theirs.txt", b"machine,start,period\n0RB---_0LA---,2,4\n0RB---_0LA---,0,2\n1RB---_1LB0RB,3,1\n"
-    )
+    theirs = b"0RB---_0LA---,2,4\n0RB---_0LA---,0,2\n1RB---_1LB0RB,3,1\n"
+    folder.write("theirs.txt", b"machine,start,period\n" + theirs)
     judge, _, exact = RECIPES["Judge published claims"]
     folder.run(judge.replace("--list machines.txt ", ""))
     status, output, _ = folder.run(exact)
@@ -328,7 +321,7 @@ def test_publishing_what_was_decided(folder: Folder) -> None:
 
 
 @pytest.fixture(scope="module")
-def long_list(bb: str, list_machines: Callable[..., list[str]]) -> bytes:
+def long_list(bb: str, list_machines: ListMachines) -> bytes:
     """Some two megabytes of machines that halt, and a line that is refused."""
     verdicts = run_command([bb, "decide", "--steps=1000"], as_lines(list_machines(3))).output.splitlines()
     halts = [line.split()[0] for line in verdicts if line.split()[1] == b"halt"]
@@ -378,7 +371,7 @@ def test_list_in_pieces_is_decided_as_in_one_process(folder: Folder, long_list: 
         assert folder.run(commands).error == b""
         assert folder.read("verdicts.txt") == folder.decide(content, *words)
         assert folder.run(IS_WHOLE).status == 0
-    folder.write_script("killed", KILLED % (sys.executable, folder.bb))
+    write_script(folder.path / "killed", KILLED % folder.bb, "#!" + sys.executable)
     folder.place_program(str(folder.path / "killed"))
     folder.run(commands)
     status, output, _ = folder.run(IS_WHOLE)

@@ -1,11 +1,11 @@
 """`recurrence` beside a brute force from the definitions alone, and its replies to other lines."""
 
 import subprocess
-from typing import Callable
 
 import pytest
-from support import TOP, require
-from support.program import as_lines, options, processor_time, replies, run_command
+from support import TOP, ListMachines, require
+from support.program import as_lines, least_time, options, replies, run_command
+from support.recurrences import GREATEST, GREATEST_REPLY
 
 LIMITS = options((3_000, 1_024, 30, 100))
 FOUR = options((1_000, 1_024, 40, 500))
@@ -25,21 +25,10 @@ def brute_force(tmp_path_factory: pytest.TempPathFactory) -> str:
 
 @pytest.mark.parametrize(
     "states, symbols",
-    [
-        (2, 2),
-        (3, 2),
-        (2, 3),
-        pytest.param(4, 2, marks=pytest.mark.slow),
-        pytest.param(2, 4, marks=pytest.mark.slow),
-    ],
+    [(2, 2), (3, 2), (2, 3), *(pytest.param(*size, marks=pytest.mark.slow) for size in [(4, 2), (2, 4)])],
 )
 def test_replies_are_those_of_a_brute_force(
-    bb: str,
-    recurrence: str,
-    brute_force: str,
-    list_machines: Callable[..., list[str]],
-    states: int,
-    symbols: int,
+    bb: str, recurrence: str, brute_force: str, list_machines: ListMachines, states: int, symbols: int
 ) -> None:
     machines = list_machines(states, "--symbols", str(symbols))
     verdicts = run_command([bb, "decide", *LIMITS], as_lines(machines)).output
@@ -76,13 +65,7 @@ def test_replies(bb: str, recurrence: str, words: str, line: str, reply: str) ->
 
 
 def test_greatest_machine(bb: str, recurrence: str) -> None:
-    """The last of 25 states comes again at each step."""
-    nexts = [chr(ord("A") + min(state + 1, 24)) for state in range(25)]
-    machine = "_".join("0R%s" % state + "---" * 9 for state in nexts)
-    (reply,) = replies([recurrence, "--entries"], replies([bb, "decide"], [machine]))
-    last = [*map(str, range(24)), "*"]
-    entries = " ".join(step + " -" * 9 for step in last)
-    assert reply == "%s recurs 24 1 1 %s quasihalts 24 entries %s" % (machine, " ".join(last), entries)
+    assert replies([recurrence, "--entries"], replies([bb, "decide"], [GREATEST])) == [GREATEST_REPLY]
 
 
 @pytest.mark.timing
@@ -90,12 +73,6 @@ def test_pairs_take_little_longer_than_a_check(bb: str, recurrence: str, four_st
     """Compares processor times on all pairs of four states, the least of three runs each."""
     decided = replies([bb, "decide", *FOUR], four_states)
     verdicts = as_lines([line for line in decided if line.split()[1] in ("cycler", "translated")])
-
-    def time(*command: str) -> float:
-        before = processor_time()
-        assert run_command(command, verdicts).status == 0
-        return processor_time() - before
-
-    check, found = (min(time(*command) for _ in range(3)) for command in ([bb, "check"], [recurrence]))
+    check, found = (least_time(command, verdicts) for command in ([bb, "check"], [recurrence]))
     print("check %.2f s, recurrence %.2f s: %.2f (bar: %.1f)" % (check, found, found / check, BAR))
     assert found <= FAR * BAR * check

@@ -1,5 +1,6 @@
 """Lists checked whole in shards: `cover --below`, `cover --skeleton`, and the lists made for them."""
 
+import functools
 import hashlib
 import random
 import re
@@ -7,14 +8,10 @@ import subprocess
 from typing import Callable, NamedTuple
 
 import pytest
-from support.program import CommandResult, as_lines, options, run_command
-
-# Each machine of these lists that leads to others halts within so many steps.
-STEPS = 200
-LIMITS = options((STEPS, 512, 40, 1_000))
-ListMachines = Callable[..., list[str]]
-Changed = tuple[list[str], int]
-Change = Callable[[list[str], int], Changed]
+from support import ListMachines
+from support.program import LIST_LIMITS, LIST_STEPS, CommandResult, Decide, as_lines, replies
+from support.program import run_command
+from test_cover import Change, Changed, double, leave_out, swap
 
 
 class Sharded(NamedTuple):
@@ -37,35 +34,29 @@ def shard_line(machine: str, lines: list[str]) -> str:
 
 
 @pytest.fixture(scope="module")
-def shard(bb: str, list_machines: ListMachines) -> Shard:
+def shard(bb: str, list_machines: ListMachines, decide_all: Decide) -> Shard:
     """A function that shards a list of so many states and symbols at the machines with so many entries."""
-    made: dict[tuple[int, int, int], Sharded] = {}
 
     def decide(machines: list[str]) -> list[str]:
-        return run_command([bb, "decide", *LIMITS], as_lines(machines)).output.decode().splitlines()
+        return replies([bb, "decide", *LIST_LIMITS], machines)
 
+    @functools.lru_cache(maxsize=None)
     def shard_size(states: int, symbols: int, entries: int) -> Sharded:
-        size = (states, symbols, entries)
-        if size not in made:
-            words = ("--symbols", str(symbols), "--steps", str(STEPS))
-            items = list_machines(states, *words, "--shards", str(entries))
-            roots = [item.split(" ")[0] for item in items if item.endswith(" below")]
-            below = {root: list_machines(states, "--steps", str(STEPS), "--below", root) for root in roots}
-            shards = {root: decide(machines) for root, machines in below.items()}
-            verdicts = iter(decide([item for item in items if " " not in item]))
-            skeleton = [
-                shard_line(root, shards[root]) if root in shards else next(verdicts)
-                for root in (item.split(" ")[0] for item in items)
-            ]
-            made[size] = Sharded(decide(list_machines(states, *words)), skeleton, shards)
-        return made[size]
+        steps = ("--steps", str(LIST_STEPS))
+        items = list_machines(states, *steps, "--symbols", str(symbols), "--shards", str(entries))
+        roots = [item.split(" ")[0] for item in items if item.endswith(" below")]
+        shards = {root: decide(list_machines(states, *steps, "--below", root)) for root in roots}
+        verdicts = iter(decide([item for item in items if " " not in item]))
+        machines = (item.split(" ")[0] for item in items)
+        skeleton = [shard_line(one, shards[one]) if one in shards else next(verdicts) for one in machines]
+        return Sharded(decide_all(states, symbols), skeleton, shards)
 
     return shard_size
 
 
 def counts_of(cover: str, words: list[str], lines: list[str]) -> str:
     """Return what `cover` prints of a list that passes, from its counts on."""
-    status, output, error = run_command([cover, *LIMITS, *words], as_lines(lines))
+    status, output, error = run_command([cover, *LIST_LIMITS, *words], as_lines(lines))
     assert (status, error) == (0, b"")
     return output.decode().split(": ")[1]
 
@@ -76,7 +67,7 @@ def test_skeleton_counts_as_the_list_in_one_piece(
 ) -> None:
     made = shard(states, symbols, entries)
     whole = counts_of(cover, [], made.lines)
-    status, output, error = run_command([cover, "--skeleton", *LIMITS], as_lines(made.skeleton))
+    status, output, error = run_command([cover, "--skeleton", *LIST_LIMITS], as_lines(made.skeleton))
     count = len(made.shards)
     word = "shard" if count == 1 else "shards"
     start = "covers %d states %d symbols, given %d %s: " % (states, symbols, count, word)
@@ -97,7 +88,7 @@ def test_each_shard_is_a_walk_below_its_machine(cover: str, shard: Shard) -> Non
     for machine, lines in made.shards.items():
         end = "%s lines, %s undecided, %s of them with more than one undefined transition\n"
         expected = "covers below %s: " % machine + end % tuple(stated[machine][2:5])
-        done = run_command([cover, "--below", machine, *LIMITS], as_lines(lines))
+        done = run_command([cover, "--below", machine, *LIST_LIMITS], as_lines(lines))
         assert done == CommandResult(0, expected.encode(), b"")
 
 
@@ -106,39 +97,26 @@ def test_skeleton_below_a_machine(cover: str, list_machines: ListMachines, shard
     outer, inner = shard(3, 2, 2), shard(3, 2, 3)
     stated = {line.split(" ")[0]: line for line in [*inner.lines, *inner.skeleton]}
     for machine, lines in outer.shards.items():
-        items = list_machines(3, "--steps", str(STEPS), "--below", machine, "--shards", "3")
+        items = list_machines(3, "--steps", str(LIST_STEPS), "--below", machine, "--shards", "3")
         skeleton = [stated[item.split(" ")[0]] for item in items]
         words = ["--below", machine]
         assert counts_of(cover, [*words, "--skeleton"], skeleton) == counts_of(cover, words, lines)
 
 
-def lose(lines: list[str], at: int) -> Changed:
-    return lines[:at] + lines[at + 1 :], at + 1
-
-
-def double(lines: list[str], at: int) -> Changed:
-    return lines[: at + 1] + lines[at:], at + 2
-
-
-def swap(lines: list[str], at: int) -> Changed:
-    other = (at + 7) % len(lines)
-    changed = list(lines)
-    changed[at], changed[other] = changed[other], changed[at]
-    return changed, min(at, other) + 1
-
-
-def resize(lines: list[str], at: int) -> Changed:
+def resize(lines: list[str], at: int, _: random.Random) -> Changed:
     """Give the machine one state more; the first line gives the size, so the next one is wrong there."""
     machine, rest = lines[at].split(" ", 1)
     return [*lines[:at], machine + "_------ " + rest, *lines[at + 1 :]], max(at + 1, 2)
 
 
-@pytest.mark.parametrize("change", [lose, double, swap, resize])
-def test_changed_skeletons_are_refused_at_their_line(cover: str, shard: Shard, change: Change) -> None:
+@pytest.mark.parametrize("change", [leave_out, double, swap, resize])
+def test_changed_skeletons_are_refused_at_their_line(
+    cover: str, shard: Shard, rng: random.Random, change: Change
+) -> None:
     lines = shard(3, 2, 2).skeleton
     for at in range(len(lines)):
-        changed, line = change(lines, at)
-        status, output, error = run_command([cover, "--skeleton", *LIMITS], as_lines(changed))
+        changed, line = change(lines, at, rng)
+        status, output, error = run_command([cover, "--skeleton", *LIST_LIMITS], as_lines(changed))
         assert (status, error) == (1, b"") and output.startswith(b"line %d: " % line)
 
 
@@ -146,31 +124,22 @@ def test_cut_and_misspelt_shards_are_no_lines(cover: str, shard: Shard) -> None:
     lines = shard(3, 2, 2).skeleton
     at = next(at for at, line in enumerate(lines) if " below " in line)
     spelt = lines[at]
-    wrong = [
-        spelt[:-1],
-        spelt + "0",
-        spelt + " ",
-        spelt.upper(),
-        spelt.replace(" below ", " below  "),
-        re.sub(r" below (\d+)", r" below 0\1", spelt),
-        re.sub(r" below (\d+)", r" below +\1", spelt),
-        re.sub(r" below (\d+)", r" below 18446744073709551616", spelt),
-        re.sub(r" below (\d+) (\d+)", r" below \1", spelt),
-        spelt.replace(" below ", " beneath "),
-    ]
+    wrong = [spelt[:-1], spelt + "0", spelt + " ", spelt.upper(), spelt.replace("below", "beneath")]
+    wrong += [spelt.replace(" below ", " below  "), re.sub(r" below (\d+) (\d+)", r" below \1", spelt)]
+    wrong += [re.sub(r" below (\d+)", number, spelt) for number in (r" below 0\1", r" below +\1")]
+    wrong.append(re.sub(r" below (\d+)", " below 18446744073709551616", spelt))
     for line in wrong:
-        done = run_command([cover, "--skeleton", *LIMITS], as_lines([*lines[:at], line, *lines[at + 1 :]]))
+        done = run_command(
+            [cover, "--skeleton", *LIST_LIMITS], as_lines([*lines[:at], line, *lines[at + 1 :]])
+        )
         assert done == (1, b"line %d: it is no verdict line and no shard\n" % (at + 1), b""), line
 
 
 def test_shards_are_refused_in_lists_of_verdicts(cover: str, shard: Shard) -> None:
     lines = shard(3, 2, 2).skeleton
     at = next(at for at, line in enumerate(lines) if " below " in line)
-    assert run_command([cover, *LIMITS], as_lines(lines)) == (
-        1,
-        b"line %d: it is no verdict line\n" % (at + 1),
-        b"",
-    )
+    error = b"line %d: it is no verdict line\n" % (at + 1)
+    assert run_command([cover, *LIST_LIMITS], as_lines(lines)) == (1, error, b"")
 
 
 @pytest.mark.parametrize("count", [100, pytest.param(1_000, marks=pytest.mark.slow)])
@@ -180,8 +149,8 @@ def test_a_shard_without_one_of_its_lines_is_refused(
     made = shard(4, 2, 4) if count > 100 else shard(3, 2, 2)
     machines = [machine for machine, lines in made.shards.items() for _ in lines]
     for machine in rng.choices(machines, k=count):
-        changed, line = lose(made.shards[machine], rng.randrange(len(made.shards[machine])))
-        status, output, error = run_command([cover, "--below", machine, *LIMITS], as_lines(changed))
+        changed, line = leave_out(made.shards[machine], rng.randrange(len(made.shards[machine])), rng)
+        status, output, error = run_command([cover, "--below", machine, *LIST_LIMITS], as_lines(changed))
         assert (status, error) == (1, b"") and output.startswith(b"line %d: " % line)
 
 
@@ -190,22 +159,22 @@ def test_shards_of_five_states_without_one_of_their_lines(
     bb: str, cover: str, list_machines: ListMachines, rng: random.Random
 ) -> None:
     """A hundred shards of some thousand lines, at random."""
-    items = list_machines(5, "--shards", "6", "--steps", str(STEPS))
+    items = list_machines(5, "--shards", "6", "--steps", str(LIST_STEPS))
     for item in rng.sample([item for item in items if item.endswith(" below")], 100):
         machine = item.split(" ")[0]
-        machines = list_machines(5, "--steps", str(STEPS), "--below", machine)
-        lines = run_command([bb, "decide", *LIMITS], as_lines(machines)).output.decode().splitlines()
-        assert run_command([cover, "--below", machine, *LIMITS], as_lines(lines)).status == 0
-        changed, line = lose(lines, rng.randrange(len(lines)))
-        status, output, error = run_command([cover, "--below", machine, *LIMITS], as_lines(changed))
+        machines = list_machines(5, "--steps", str(LIST_STEPS), "--below", machine)
+        lines = replies([bb, "decide", *LIST_LIMITS], machines)
+        assert run_command([cover, "--below", machine, *LIST_LIMITS], as_lines(lines)).status == 0
+        changed, line = leave_out(lines, rng.randrange(len(lines)), rng)
+        status, output, error = run_command([cover, "--below", machine, *LIST_LIMITS], as_lines(changed))
         assert (status, error) == (1, b"") and output.startswith(b"line %d: " % line)
 
 
 def test_shard_of_another_machine_is_refused(cover: str, shard: Shard) -> None:
     (one, _), (two, lines) = list(shard(3, 2, 2).shards.items())[:2]
-    done = run_command([cover, "--below", one, *LIMITS], as_lines(lines))
+    done = run_command([cover, "--below", one, *LIST_LIMITS], as_lines(lines))
     assert done == (1, b"line 1: %s expected, found %s\n" % (one.encode(), two.encode()), b"")
-    nothing = run_command([cover, "--below", one, *LIMITS])
+    nothing = run_command([cover, "--below", one, *LIST_LIMITS])
     assert nothing == (1, b"line 1: %s expected, the list ends\n" % one.encode(), b"")
 
 

@@ -88,8 +88,7 @@ def test_library(built: pathlib.Path, workspace: pathlib.Path, tmp_path: pathlib
 
 @pytest.mark.usefixtures("built")
 def test_tests_of_the_crates(workspace: pathlib.Path, bare: Dict[str, str]) -> None:
-    done = subprocess.run(
-        ["cargo", "test", "--quiet"], cwd=workspace, env=bare, capture_output=True, text=True
-    )
+    command = ["cargo", "test", "--quiet"]
+    done = subprocess.run(command, cwd=workspace, env=bare, capture_output=True, text=True)
     assert done.returncode == 0, done.stdout + done.stderr
     assert done.stdout.count("test result: ok") > 10

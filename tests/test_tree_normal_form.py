@@ -11,15 +11,14 @@ import os
 import pathlib
 import shutil
 import subprocess
-from typing import Callable, Iterator
+from typing import Iterator
 
 import pytest
-from support import TOP, require
+from support import TOP, ListMachines, require
 from support.machines import LETTERS, join_groups
 from support.program import run_command
 from support.simulation import simulate
 
-Lister = Callable[..., list[str]]
 COUNTS = {1: 3, 2: 61, 3: 5_417, 4: 858_909}
 FIVE_STATES = 181_385_789
 LONGEST = {1: "------", 2: "1RB1LB_1LA---", 3: "1RB---_1LB0RC_1LC1LA", 4: "1RB1LB_1LA0LC_---1LD_1RD0RA"}
@@ -68,14 +67,16 @@ def machines_by_definition(entries: list[str], symbols: int, steps: int) -> Iter
         pytest.param(4, 2, 200, marks=pytest.mark.slow),
     ],
 )
-def test_list_follows_from_definition(list_machines: Lister, states: int, symbols: int, steps: int) -> None:
+def test_list_follows_from_definition(
+    list_machines: ListMachines, states: int, symbols: int, steps: int
+) -> None:
     expected = list(machines_by_definition(["---"] * states * symbols, symbols, steps))
     assert list_machines(states, "--symbols", str(symbols), "--steps", str(steps)) == expected
     print("%d lines compared" % len(expected))
 
 
 @pytest.mark.parametrize("states", COUNTS)
-def test_list_has_its_known_length_and_its_champion(list_machines: Lister, states: int) -> None:
+def test_list_has_its_known_length_and_its_champion(list_machines: ListMachines, states: int) -> None:
     found = list_machines(states)
     assert len(found) == len(set(found)) == COUNTS[states]
     assert LONGEST[states] in found
@@ -94,7 +95,9 @@ def test_list_of_five_states_has_its_known_length(lister: str) -> None:
 
 
 @pytest.mark.parametrize("states, parts, symbols", [(2, 3, 2), (3, 4, 2), (2, 5, 3), (4, 7, 2)])
-def test_parts_are_together_the_whole(list_machines: Lister, states: int, parts: int, symbols: int) -> None:
+def test_parts_are_together_the_whole(
+    list_machines: ListMachines, states: int, parts: int, symbols: int
+) -> None:
     words = ["--symbols", str(symbols)]
     whole = list_machines(states, *words)
     places = {line: place for place, line in enumerate(whole)}
@@ -109,7 +112,7 @@ def test_parts_are_together_the_whole(list_machines: Lister, states: int, parts:
 
 @pytest.mark.parametrize("words", [[], ["--part", "2/3"]])
 @pytest.mark.parametrize("every", [1, 2, 7, 1_000, 100_000])
-def test_sample_is_each_so_many_th_line(list_machines: Lister, every: int, words: list[str]) -> None:
+def test_sample_is_each_so_many_th_line(list_machines: ListMachines, every: int, words: list[str]) -> None:
     assert list_machines(3, "--every", str(every), *words) == list_machines(3, *words)[every - 1 :: every]
 
 

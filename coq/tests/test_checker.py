@@ -5,6 +5,7 @@ import subprocess
 from typing import Callable, Iterator
 
 import pytest
+from support import ListMachines
 from support.program import GREATEST, run_command, options
 from support.second_checker import Claims, compare_answers, long_claims, quick_claims
 
@@ -38,7 +39,7 @@ def test_failed_write_ends_both_checkers_alike(bb: str, checker: str) -> None:
 def test_lines_are_answered_alike(
     bb: str,
     checker: str,
-    list_machines: Callable[..., list[str]],
+    list_machines: ListMachines,
     rng: random.Random,
     claims: Callable[..., Iterator[tuple[str, Claims]]],
 ) -> None:

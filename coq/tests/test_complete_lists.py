@@ -3,17 +3,13 @@
 import pathlib
 import random
 import re
-from typing import Callable, Sequence
+from typing import Sequence
 
 import pytest
-from support.program import CommandResult, as_lines, options, replies, run_command
+from support.program import LIST_LIMITS, CommandResult, Decide, as_lines, options, run_command
 from support.second_checker import COQ, Edit, build_wrong
 
-# Each machine of these lists that leads to others halts within so many steps.
-STEPS = 200
-LIMITS = options((STEPS, 512, 40, 1_000))
 SIZES = ((2, 2), (3, 2), (2, 3))
-Lists = dict[tuple[int, int], list[str]]
 WRONG = [
     Edit(name, "Cover.v", *change)
     for name, *change in (
@@ -27,17 +23,6 @@ WRONG = [
         ("goes on below the last undefined entry", "if has_another M q (under z) then", "if true then"),
     )
 ]
-
-
-@pytest.fixture(scope="module")
-def lists(bb: str, list_machines: Callable[..., list[str]]) -> Lists:
-    """The verdict lines of whole lists, by their states and symbols."""
-
-    def decide(states: int, symbols: int) -> list[str]:
-        machines = list_machines(states, "--symbols", str(symbols), "--steps", str(STEPS))
-        return replies([bb, "decide", *LIMITS], machines)
-
-    return {size: decide(*size) for size in SIZES}
 
 
 def compare(cover: str, coq_cover: str, words: Sequence[str], given: bytes) -> CommandResult:
@@ -86,9 +71,9 @@ def break_list(lines: Sequence[str], source: random.Random) -> list[str]:
 
 @pytest.mark.parametrize("states, symbols", SIZES)
 def test_whole_list_is_answered_alike(
-    cover: str, coq_cover: str, lists: Lists, states: int, symbols: int
+    cover: str, coq_cover: str, decide_all: Decide, states: int, symbols: int
 ) -> None:
-    done = compare(cover, coq_cover, LIMITS, as_lines(lists[states, symbols]))
+    done = compare(cover, coq_cover, LIST_LIMITS, as_lines(decide_all(states, symbols)))
     assert done.status == 0 and done.output.startswith(b"covers %d states %d symbols: " % (states, symbols))
 
 
@@ -101,12 +86,12 @@ def test_short_list_is_answered_alike(cover: str, coq_cover: str, given: bytes) 
 
 @pytest.mark.parametrize("count", [100, pytest.param(5_000, marks=pytest.mark.slow)])
 def test_broken_lists_are_answered_alike(
-    cover: str, coq_cover: str, lists: Lists, rng: random.Random, count: int
+    cover: str, coq_cover: str, decide_all: Decide, rng: random.Random, count: int
 ) -> None:
     refused = 0
     for k in range(count):
-        broken = break_list(lists[SIZES[k % len(SIZES)]], rng)
-        words: list[str] = rng.choice([[], LIMITS, options((9, 8, 3, 9))])
+        broken = break_list(decide_all(*SIZES[k % len(SIZES)]), rng)
+        words: list[str] = rng.choice([[], LIST_LIMITS, options((9, 8, 3, 9))])
         given = "\n".join(broken).encode("latin-1") + rng.choice([b"", b"\n"])
         refused += compare(cover, coq_cover, words, given).status
     assert refused > count // 2
@@ -146,9 +131,9 @@ def shard_lines(cover: str, lines: Sequence[str], root: str) -> tuple[list[str],
 
 
 def test_shards_and_skeletons_are_answered_alike(
-    cover: str, coq_cover: str, lists: Lists, rng: random.Random
+    cover: str, coq_cover: str, decide_all: Decide, rng: random.Random
 ) -> None:
-    skeleton, shard = shard_lines(cover, lists[2, 2], "0RB---_------")
+    skeleton, shard = shard_lines(cover, decide_all(2, 2), "0RB---_------")
     assert compare(cover, coq_cover, ["--below", "0RB---_------"], as_lines(shard)).status == 0
     assert compare(cover, coq_cover, ["--skeleton"], as_lines(skeleton)).status == 0
     for _ in range(60):
@@ -177,8 +162,10 @@ def check_again(folder: pathlib.Path, name: str = "Made.v") -> CommandResult:
 
 @pytest.mark.usefixtures("coq_cover")
 @pytest.mark.parametrize("states, symbols", SIZES)
-def test_theorem_of_a_whole_list(lists: Lists, tmp_path: pathlib.Path, states: int, symbols: int) -> None:
-    lines = lists[states, symbols]
+def test_theorem_of_a_whole_list(
+    decide_all: Decide, tmp_path: pathlib.Path, states: int, symbols: int
+) -> None:
+    lines = decide_all(states, symbols)
     done = theorem(tmp_path, lines)
     assert done.status == 0 and b"accepts this as one theorem" in done.output, done.error
     text = (tmp_path / "Made.v").read_text()
@@ -190,9 +177,9 @@ def test_theorem_of_a_whole_list(lists: Lists, tmp_path: pathlib.Path, states: i
 
 
 @pytest.mark.usefixtures("coq_cover")
-def test_theorem_of_a_changed_file_fails(lists: Lists, tmp_path: pathlib.Path) -> None:
+def test_theorem_of_a_changed_file_fails(decide_all: Decide, tmp_path: pathlib.Path) -> None:
     """A line left out, one undecided machine left out, and another size: Coq refuses each."""
-    lines = lists[2, 3]
+    lines = decide_all(2, 3)
     assert theorem(tmp_path, lines).status == 0 and check_again(tmp_path).status == 0
     text = (tmp_path / "Made.v").read_text()
     undecided = next(line.split(" ")[0] for line in lines if " undecided " in line)
@@ -209,8 +196,8 @@ def test_theorem_of_a_changed_file_fails(lists: Lists, tmp_path: pathlib.Path) -
 
 
 @pytest.mark.usefixtures("coq_cover")
-def test_assumed_machines_become_hypotheses(lists: Lists, tmp_path: pathlib.Path) -> None:
-    lines = lists[3, 2]
+def test_assumed_machines_become_hypotheses(decide_all: Decide, tmp_path: pathlib.Path) -> None:
+    lines = decide_all(3, 2)
     undecided = [line.split(" ")[0] for line in lines if " undecided " in line]
     (tmp_path / "assumed").write_text("".join(machine + " nonhalt\n" for machine in undecided))
     done = theorem(tmp_path, lines, ["--assume", str(tmp_path / "assumed")])
@@ -224,8 +211,8 @@ def test_assumed_machines_become_hypotheses(lists: Lists, tmp_path: pathlib.Path
 
 
 @pytest.mark.usefixtures("coq_cover")
-def test_theorems_of_a_shard_and_a_skeleton(cover: str, lists: Lists, tmp_path: pathlib.Path) -> None:
-    skeleton, shard = shard_lines(cover, lists[2, 2], "0RB---_------")
+def test_theorems_of_a_shard_and_a_skeleton(cover: str, decide_all: Decide, tmp_path: pathlib.Path) -> None:
+    skeleton, shard = shard_lines(cover, decide_all(2, 2), "0RB---_------")
     for lines, words in [(shard, ["--below=0RB---_------"]), (skeleton, ["--skeleton"])]:
         done = theorem(tmp_path, lines, words)
         assert done.status == 0, done.error
@@ -238,15 +225,15 @@ def test_theorems_of_a_shard_and_a_skeleton(cover: str, lists: Lists, tmp_path: 
 @pytest.mark.parametrize("edit", WRONG, ids=[edit.name for edit in WRONG])
 @pytest.mark.usefixtures("coq_cover")
 def test_wrong_checker_of_lists_is_noticed(
-    cover: str, lists: Lists, tmp_path: pathlib.Path, edit: Edit
+    cover: str, decide_all: Decide, tmp_path: pathlib.Path, edit: Edit
 ) -> None:
     """A proof fails; built without its proofs, it answers some list otherwise."""
     made = build_wrong(tmp_path, edit, "cover")
     rng = random.Random(1)
     wrong = 0
     for k in range(300):
-        given = lists[SIZES[k % 3]] if k < 3 else break_list(lists[SIZES[k % 3]], rng)
+        given = decide_all(*SIZES[k % 3]) if k < 3 else break_list(decide_all(*SIZES[k % 3]), rng)
         data = "".join(line + "\n" for line in given).encode("latin-1")
-        wrong += run_command([cover, *LIMITS], data) != run_command([made, *LIMITS], data)
+        wrong += run_command([cover, *LIST_LIMITS], data) != run_command([made, *LIST_LIMITS], data)
     assert wrong > 0
     print("%d lists notice it" % wrong)

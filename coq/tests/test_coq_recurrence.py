@@ -5,13 +5,15 @@ from __future__ import annotations
 import itertools
 import pathlib
 import random
-from typing import Callable, Iterator, NamedTuple, Sequence
+from typing import Iterator, Sequence
 
 import pytest
+from support import ListMachines
 from support.machines import DIGITS, LETTERS
-from support.program import as_lines, options, replies, run_command
+from support.program import as_lines, kind_of, options, replies, run_command
+from support.recurrences import GREATEST, GREATEST_REPLY, Numbers, Step, numbers_of, numbers_of_pair
+from support.recurrences import repeats, steps_of
 from support.second_checker import Edit, build_wrong
-from support.simulation import simulate
 
 SIZES = ((2, 2), (3, 2), (2, 3))
 LIMITS = (3_000, 1_024, 30, 100)
@@ -36,87 +38,13 @@ WRONG = [
 ]
 
 
-class Step(NamedTuple):
-    """A step of a run: its state and symbol, and the head's position before it."""
-
-    state: int
-    symbol: int
-    head: int
-
-    def uses(self, other: Step) -> bool:
-        """Whether both steps use the same transition."""
-        return self[:2] == other[:2]
-
-
-class Numbers(NamedTuple):
-    """The numbers of a `recurs` line: the last uses are those of the states, then those of the entries."""
-
-    start: int
-    period: int
-    shift: int
-    states: list[str]
-    quasihalt: int | None
-    entries: list[str]
-
-    def line_of(self, machine: str, with_entries: bool) -> str:
-        """The line that has these numbers."""
-        numbers = "%s recurs %d %d %d " % (machine, self.start, self.period, self.shift)
-        line = numbers + " ".join(self.states)
-        if self.quasihalt is not None:
-            line += " quasihalts %d" % self.quasihalt
-        return line + (" entries " + " ".join(self.entries) if with_entries else "")
-
-
-def steps_of(machine: str, count: int) -> list[Step]:
-    """The first steps of a machine's run; it doesn't halt before them."""
-    run = simulate(machine, count)
-    return [Step(c.state, c.tape.get(c.head, 0), c.head) for c in run if c.state is not None][:count]
-
-
-def last_use(steps: Sequence[Step], start: int, is_use: Callable[[Step], bool]) -> str:
-    """The last use of a part of the table, as it is written."""
-    last = max((n for n, step in enumerate(steps) if is_use(step)), default=-1)
-    return "-" if last < 0 else str(last) if last < start else "*"
-
-
-def numbers_of(machine: str, first: int, second: int) -> Numbers:
-    """The numbers of a machine with a true pair, by brute force: each number is tried as a period."""
-    steps = steps_of(machine, first + 3 * (second - first))
-
-    def repeats(n: int, period: int) -> bool:
-        return all(one.uses(other) for one, other in zip(steps[n:], steps[n + period :]))
-
-    period = next(period for period in range(1, second - first + 1) if repeats(first, period))
-    start = first
-    while start > 0 and steps[start - 1].uses(steps[start - 1 + period]):
-        start -= 1
-    groups = machine.split("_")
-    states = [last_use(steps, start, lambda step: step.state == q) for q in range(len(groups))]
-    entries = [
-        last_use(steps, start, lambda step: step[:2] == (q, r))
-        for q in range(len(groups))
-        for r in range(len(groups[0]) // 3)
-    ]
-    last = max((int(use) for use in states if use.isdecimal()), default=None)
-    shift = steps[start + period].head - steps[start].head
-    return Numbers(start, period, shift, states, None if last is None else last + 1, entries)
-
-
-def pair_in(verdict: str) -> tuple[str, int, int] | None:
-    """The machine of a verdict and the steps of its pair, if it has one."""
-    machine, kind, *words = verdict.split(" ")
-    if kind not in ("cycler", "translated"):
-        return None
-    first, second = words[:2] if kind == "cycler" else words[1:3]
-    return machine, int(first), int(second)
-
-
 @pytest.fixture(scope="module")
-def pairs(bb: str, list_machines: Callable[..., list[str]]) -> dict[str, Numbers]:
+def pairs(bb: str, list_machines: ListMachines) -> dict[str, Numbers]:
     """The numbers of all machines of three small sizes that have a pair."""
     machines = [machine for s, k in SIZES for machine in list_machines(s, "--symbols", str(k))]
-    found = map(pair_in, replies([bb, "decide", *options(LIMITS)], machines))
-    return {pair[0]: numbers_of(*pair) for pair in found if pair is not None}
+    lines = replies([bb, "decide", *options(LIMITS)], machines)
+    pairs = (line for line in lines if kind_of(line) in ("cycler", "translated"))
+    return {line.split(" ")[0]: numbers_of_pair(line) for line in pairs}
 
 
 def answers(coq_recurrence: str, lines: Sequence[str], *words: str) -> list[str]:
@@ -133,9 +61,8 @@ def wrong_numbers(numbers: Numbers) -> Iterator[Numbers]:
     yield from (numbers._replace(period=other) for other in (period + 1, 2 * period, 0))
     yield from (numbers._replace(period=k * period, shift=k * shift) for k in (2, 3))
     yield numbers._replace(period=period // 2, shift=shift // 2)
-    yield from (
-        numbers._replace(shift=other) for other in (shift + 1, shift - 1, *([-shift] if shift else []))
-    )
+    shifts = {shift + 1, shift - 1, -shift} - {shift}
+    yield from (numbers._replace(shift=other) for other in sorted(shifts))
     others: list[int | None] = [1] if quasihalt is None else [quasihalt + 1, quasihalt - 1, None]
     yield from (numbers._replace(quasihalt=other) for other in others)
     for at, use in enumerate(states):
@@ -260,15 +187,9 @@ def test_line(coq_recurrence: str, line: str, answer: str) -> None:
 
 
 def test_longest_line(coq_recurrence: str) -> None:
-    """The last of 25 states comes again at each step; longer lines aren't read."""
-    nexts = [LETTERS[min(state + 1, 24)] for state in range(25)]
-    machine = "_".join("0R%s" % state + "---" * 9 for state in nexts)
-    last = [*map(str, range(24)), "*"]
-    entries = " ".join(step + " -" * 9 for step in last)
-    line = "%s recurs 24 1 1 %s quasihalts 24 entries %s" % (machine, " ".join(last), entries)
-    most = "18446744073709551615"
-    uses, all_entries = 25 * (" " + most), 250 * (" " + most)
-    long = f"{machine} recurs {most} 1 -{most}{uses} quasihalts {most} entries{all_entries}"
+    line, most = GREATEST_REPLY, "18446744073709551615"
+    uses, entries = 25 * (" " + most), 250 * (" " + most)
+    long = f"{GREATEST} recurs {most} 1 -{most}{uses} quasihalts {most} entries{entries}"
     given = [line, long, line + " " * 9_000, line]
     assert run_command([coq_recurrence], as_lines(given)).output == b"ok\nover\nunread\nok\n"
 
@@ -291,21 +212,15 @@ def test_words(coq_recurrence: str, words: str, status: int) -> None:
 def seeming_numbers(machine: str) -> Iterator[Numbers]:
     """Yield numbers of runs that use the same transitions again for at least two periods, or for ever."""
     steps = steps_of(machine, 120)
+    used = [step[:2] for step in steps]
     for period, start in itertools.product(range(1, 9), range(60)):
         end = start + period
-        if end + 2 * period > len(steps) or not all(
-            one.uses(other) for one, other in zip(steps[start : end + 1], steps[end:])
-        ):
-            continue
-        shown = steps[: end + period]
-        states = [last_use(shown, start, lambda step: step.state == q) for q in range(machine.count("_") + 1)]
-        last = max((int(use) for use in states if use.isdecimal()), default=None)
-        shift = steps[end].head - steps[start].head
-        yield Numbers(start, period, shift, states, None if last is None else last + 1, [])
+        if end + 2 * period <= len(steps) and repeats(used, start, period, period + 1):
+            yield numbers_of(machine, steps[: end + period], start, period)
 
 
 @pytest.fixture(scope="module")
-def seeming_lines(pairs: dict[str, Numbers], list_machines: Callable[..., list[str]]) -> list[str]:
+def seeming_lines(pairs: dict[str, Numbers], list_machines: ListMachines) -> list[str]:
     """Lines of runs that seem to repeat: a few of each machine that does, and all of the others."""
     machines = [machine for s, k in SIZES for machine in list_machines(s, "--symbols", str(k))]
     return [
@@ -360,7 +275,7 @@ def test_all_replies_of_the_program_are_confirmed(
     bb: str,
     recurrence: str,
     coq_recurrence: str,
-    list_machines: Callable[..., list[str]],
+    list_machines: ListMachines,
     listed: list[str],
     limits: Sequence[int],
 ) -> None:
@@ -368,7 +283,6 @@ def test_all_replies_of_the_program_are_confirmed(
     machines = list_machines(int(listed[0]), *listed[1:])
     words = options(limits[:2])
     found = replies([recurrence, "--entries", *words], replies([bb, "decide", *options(limits)], machines))
-    assert answers(coq_recurrence, found, *words) == [
-        "ok" if " recurs " in line else "open" for line in found
-    ]
+    expected = ["ok" if " recurs " in line else "open" for line in found]
+    assert answers(coq_recurrence, found, *words) == expected
     print("%d lines confirmed" % sum(" recurs " in line for line in found))

@@ -3,17 +3,15 @@
 import pathlib
 import random
 import re
-from typing import Callable
 
 import pytest
+from support import ListMachines
 from support.program import run_command
 from support.second_checker import COQ, PROGRAMS, Claims, Edit, answer, build_wrong, copy_folder
 from support.second_checker import quick_claims, replace_once
 
 CLOSED = "Closed under the global context"
-UNPROVED = re.compile(
-    r"\b(Axioms?|Admitted|admit|Parameters?|Conjecture|Unset Guard Checking|bypass_check)\b"
-)
+UNPROVED = r"\b(Axioms?|Admitted|admit|Parameters?|Conjecture|Unset Guard Checking|bypass_check)\b"
 # An environment in which nothing but the system's programs is found.
 PLAIN = {"PATH": "/usr/bin:/bin"}
 
@@ -46,7 +44,7 @@ def test_every_theorem_assumes_nothing(checker: str) -> None:
 
 @pytest.mark.parametrize("path", sorted(COQ.glob("**/*.v")), ids=lambda path: str(path.relative_to(COQ)))
 def test_source_leaves_nothing_unproved(path: pathlib.Path) -> None:
-    assert not UNPROVED.search(path.read_text(encoding="utf-8"))
+    assert not re.search(UNPROVED, path.read_text(encoding="utf-8"))
 
 
 @pytest.mark.usefixtures("checker")
@@ -54,9 +52,8 @@ def test_assumed_theorem_fails_the_build(tmp_path: pathlib.Path) -> None:
     """Also again, where all else is up to date."""
     folder = copy_folder(tmp_path, built=True)
     source = folder / "Statements.v"
-    (proof,) = re.findall(
-        r"Theorem reply_ok .*?\n(Proof\..*?Qed\.)", source.read_text(encoding="utf-8"), re.S
-    )
+    text = source.read_text(encoding="utf-8")
+    (proof,) = re.findall(r"Theorem reply_ok .*?\n(Proof\..*?Qed\.)", text, re.S)
     replace_once(source, proof, "Admitted.")
     (folder / "out" / "checker").unlink()
     for _ in range(2):
@@ -69,15 +66,14 @@ def test_assumed_theorem_fails_the_build(tmp_path: pathlib.Path) -> None:
 @pytest.mark.needs("coqc", "coqchk", "ocamlfind")
 def test_copy_is_built_and_checked_elsewhere(tmp_path: pathlib.Path) -> None:
     """`coqchk` looks at the proofs where nothing else of the repository is."""
-    status, output, error = run_command(
-        ["make", "-C", str(copy_folder(tmp_path)), "check"], cwd="/", env=PLAIN
-    )
+    command = ["make", "-C", str(copy_folder(tmp_path)), "check"]
+    status, output, error = run_command(command, cwd="/", env=PLAIN)
     assert status == 0, error.decode()
     assert b"* Axioms: <none>" in output + error
 
 
 @pytest.fixture(scope="module")
-def batches(bb: str, list_machines: Callable[..., list[str]]) -> list[tuple[Claims, bytes]]:
+def batches(bb: str, list_machines: ListMachines) -> list[tuple[Claims, bytes]]:
     """Lines under their limits, and the program's answers."""
     claims = [batch for _, batch in quick_claims(bb, list_machines, random.Random(1))]
     return [(batch, answer([bb, "check"], batch).output) for batch in claims]

@@ -17,9 +17,8 @@ HOLDS, FAILS = "accepts that it holds", "accepts that it doesn't hold"
 def require_end(folder: pathlib.Path, words: list[str], status: int, sentence: str) -> None:
     """Require `coq/theorem` to end with a status and a sentence; a file is kept where the claim holds."""
     made = folder / "Made.v"
-    done = subprocess.run(
-        [str(COQ / "theorem"), *words, str(made)], capture_output=True, text=True, timeout=300
-    )
+    command = [str(COQ / "theorem"), *words, str(made)]
+    done = subprocess.run(command, capture_output=True, text=True, timeout=300)
     assert done.returncode == status and sentence in done.stdout + done.stderr, words
     assert made.exists() == (status == 0)
     made.unlink(missing_ok=True)

@@ -8,6 +8,7 @@ from typing import Iterator
 import budlarem
 import pytest
 from support import TOP
+from support.program import place_programs
 from support.runner import RunCase
 
 # Files there need no disk, so that the tests take no time for it.
@@ -22,6 +23,16 @@ def library_of_package(request: pytest.FixtureRequest) -> None:
     if SOURCE in pathlib.Path(budlarem.__file__).parents:
         library = request.getfixturevalue("library")
         os.environ.update(BB_LIBRARY=str(library), PYTHONPATH=str(SOURCE))
+
+
+@pytest.fixture
+def programs(
+    bb: str, cover: str, lister: str, tmp_path: pathlib.Path, monkeypatch: pytest.MonkeyPatch
+) -> pathlib.Path:
+    """A folder in the PATH with the programs and the command of the package."""
+    folder = place_programs(tmp_path / "programs", bb, cover, lister)
+    monkeypatch.setenv("PATH", "%s:%s" % (folder, os.environ["PATH"]))
+    return folder
 
 
 @pytest.fixture

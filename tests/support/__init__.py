@@ -7,11 +7,13 @@ import pathlib
 import shutil
 import signal
 import subprocess
-from typing import Sequence
+from typing import Callable, Sequence
 
 import pytest
 
 TOP = pathlib.Path(__file__).resolve().parents[2]
+# What the fixture `list_machines` gives.
+ListMachines = Callable[..., list[str]]
 # Targets of the Makefile that take no proof kit.
 WITHOUT_KIT = ("coq", "lister", "plain", "plain-library")
 

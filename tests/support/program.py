@@ -3,10 +3,13 @@
 from __future__ import annotations
 
 import itertools
+import os
+import pathlib
 import random
 import re
 import resource
 import subprocess
+import sys
 from typing import Any, Callable, Iterable, Iterator, Mapping, NamedTuple, Sequence, TypeVar
 
 Limits = TypeVar("Limits")
@@ -34,6 +37,10 @@ ROWS = [
 # Limits by name: of the list of all machines of four states, and the greatest.
 FOUR = {"steps": 200, "cells": 256, "depth": 20, "nodes": 1_000}
 MOST = dict(zip(LIMITS, GREATEST))
+# Each machine of whole lists that leads to others halts within so many steps.
+LIST_STEPS = 200
+LIST_LIMITS = ["--steps=200", "--cells=512", "--depth=40", "--nodes=1000"]
+Decide = Callable[[int, int], list[str]]
 
 
 def all_plans() -> Iterator[dict[str, Any]]:
@@ -86,6 +93,22 @@ def run_command(
     return CommandResult(done.returncode, done.stdout, done.stderr)
 
 
+def write_script(path: pathlib.Path, text: str, first: str = "#!/bin/sh") -> None:
+    """Write a script, of the shell by default, in place of the file or link that is there."""
+    path.unlink(missing_ok=True)
+    path.write_text("%s\n%s\n" % (first, text))
+    path.chmod(0o755)
+
+
+def place_programs(folder: pathlib.Path, *paths: str) -> pathlib.Path:
+    """Make a folder with links to programs and the command of the package."""
+    folder.mkdir()
+    for path in paths:
+        (folder / os.path.basename(path)).symlink_to(path)
+    write_script(folder / "budlarem", 'exec %s -m budlarem "$@"' % sys.executable)
+    return folder
+
+
 def as_lines(lines: Iterable[str]) -> bytes:
     """Lines as bytes, each with its newline."""
     return "".join(line + "\n" for line in lines).encode("utf-8", "surrogatepass")
@@ -129,6 +152,16 @@ def processor_time() -> float:
     """The processor time of all commands that have ended so far, in seconds."""
     used = resource.getrusage(resource.RUSAGE_CHILDREN)
     return used.ru_utime + used.ru_stime
+
+
+def least_time(command: Sequence[str], given: bytes) -> float:
+    """The least processor time of three runs of a command over these bytes, in seconds."""
+    times = []
+    for _ in range(3):
+        before = processor_time()
+        assert run_command(command, given).status == 0
+        times.append(processor_time() - before)
+    return min(times)
 
 
 def begins_modulo_64(built: str) -> list[int]:

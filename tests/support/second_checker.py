@@ -10,9 +10,9 @@ import random
 import re
 import shutil
 import subprocess
-from typing import Callable, Iterator, NamedTuple, Sequence
+from typing import Iterator, NamedTuple, Sequence
 
-from . import TOP
+from . import TOP, ListMachines
 from .claims import forge, pairs_of, refusals, tight_limits, trees_of
 from .machines import all_machines, machine, random_machines, seldom_halting
 from .program import CommandResult, run_command, options, replies
@@ -28,7 +28,6 @@ WHOLE = ((200, 256, 20, 1_000), LIMITS, LARGE)
 LISTS = (("5", "--steps", "1000", "--every", "900"), ("2", "--symbols", "3"), ("2", "--symbols", "4"))
 # Limits of steps, cells, levels and nodes, and lines.
 Claims = tuple[Sequence[int], list[str]]
-ListMachines = Callable[..., list[str]]
 # What each program is made of: files of Coq without proofs, and files of OCaml.
 OF_LINES = "Machines Answers Check Lines Repetition Recurrence Extract"
 PROGRAMS = {

@@ -6,7 +6,7 @@ import re
 from typing import Any, Callable
 
 import pytest
-from support import TOP
+from support import TOP, ListMachines
 from support.claims import with_other_number
 from support.examples import README, Example, read_examples
 from support.machines import CHAMPION, random_machines, seldom_halting
@@ -123,7 +123,7 @@ def test_noise(engine: Engine, rng: random.Random, name: str) -> None:
         engine.require_same(name, {}, line)
 
 
-def test_recurrences(engine: Engine, bb: str, list_machines: Callable[..., list[str]]) -> None:
+def test_recurrences(engine: Engine, bb: str, list_machines: ListMachines) -> None:
     """Those of the pairs of three states, with entries, are those of a brute force; other lines have answers."""
     decided = run_command([bb, "decide"], as_lines(list_machines(3))).output.decode().splitlines()
     pairs = [line for line in decided if line.split(" ")[1] in ("cycler", "translated")]

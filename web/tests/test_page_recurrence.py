@@ -39,9 +39,7 @@ def test_facts(tab: Page, machine: str) -> None:
     cells = "%d cell%s to the %s." % (abs(int(shift)), "s" * (abs(int(shift)) > 1), side)
     assert tab.text("exact-shift") == (cells if int(shift) else "None: the configuration comes again.")
     steps = int(words[words.index("quasihalts") + 1]) if "quasihalts" in words else None
-    stops = (
-        "No state has a last use." if steps is None else "After {:,} step{}.".format(steps, "s" * (steps > 1))
-    )
+    stops = "After {:,} step{}.".format(steps, "s" * (steps > 1)) if steps else "No state has a last use."
     assert tab.text("exact-quasihalt") == stops
     uses, entries = words[: machine.count("_") + 1], words[words.index("entries") + 1 :]
     symbols = len(entries) // len(uses)

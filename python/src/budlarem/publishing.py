@@ -458,11 +458,8 @@ def _contents_of_shards(folder: str, listed: ArchivedFile | None) -> HoldoutCont
     try:
         with open(path, encoding="utf-8") as file:
             summary = json.load(file)
-        counts, cover, known = (
-            VerdictCounts.of_fields(summary),
-            str(summary["cover"]),
-            dict(summary["sha256"]),
-        )
+        counts, cover = VerdictCounts.of_fields(summary), str(summary["cover"])
+        known = dict(summary["sha256"])
     except FileNotFoundError:
         raise PublishError("%s isn't finished; `budlarem shards %s` resumes" % (folder, folder)) from None
     except (KeyError, TypeError, ValueError) as error:
@@ -471,9 +468,7 @@ def _contents_of_shards(folder: str, listed: ArchivedFile | None) -> HoldoutCont
     for given in files:
         collections.deque(given.blocks(), maxlen=0)
         if given.sha256 != known.get(given.name):
-            raise PublishError(
-                "%s isn't that of the summary; run `budlarem shards %s`" % (given.path, folder)
-            )
+            raise PublishError(f"{given.path} isn't that of the summary; run `budlarem shards {folder}`")
     found = cover_skeleton(files[0].path, plan).rstrip("\n")
     if found != cover:
         raise PublishError("%s has %r, and cover prints %r" % (path, cover, found))

@@ -52,6 +52,7 @@ class _Refuted(Exception):
 
 
 Pair = Union[Cycler, Translated]
+_PAIRS = (Cycler, Translated)
 
 
 @dataclasses.dataclass(frozen=True)
@@ -66,17 +67,13 @@ class NumbersJudge:
 
     def findings(self, claims: Sequence[tuple[Claim, Verdict]]) -> list[Finding]:
         """What is found of each claim, beside our verdict on its machine."""
-        made = [
-            ours if isinstance(ours, (Cycler, Translated)) else self._pair_of(claim) for claim, ours in claims
-        ]
+        made = [ours if isinstance(ours, _PAIRS) else self._pair_of(claim) for claim, ours in claims]
         is_ours = [pair is ours for pair, (_, ours) in zip(made, claims)]
         replies: dict[int, RecurrenceReply] = {}
         for of_ours, limits in ((True, self.limits), (False, self.checker)):
-            places = [
-                k for k, pair in enumerate(made) if not isinstance(pair, Finding) and is_ours[k] is of_ours
-            ]
-            pairs = [pair for pair in (made[k] for k in places) if not isinstance(pair, Finding)]
-            replies.update(zip(places, recurrences_of(pairs, limits, self.threads)))
+            those = (k for k, own in enumerate(is_ours) if own is of_ours)
+            pairs = {k: pair for k in those if not isinstance(pair := made[k], Finding)}
+            replies.update(zip(pairs, recurrences_of([*pairs.values()], limits, self.threads)))
         return [
             pair if isinstance(pair, Finding) else self._finding(claim, pair, replies[place])
             for place, (pair, (claim, _)) in enumerate(zip(made, claims))
@@ -101,9 +98,8 @@ class NumbersJudge:
     def _words(self, claim: Claim) -> str:
         numbers = (("start", claim.start), ("period", claim.period))
         words = ", ".join("%s %d" % (name, number) for name, number in numbers if number is not None)
-        return words + (
-            " with an offset of %d" % self.offset if self.offset and claim.start is not None else ""
-        )
+        has_offset = self.offset and claim.start is not None
+        return words + " with an offset of %d" % self.offset if has_offset else words
 
     def _pair_of(self, claim: Claim) -> Pair | Finding:
         """The pair that holds if the claim does, where our verdict is none."""

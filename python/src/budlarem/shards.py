@@ -36,13 +36,8 @@ from .limits import Limits
 from .runner.errors import CheckError, FolderError, RunError
 
 LISTER, DECIDER, CHECKER = PROGRAMS = ("tree_normal_form", "bb", "cover")
-PLAN, MACHINES, SKELETON, HOLDOUTS, SUMMARY = FILES = (
-    "plan.json",
-    "machines.txt",
-    "skeleton.txt",
-    "holdouts.txt",
-    "summary.json",
-)
+FILES = ("plan.json", "machines.txt", "skeleton.txt", "holdouts.txt", "summary.json")
+PLAN, MACHINES, SKELETON, HOLDOUTS, SUMMARY = FILES
 _BLOCK = 1 << 16
 _COVERS = re.compile(r"covers below \S+: (\d+) lines?, (\d+) undecided, (\d+) of them ")
 
@@ -229,18 +224,16 @@ def run_shard(folder: str, machine: str) -> str:
     for program in PROGRAMS:
         _find(program)
     began, reader = time.monotonic(), VerdictReader(plan)
-    decide = [
-        [LISTER, "--below", machine, "--steps", str(plan.list_steps)],
-        [DECIDER, "decide", *plan.options()],
-    ]
-    found = _cover(["--below", machine, *plan.options()], pipe_blocks(decide), reader.read)
+    lister = [LISTER, "--below", machine, "--steps", str(plan.list_steps)]
+    blocks = pipe_blocks([lister, [DECIDER, "decide", *plan.options()]])
+    found = _cover(["--below", machine, *plan.options()], blocks, reader.read)
     counts = _COVERS.match(found)
     if counts is None:
         raise CheckError("cover refuses the shard of %s: %s" % (machine, found.rstrip("\n")))
     line = "%s below %s %s\n" % (machine, " ".join(counts.groups()), reader.sha256.hexdigest())
     fields = {**reader.fields(), "bytes": reader.size, "seconds": round(time.monotonic() - began, 3)}
-    blocks = [line.encode("ascii"), json.dumps(fields).encode("ascii") + b"\n", *reader.holdouts]
-    write_whole(os.path.join(folder, "shards", machine), blocks)
+    written = [line.encode("ascii"), json.dumps(fields).encode("ascii") + b"\n", *reader.holdouts]
+    write_whole(os.path.join(folder, "shards", machine), written)
     return line
 
 
@@ -332,9 +325,8 @@ def _holdouts(folder: str, total: Total) -> Iterator[bytes]:
 def _skeleton(folder: str, plan: Plan) -> Iterator[bytes]:
     """The lines of a skeleton."""
     decided = "".join(machine + "\n" for machine, is_shard in read_machines(folder) if not is_shard)
-    done = subprocess.run(
-        [_find(DECIDER), "decide", *plan.options()], input=decided.encode("ascii"), stdout=subprocess.PIPE
-    )
+    command = [_find(DECIDER), "decide", *plan.options()]
+    done = subprocess.run(command, input=decided.encode("ascii"), stdout=subprocess.PIPE)
     _require_success(DECIDER, done.returncode)
     verdicts = iter(done.stdout.splitlines(keepends=True))
     for machine, is_shard in read_machines(folder):

@@ -88,10 +88,10 @@ def cost_of_file(file: BinaryReader, limits: Limits) -> CheckCost:
     cost, before = CheckCost(0, 0, 0, 0), 0
     for lines in whole_lines(iter(lambda: file.read(_BLOCK), b"")):
         more = cost_of_check(limits.numbers(), lines)
-        most, number = max(
-            (cost.most, cost.number), (more.most, before + more.line + 1), key=lambda pair: pair[0]
-        )
-        cost = CheckCost(cost.steps + more.steps, cost.nodes + more.nodes, most, number if most else 0)
+        dearest = (cost.most, cost.number)
+        if more.most > cost.most:
+            dearest = (more.most, before + more.line + 1)
+        cost = CheckCost(cost.steps + more.steps, cost.nodes + more.nodes, *dearest)
         before += lines.count(b"\n")
     return cost
 

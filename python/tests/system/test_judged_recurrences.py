@@ -4,11 +4,12 @@ from __future__ import annotations
 
 import random
 import sys
-from typing import Callable, Sequence
+from typing import Sequence
 
 import budlarem
 import pytest
 from budlarem import Cycler, Exactness, Judged, Judgement, Limits, Translated
+from support import ListMachines
 from support.program import as_lines, run_command
 from support.recurrences import repeats, reply_to_pair
 from support.simulation import simulate
@@ -48,11 +49,13 @@ def truth(machine: str, start: int, period: int, exact: tuple[int, int, int]) ->
     return Exactness.TRUE if repeats(used, start, period, count) else Exactness.FALSE
 
 
-@pytest.mark.parametrize(
-    "size, count, most", [("2x2", 100, (9, 7)), ("3x2", 40, (30, 9)), ("2x3", 40, (30, 9))]
-)
+# Sizes, the number of machines, and bounds of starts and periods.
+SIZES = [("2x2", 100, (9, 7)), ("3x2", 40, (30, 9)), ("2x3", 40, (30, 9))]
+
+
+@pytest.mark.parametrize("size, count, most", SIZES)
 def test_each_start_and_period(
-    list_machines: Callable[..., list[str]], rng: random.Random, size: str, count: int, most: tuple[int, int]
+    list_machines: ListMachines, rng: random.Random, size: str, count: int, most: tuple[int, int]
 ) -> None:
     """With a pair of ours the exact numbers judge, without one theirs is checked as a pair: both as the run does."""
     states, symbols = size.split("x")
@@ -60,9 +63,8 @@ def test_each_start_and_period(
     exact = pairs_of(rng.sample(machines, min(count, len(machines))))
     claims = [(m, s, p) for m in exact for s in range(most[0]) for p in range(1, most[1])]
     claims += [(m, s, k * p) for m, (s, p, _) in exact.items() for k in (1, 2, 3)]
-    rows, expected = ["%s,%d,%d" % claim for claim in claims], [
-        truth(*claim, exact[claim[0]]) for claim in claims
-    ]
+    rows = ["%s,%d,%d" % claim for claim in claims]
+    expected = [truth(*claim, exact[claim[0]]) for claim in claims]
     for limits in (SMALL, LEAST):
         found = judged(rows, limits, offset=0)
         assert [one.exactness for one in found] == expected
@@ -136,9 +138,8 @@ def test_offset_of_a_whole_list() -> None:
         assert judging.start_offset == offset
         found = [str(one.exactness) for one in judging]
         assert found == (kinds or ["exact", "exact", "true"])
-        assert [str(one.exactness) for one in judged(given, offset=0)] == [
-            kind if offset == 0 else "true" for kind in found
-        ]
+        exactness = [str(one.exactness) for one in judged(given, offset=0)]
+        assert exactness == [kind if offset == 0 else "true" for kind in found]
     for starts in ((5, 0, 5), (5, 1, 4), (3, 1, 5)):
         mixed = budlarem.judge([HEADER, *(row % start for row, start in zip(rows, starts))], limits=SMALL)
         assert mixed.start_offset == 0

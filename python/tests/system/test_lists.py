@@ -196,10 +196,8 @@ def test_check(bb: str, rng: random.Random, tmp_path: pathlib.Path) -> None:
             assert (status, output) == right[:2]
             # Standard error has the counts and the first line that isn't confirmed.
             answers, printed = right.output.decode().splitlines(), error.decode()
-            counts = (
-                "%s %d" % (word, answers.count(word)) for word in ("ok", "bad", "over", "open", "unread")
-            )
-            assert ", ".join(counts) in printed
+            kinds = ("ok", "bad", "over", "open", "unread")
+            assert ", ".join("%s %d" % (kind, answers.count(kind)) for kind in kinds) in printed
             place = next(place for place, answer in enumerate(answers) if answer not in ("ok", "open"))
             assert (":%d: %s: %s" % (place + 1, answers[place], lines[place][:150])) in printed
 

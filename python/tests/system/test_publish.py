@@ -19,7 +19,7 @@ from typing import Any, Callable
 import pytest
 from support import restore_signals
 from support.machines import mixed_machines
-from support.program import as_lines, run_command, options
+from support.program import as_lines, options, place_programs, run_command
 from support.runs import Case, Process, is_at_work, small_disk, wait_until
 
 FIRST = (300, 64, 10, 100)
@@ -74,11 +74,7 @@ class Ways:
     def __init__(self, bb: str, folder: pathlib.Path, programs: pathlib.Path) -> None:
         self.folder = folder
         self.ways = commands_of((folder / "README.txt").read_text(encoding="utf-8"))
-        programs.mkdir()
-        (programs / "bb").symlink_to(bb)
-        package = '#!/bin/sh\nexec %s -m budlarem "$@"\n' % sys.executable
-        (programs / "budlarem").write_text(package)
-        (programs / "budlarem").chmod(0o755)
+        place_programs(programs, bb)
         self._environment = {**os.environ, "PATH": "%s:%s" % (programs, os.environ["PATH"])}
 
     def run(self, command: str) -> "subprocess.CompletedProcess[str]":
@@ -289,10 +285,9 @@ def test_signals(bb: str, tmp_path: pathlib.Path, rng: random.Random, tries: int
     place.verdicts.write_bytes(verdicts + ENDLESS)
     place.list.write_bytes(machines + ENDLESS.split(b" ")[0] + b"\n")
     for number, status in ((signal.SIGINT, 130), (signal.SIGTERM, 143), (signal.SIGHUP, 129)):
-        began, error = interrupt_publish(
-            place, number, lambda process: wait_until(process, lambda: is_at_work(process.pid))
-        )
-        assert began == status
+        at_work = lambda process: wait_until(process, lambda: is_at_work(process.pid))  # noqa: E731
+        ended, error = interrupt_publish(place, number, at_work)
+        assert ended == status
         assert not place.left(), (number.name, place.left())
         assert "no archive is written" in error
     place.verdicts.write_bytes(verdicts)

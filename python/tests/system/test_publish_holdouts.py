@@ -7,12 +7,11 @@ import pathlib
 import re
 import shutil
 import subprocess
-import sys
 import tarfile
 
 import pytest
 from support.machines import mixed_machines
-from support.program import as_lines
+from support.program import as_lines, write_script
 
 PASSES = [word for steps in (300, 400) for word in ("--pass", "steps=%d,cells=64,depth=10,nodes=100" % steps)]
 PLAN = ["--states", "3", "--entries", "2", "--list-steps", "50", "--steps", "50"]
@@ -20,19 +19,8 @@ Done = subprocess.CompletedProcess[str]
 
 
 @pytest.fixture(autouse=True)
-def programs(
-    bb: str, cover: str, lister: str, tmp_path: pathlib.Path, monkeypatch: pytest.MonkeyPatch
-) -> pathlib.Path:
-    """A folder with the programs and the command, which is in the PATH."""
-    folder = tmp_path / "programs"
-    folder.mkdir()
-    for path in (bb, cover, lister):
-        (folder / os.path.basename(path)).symlink_to(path)
-    (folder / "budlarem").write_text('#!/bin/sh\nexec %s -m budlarem "$@"\n' % sys.executable)
-    (folder / "budlarem").chmod(0o755)
-    monkeypatch.setenv("PATH", "%s:%s" % (folder, os.environ["PATH"]))
+def work_in_folder(programs: object, tmp_path: pathlib.Path, monkeypatch: pytest.MonkeyPatch) -> None:
     monkeypatch.chdir(tmp_path)
-    return folder
 
 
 def run(*words: str, status: int = 0, sentence: str = "") -> Done:
@@ -81,10 +69,8 @@ def test_run_that_kept_its_holdouts() -> None:
     shutil.rmtree("run")
     run(*words, "--check", status=1)
     run(*publish, status=2, sentence="give the list by --list")
-    for changed, sentence in (
-        (lines[:-1], "has 1000 lines"),
-        (lines[::-1], "doesn't have behind the machine"),
-    ):
+    cases = [(lines[:-1], "has 1000 lines"), (lines[::-1], "doesn't have behind the machine")]
+    for changed, sentence in cases:
         pathlib.Path("other.txt").write_bytes(as_lines(changed))
         run(*publish, "--list", "other.txt", status=2, sentence=sentence)
     run(*publish, "--list", "list.txt")
@@ -133,8 +119,6 @@ def test_changed_shards(programs: pathlib.Path) -> None:
     summary.write_text("{}")
     run(*publish, status=2, sentence="isn't as `budlarem shards` writes it")
     summary.write_text(fields)
-    (programs / "cover").unlink()
-    (programs / "cover").write_text("#!/bin/sh\ncat > /dev/null; echo line 1: no; exit 1\n")
-    (programs / "cover").chmod(0o755)
+    write_script(programs / "cover", "cat > /dev/null; echo line 1: no; exit 1")
     run(*publish, status=1, sentence="cover refuses walk/skeleton.txt: line 1: no")
     assert not pathlib.Path("out.tar").exists()

@@ -9,10 +9,9 @@ import random
 import re
 import subprocess
 import sys
-from typing import Callable
 
 import pytest
-from support import TOP
+from support import TOP, ListMachines
 from support.claims import forge
 from support.machines import mixed_machines, seldom_halting
 from support.program import as_lines, run_command, options
@@ -86,7 +85,7 @@ def test_memory(tmp_path: pathlib.Path) -> None:
 
 
 @pytest.mark.parametrize("every", ["10", pytest.param("1", marks=pytest.mark.slow)])
-def test_verdicts_on_four_states(bb: str, list_machines: Callable[..., list[str]], every: str) -> None:
+def test_verdicts_on_four_states(bb: str, list_machines: ListMachines, every: str) -> None:
     machines = as_lines(list_machines(4, "--every", every))
     first = run_command([bb, "decide", *options(FIRST)], machines).output.splitlines(keepends=True)
     left = b"".join(line.split(b" ")[0] + b"\n" for line in first if b" undecided " in line)

@@ -4,9 +4,9 @@ import gzip
 import pathlib
 import random
 import sys
-from typing import Callable
 
 import pytest
+from support import ListMachines
 from support.claims import forge
 from support.program import CommandResult, as_lines, replies, run_command
 from support.recurrences import reply_to_pair
@@ -27,16 +27,15 @@ def expected_replies(bb: str, lines: list[str], entries: bool = False) -> list[s
     """The answers of the program, with recurrences in place of confirmed pairs."""
     answers = replies([bb, "check", *LIMITS, "--depth", "30"], lines)
     for place, line in enumerate(lines):
-        if answers[place] != "unread":
-            pair = (
-                reply_to_pair(line, entries) if answers[place] == "ok" and is_pair(line) else answers[place]
-            )
-            answers[place] = pair if is_pair(line) else "open"
+        if answers[place] == "ok" and is_pair(line):
+            answers[place] = reply_to_pair(line, entries)
+        elif answers[place] != "unread" and not is_pair(line):
+            answers[place] = "open"
     return answers
 
 
 @pytest.mark.parametrize("size", ["2x2", "3x2", "2x3", pytest.param("4x2", marks=pytest.mark.slow)])
-def test_pairs_of_whole_sizes(bb: str, list_machines: Callable[..., list[str]], size: str) -> None:
+def test_pairs_of_whole_sizes(bb: str, list_machines: ListMachines, size: str) -> None:
     states, symbols = size.split("x")
     machines = list_machines(int(states), "--symbols", symbols, "--steps", "1000")
     lines = replies([bb, "decide", *LIMITS, "--depth", "30"], machines)
@@ -49,7 +48,7 @@ def test_pairs_of_whole_sizes(bb: str, list_machines: Callable[..., list[str]], 
 
 
 def test_claims_of_any_origin(
-    bb: str, list_machines: Callable[..., list[str]], tmp_path: pathlib.Path, rng: random.Random
+    bb: str, list_machines: ListMachines, tmp_path: pathlib.Path, rng: random.Random
 ) -> None:
     """Later pairs, multiples and false claims, from a gzip, with entries."""
     decided = replies([bb, "decide", *LIMITS, "--depth", "30"], list_machines(3, "--steps", "1000"))

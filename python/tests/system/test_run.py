@@ -241,9 +241,8 @@ def limit_resources(*limits: tuple[int, int]) -> Callable[[], None]:
 def test_no_memory(tmp_path: pathlib.Path) -> None:
     """No memory, and no threads, also while a long machine is under way: the run ends at once, with status 3
     and a sentence, or the limit is enough and it is at work."""
-    faults: list[tuple[str, tuple[int, int]]] = [
-        ("%d MB" % size, (resource.RLIMIT_AS, size << 20)) for size in (56, 80, 120, 160, 200, 280, 400)
-    ]
+    sizes = (56, 80, 120, 160, 200, 280, 400)
+    faults = [("%d MB" % size, (resource.RLIMIT_AS, size << 20)) for size in sizes]
     faults += [("%d threads" % count, (resource.RLIMIT_NPROC, count)) for count in range(1, 9)]
     os.chmod(tmp_path, 0o755)
     for what, limit in faults:

@@ -70,9 +70,7 @@ def test_moved(bb: str, tmp_path: pathlib.Path, passes: int) -> None:
     case.require_verdicts(expected_verdicts(bb, case.list.read_bytes(), limits))
 
 
-@pytest.mark.parametrize(
-    "number", [0, *(pytest.param(number, marks=pytest.mark.slow) for number in range(1, 5))]
-)
+@pytest.mark.parametrize("number", [0, *(pytest.param(k, marks=pytest.mark.slow) for k in range(1, 5))])
 def test_lock(bb: str, tmp_path: pathlib.Path, number: int) -> None:
     """All files at the top of a folder are removed while a run works in it: a second one is refused."""
     case = slow_case(tmp_path, "lock", 24 + number)

@@ -10,12 +10,12 @@ import signal
 import subprocess
 import sys
 import time
-from typing import Any, Callable
+from typing import Any
 
 import pytest
 from budlarem.counts import VerdictCounts
 from budlarem.verdicts import size_of
-from support import TOP, restore_signals
+from support import TOP, ListMachines, restore_signals
 from support.machines import entries_of
 from support.program import as_lines, options_of_pass, run_command
 from support.recurrences import reply_to_pair
@@ -64,7 +64,7 @@ def decide_whole(bb: str, machines: list[str], limits: str) -> list[str]:
 
 @pytest.mark.parametrize("size", ["2x2", "2x3", "3x2", pytest.param("4x2", marks=pytest.mark.slow)])
 def test_result_is_that_of_the_list_in_one_piece(
-    bb: str, cover: str, list_machines: Callable[..., list[str]], tmp_path: pathlib.Path, size: str
+    bb: str, cover: str, list_machines: ListMachines, tmp_path: pathlib.Path, size: str
 ) -> None:
     require_end(start(tmp_path, *words_of(size)))
     found, (states, symbols) = result_in(tmp_path, size), size.split("x")
@@ -149,11 +149,7 @@ def test_halts_behind_which_the_list_would_go_on(tmp_path: pathlib.Path) -> None
 
 
 def test_sample(
-    bb: str,
-    cover: str,
-    list_machines: Callable[..., list[str]],
-    tmp_path: pathlib.Path,
-    monkeypatch: pytest.MonkeyPatch,
+    bb: str, cover: str, list_machines: ListMachines, tmp_path: pathlib.Path, monkeypatch: pytest.MonkeyPatch
 ) -> None:
     """Its first shards and its part have the lines of the list, and the estimate is of all parts."""
     names = runpy.run_path(SCRIPT)

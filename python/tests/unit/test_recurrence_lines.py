@@ -14,16 +14,9 @@ PAIR, REPLY = "0RB---_0LA--- cycler 4 16", "0RB---_0LA--- recurs 0 2 0 * *"
 LINES = [REPLY, "1RB---_1LB0RB recurs 4 1 -1 0 * quasihalts 1"]
 LINES += [LINES[1] + " entries 0 - * 3", REPLY + " entries * - * -"]
 UNREAD = ["", "ok", "Bad", REPLY + " ", REPLY[:-2], REPLY + " *", REPLY + " quasihalts 1"]
-UNREAD += [
-    LINES[1].replace(*pair) for pair in ((" -1", " -0"), (" -1", " +1"), (" 4", " 04"), (" 1 -", " 0 -"))
-]
-UNREAD += [LINES[1].replace(*pair) for pair in (("ts 1", "ts 2"), (" quasihalts 1", ""), ("1RB", "1RC"))]
-UNREAD += [
-    LINES[2][:-2],
-    LINES[2] + " -",
-    REPLY.replace(" 0 2", " %d 2" % 2**64),
-    LINES[1].replace(" 0 ", " 00 "),
-]
+CHANGES = [(" -1", " -0"), (" -1", " +1"), (" 4", " 04"), (" 1 -", " 0 -"), ("ts 1", "ts 2"), (" 0 ", " 00 ")]
+UNREAD += [LINES[1].replace(*pair) for pair in [*CHANGES, (" quasihalts 1", ""), ("1RB", "1RC")]]
+UNREAD += [LINES[2][:-2], LINES[2] + " -", REPLY.replace(" 0 2", " %d 2" % 2**64)]
 
 uses = st.one_of(
     st.sampled_from([LastUse(UseKind.NEVER), LastUse(UseKind.FOREVER)]),

@@ -182,10 +182,9 @@ class DaskBackend(ExecutorBackend):
             # dask never ends jobs of another connection whose replies were in transit.
             connection = self._connection()
             with self._lock:
-                for job in [
-                    job for job, one in self._submissions.items() if one.connection is not connection
-                ]:
-                    self._requeue(job)
+                for job, one in list(self._submissions.items()):
+                    if one.connection is not connection:
+                        self._requeue(job)
             self._fetch_stuck()
             for _ in range(len(self._lost)):
                 self._submit(self._lost.popleft())
