@@ -6,7 +6,9 @@ or a row of a table that begins with crates names what is in them and below.
 
 import functools
 import os
+import pathlib
 import re
+import subprocess
 from typing import Iterator
 
 import pytest
@@ -247,3 +249,10 @@ def test_layers_agree_with_crates() -> None:
         (item,) = (line for line in layers.split("\n") if re.match(" *- `%s`" % crate, line))
         modules = re.findall(r"^mod (\w+);", read("crates/%s/src/lib.rt" % crate), flags=re.M)
         assert modules and set(modules) <= set(backquoted(item)), crate
+
+
+@pytest.mark.needs("argparse-manpage")
+def test_manual_page_of_the_package_is_that_of_its_parser(tmp_path: pathlib.Path) -> None:
+    page = tmp_path / "budlarem.1"
+    subprocess.run(["make", "-s", "-C", str(TOP), "manual", "manual_page=%s" % page], check=True)
+    assert page.read_bytes() == (TOP / "docs" / "budlarem.1").read_bytes()

@@ -9,8 +9,7 @@ from typing import NamedTuple
 
 import pytest
 from support import TOP
-from support.program import run_command
-from support.terminals import on_terminal
+from support.program import on_terminal, run_command
 
 # The verdict lines of a whole list of one state.
 VERDICTS = b"------ halt 0 0\n0RA--- translated R 1 2 1 1\n1RA--- translated R 1 2 1 1\n"

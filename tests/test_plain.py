@@ -14,9 +14,8 @@ import pytest
 from support import TOP, ListMachines, build
 from support.machines import random_machines, spoil
 from support.program import ROWS, SIMULATION, CommandResult, as_lines, kind_of, options, processor_time
-from support.program import replies, run_command
+from support.program import on_terminal, replies, run_command
 from support.second_checker import answer, made_claims, tight_claims
-from support.terminals import on_terminal
 
 FOUR = ["--steps", "1000", "--cells", "1024", "--depth", "40", "--nodes", "10000"]
 WORDS = """decide check trace help decid --steps --cells --depth --nodes --upto --no-cyclers --no-translated

@@ -14,8 +14,7 @@ import time
 from typing import Callable, Iterator, Sequence
 
 import pytest
-from support.program import kind_of
-from support.terminals import on_terminal
+from support.program import kind_of, on_terminal
 
 LIST = b"1RB1LB_1LA1RZ\n0RB---_0LA---\n1RA1RA\n1rB1LB\n1RB---_1LA---\n"
 UNDECIDED = b"1RB0LA_0RC---_1RD0LD_1LA1RZ\n1RB1LC_1RC1RB_1RD0LE_1LA1LD_1RZ0LA\n"

@@ -152,32 +152,30 @@ def test_limits(coq_recurrence: str, pairs: dict[str, Numbers], rng: random.Rand
                 assert answers(coq_recurrence, [line], *options(limits)) == expected, (line, limits)
 
 
+UNREAD = ["ok", "", "1RB1LB_1LA1RZ halt 6 4", "0RB---_0LA--- recurs 0 2 -0 * *"]
+UNREAD += ["1RA1RA recurs " + words for words in ("00 1 1 *", "0 1 +1 *", "0 1 1 * *", "0 1 1")]
+UNREAD += ["1RA1RA recurs 0 1 1 * entries *" + more for more in ("", " - -")]
+UNREAD += ["1RA1RA recurs 0 18446744073709551616 1 *"]
+# First the machines of two and three states with the latest quasihalt that is known, and one of four states,
+# beside the latest of all.
+OK = [
+    "1RB1LB_1LB1LA recurs 6 1 -1 5 * quasihalts 6",
+    "1RB0LB_1LA0RC_1LC1LA recurs 55 1 -1 53 54 * quasihalts 55",
+]
+OK += ["1RB1RC_1LC1RD_1RA1LD_0RD0LB recurs 2819 1 1 2817 2818 2816 * quasihalts 2819"]
+OK += ["0RB---_0LA--- recurs 0 2 0 * * entries * - * -"]
+OK += ["1RA1RA recurs 0 1 1 *" + more for more in ("", " entries * -")]
+
+
 @pytest.mark.parametrize(
     "line, answer",
     [
         *((word, "open") for word in WORDS),
-        ("ok", "unread"),
-        ("", "unread"),
-        ("1RB1LB_1LA1RZ halt 6 4", "unread"),
+        *((line, "unread") for line in UNREAD),
+        *((line, "ok") for line in OK),
         ("1RB1LB_1LA1RZ recurs 0 1 1 * *", "bad"),
         ("1RB1LB_1LA1RZ recurs 6 1 1 5 4 quasihalts 6", "bad"),
-        ("1RA1RA recurs 0 1 1 *", "ok"),
-        ("1RA1RA recurs 0 1 1 * entries * -", "ok"),
-        ("1RA1RA recurs 00 1 1 *", "unread"),
-        ("1RA1RA recurs 0 1 +1 *", "unread"),
-        ("1RA1RA recurs 0 1 1 * *", "unread"),
-        ("1RA1RA recurs 0 1 1", "unread"),
-        ("1RA1RA recurs 0 1 1 * entries *", "unread"),
-        ("1RA1RA recurs 0 1 1 * entries * - -", "unread"),
         ("1RA1RA recurs 0 18446744073709551615 1 *", "over"),
-        ("1RA1RA recurs 0 18446744073709551616 1 *", "unread"),
-        ("0RB---_0LA--- recurs 0 2 0 * * entries * - * -", "ok"),
-        ("0RB---_0LA--- recurs 0 2 -0 * *", "unread"),
-        # The machines of two and three states with the latest quasihalt that is known.
-        ("1RB1LB_1LB1LA recurs 6 1 -1 5 * quasihalts 6", "ok"),
-        ("1RB0LB_1LA0RC_1LC1LA recurs 55 1 -1 53 54 * quasihalts 55", "ok"),
-        # And of four states, beside the latest of all.
-        ("1RB1RC_1LC1RD_1RA1LD_0RD0LB recurs 2819 1 1 2817 2818 2816 * quasihalts 2819", "ok"),
     ],
 )
 def test_line(coq_recurrence: str, line: str, answer: str) -> None:

@@ -2,15 +2,18 @@
 
 from __future__ import annotations
 
+import contextlib
 import itertools
 import os
 import pathlib
+import pty
 import random
 import re
 import resource
 import subprocess
 import sys
-from typing import Any, Callable, Iterable, Iterator, Mapping, NamedTuple, Sequence, TypeVar
+import threading
+from typing import IO, Any, Callable, Iterable, Iterator, Mapping, NamedTuple, Sequence, TypeVar
 
 Limits = TypeVar("Limits")
 LIMITS = ("steps", "cells", "depth", "nodes")
@@ -23,17 +26,8 @@ SIMULATION = ["--no-cyclers", "--no-translated", "--no-backward"]
 PLANS: list[list[str]] = [[], ["--no-backward"], ["--no-cyclers", "--no-translated"]]
 # Steps, cells, levels and nodes. Where none of the four is smaller than those of an earlier row, what was
 # decided there has to stay decided.
-ROWS = [
-    (0, 1, 0, 0),
-    (5, 4, 1, 2),
-    (20, 9, 5, 10),
-    (20, 64, 5, 100),
-    (100, 64, 5, 10),
-    (100, 64, 20, 100),
-    (1_000, 64, 20, 100),
-    (1_000, 599, 300, 1_000),
-    (10_000, 4_096, 300, 1_000),
-]
+ROWS = [(0, 1, 0, 0), (5, 4, 1, 2), (20, 9, 5, 10), (20, 64, 5, 100), (100, 64, 5, 10)]
+ROWS += [(100, 64, 20, 100), (1_000, 64, 20, 100), (1_000, 599, 300, 1_000), (10_000, 4_096, 300, 1_000)]
 # Limits by name: of the list of all machines of four states, and the greatest.
 FOUR = {"steps": 200, "cells": 256, "depth": 20, "nodes": 1_000}
 MOST = dict(zip(LIMITS, GREATEST))
@@ -107,6 +101,25 @@ def place_programs(folder: pathlib.Path, *paths: str) -> pathlib.Path:
         (folder / os.path.basename(path)).symlink_to(path)
     write_script(folder / "budlarem", 'exec %s -m budlarem "$@"' % sys.executable)
     return folder
+
+
+def on_terminal(command: Sequence[str], given: bytes, output: int | IO[bytes]) -> tuple[int, str]:
+    """The status of a command whose standard error is a terminal, and what that shows."""
+    reader, terminal = pty.openpty()
+    shown: list[bytes] = []
+
+    def collect() -> None:
+        with contextlib.suppress(OSError):
+            while piece := os.read(reader, 4096):
+                shown.append(piece)
+
+    listening = threading.Thread(target=collect)
+    listening.start()
+    ended = subprocess.run(command, input=given, stdout=output, stderr=terminal)
+    os.close(terminal)
+    listening.join()
+    os.close(reader)
+    return ended.returncode, b"".join(shown).decode().replace("\r\n", "\n")
 
 
 def as_lines(lines: Iterable[str]) -> bytes:

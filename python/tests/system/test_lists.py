@@ -17,8 +17,7 @@ from budlarem.normal_forms import canonical_form
 from support import TOP
 from support.claims import with_other_number
 from support.machines import CHAMPION, mixed_machines, uniform
-from support.program import CommandResult, as_lines, run_command, options
-from support.terminals import on_terminal
+from support.program import CommandResult, as_lines, on_terminal, options, run_command
 
 FORMS = json.loads((TOP / "tests" / "support" / "forms.json").read_text(encoding="utf-8"))
 DOCUMENT = TOP / "docs" / "budlarem.md"

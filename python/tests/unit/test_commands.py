@@ -29,34 +29,30 @@ def agreement(first: str, second: str, undefined_steps: bool = False) -> Agreeme
     return comparison.agreement(*pair, undefined_steps)
 
 
+# Two verdicts each, by their agreement.
+PAIRS = {
+    "agree": "halt 6 4, halt 6 4; cycler 1 2, cycler 3 4; translated R 1 2, translated R 2 4 1 1; "
+    "backward 1 2, translated L 1 2; backward 1 2, backward 1 2; undecided steps, undecided cells",
+    "contradict": "halt 6 4, halt 5 4; halt 6 4, cycler 1 2; backward 1 2, halt 6 4; "
+    "cycler 1 2, translated R 1 2; translated R 1 2, translated L 1 2; backward 1 2, backward 1 3",
+    "second-decides": "undecided steps, halt 6 4",
+    "first-decides": "cycler 1 2, undecided cells",
+}
+
+
 def test_what_goes_together() -> None:
-    for first, second, found in (
-        ("halt 6 4", "halt 6 4", "agree"),
-        ("halt 6 4", "halt 5 4", "contradict"),
-        ("halt 6 4", "cycler 1 2", "contradict"),
-        ("backward 1 2", "halt 6 4", "contradict"),
-        ("cycler 1 2", "cycler 3 4", "agree"),
-        ("cycler 1 2", "translated R 1 2", "contradict"),
-        ("translated R 1 2", "translated R 2 4 1 1", "agree"),
-        ("translated R 1 2", "translated L 1 2", "contradict"),
-        ("backward 1 2", "translated L 1 2", "agree"),
-        ("backward 1 2", "backward 1 2", "agree"),
-        ("backward 1 2", "backward 1 3", "contradict"),
-        ("undecided steps", "undecided cells", "agree"),
-        ("undecided steps", "halt 6 4", "second-decides"),
-        ("cycler 1 2", "undecided cells", "first-decides"),
-    ):
-        assert str(agreement("%s %s" % (CHAMPION, first), "%s %s" % (CHAMPION, second))) == found
+    for found, pairs in PAIRS.items():
+        for pair in pairs.split("; "):
+            first, second = ("%s %s" % (CHAMPION, words) for words in pair.split(", "))
+            assert str(agreement(first, second)) == found, pair
 
 
 def test_steps_counted_for_undefined_entries() -> None:
+    undefined = "1RB---_1LA1RZ"
     for machine, other, asked, found in (
-        ("1RB---_1LA1RZ", "halt 6 4", True, "agree"),
-        ("1RB---_1LA1RZ", "halt 6 5", True, "agree"),
-        ("1RB---_1LA1RZ", "halt 6 3", True, "contradict"),
-        ("1RB---_1LA1RZ", "halt 7 4", True, "contradict"),
-        ("1RB---_1LA1RZ", "halt 6 4", False, "contradict"),
-        (CHAMPION, "halt 6 4", True, "contradict"),
+        *((undefined, halt, True, "agree") for halt in ("halt 6 4", "halt 6 5")),
+        *((undefined, halt, True, "contradict") for halt in ("halt 6 3", "halt 7 4")),
+        *((undefined, "halt 6 4", False, "contradict"), (CHAMPION, "halt 6 4", True, "contradict")),
     ):
         pair = "%s halt 5 4" % machine, "%s %s" % (machine, other)
         assert str(agreement(pair[0], pair[1], asked)) == found

@@ -66,6 +66,10 @@ def test_steps_that_no_run_reaches() -> None:
     assert at(parse("0RB---_0LA--- cycler 2 4"), 10**15) == Place(10**15, "A", 0)
 
 
+BAD = [CHAMPION + " halt 6 5", CHAMPION + " cycler 2 4", "0RB---_0LA--- cycler 4 2"]
+BAD += ["1RA1RA translated " + words for words in ("R 1 2 2 1", "L 1 2 1 1", "R 2 2 1 1")]
+
+
 @pytest.mark.parametrize(
     "line, step, error",
     [
@@ -74,12 +78,7 @@ def test_steps_that_no_run_reaches() -> None:
         ("1RA1RA backward 0 0", 0, "doesn't say where"),
         ("1RA1RA undecided steps", 0, "doesn't say where"),
         ("refused 1", 0, "doesn't say where"),
-        (CHAMPION + " halt 6 5", 3, "the checker answers bad"),
-        (CHAMPION + " cycler 2 4", 3, "the checker answers bad"),
-        ("1RA1RA translated R 1 2 2 1", 3, "the checker answers bad"),
-        ("1RA1RA translated L 1 2 1 1", 3, "the checker answers bad"),
-        ("1RA1RA translated R 2 2 1 1", 3, "the checker answers bad"),
-        ("0RB---_0LA--- cycler 4 2", 3, "the checker answers bad"),
+        *((line, 3, "the checker answers bad") for line in BAD),
     ],
 )
 def test_refusals(line: str, step: int, error: str) -> None:
