@@ -23,7 +23,7 @@ from ..runner.progress import TerminalLine, short_count
 from ..verdicts import Answer
 from ..verification import CheckSummary, answer_blocks, cost_of_file
 from .shared import Subcommands, add_command, add_file, add_greatest_limits, add_number, add_passes
-from .shared import counts_text, greatest_limits, source_of
+from .shared import counts_text, greatest_limits, handle_signals, source_of
 
 _CHECK = """Checks verdict lines of any origin, and writes an answer to each line, the bytes of bb check: ok,
 the claim holds; bad, it doesn't; over, it exceeds the limits, or its run needs more cells; open, it claims
@@ -128,9 +128,7 @@ def _raise_signal(number: int, frame: FrameType | None) -> None:
 
 def do_publish(asked: argparse.Namespace) -> int:
     """Writes an archive of a decided list."""
-    for number in (signal.SIGINT, signal.SIGTERM, signal.SIGHUP):
-        if signal.getsignal(number) is not signal.SIG_IGN:
-            signal.signal(number, _raise_signal)
+    handle_signals(_raise_signal)
     progress = TerminalLine(is_beside=False)
     try:
         try:

@@ -10,9 +10,7 @@ from __future__ import annotations
 import argparse
 import contextlib
 import os
-import signal
 import sys
-from types import FrameType
 
 from .._text import escape_controls
 from ..limits import Limits, limits_of
@@ -25,7 +23,7 @@ from ..runner.journal import VERDICTS
 from ..runner.local import ThreadBackend
 from ..runner.passes import HERE, SENT, Backend, RunOptions, run
 from ..runner.progress import Progress
-from .shared import Subcommands, add_number, add_passes
+from .shared import Subcommands, add_number, add_passes, end_at_signals
 
 _HELP = """Decides a list of any length in chunks, on all cores of this computer or by a dask cluster. FOLDER
 gets verdicts.txt, with a line for each line of LIST in its order, and summary.json. After any interruption the
@@ -67,17 +65,8 @@ def add_command(commands: Subcommands) -> None:
 
 def install_signal_handlers(progress: Progress, folder: str) -> None:
     """Has SIGINT, SIGTERM and SIGHUP end the process at once, with a message; its chunks are stored."""
-
-    def end(number: int, frame: FrameType | None) -> None:
-        what = "interrupted" if number == signal.SIGINT else "ended by " + signal.Signals(number).name
-        line = f"{progress.erase_sequence()}budlarem: {what}{_RESUME} in {escape_controls(folder)}\n"
-        with contextlib.suppress(OSError):
-            os.write(2, line.encode("utf-8", "replace"))
-        os._exit(128 + number)
-
-    for number in (signal.SIGINT, signal.SIGTERM, signal.SIGHUP):
-        if signal.getsignal(number) is not signal.SIG_IGN:
-            signal.signal(number, end)
+    place = escape_controls(folder)
+    end_at_signals(lambda what: f"{progress.erase_sequence()}budlarem: {what}{_RESUME} in {place}\n")
 
 
 def _make_backend(asked: argparse.Namespace, progress: Progress) -> Backend:

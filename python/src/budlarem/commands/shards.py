@@ -7,15 +7,12 @@ fault; 130 after an interruption. Finished shards are kept, and the same command
 from __future__ import annotations
 
 import argparse
-import contextlib
 import dataclasses
 import functools
 import importlib
 import os
-import signal
 import sys
 from concurrent.futures import FIRST_EXCEPTION, Executor, Future, ThreadPoolExecutor, wait
-from types import FrameType
 from typing import Callable
 
 from .._text import escape_controls
@@ -23,7 +20,7 @@ from ..limits import Limits
 from ..runner.errors import CheckError, FolderError, RunError, UsageError
 from ..runner.progress import TerminalLine
 from ..shards import Plan, create, join, pending, read_machines, read_plan, run_shard
-from .shared import Subcommands, add_command, add_number
+from .shared import Subcommands, add_command, add_number, end_at_signals
 
 # The options of a plan beside --states: default, least, most and help.
 _SIZES = {
@@ -48,7 +45,8 @@ def do_shards(asked: argparse.Namespace) -> int:
     """Runs the unfinished shards of a list, and joins them."""
     plan = _plan_of(asked)
     _require_one_use(asked)
-    _end_at_signals(asked.folder)
+    resumes = "`budlarem shards %s` resumes\n" % escape_controls(asked.folder)
+    end_at_signals(lambda what: "budlarem: %s; %s" % (what, resumes))
     try:
         if plan is not None:
             create(asked.folder, plan)
@@ -80,21 +78,6 @@ def _print_error(error: Exception) -> int:
     """Prints an error; returns its status."""
     print("budlarem: %s" % escape_controls(str(error)), file=sys.stderr)
     return 1 if isinstance(error, CheckError) else 2 if isinstance(error, FolderError) else 3
-
-
-def _end_at_signals(folder: str) -> None:
-    """Has SIGINT, SIGTERM and SIGHUP end the process at once, with a message; finished shards are stored."""
-
-    def end(number: int, frame: FrameType | None) -> None:
-        what = "interrupted" if number == signal.SIGINT else "ended by " + signal.Signals(number).name
-        line = "budlarem: %s; `budlarem shards %s` resumes\n" % (what, escape_controls(folder))
-        with contextlib.suppress(OSError):
-            os.write(2, line.encode("utf-8", "replace"))
-        os._exit(128 + number)
-
-    for number in (signal.SIGINT, signal.SIGTERM, signal.SIGHUP):
-        if signal.getsignal(number) is not signal.SIG_IGN:
-            signal.signal(number, end)
 
 
 def _plan_of(asked: argparse.Namespace) -> Plan | None:

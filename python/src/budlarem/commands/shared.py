@@ -3,9 +3,13 @@
 from __future__ import annotations
 
 import argparse
+import contextlib
 import dataclasses
+import os
+import signal
 import sys
 import textwrap
+from types import FrameType
 from typing import TYPE_CHECKING, BinaryIO, Callable, Iterable, Iterator, Mapping, TypeVar
 
 from .._text import escape_controls, pluralize
@@ -40,6 +44,25 @@ _ROLES = {
     "start": ("--start", "the column of the first steps of repetitions"),
     "period": ("--period", "the column of their periods"),
 }
+
+
+def handle_signals(handle: Callable[[int, FrameType | None], object]) -> None:
+    """Has a function handle SIGINT, SIGTERM and SIGHUP, except ignored ones."""
+    for number in (signal.SIGINT, signal.SIGTERM, signal.SIGHUP):
+        if signal.getsignal(number) is not signal.SIG_IGN:
+            signal.signal(number, handle)
+
+
+def end_at_signals(line_of: Callable[[str], str]) -> None:
+    """Has these signals end the process at once, with the line of a description of the signal."""
+
+    def end(number: int, frame: FrameType | None) -> None:
+        what = "interrupted" if number == signal.SIGINT else "ended by " + signal.Signals(number).name
+        with contextlib.suppress(OSError):
+            os.write(2, line_of(what).encode("utf-8", "replace"))
+        os._exit(128 + number)
+
+    handle_signals(end)
 
 
 def counts_text(counts: Mapping[Kind, int], kinds: Iterable[Kind]) -> str:
