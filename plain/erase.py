@@ -16,7 +16,7 @@ import re
 import shutil
 import sys
 import textwrap
-from typing import Dict, Iterator, List, Match, NamedTuple, NoReturn, Optional, Tuple
+from typing import Iterator, List, Match, NamedTuple, NoReturn, Optional, Tuple
 
 TOP = pathlib.Path(__file__).resolve().parents[1]
 SHIMS = pathlib.Path(__file__).resolve().parent / "shim"
