@@ -29,8 +29,8 @@ WRITTEN: dict[str, Any] = json.loads(RESULTS.read_text(encoding="utf-8"))
 # Machines in tree normal form, as bbchallenge.org counts them for two symbols; the most steps of known machines.
 MACHINES = {"2x2": 61, "3x2": 5_417, "4x2": 858_909, "5x2": 181_385_789}
 KNOWN_STEPS = {"2x2": 6, "3x2": 21, "4x2": 107, "2x3": 38, "2x4": 3_932_964}
-# Halts of five states that Coq-BB5 counts, and those that it leaves to its other deciders.
-HALTS, LATER_HALTS = 48_379_711, 158
+# Halts of five states that Coq-BB5 counts, and those within 20,000 steps that it leaves to its other deciders.
+HALTS, LATER_HALTS = 48_379_711, 117
 pytestmark = pytest.mark.usefixtures("bb", "cover", "library", "lister")
 
 
