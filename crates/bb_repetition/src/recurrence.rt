@@ -42,6 +42,20 @@ pub struct Tapes<T> {
     pub(crate) history: History,
 }
 
+impl<T> Tapes<T> {
+    /// Three tapes for finding recurrences.
+    pub fn new(pair: Pair<T>, ahead: T) -> Tapes<T>
+        ensures pair { result.pair ≡ pair }
+        ensures ahead { result.ahead ≡ ahead }
+    {
+        Tapes {
+            pair,
+            ahead,
+            history: History::new(),
+        }
+    }
+}
+
 /// Finds the exact recurrence of a run. It repeats from `first` on, and the distance to `second` is a period.
 /// `second` is inside the limits, and no step is made past it. Resets `uses`, and records there the last uses
 /// up to `second`.

@@ -3,7 +3,6 @@ ghost use Rattle.std.specs.Prelude.{◌≡◌, IfOk};
 ghost use Rattle.bb_cert.specs.tree.Path.{depth_of};
 ghost use Rattle.bb_repetition.specs.Tapes.{TapesHaveCells};
 
-use crate::history::History;
 use crate::recurrence::Tapes;
 use bb_cert::Path;
 use bb_machine::Limits;
@@ -11,20 +10,12 @@ use bb_run::ring_pair;
 use bb_tape::{Memory, RingTape, Tape};
 use std::alloc::Global;
 
-/// Three rings, a history and a path for recurrences under these limits.
+/// Three rings and a path for recurrences under these limits.
 pub fn ring_tapes(alloc: Global, limits: &Limits) -> Result<(Tapes<RingTape>, Path), Memory>
     ensures tapes { IfOk result (λ made. TapesHaveCells ⟦<RingTape as Tape>⟧.view limits.now.cells made.0) }
     ensures path { IfOk result (λ made. depth_of made.1 ≡ limits.now.depth) }
 {
     let (pair, path) = ring_pair(alloc, limits)?;
     let ahead = RingTape::new(alloc, limits.cells())?;
-    let history = History::new();
-    Ok((
-        Tapes {
-            pair,
-            ahead,
-            history,
-        },
-        path,
-    ))
+    Ok((Tapes::new(pair, ahead), path))
 }
