@@ -2,6 +2,7 @@
 pub use Rattle.bb_cert.proofs.record_lemmas.Agreements.{agreeing_records_never_halt}
 pub use Rattle.bb_cert.proofs.checker_lemmas.AnswerRules.{answer_is_unique}
 pub use Rattle.bb_cert.proofs.claim_lemmas.Claims.{claims_never_halt}
+pub use Rattle.bb_cert.proofs.checker_lemmas.InRegisters.{place_is, same_registers}
 pub use Rattle.bb_cert.proofs.record_lemmas.Comparing.{agree_of_cells, cells_of_agree, comparable, keeps}
 pub use Rattle.bb_cert.proofs.record_lemmas.Comparing.{number_narrow}
 pub use Rattle.bb_cert.proofs.record_lemmas.Comparing.{numbered}

@@ -10,3 +10,4 @@ pub mod UnderWay
 pub mod ReplayStates
 pub mod Comparing
 pub mod KeptReplays
+pub mod Word

@@ -2,3 +2,4 @@
 pub mod Walk
 pub mod Steps
 pub mod Checks
+pub mod NarrowChecks

@@ -2,4 +2,7 @@
 
 pub mod answer;
 pub mod checking;
+mod narrow_pairs;
+mod narrow_replay;
+mod pairs;
 mod replay;

@@ -7,9 +7,12 @@ ghost use Rattle.bb_cert.specs.records.Follow.{AgreesWithKept, HasSameCells, IsC
 ghost use Rattle.bb_cert.specs.records.Follow.{IsNarrow, IsWidened, LiesAs, TellsWidening};
 ghost use Rattle.bb_cert.specs.records.Follow.{nearest_out, number_of};
 ghost use Rattle.bb_cert.specs.records.Follow.{passed, top_of, with_kept};
+ghost use Rattle.bb_cert.specs.records.Word.{AgreesInWord, IsComparableInWord};
+ghost use Rattle.bb_narrow.specs.BitCells.{content_of};
 
 use crate::verdict::{Extent, Side};
 use bb_machine::Next;
+use bb_narrow::BitCells;
 use bb_sim::Runner;
 use bb_tape::Tape;
 use bb_tape::widening::widen_to;
@@ -77,16 +80,30 @@ impl Records {
             ↔ AgreesWithKept self.now runner.now (T.view saved.old) (T.view run.now) }
         ensures saved { IsWidened self.now (T.view run.now) (T.view saved.old) (T.view saved.new) }
     {
-        if self.kept.position() == 0 {
-            return false;
-        }
-        if !is_in_same_state(&self.kept, runner) {
+        if !self.is_kept_in_state_of(runner) {
             return false;
         }
         let Ok(()) = widen_to(saved, self.nearest) else {
             unreachable!();
         };
         self.has_same_cells(runner, run, saved)
+    }
+
+    /// `agrees` for a run in registers, with the cells of the run and those of the kept record.
+    pub(crate) fn agrees_in_registers(
+        &self,
+        runner: &Runner,
+        run: &BitCells,
+        saved: &BitCells,
+    ) -> bool
+        requires { IsKeptInStateOf self.now runner.now
+            → IsComparableInWord self.now runner.now saved.now run.now }
+        ensures { IsTrue result ↔ AgreesInWord self.now runner.now saved.now run.now }
+    {
+        if !self.is_kept_in_state_of(runner) {
+            return false;
+        }
+        self.has_same_bits(runner, run, saved)
     }
 
     /// The extent of the kept record and the one just made by the runner, if they agree. It isn't inlined:
@@ -118,6 +135,29 @@ impl Records {
         let run_from = moved(from, kept, runner.position());
         let length = length_of(self.nearest, kept);
         saved.agrees(from, run, run_from, length)
+    }
+
+    /// Whether a record is kept, in the state of the runner, not in Z.
+    fn is_kept_in_state_of(&self, runner: &Runner) -> bool
+        ensures { IsTrue result ↔ IsKeptInStateOf self.now runner.now }
+    {
+        if self.kept.position() == 0 {
+            return false;
+        }
+        is_in_same_state(&self.kept, runner)
+    }
+
+    /// `has_same_cells` for a run in registers.
+    fn has_same_bits(&self, runner: &Runner, run: &BitCells, saved: &BitCells) -> bool
+        requires { IsComparableInWord self.now runner.now saved.now run.now }
+        ensures { IsTrue result
+            ↔ HasSameCells self.now runner.now (content_of saved.now) (content_of run.now) }
+    {
+        let kept = self.kept.position();
+        let from = self.nearest.min(kept);
+        let there = moved(from, kept, runner.position());
+        let length = length_of(self.nearest, kept);
+        saved.agrees(from, run, there, length)
     }
 }
 

@@ -26,16 +26,6 @@ use Rattle.bb_narrow.specs.BitCells.{IsInWord, IsStretchInWord, bits_content}
 use Rattle.bb_decide.specs.declared.narrow_records.NarrowRecords.{NarrowRecords}
 use Rattle.bb_decide.specs.inside.NarrowRecords.{CanCompareCells, CanCompareRecord, KeepsRecord, KnowsHeads, nearer_bit}
 
--- the place of a single bit
-pub place_is : (k : ℕ) → k < 64 → trailing_zeros w64 (2 ^ k) ≡ k
-place_is k h =
-    let least : 2 ^ k ≤ 2 ^ 63 = pow-le-pow_right {n = 2} (omega arith) {i = k} {j = 63} (omega (arith, h)) in
-    let t = bit_at-trailing_zeros w64 (2 ^ k) (pow_pos k) (omega (arith, least)) in
-    elim (cases_eq (trailing_zeros w64 (2 ^ k)) k) [
-      | inl is ↦ is
-      | inr apart ↦ absurd (omega (arith, t.1, bit_at-pow_other k (trailing_zeros w64 (2 ^ k)) apart))
-    ]
-
 -- the lesser and the greater of two bits
 pow_min : (a b : ℕ) → min (2 ^ a) (2 ^ b) ≡ 2 ^ min a b
 pow_min a b = elim (cases_lt a b) [

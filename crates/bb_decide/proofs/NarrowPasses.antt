@@ -22,7 +22,7 @@ use Rattle.bb_cert.specs.declared.verdict.Side.TheVariants.{L, R}
 use Rattle.bb_cert.specs.declared.verdict.Verdict.{Verdict}
 use Rattle.bb_cert.specs.declared.verdict.Verdict.TheVariants.{Cycler}
 use Rattle.bb_cert.specs.records.Follow.{TellsWidening, passed}
-use Rattle.bb_cert.proofs.Facts.{AreAlike, alike_of_same, same_of_alike, starts}
+use Rattle.bb_cert.proofs.Facts.{AreAlike, alike_of_same, same_of_alike, same_registers, starts}
 use Rattle.bb_decide.specs.Cycle.{FindsCycle, HasNoCycle, IsCycle}
 use Rattle.bb_decide.specs.Fingerprint.{named_step}
 use Rattle.bb_decide.specs.Translation.{FindsTranslation, HasNoTranslation, IsTranslation}
@@ -42,7 +42,7 @@ use Rattle.bb_decide.specs.declared.narrow_records.NarrowRecords.{NarrowRecords}
 use Rattle.bb_decide.specs.declared.narrow_pass.KeptRun.{KeptRun}
 use Rattle.bb_decide.specs.inside.NarrowRecords.{CanCompareRecord, HasCompared, KeepsRecord, nearer_bit}
 use Rattle.bb_decide.specs.inside.NarrowPass.{IsPassIn, KeepsRunInTurn}
-use Rattle.bb_decide.proofs.NarrowCells.{keeps_passed, place_is, small_fits}
+use Rattle.bb_decide.proofs.NarrowCells.{keeps_passed, small_fits}
 
 pub narrow_pass_at_first : {table : Table} {bounds : Bounds} {run : NarrowRun} → IsNarrowRun table bounds run → run.steps ≡ 0
     → (kept : KeptRun) → kept ≡ record { run = run; next = 0 } → (right left : NarrowRecords)
@@ -75,38 +75,6 @@ narrow_pass_at_first {table} {bounds} {run} is_run zero kept kept_is right left 
       keeps_right = first R;
       keeps_left = first L;
     })
-
--- the same powers of two have the same places
-same_place : (a b : ℕ) → a < 64 → b < 64 → 2 ^ a ≡ 2 ^ b → a ≡ b
-same_place a b p q e = sym (place_is a p) ∙ ap (λ n. trailing_zeros w64 n) e ∙ place_is b q
-
-same_state : (s t : ℕ) → 9 * s ≡ 9 * t → s ≡ t
-same_state s t e = omega (arith, e)
-
--- registers are the same just where the configurations are
-pub same_registers : {a b : Registers} {one other : Runner} {view_one view_other : TapeView} → MatchesRunner a one view_one
-    → MatchesRunner b other view_other → a.bits < 2 ^ 64 → b.bits < 2 ^ 64
-    → IsSameConfiguration a b ↔ AreAlike one view_one other view_other
-same_registers {a} {b} at there p q = (
-  λ same.
-      let places = same_place at.place there.place at.within there.within (sym at.head ∙ same.1 ∙ there.head) in
-      let states = same_state at.state there.state (sym at.entry ∙ same.2 ∙ there.entry) in (
-        at.state_is ∙ ap State states ∙ sym there.state_is,
-        at.position ∙ ap at_bit places ∙ sym there.position,
-        at.content ∙ ap bits_content same.0 ∙ sym there.content,
-      ),
-  λ alike.
-      let one = at.state_is in
-      let two = there.state_is in
-      let named : State at.state ≡ State there.state = sym one ∙ alike.0 ∙ two in
-      let states : at.state ≡ there.state = cc in
-      let positions : at_bit at.place ≡ at_bit there.place = sym at.position ∙ alike.1 ∙ there.position in
-      let places : at.place ≡ there.place = omega (arith, ints, positions) in (
-        bits_unique a.bits b.bits p q (sym at.content ∙ alike.2 ∙ there.content),
-        at.head ∙ ap (λ n. 2 ^ n) places ∙ sym there.head,
-        at.entry ∙ ap (λ n. 9 * n) states ∙ sym there.entry,
-      ),
-)
 
 -- two windows with the same bits
 low_same : (window new room new_room : ℕ) (old view : TapeView) → MatchesWindow window room old → MatchesWindow new new_room view

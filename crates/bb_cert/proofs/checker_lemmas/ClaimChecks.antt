@@ -1,5 +1,5 @@
 -- Why each kind of claim is answered as it is.
-use Rattle.std.proofs.Common.{◌≡◌, ℕ, ◌+◌, ◌<◌, ◌≤◌, Option, Some, inl, inr, ap, sym, subst, ◌∙◌, arith}
+use Rattle.std.proofs.Common.{◌≡◌, ℕ, ◌+◌, ◌<◌, ◌≤◌, Some, inl, inr, ap, sym, subst, ◌∙◌, arith}
 use Rattle.std.specs.Prelude.{◌≢◌}
 use Rattle.bb_machine.specs.Limits.{Bounds}
 use Rattle.bb_machine.specs.Machine.{Table}
@@ -13,13 +13,13 @@ use Rattle.bb_sim.specs.Span.{span}
 use Rattle.bb_sim.proofs.Facts.{fits_at_halt, halt_is_unique, halts_last, last_step_is_unique}
 use Rattle.bb_cert.specs.declared.checker.answer.Answer.{Answer}
 use Rattle.bb_cert.specs.declared.checker.answer.Answer.TheVariants as answer
-use Rattle.bb_cert.specs.declared.verdict.Extent.{Extent}
-use Rattle.bb_cert.specs.declared.verdict.Side.{Side}
+use Rattle.bb_cert.specs.declared.checker.pairs.RecordPair.{RecordPair}
 use Rattle.bb_cert.specs.declared.verdict.Verdict.{Verdict}
-use Rattle.bb_cert.specs.declared.verdict.Verdict.TheVariants.{Halt, Cycler, Translated}
+use Rattle.bb_cert.specs.declared.verdict.Verdict.TheVariants.{Halt, Cycler}
 use Rattle.bb_cert.specs.checker.Answer.{IsSettled}
 use Rattle.bb_cert.specs.inside.Checks.{Checks, IsAtStep, IsCut, Settles}
-use Rattle.bb_cert.specs.checker.ClaimMeter.{CountsClaim, CountsWindow, IsReplayed, last_step}
+use Rattle.bb_cert.specs.inside.NarrowChecks.{claim_of, claim_up_to}
+use Rattle.bb_cert.specs.checker.ClaimMeter.{CountsClaim, CountsWindow, IsReplayed, IsWithinClaim, last_step}
 use Rattle.bb_cert.specs.checker.ClaimMeter.{levels_of, nodes_of}
 
 -- the bounds of a run that is to come to a step
@@ -60,29 +60,55 @@ module _ (table : Table) (bounds : Bounds) (steps score : ℕ) where
 
 -- ---- pairs
 
-pub cycler_cut : (table : Table) (bounds : Bounds) (first second : ℕ) (given : Answer)
-    → IsCut table (up_to bounds second) given → Checks table bounds (Cycler first second) given
-cycler_cut table bounds first second answer.Bad cut =
+pub cycler_cut : (table : Table) (bounds : Bounds) (first : ℕ) (given : Answer) → IsCut table bounds given
+    → Checks table bounds (Cycler first bounds.steps) given
+cycler_cut table bounds first answer.Bad cut =
     (not_wide _ _ cut.1, λ claim. cut.0 (record { here = _; exists = claim.1.at_second }))
-cycler_cut table bounds first second answer.Over cut = cut
-cycler_cut table bounds first second answer.Ok cut = absurd cut
-cycler_cut table bounds first second answer.Open cut = absurd cut
+cycler_cut table bounds first answer.Over cut = cut
+cycler_cut table bounds first answer.Ok cut = absurd cut
+cycler_cut table bounds first answer.Open cut = absurd cut
 
-pub translated_cut : (table : Table) (bounds : Bounds) (side : Side) (first second : ℕ)
-    (extent : Option Extent)
-    (given : Answer) → IsCut table (up_to bounds second) given
-    → Checks table bounds (Translated side first second extent) given
-translated_cut table bounds side first second extent answer.Bad cut =
-    (not_wide _ _ cut.1, λ claim. cut.0 (record { here = _; exists = claim.0.agree.at_second }))
-translated_cut table bounds side first second extent answer.Over cut = cut
-translated_cut table bounds side first second extent answer.Ok cut = absurd cut
-translated_cut table bounds side first second extent answer.Open cut = absurd cut
+pub translated_cut : (table : Table) (bounds : Bounds) (claim : RecordPair) (given : Answer)
+    → IsCut table bounds given → Checks table bounds (claim_of bounds claim) given
+translated_cut table bounds claim answer.Bad cut =
+    (not_wide _ _ cut.1, λ said. cut.0 (record { here = _; exists = said.0.agree.at_second }))
+translated_cut table bounds claim answer.Over cut = cut
+translated_cut table bounds claim answer.Ok cut = absurd cut
+translated_cut table bounds claim answer.Open cut = absurd cut
 
--- a run that came to the step fits
-pub fits_there : {table : Table} (bounds : Bounds) {n : ℕ} {runner : Runner} {view : TapeView} {meter : Meter}
-    → IsAtStep table (up_to bounds n) n runner view meter → bounds.cells < span table n → ⊥
+-- a run that came to its limit of steps fits
+pub fits_there : {table : Table} (bounds : Bounds) {runner : Runner} {view : TapeView} {meter : Meter}
+    → IsAtStep table bounds bounds.steps runner view meter → bounds.cells < span table bounds.steps → ⊥
 fits_there {table} bounds is =
     not_wide _ _ (subst (λ k. span table k ≤ bounds.cells) is.at is.under_way.inside.within_cells)
+
+-- what is answered up to a step is answered within bounds that have it
+pub cycler_up_to : (table : Table) (bounds : Bounds) (first second : ℕ) (given : Answer)
+    → Checks table (up_to bounds second) (Cycler first second) given → Checks table bounds (Cycler first second) given
+cycler_up_to table bounds first second answer.Bad is = is
+cycler_up_to table bounds first second answer.Over is = is
+cycler_up_to table bounds first second answer.Ok is = is
+cycler_up_to table bounds first second answer.Open is = is
+
+pub translated_up_to : (table : Table) (bounds : Bounds) (claim : RecordPair) (second : ℕ) (given : Answer)
+    → Checks table (up_to bounds second) (claim_up_to second claim) given
+    → Checks table bounds (claim_up_to second claim) given
+translated_up_to table bounds claim second answer.Bad is = is
+translated_up_to table bounds claim second answer.Over is = is
+translated_up_to table bounds claim second answer.Ok is = is
+translated_up_to table bounds claim second answer.Open is = is
+
+pub within_up_to : (bounds : Bounds) (second : ℕ) (verdict : Verdict) (meter : Meter) → second ≤ bounds.steps
+    → IsWithinClaim (up_to bounds second) verdict meter → IsWithinClaim bounds verdict meter
+within_up_to bounds second verdict meter few is = record {
+  steps = omega (arith, few, is.steps);
+  named_steps = is.named_steps;
+  levels = is.levels;
+  named_levels = is.named_levels;
+  nodes = is.nodes;
+  named_nodes = is.named_nodes;
+  cells = is.cells;
+}
 
 -- ---- counts of a run
 

@@ -15,6 +15,7 @@ use Rattle.bb_cert.specs.records.Agree.{AgreeingRecords}
 use Rattle.bb_cert.specs.declared.verdict.Extent.{Extent}
 use Rattle.bb_cert.specs.declared.verdict.Side.{Side}
 use Rattle.bb_cert.specs.inside.Checks.{GoesOn, IsAtStep, IsReplay, KeepsStep, MakesRecord}
+use Rattle.bb_cert.specs.inside.NarrowChecks.{IsFollowedFromStart, IsKeptAt, IsKeptUpTo}
 use Rattle.bb_cert.specs.verdict.Extent.{IsExtent}
 use Rattle.bb_cert.specs.records.Follow.{AgreesWithKept, IsComparable, IsKeptInStateOf, LiesAs, with_kept}
 use Rattle.bb_cert.specs.records.Record.{IsRecord, head_at}
@@ -22,7 +23,7 @@ use Rattle.bb_cert.proofs.record_lemmas.Comparing.{agree_of_cells, cells_of_agre
 use Rattle.bb_cert.proofs.record_lemmas.Comparing.{extent_of_records, keeps}
 use Rattle.bb_cert.proofs.record_lemmas.Comparing.{keeps_step}
 use Rattle.bb_cert.proofs.record_lemmas.Comparing.{numbered, numbered_at}
-use Rattle.bb_cert.proofs.record_lemmas.ReplayStates.{replay_at_first, keeps_on}
+use Rattle.bb_cert.proofs.record_lemmas.ReplayStates.{goes_nowhere, replay_at_first, keeps_on}
 use Rattle.bb_cert.proofs.record_lemmas.Heads.{runs_before}
 use Rattle.bb_cert.proofs.record_lemmas.Positions.{head_at-is, starts}
 
@@ -47,13 +48,6 @@ runs_at_pair table side a b pair = (
 ) where
   before : IsRunningAt table a (head_at table a)
   before = runs_before table a b pair.in_order (record { here = _; exists = pair.agree.at_second })
-
--- a course is known up to this step, whose record is kept, if it makes one
-pub record IsKeptAt (table : Table) (side : Side) (step : ℕ) (replay : ReplayState) (saved : TapeView)
-    : Type 0 where
-  pub known : IsReplay table step replay saved
-  pub keeps : KeepsStep table step replay.records
-  pub side_is : replay.records.side ≡ side
 
 -- the record that the last step makes, if it makes one, is kept, and none was before
 kept_now : (table : Table) (runner : Runner) (run : TapeView) (old new : ReplayState) → Stands table runner run
@@ -82,22 +76,52 @@ kept_now table runner run old new stands replay zeroth kept = by_claimed old.is_
     side_is = refl;
   })
 
--- begun at the start, followed up to the step where the runner stands, and kept there
-pub kept_at : {table : Table} {side : Side} {bounds : Bounds} {step : ℕ} {start runner : Runner}
-    {none : Records} {old new : ReplayState} {begun run : TapeView} {before meter : Meter}
-    → IsAtStep table bounds 0 start begun before
+-- at the start nothing is kept
+pub followed_from_start : {table : Table} {side : Side} {start : Runner} {begun : TapeView} {none : Records}
+    → Stands table start begun → steps_of start ≡ 0
     → none ≡ record { side = side; kept = start; nearest = pos 0 }
-    → IsAtStep table bounds step runner run meter
-    → GoesOn table (steps_of start) step (record { records = none; is_record = false }) old
-    → Keeps runner old new → IsKeptAt table side step new run
-kept_at {table} {start} {runner} {none} {old} {new} {run = run} at is there from kept =
-    let goes = rw (at.at, sym there.at) at from in
-    let zeroth = ap (λ (r : Records). position_of r.kept) is
-    ∙ starts table start _ at.under_way.stands at.at in
-    let replay = goes.replay run (replay_at_first table _ run zeroth refl) in
-    let same = kept_now table runner run old new there.under_way.stands replay
-    (ap position_of goes.same.kept ∙ zeroth) kept in
-    rw (there.at, goes.same.side ∙ ap (λ (r : Records). r.side) is) at same
+    → IsFollowedFromStart table side (steps_of start) (record { records = none; is_record = false })
+followed_from_start {table} {side} {start} {begun} {none} stands zero is =
+    let zeroth = ap (λ (r : Records). position_of r.kept) is ∙ starts table start begun stands zero in
+    record {
+      known = λ saved. rw zero (replay_at_first table _ saved zeroth refl);
+      none_kept = zeroth;
+      side_is = ap (λ (r : Records). r.side) is;
+    }
+
+pub follows_on : {table : Table} {side : Side} {a b : ℕ} {old new : ReplayState} → IsFollowedFromStart table side a old
+    → GoesOn table a b old new → IsFollowedFromStart table side b new
+follows_on from goes = record {
+  known = λ saved. goes.replay saved (from.known saved);
+  none_kept = ap position_of goes.same.kept ∙ from.none_kept;
+  side_is = goes.same.side ∙ from.side_is;
+}
+
+-- followed up to the step where the runner stands, and kept there
+pub kept_there : {table : Table} {side : Side} {step : ℕ} {runner : Runner} {run : TapeView}
+    {old new : ReplayState} → IsFollowedFromStart table side step old → Stands table runner run
+    → steps_of runner ≡ step → Keeps runner old new → IsKeptAt table side step new run
+kept_there {table} {side} {step} {runner} {run} {old} {new} known stands at keep =
+    let kept = kept_now table runner run old new stands (subst (λ n. IsReplay table n old run) (sym at) (known.known run))
+    known.none_kept keep in
+    rw (at, known.side_is) at kept
+
+-- a kept record is kept for no step more
+pub kept_so_far : {table : Table} {side : Side} {step n : ℕ} {replay : ReplayState} {saved : TapeView}
+    → IsKeptAt table side step replay saved → n ≡ step → IsKeptUpTo table side step n replay saved
+kept_so_far {table} {step = step} {replay = replay} kept at =
+    record { old = replay; kept = kept; goes = subst (λ n. GoesOn table step n replay replay) (sym at) goes_nowhere }
+
+-- courses that follow one another are one
+pub goes_further : {table : Table} {a b c : ℕ} {first second third : ReplayState} → GoesOn table a b first second
+    → GoesOn table b c second third → GoesOn table a c first third
+goes_further one other = record {
+  replay = λ saved known. other.replay saved (one.replay saved known);
+  same = record {
+    side = other.same.side ∙ one.same.side;
+    kept = other.same.kept ∙ one.same.kept;
+  };
+}
 
 -- both steps of a pair are run to, and the record that the first makes is kept
 pub record IsPairRun (table : Table) (bounds : Bounds) (side : Side) (first second : ℕ) (replay : ReplayState)

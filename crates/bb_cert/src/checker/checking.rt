@@ -6,20 +6,21 @@ ghost use Rattle.bb_cert.specs.declared.checker.answer.Answer.{Answer};
 ghost use Rattle.bb_cert.specs.declared.verdict.Verdict.{Verdict};
 ghost use Rattle.bb_cert.specs.checker.Answer.{IsAnswer, IsSettled};
 ghost use Rattle.bb_cert.specs.inside.Checks.{Checks, Settles};
+ghost use Rattle.bb_cert.specs.inside.NarrowChecks.{claim_up_to};
 ghost use Rattle.bb_cert.specs.claims.Claim.{Claim, SaysNever};
 ghost use Rattle.bb_cert.specs.checker.ClaimMeter.{CountsClaim, CountsWindow, IsWithinClaim};
 ghost use Rattle.bb_cert.specs.checker.Pair.{PairHasCells};
 ghost use Rattle.bb_cert.specs.tree.Path.{depth_of};
 
 use crate::checker::answer::Answer;
-use crate::checker::replay::{ReplayState, begin, follow_to, run_to};
-use crate::records::Records;
+use crate::checker::narrow_pairs::{check_cycler_to_limit, check_translated_to_limit};
+use crate::checker::pairs::RecordPair;
 use crate::tree::path::Path;
 use crate::tree::walk::walk;
-use crate::verdict::{Extent, Side, Verdict};
+use crate::verdict::Verdict;
 use bb_machine::{Limits, Machine};
 use bb_narrow::simulate_narrow;
-use bb_sim::{Meter, Outcome, is_same};
+use bb_sim::{Meter, Outcome};
 use bb_tape::{Memory, Tape};
 
 /// The tapes for checking a claim. Each call resets those it uses.
@@ -141,7 +142,14 @@ fn check_claim<T: Tape>(
             first,
             second,
             extent,
-        } => check_translated(machine, side, first, second, extent, limits, pair, meter),
+        } => {
+            let claim = RecordPair {
+                side,
+                first,
+                extent,
+            };
+            check_translated(machine, claim, second, limits, pair, meter)
+        }
         Verdict::Backward { levels, nodes } => {
             check_backward(machine, levels, nodes, limits, &mut pair.run, path, meter)
         }
@@ -223,102 +231,33 @@ fn check_cycler<T: Tape>(
     ensures memory { OnErr result (IsTrue T.GROWS) }
 {
     let limits = with_steps(limits, second);
-    let mut runner = begin(machine, &mut pair.run, &limits, meter);
-    match run_to(machine, &mut runner, &mut pair.run, &limits, first, meter)? {
-        Some(answer) => return Ok(answer),
-        None => {}
-    }
-    let kept = runner;
-    let Ok(()) = pair.saved.copy_from(&pair.run) else {
-        return Err(Memory);
-    };
-    match run_to(machine, &mut runner, &mut pair.run, &limits, second, meter)? {
-        Some(answer) => return Ok(answer),
-        None => {}
-    }
-    if is_same(&runner, &pair.run, &kept, &pair.saved) {
-        return Ok(Answer::Ok);
-    }
-    Ok(Answer::Bad)
+    check_cycler_to_limit(machine, first, &limits, pair, meter)
 }
 
 /// Whether two steps make agreeing records of a side, with the claimed extent: by one run, and a copy of its
 /// tape.
 fn check_translated<T: Tape>(
     machine: &Machine,
-    side: Side,
-    first: u64,
+    claim: RecordPair,
     second: u64,
-    extent: Option<Extent>,
     limits: &Limits,
     pair: &mut Pair<T>,
     meter: &mut Meter,
 ) -> Result<Answer, Memory>
-    requires order { first < second }
+    requires order { claim.first < second }
     requires steps { second ≤ limits.now.steps }
     requires tapes { PairHasCells T.view limits.now.cells pair.old }
     requires meter { meter.old ≡ zero_meter }
-    ensures checks { IfOk result
-        (Checks machine.now limits.now (Verdict.Translated side first second extent)) }
-    ensures counted { IfOk result (λ answer. answer ≡ Answer.Ok
-        → CountsClaim (Verdict.Translated side first second extent) meter.new) }
-    ensures within { IsWithinClaim limits.now (Verdict.Translated side first second extent) meter.new }
+    ensures checks { IfOk result (Checks machine.now limits.now (claim_up_to second claim)) }
+    ensures counted { IfOk result (λ answer. answer ≡ Answer.Ok → CountsClaim (claim_up_to second claim) meter.new) }
+    ensures within { IsWithinClaim limits.now (claim_up_to second claim) meter.new }
     ensures replayed { IfOk result (λ answer.
         CountsRun machine.now (record limits.now { steps = second }) zero_meter meter.new) }
     ensures tapes { PairHasCells T.view limits.now.cells pair.new }
     ensures memory { OnErr result (IsTrue T.GROWS) }
 {
     let limits = with_steps(limits, second);
-    let mut runner = begin(machine, &mut pair.run, &limits, meter);
-    let mut replay = ReplayState {
-        records: Records::new(side, runner),
-        is_record: false,
-    };
-    match follow_to(
-        machine,
-        &mut runner,
-        &mut pair.run,
-        &limits,
-        first,
-        &mut replay,
-        meter,
-    )? {
-        Some(answer) => return Ok(answer),
-        None => {}
-    }
-    let Ok(()) = pair.saved.copy_from(&pair.run) else {
-        return Err(Memory);
-    };
-    replay.keep_if_record(&runner);
-    match follow_to(
-        machine,
-        &mut runner,
-        &mut pair.run,
-        &limits,
-        second,
-        &mut replay,
-        meter,
-    )? {
-        Some(answer) => return Ok(answer),
-        None => {}
-    }
-    let Some(found) = replay.agreement(&runner, &pair.run, &mut pair.saved) else {
-        return Ok(Answer::Bad);
-    };
-    if !matches_claimed(extent, found) {
-        return Ok(Answer::Bad);
-    }
-    Ok(Answer::Ok)
-}
-
-/// Whether the claimed extent, if any, is this one.
-fn matches_claimed(claimed: Option<Extent>, found: Extent) -> bool
-    ensures { IsTrue result ↔ IfSome claimed (λ extent. extent ≡ found) }
-{
-    match claimed {
-        Some(extent) => extent == found,
-        None => true,
-    }
+    check_translated_to_limit(machine, claim, &limits, pair, meter)
 }
 
 /// Whether the backward tree ends in so many levels with so many nodes, none of them matched by the start: by

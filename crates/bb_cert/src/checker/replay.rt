@@ -5,11 +5,13 @@ ghost use Rattle.bb_sim.specs.Runner.{steps_of};
 ghost use Rattle.bb_cert.specs.inside.Checks.{GoesOn, IsAtStep, IsCut, IsOneOn, IsUnderWay, Passes};
 ghost use Rattle.bb_cert.specs.records.Follow.{AgreesWithKept, IsComparable, IsKeptInStateOf, LiesAs};
 ghost use Rattle.bb_cert.specs.records.Follow.{with_kept};
+ghost use Rattle.bb_cert.specs.records.Word.{AgreesInWord, IsComparableInWord};
 
 use crate::checker::answer::Answer;
 use crate::records::{Records, widened_side};
 use crate::verdict::Extent;
 use bb_machine::{Limits, Machine};
+use bb_narrow::BitCells;
 use bb_sim::{Meter, Moved, Runner};
 use bb_tape::{Memory, Tape};
 
@@ -66,6 +68,31 @@ impl ReplayState {
             return None;
         }
         if !self.records.agrees(runner, run, saved) {
+            return None;
+        }
+        Some(self.records.extent(runner))
+    }
+
+    /// `agreement` for a run in registers, with the cells of the run and those of the kept record.
+    pub(crate) fn agreement_in_registers(
+        &self,
+        runner: &Runner,
+        run: &BitCells,
+        saved: &BitCells,
+    ) -> Option<Extent>
+        requires { IsTrue self.now.is_record → IsKeptInStateOf self.now.records runner.now
+            → IsComparableInWord self.now.records runner.now saved.now run.now }
+        ensures { MatchOption result
+            (IsTrue self.now.is_record
+            → AgreesInWord self.now.records runner.now saved.now run.now → ⊥)
+            (λ extent. IsTrue self.now.is_record
+            × AgreesInWord self.now.records runner.now saved.now run.now
+            × LiesAs self.now.records runner.now extent) }
+    {
+        if !self.is_record {
+            return None;
+        }
+        if !self.records.agrees_in_registers(runner, run, saved) {
             return None;
         }
         Some(self.records.extent(runner))

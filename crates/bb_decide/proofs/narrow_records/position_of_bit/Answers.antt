@@ -1,7 +1,7 @@
 use Rattle.std.proofs.Common.{◌∙◌, ap, arith, w64}
 use Rattle.std.proofs.lemmas.Int.{ints}
 use Rattle.std.specs.Int.{trailing_zeros}
-use Rattle.bb_decide.proofs.NarrowCells.{place_is}
+use Rattle.bb_cert.proofs.Facts.{place_is}
 use Rattle.bb_decide.proofs.narrow_records.position_of_bit.Goals as goal
 
 pub returns-clause-is : goal.returns-clause-is

@@ -15,9 +15,7 @@ pub unreachable-requires : goal.unreachable-requires
 unreachable-requires g c =
     let r = c.args.self.now in
     let s = g.T.Tape.view c.args.saved.now in
-    let same = c.is_in_same_state.ensures.0 c.if-not-is_in_same_state.false in
-    let comparable = c.requires.comparable
-    (λ e. c.if-position-eq0.false (ap (of_z w64) (c.position.ensures ∙ e)), same.0, same.1) in
+    let comparable = c.requires.comparable (c.is_kept_in_state_of.ensures.0 c.if-not-is_kept_in_state_of.false) in
     let nearest_fits : FitsSigned w64 r.nearest = search rules in
     let refused = simp to_z-of_z at c.in_default.ensures.cells in
     over (pos s.limit) (width (visited s r.nearest)) (refused.0 (ap Err c.in_default.ensures.memory))
@@ -34,9 +32,7 @@ record Widened (g : given.Over) (c : goal.In-Ok g) : Type 0 where
 
 widened : (g : given.Over) (c : goal.In-Ok g) → Widened g c
 widened g c =
-    let same = c.is_in_same_state.ensures.0 c.if-not-is_in_same_state.false in
-    let kept : IsKeptInStateOf c.args.self.now c.args.runner.now =
-    (λ e. c.if-position-eq0.false (ap (of_z w64) (c.position.ensures ∙ e)), same.0, same.1) in
+    let kept = c.is_kept_in_state_of.ensures.0 c.if-not-is_kept_in_state_of.false in
     let nearest_fits : FitsSigned w64 c.args.self.now.nearest = search rules in
     let reached = simp to_z-of_z at c.in-Ok.ensures.ok in
     record { kept = kept; comparable = c.requires.comparable kept; reached = reached }

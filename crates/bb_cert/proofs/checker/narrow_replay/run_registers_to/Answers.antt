@@ -1,0 +1,21 @@
+use Rattle.std.proofs.Common.{◌<◌, arith, sym, subst}
+use Rattle.bb_narrow.specs.declared.run.NarrowRun.{NarrowRun}
+use Rattle.bb_narrow.specs.Registers.{EndsWith, IsNarrowRun}
+use Rattle.bb_cert.proofs.checker.narrow_replay.run_registers_to.Goals as goal
+
+pub loop-run-preserved : goal.loop-run-preserved
+loop-run-preserved c =
+    let made = c.in-Stepped.ensures in
+    record {
+      is_run = (made.0 c.loop-run.invariant.is_run).next;
+      ahead = omega (arith, made.1, c.loop-run-test.true);
+    }
+
+pub returns-in-Ended-clause-stop : goal.returns-in-Ended-clause-stop
+returns-in-Ended-clause-stop c =
+    let end = c.in-Ended.ensures in
+    let before = c.loop-run-test.true in (
+      subst (λ (run : NarrowRun). run.steps < c.args.step) (sym end.0) before,
+      subst (λ (run : NarrowRun). (known : IsNarrowRun c.args.machine.now c.args.limits.now run)
+          → EndsWith known c.in-Ended.outcome) (sym end.0) end.1,
+    )
