@@ -142,7 +142,7 @@ fn counts(line: &[u8]) -> Option<(usize, usize)>
 {
     let symbols = symbols_at_first(line)?;
     let states = states_by_length(line, symbols)?;
-    if is_table(line, states, symbols) {
+    if is_table_unrolled(line, states, symbols) {
         Some((states, symbols))
     } else {
         None
@@ -181,7 +181,25 @@ fn states_by_length(line: &[u8], symbols: usize) -> Option<usize>
     None
 }
 
+/// As `is_table`, whose loops the compiler unrolls for two symbols.
+#[inline(always)]
+fn is_table_unrolled(line: &[u8], states: usize, symbols: usize) -> bool
+    requires some { 0 < states }
+    requires states { states ≤ MAX_STATES }
+    requires two { 2 ≤ symbols }
+    requires symbols { symbols ≤ MAX_SYMBOLS }
+    requires length { length line.now + 1 ≡ states * (3 * symbols + 1) }
+    ensures { IsTrue result
+        ↔ ((gs : List (List Entry)) × IsTable states symbols gs × (text gs ≡ line.now)) }
+{
+    match symbols {
+        2 => is_table(line, states, 2),
+        _ => is_table(line, states, symbols),
+    }
+}
+
 /// Whether the line, of the right length, is the text of a machine with so many states and symbols.
+#[inline(always)]
 fn is_table(line: &[u8], states: usize, symbols: usize) -> bool
     requires some { 0 < states }
     requires states { states ≤ MAX_STATES }
@@ -204,6 +222,7 @@ fn is_table(line: &[u8], states: usize, symbols: usize) -> bool
 }
 
 /// Whether the first bytes are the text of a group of a machine with so many states and symbols.
+#[inline(always)]
 fn is_group(bytes: &[u8], states: usize, symbols: usize) -> bool
     requires room { 3 * symbols ≤ length bytes.now }
     requires states { states ≤ MAX_STATES }
@@ -238,9 +257,22 @@ fn longest_prefix(line: &[u8]) -> usize
 }
 
 /// Writes the entries of the machine with this text, of so many states and symbols, into the slots. Other
-/// slots keep their values, and cost nothing.
+/// slots keep their values, and cost nothing. The compiler unrolls the loops for two symbols.
 #[inline(never)]
 fn fill(slots: &mut [Slot; SLOTS], line: &[u8], states: usize, symbols: usize)
+    requires { (gs : List (List Entry)) × IsTable states symbols gs × (text gs ≡ line.now) }
+    ensures { (gs : List (List Entry)) → IsTable states symbols gs → text gs ≡ line.now
+        → table_in states symbols slots.new ≡ gs }
+{
+    match symbols {
+        2 => fill_rows(slots, line, states, 2),
+        _ => fill_rows(slots, line, states, symbols),
+    }
+}
+
+/// As `fill`, inlined.
+#[inline(always)]
+fn fill_rows(slots: &mut [Slot; SLOTS], line: &[u8], states: usize, symbols: usize)
     requires { (gs : List (List Entry)) × IsTable states symbols gs × (text gs ≡ line.now) }
     ensures { (gs : List (List Entry)) → IsTable states symbols gs → text gs ≡ line.now
         → table_in states symbols slots.new ≡ gs }
@@ -251,6 +283,7 @@ fn fill(slots: &mut [Slot; SLOTS], line: &[u8], states: usize, symbols: usize)
 }
 
 /// Writes the entries of the group at the start of the bytes into a row.
+#[inline(always)]
 fn fill_row(slots: &mut [Slot; SLOTS], row: usize, symbols: usize, bytes: &[u8])
     requires row { row < MAX_STATES }
     requires symbols { symbols ≤ MAX_SYMBOLS }

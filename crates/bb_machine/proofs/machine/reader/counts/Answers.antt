@@ -23,8 +23,8 @@ returns-in_err-states c = rw c.from_residual-in_err-states.ensures none
         c.in_err-states.ensures (length gs) machine.some_state machine.states
         (long c.args.line.now gs c.in_ok-symbols.symbols machine is symbols)
 
-pub returns-else-is_table : goal.returns-else-is_table
-returns-else-is_table c gs machine is =
+pub returns-else-is_table_unrolled : goal.returns-else-is_table_unrolled
+returns-else-is_table_unrolled c gs machine is =
     let some = c.in_ok-symbols.ensures.machine gs machine is in
     let symbols : c.in_ok-symbols.symbols ≡ symbols_of gs = search rules in
     let same : c.in_ok-states.states * (3 * c.in_ok-symbols.symbols + 1)
@@ -33,6 +33,6 @@ returns-else-is_table c gs machine is =
     let states : c.in_ok-states.states ≡ length gs =
     eq_of_mul-eq-mul_right (3 * c.in_ok-symbols.symbols + 1) (omega arith) c.in_ok-states.states (length gs)
     same in
-    let no = c.is_table.ensures.1
+    let no = c.is_table_unrolled.ensures.1
     (gs, record { machine = machine; states_is = sym states; symbols_is = sym symbols }, is) in
     absurd (search rules)
