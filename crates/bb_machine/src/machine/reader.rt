@@ -141,9 +141,38 @@ fn counts(line: &[u8]) -> Option<(usize, usize)>
         (λ counts. (gs : List (List Entry)) × IsTable counts.0 counts.1 gs × (text gs ≡ line.now)) }
 {
     let symbols = symbols_at_first(line)?;
+    let states = match symbols {
+        2 => states_with(line, 2)?,
+        _ => states_with_more(line, symbols)?,
+    };
+    Some((states, symbols))
+}
+
+/// As `states_with`, not inlined: so the code for two symbols needs few registers.
+#[inline(never)]
+fn states_with_more(line: &[u8], symbols: usize) -> Option<usize>
+    requires two { 2 ≤ symbols }
+    requires symbols { symbols ≤ MAX_SYMBOLS }
+    ensures { MatchOption result
+        ((gs : List (List Entry)) → IsMachine gs → symbols_of gs ≡ symbols → text gs ≢ line.now)
+        (λ states. (gs : List (List Entry)) × IsTable states symbols gs × (text gs ≡ line.now)) }
+{
+    states_with(line, symbols)
+}
+
+/// The number of states of the machine with this text and so many symbols, if there is one. The compiler
+/// unrolls its loops for two symbols.
+#[inline(always)]
+fn states_with(line: &[u8], symbols: usize) -> Option<usize>
+    requires two { 2 ≤ symbols }
+    requires symbols { symbols ≤ MAX_SYMBOLS }
+    ensures { MatchOption result
+        ((gs : List (List Entry)) → IsMachine gs → symbols_of gs ≡ symbols → text gs ≢ line.now)
+        (λ states. (gs : List (List Entry)) × IsTable states symbols gs × (text gs ≡ line.now)) }
+{
     let states = states_by_length(line, symbols)?;
-    if is_table_unrolled(line, states, symbols) {
-        Some((states, symbols))
+    if is_table(line, states, symbols) {
+        Some(states)
     } else {
         None
     }
@@ -165,6 +194,7 @@ fn symbols_at_first(line: &[u8]) -> Option<usize>
 }
 
 /// The number of states of the machine with this text and so many symbols, by the length of the text.
+#[inline(always)]
 fn states_by_length(line: &[u8], symbols: usize) -> Option<usize>
     requires { symbols ≤ MAX_SYMBOLS }
     ensures { MatchOption result
@@ -179,23 +209,6 @@ fn states_by_length(line: &[u8], symbols: usize) -> Option<usize>
         }
     }
     None
-}
-
-/// As `is_table`, whose loops the compiler unrolls for two symbols.
-#[inline(always)]
-fn is_table_unrolled(line: &[u8], states: usize, symbols: usize) -> bool
-    requires some { 0 < states }
-    requires states { states ≤ MAX_STATES }
-    requires two { 2 ≤ symbols }
-    requires symbols { symbols ≤ MAX_SYMBOLS }
-    requires length { length line.now + 1 ≡ states * (3 * symbols + 1) }
-    ensures { IsTrue result
-        ↔ ((gs : List (List Entry)) × IsTable states symbols gs × (text gs ≡ line.now)) }
-{
-    match symbols {
-        2 => is_table(line, states, 2),
-        _ => is_table(line, states, symbols),
-    }
 }
 
 /// Whether the line, of the right length, is the text of a machine with so many states and symbols.
@@ -266,8 +279,18 @@ fn fill(slots: &mut [Slot; SLOTS], line: &[u8], states: usize, symbols: usize)
 {
     match symbols {
         2 => fill_rows(slots, line, states, 2),
-        _ => fill_rows(slots, line, states, symbols),
+        _ => fill_more(slots, line, states, symbols),
     }
+}
+
+/// As `fill_rows`, not inlined: so the code for two symbols needs few registers.
+#[inline(never)]
+fn fill_more(slots: &mut [Slot; SLOTS], line: &[u8], states: usize, symbols: usize)
+    requires { (gs : List (List Entry)) × IsTable states symbols gs × (text gs ≡ line.now) }
+    ensures { (gs : List (List Entry)) → IsTable states symbols gs → text gs ≡ line.now
+        → table_in states symbols slots.new ≡ gs }
+{
+    fill_rows(slots, line, states, symbols);
 }
 
 /// As `fill`, inlined.
