@@ -222,14 +222,18 @@ fn is_table(line: &[u8], states: usize, symbols: usize) -> bool
     ensures { IsTrue result
         ↔ ((gs : List (List Entry)) × IsTable states symbols gs × (text gs ≡ line.now)) }
 {
+    let mut rest = line;
     for row in 0..states {
-        let at = row * (3 * symbols + 1);
-        if row > 0 && line[at - 1] != b'_' {
+        if row > 0 {
+            if rest[0] != b'_' {
+                return false;
+            }
+            rest = &rest[1..];
+        }
+        if !is_group(rest, states, symbols) {
             return false;
         }
-        if !is_group(&line[at..], states, symbols) {
-            return false;
-        }
+        rest = &rest[3 * symbols..];
     }
     true
 }
