@@ -1,9 +1,10 @@
 -- What is known of a line whose entries and bars were looked at one after another.
 use Rattle.std.proofs.Common.{ap, ◌≡◌, ℕ, ◌+◌, ◌-◌, ◌*◌, ◌<◌, ◌≤◌, List, [], ◌∷◌, ◌++◌, length}
 use Rattle.std.proofs.Common.{take, drop, get_or, sym, ◌∙◌, ◌≢◌, ◌⊎◌, inl, inr, append_assoc, add-zero, arith}
-use Rattle.std.proofs.Common.{zero-mul}
+use Rattle.std.proofs.Common.{zero-mul, refl}
+use Rattle.std.proofs.Math.Nat.{mul-le-mul}
 use Rattle.std.proofs.lemmas.List.{append-nil, length-append, take-append-drop, take_rest}
-use Rattle.std.proofs.lemmas.List.{get_or-append-add, get_or_append_left, get_or-drop, take_more}
+use Rattle.std.proofs.lemmas.List.{get_or-append-add, get_or_append_left, get_or-drop, take_more, drop-drop}
 use Rattle.std.proofs.lemmas.List.Elements.{All-from_recursion}
 use Rattle.std.proofs.lemmas.List.Concat.{flat_map-append}
 use Rattle.std.proofs.Math.Seq.{take-add, take-append_seam, take-length}
@@ -31,6 +32,36 @@ begins_with bytes part n begins =
     let is : drop n bytes ≡ part ++ begins.0 = sym (take_rest bytes n) ∙ begins.1 in
     take-add n (length part) bytes
     ∙ ap (λ z. take n bytes ++ z) (ap (take (length part)) is ∙ take-append_seam part begins.0)
+
+module _ (line rest : List ℕ) (at : ℕ) (is : rest ≡ drop at line) where
+  pub stands_by : (part : List ℕ) → BeginsWith rest part → StandsAt line at part
+  stands_by part begins = (begins.0, take_rest line at ∙ (sym is ∙ begins.1))
+
+  pub begins_by : (part : List ℕ) → StandsAt line at part → BeginsWith rest part
+  begins_by part stands = (stands.0, is ∙ (sym (take_rest line at) ∙ stands.1))
+
+  pub first_by : get_or rest 0 0 ≡ get_or line at 0
+  first_by =
+      ap (λ z. get_or z 0 0) is
+      ∙ (get_or-drop at line 0 0 ∙ ap (λ n. get_or line n 0) (add-zero at))
+
+  pub rest_by : (n : ℕ) → take (length rest - n) (drop n rest) ≡ drop (at + n) line
+  rest_by n = take_rest rest n ∙ (ap (drop n) is ∙ drop-drop n at line)
+
+-- where a group begins: after the `_` before it, if there is one
+module _ (line rest bytes : List ℕ) (row width : ℕ) (is : rest ≡ drop (row * width - 1) line) where
+  pub group_first : row ≤ 0 → bytes ≡ rest → bytes ≡ drop (row * width) line
+  group_first first same =
+      let none : row ≡ 0 = omega arith in
+      let zero : row * width ≡ 0 = rw none (zero-mul width) in
+      same ∙ (is ∙ rw zero refl)
+
+  pub group_later : 0 < row → 0 < width → bytes ≡ take (length rest - 1) (drop 1 rest)
+      → bytes ≡ drop (row * width) line
+  group_later later wide same =
+      let some : 1 * width ≤ row * width = mul-le-mul later (omega arith) in
+      let next : (row * width - 1) + 1 ≡ row * width = omega (arith, some, wide) in
+      same ∙ (rest_by line rest (row * width - 1) is 1 ∙ ap (λ n. drop n line) next)
 
 -- the first entries of a group, whose text the first bytes are
 pub record IsGroupSoFar (states symbols n : ℕ) (bytes : List ℕ) (g : List Entry) : Type 0 where

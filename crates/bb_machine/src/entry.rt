@@ -149,6 +149,7 @@ impl Entry {
     }
 
     /// Whether the first bytes are the text of an entry of a machine with so many states and symbols.
+    #[inline(always)]
     pub(crate) fn is_at_first(bytes: &[u8], states: u8, symbols: u8) -> bool
         requires room { 3 ≤ length bytes.now }
         requires states { states ≤ MAX_STATES }
@@ -156,11 +157,13 @@ impl Entry {
         ensures { IsTrue result
             ↔ ((e : Entry) × IsEntryOf states symbols e × BeginsWith bytes.now (entry_text e)) }
     {
-        let (first, second, third) = (bytes[0], bytes[1], bytes[2]);
-        if first == b'-' {
-            return second == b'-' && third == b'-';
+        let [first, second, third, ..] = bytes else {
+            return false;
+        };
+        if *first == b'-' {
+            return *second == b'-' && *third == b'-';
         }
-        is_digit(first, symbols) && Dir::has_letter(second) && Next::has_letter(third, states)
+        is_digit(*first, symbols) && Dir::has_letter(*second) && Next::has_letter(*third, states)
     }
 
     /// The entry whose text starts the bytes, or else the number of leading bytes that start some entry's

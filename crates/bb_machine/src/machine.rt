@@ -78,19 +78,21 @@ impl Slot {
         ensures { (e : Entry) → IsEntryOf MAX_STATES MAX_SYMBOLS e → BeginsWith bytes.now (entry_text e)
             → entry_in self.new ≡ e }
     {
-        let (first, second, third) = (bytes[0], bytes[1], bytes[2]);
-        if first == b'-' {
+        let [first, second, third, ..] = bytes else {
+            return;
+        };
+        if *first == b'-' {
             self.kind = Kind::Undefined;
             return;
         }
-        self.kind = if third == b'Z' {
+        self.kind = if *third == b'Z' {
             Kind::Halt
         } else {
             Kind::State
         };
-        self.write = first - b'0';
-        self.offset = if second == b'L' { -1 } else { 1 };
-        self.state = third - b'A';
+        self.write = *first - b'0';
+        self.offset = (*second & 2) as i8 - 1;
+        self.state = *third - b'A';
     }
 
     /// The entry in the slot. It takes `&self`, so that after `Machine::step` the kind isn't read again.

@@ -1,10 +1,11 @@
 //! The table of a machine of two symbols in two numbers.
-ghost use Rattle.std.specs.Prelude.{◌≡◌, ◌+◌, ◌*◌, ◌/◌, ◌%◌, ◌<◌, ◌≤◌, ◌^◌, ℕ, length, true, false};
-ghost use Rattle.bb_machine.specs.Entry.{IsEntryOf};
+ghost use Rattle.std.specs.Prelude.{◌≡◌, ◌+◌, ◌*◌, ◌/◌, ◌%◌, ◌<◌, ◌≤◌, ◌^◌, ℕ, length, true, false, Some, None};
+ghost use Rattle.bb_machine.specs.declared.entry.Entry.{Entry};
+ghost use Rattle.bb_machine.specs.Entry.{IsEntryOf, step_of};
 ghost use Rattle.bb_machine.specs.Machine.{entry_of, symbols_of};
 ghost use Rattle.bb_narrow.specs.Packed.{IsPackedEntry, IsTableOf};
 
-use bb_machine::{Dir, Entry, Machine, Next};
+use bb_machine::{Entry, Machine, Step};
 
 /// The most states of a machine whose table fits: nine bits an entry.
 pub(crate) const MOST_STATES: usize = 7;
@@ -26,28 +27,47 @@ pub struct NarrowTable {
     one: u64,
 }
 
-/// The nine bits of an entry.
-fn packed(entry: Entry, symbol: u8) -> u64
+/// The nine bits of an entry without a next state.
+fn packed_end(entry: Entry, symbol: u8) -> u64
     requires entry { IsEntryOf MOST_STATES 2 entry }
     requires symbol { symbol < 2 }
+    requires ends { step_of entry ≡ None }
     ensures entry { (m : ℕ) → IsPackedEntry (m * 512 + result) symbol entry }
     ensures small { result < 512 }
 {
     match entry {
+        Entry::Go { write, .. } => STOP + RIGHT + if write == symbol { 0 } else { FLIP },
         Entry::Undefined => STOP,
-        Entry::Go { write, dir, next } => {
-            let flip = if write == symbol { 0 } else { FLIP };
-            match next {
-                Next::Halt => STOP + RIGHT + flip,
-                Next::State(state) => {
-                    let right = match dir {
-                        Dir::L => 0,
-                        Dir::R => RIGHT,
-                    };
-                    9 * u64::from(state) + right + flip
-                }
-            }
-        }
+    }
+}
+
+/// The nine bits of an entry with a next state, without a branch.
+#[inline(always)]
+fn packed_step(step: Step, symbol: u8) -> u64
+    requires step { (e : Entry) × IsEntryOf MOST_STATES 2 e × (step_of e ≡ Some step) }
+    requires symbol { symbol < 2 }
+    ensures entry { (e : Entry) → IsEntryOf MOST_STATES 2 e → step_of e ≡ Some step
+        → (m : ℕ) → IsPackedEntry (m * 512 + result) symbol e }
+    ensures small { result < 512 }
+{
+    let right = (step.offset + 1) as u64 * FLIP;
+    let flip = u64::from(step.write ^ symbol) * FLIP;
+    9 * u64::from(step.state) + right + flip
+}
+
+/// The nine bits of an entry of a machine.
+#[inline(always)]
+fn packed(machine: &Machine, state: u8, symbol: u8) -> u64
+    requires symbols { symbols_of machine.now ≡ 2 }
+    requires states { length machine.now ≤ 7 }
+    requires state { state < length machine.now }
+    requires symbol { symbol < 2 }
+    ensures entry { (m : ℕ) → IsPackedEntry (m * 512 + result) symbol (entry_of machine.now state symbol) }
+    ensures small { result < 512 }
+{
+    match machine.step(state, symbol) {
+        Some(step) => packed_step(step, symbol),
+        None => packed_end(machine.entry(state, symbol), symbol),
     }
 }
 
@@ -60,8 +80,8 @@ impl NarrowTable {
     {
         let mut table = NarrowTable { zero: 0, one: 0 };
         for state in (0..machine.states()).rev() {
-            table.zero = table.zero * 512 + packed(machine.entry(state, 0), 0);
-            table.one = table.one * 512 + packed(machine.entry(state, 1), 1);
+            table.zero = table.zero * 512 + packed(machine, state, 0);
+            table.one = table.one * 512 + packed(machine, state, 1);
         }
         table
     }

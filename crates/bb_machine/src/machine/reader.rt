@@ -141,9 +141,38 @@ fn counts(line: &[u8]) -> Option<(usize, usize)>
         (λ counts. (gs : List (List Entry)) × IsTable counts.0 counts.1 gs × (text gs ≡ line.now)) }
 {
     let symbols = symbols_at_first(line)?;
+    let states = match symbols {
+        2 => states_with(line, 2)?,
+        _ => states_with_more(line, symbols)?,
+    };
+    Some((states, symbols))
+}
+
+/// As `states_with`, not inlined: so the code for two symbols needs few registers.
+#[inline(never)]
+fn states_with_more(line: &[u8], symbols: usize) -> Option<usize>
+    requires two { 2 ≤ symbols }
+    requires symbols { symbols ≤ MAX_SYMBOLS }
+    ensures { MatchOption result
+        ((gs : List (List Entry)) → IsMachine gs → symbols_of gs ≡ symbols → text gs ≢ line.now)
+        (λ states. (gs : List (List Entry)) × IsTable states symbols gs × (text gs ≡ line.now)) }
+{
+    states_with(line, symbols)
+}
+
+/// The number of states of the machine with this text and so many symbols, if there is one. The compiler
+/// unrolls its loops for two symbols.
+#[inline(always)]
+fn states_with(line: &[u8], symbols: usize) -> Option<usize>
+    requires two { 2 ≤ symbols }
+    requires symbols { symbols ≤ MAX_SYMBOLS }
+    ensures { MatchOption result
+        ((gs : List (List Entry)) → IsMachine gs → symbols_of gs ≡ symbols → text gs ≢ line.now)
+        (λ states. (gs : List (List Entry)) × IsTable states symbols gs × (text gs ≡ line.now)) }
+{
     let states = states_by_length(line, symbols)?;
     if is_table(line, states, symbols) {
-        Some((states, symbols))
+        Some(states)
     } else {
         None
     }
@@ -165,6 +194,7 @@ fn symbols_at_first(line: &[u8]) -> Option<usize>
 }
 
 /// The number of states of the machine with this text and so many symbols, by the length of the text.
+#[inline(always)]
 fn states_by_length(line: &[u8], symbols: usize) -> Option<usize>
     requires { symbols ≤ MAX_SYMBOLS }
     ensures { MatchOption result
@@ -182,6 +212,7 @@ fn states_by_length(line: &[u8], symbols: usize) -> Option<usize>
 }
 
 /// Whether the line, of the right length, is the text of a machine with so many states and symbols.
+#[inline(always)]
 fn is_table(line: &[u8], states: usize, symbols: usize) -> bool
     requires some { 0 < states }
     requires states { states ≤ MAX_STATES }
@@ -191,19 +222,24 @@ fn is_table(line: &[u8], states: usize, symbols: usize) -> bool
     ensures { IsTrue result
         ↔ ((gs : List (List Entry)) × IsTable states symbols gs × (text gs ≡ line.now)) }
 {
+    let mut rest = line;
     for row in 0..states {
-        let at = row * (3 * symbols + 1);
-        if row > 0 && line[at - 1] != b'_' {
+        if row > 0 {
+            if rest[0] != b'_' {
+                return false;
+            }
+            rest = &rest[1..];
+        }
+        if !is_group(rest, states, symbols) {
             return false;
         }
-        if !is_group(&line[at..], states, symbols) {
-            return false;
-        }
+        rest = &rest[3 * symbols..];
     }
     true
 }
 
 /// Whether the first bytes are the text of a group of a machine with so many states and symbols.
+#[inline(always)]
 fn is_group(bytes: &[u8], states: usize, symbols: usize) -> bool
     requires room { 3 * symbols ≤ length bytes.now }
     requires states { states ≤ MAX_STATES }
@@ -238,9 +274,32 @@ fn longest_prefix(line: &[u8]) -> usize
 }
 
 /// Writes the entries of the machine with this text, of so many states and symbols, into the slots. Other
-/// slots keep their values, and cost nothing.
+/// slots keep their values, and cost nothing. The compiler unrolls the loops for two symbols.
 #[inline(never)]
 fn fill(slots: &mut [Slot; SLOTS], line: &[u8], states: usize, symbols: usize)
+    requires { (gs : List (List Entry)) × IsTable states symbols gs × (text gs ≡ line.now) }
+    ensures { (gs : List (List Entry)) → IsTable states symbols gs → text gs ≡ line.now
+        → table_in states symbols slots.new ≡ gs }
+{
+    match symbols {
+        2 => fill_rows(slots, line, states, 2),
+        _ => fill_more(slots, line, states, symbols),
+    }
+}
+
+/// As `fill_rows`, not inlined: so the code for two symbols needs few registers.
+#[inline(never)]
+fn fill_more(slots: &mut [Slot; SLOTS], line: &[u8], states: usize, symbols: usize)
+    requires { (gs : List (List Entry)) × IsTable states symbols gs × (text gs ≡ line.now) }
+    ensures { (gs : List (List Entry)) → IsTable states symbols gs → text gs ≡ line.now
+        → table_in states symbols slots.new ≡ gs }
+{
+    fill_rows(slots, line, states, symbols);
+}
+
+/// As `fill`, inlined.
+#[inline(always)]
+fn fill_rows(slots: &mut [Slot; SLOTS], line: &[u8], states: usize, symbols: usize)
     requires { (gs : List (List Entry)) × IsTable states symbols gs × (text gs ≡ line.now) }
     ensures { (gs : List (List Entry)) → IsTable states symbols gs → text gs ≡ line.now
         → table_in states symbols slots.new ≡ gs }
@@ -251,6 +310,7 @@ fn fill(slots: &mut [Slot; SLOTS], line: &[u8], states: usize, symbols: usize)
 }
 
 /// Writes the entries of the group at the start of the bytes into a row.
+#[inline(always)]
 fn fill_row(slots: &mut [Slot; SLOTS], row: usize, symbols: usize, bytes: &[u8])
     requires row { row < MAX_STATES }
     requires symbols { symbols ≤ MAX_SYMBOLS }

@@ -1,6 +1,6 @@
 use Rattle.std.proofs.Common.{◌≤◌, ◌+◌, ◌*◌, length, get_or, [], ap, arith, rules}
 use Rattle.bb_machine.proofs.Filled.{table_inside, group_read, table_grows}
-use Rattle.bb_machine.proofs.machine.reader.fill.Goals as goal
+use Rattle.bb_machine.proofs.machine.reader.fill_rows.Goals as goal
 
 pub slice_bounds-fill_row-count : goal.slice_bounds-fill_row-count
 slice_bounds-fill_row-count c =
