@@ -1,14 +1,18 @@
 -- What entering a branch does to the tape and its window.
 use Rattle.std.proofs.Common.{◌≡◌, ℕ, ◌+◌, ◌-◌, ◌<◌, min, List, slice_index, ℤ, pos, neg_ℤ, ◌≤ℤ◌, refl, ap}
-use Rattle.std.proofs.Common.{arith}
+use Rattle.std.proofs.Common.{◌+ℤ◌, ◌⊎◌, inl, inr, subst, ◌<ℤ◌, ◌∙◌, arith}
 use Rattle.std.specs.Int.{int_min, int_max}
 use Rattle.std.proofs.lemmas.Int.{ints, clamps}
 use Rattle.bb_machine.specs.declared.entry.Dir.{Dir}
+use Rattle.bb_machine.specs.declared.entry.Dir.TheVariants.{L, R}
 use Rattle.bb_tape.specs.Content.{Content, cell}
-use Rattle.bb_tape.specs.TapeView.{TapeView, visited, written}
+use Rattle.bb_tape.specs.TapeView.{IsInside, TapeView, visited, width, written}
+use Rattle.bb_tape.proofs.Facts.{cell-with_cell-other}
+use Rattle.bb_sim.proofs.Facts.{max_right, min_right}
+use Rattle.bb_cert.specs.declared.tree.endless.Endless.{Endless}
 use Rattle.bb_cert.specs.declared.tree.walk.Branch.{Branch}
-use Rattle.bb_cert.specs.inside.Walk.{HasNonzero, HasRoom, IsBranch, Refused}
-use Rattle.bb_cert.specs.inside.Walk.{matched, branch_node, content_in}
+use Rattle.bb_cert.specs.inside.Walk.{HasNonzero, HasRoom, IsBranch, IsIn, IsUnknownOutside, Refused}
+use Rattle.bb_cert.specs.inside.Walk.{matched, without_end, branch_node, content_in, endless_of, shown_symbol}
 use Rattle.bb_cert.specs.inside.Steps.{Enters}
 use Rattle.bb_cert.proofs.tree_lemmas.Shown.{written_nonzero, some_nonzero, start_matches, matched_in_a}
 use Rattle.bb_cert.proofs.tree_lemmas.Shown.{matched_none}
@@ -26,6 +30,20 @@ high_kept high p level levels deep a b =
     let d : p ≤ℤ pos (levels - 1) = omega (arith, ints, deep, b) in
     omega (arith, ints, clamps, a, d)
 
+-- after a branch was entered no cell further out than it is known
+pub outside_entered : {states level : ℕ} (content : Content) {branch : Branch}
+    → IsBranch states content level branch
+    → IsUnknownOutside (content_in content branch) (int_min branch.lowest branch.position)
+    (int_max branch.highest branch.position)
+outside_entered content {branch} is = record {
+  below = λ p less. cell-with_cell-other content branch.position (branch.symbol + 1) p
+      (λ e. omega (arith, ints, clamps, e, less))
+      ∙ is.outside.below p (omega (arith, ints, clamps, less));
+  above = λ p more. cell-with_cell-other content branch.position (branch.symbol + 1) p
+      (λ e. omega (arith, ints, clamps, e, more))
+      ∙ is.outside.above p (omega (arith, ints, clamps, more));
+}
+
 -- widening the window to a position of a level keeps the room
 pub room_visited : (s : TapeView) (p : ℤ) (level levels : ℕ) → HasRoom s levels → level < levels
     → neg_ℤ (pos level) ≤ℤ p → p ≤ℤ pos level → HasRoom (visited s p) levels
@@ -34,6 +52,17 @@ room_visited s p level levels room deep low high = record {
   not_above = high_kept s.high p level levels deep room.not_above high;
   limit = room.limit;
 }
+
+-- so the window can be widened to it
+pub room_for : (s : TapeView) {p q : ℤ} (level levels : ℕ) → HasRoom s levels → level < levels
+    → neg_ℤ (pos level) ≤ℤ p → p ≤ℤ pos level → q ≡ p → pos s.limit <ℤ width (visited s q) → ⊥
+room_for s {p} level levels room deep low high same full =
+    let then = room_visited s p level levels room deep low high in
+    let wide = subst (λ x. pos s.limit <ℤ width (visited s x)) same full in
+    omega (arith, ints, deep, then.not_below, then.not_above, then.limit, wide)
+
+pub inside_visited : (s : TapeView) (p : ℤ) {then : TapeView} → then ≡ visited s p → IsInside then p
+inside_visited s p e = rw e (min_right s.low p, max_right s.high p)
 
 pub room_written : (s : TapeView) (p : ℤ) (v levels : ℕ) → HasRoom s levels → HasRoom (written s p v) levels
 room_written s p v levels room =
@@ -46,6 +75,28 @@ has_some {content = content} {branch} is more = let held = is.held in
 
 module _ {states level : ℕ} (old : TapeView) {branch : Branch}
     (is : IsBranch states old.content level branch) where
+  -- where nothing is known further out than the branch, its node is open
+  module _ {endless : Endless} (found : ((branch.position ≤ℤ branch.lowest) × IsIn endless.right branch.state)
+      ⊎ ((branch.highest ≤ℤ branch.position) × IsIn endless.left branch.state)) where
+    pub open_refused : {nodes most_nodes levels : ℕ}
+        → Refused (endless_of endless) (branch_node old.content branch) level nodes most_nodes levels
+    open_refused = elim found [
+      | inl right ↦ without_end R (record {
+        state = right.1;
+        unknown = λ d behind. ap shown_symbol
+            (cell-with_cell-other old.content branch.position (branch.symbol + 1) (branch.position +ℤ d)
+            (λ e. omega (arith, ints, e, behind))
+            ∙ is.outside.below (branch.position +ℤ d) (omega (arith, ints, right.0, behind)));
+      })
+      | inr left ↦ without_end L (record {
+        state = left.1;
+        unknown = λ d behind. ap shown_symbol
+            (cell-with_cell-other old.content branch.position (branch.symbol + 1) (branch.position +ℤ d)
+            (λ e. omega (arith, ints, e, behind))
+            ∙ is.outside.above (branch.position +ℤ d) (omega (arith, ints, left.0, behind)));
+      })
+    ]
+
   -- after the window was widened
   module _ {widened : TapeView} {p : ℤ} (same : p ≡ branch.position) (first : widened ≡ visited old p) where
     pub room_widened : {levels : ℕ} → HasRoom old levels → level < levels → HasRoom widened levels
@@ -72,18 +123,22 @@ module _ {states level : ℕ} (old : TapeView) {branch : Branch}
             is.nonzero_known
             (omega (arith, sum, same_held))
 
-        pub matched_start : {nodes most_nodes levels : ℕ} → branch.state ≡ 0 → nonzero ≡ 0
-            → Refused (branch_node old.content branch) level nodes most_nodes levels
+        pub matched_start : {sets : Dir → ℕ} {nodes most_nodes levels : ℕ} → branch.state ≡ 0 → nonzero ≡ 0
+            → Refused sets (branch_node old.content branch) level nodes most_nodes levels
         matched_start in_a none =
             matched (start_matches (content_in old.content branch) branch.position branch.state nonzero
             more_nonzero in_a none)
 
         pub entered_frame : {starts : Dir → List ℕ} {next to : ℕ}
             → next ≡ slice_index (starts branch.dir) branch.state
-            → to ≡ slice_index (starts branch.dir) (branch.state + 1) → (branch.state ≡ 0 → nonzero ≡ 0 → ⊥)
+            → to ≡ slice_index (starts branch.dir) (branch.state + 1) → {lowest highest : ℤ}
+            → lowest ≡ int_min branch.lowest branch.position
+            → highest ≡ int_max branch.highest branch.position → (branch.state ≡ 0 → nonzero ≡ 0 → ⊥)
             → Enters starts branch level old new
             (record {
               position = p;
+              lowest = lowest;
+              highest = highest;
               state = branch.state;
               before = branch.held;
               nonzero_known = nonzero;
@@ -91,7 +146,7 @@ module _ {states level : ℕ} (old : TapeView) {branch : Branch}
                   next;
               end = to;
             })
-        entered_frame is_next is_to apart = record {
+        entered_frame is_next is_to is_lowest is_highest apart = record {
           content = ap (λ s. s.content) whole;
           low = ap (λ s. s.low) whole;
           high = ap (λ s. s.high) whole;
@@ -102,6 +157,8 @@ module _ {states level : ℕ} (old : TapeView) {branch : Branch}
           to = is_to;
           nonzero_known = rw (ap (λ s. s.content) whole) more_nonzero;
           few_nonzero = let few = is.few_nonzero in omega (arith, sum, few);
+          lowest = is_lowest;
+          highest = is_highest;
           apart = λ matches. apart
               (matched_in_a (content_in old.content branch) branch.position branch.state matches)
               (matched_none (content_in old.content branch) branch.position branch.state nonzero more_nonzero

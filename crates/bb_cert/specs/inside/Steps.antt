@@ -14,7 +14,7 @@ use Rattle.bb_cert.specs.declared.tree.rules.Rule.{Rule}
 use Rattle.bb_cert.specs.declared.tree.walk.Branch.{Branch}
 use Rattle.bb_cert.specs.declared.tree.walk.Count.{Count}
 use Rattle.bb_cert.specs.tree.Tree.{Node, Matches, Ends, Clear, EndsNowhere}
-use Rattle.bb_cert.specs.inside.Walk.{AreRules, HasNonzero, IsWalked, branch_node, branches, content_in}
+use Rattle.bb_cert.specs.inside.Walk.{AreEndless, AreRules, HasNonzero, IsWalked, branch_node, branches, content_in}
 
 -- of how many states the rules are
 abbrev pub states_of : (Dir → List ℕ) → ℕ
@@ -46,6 +46,8 @@ pub record Enters (starts : Dir → List ℕ) (branch : Branch) (level : ℕ) (o
   pub to : frame.end ≡ slice_index (starts branch.dir) (branch.state + 1)
   pub nonzero_known : HasNonzero new.content frame.nonzero_known
   pub few_nonzero : frame.nonzero_known ≤ level + 1
+  pub lowest : frame.lowest ≡ int_min branch.lowest branch.position
+  pub highest : frame.highest ≡ int_max branch.highest branch.position
   pub apart : Matches (branch_node old.content branch) start → ⊥
 
 -- the first of a frame's branches, and the rule after the one by which it comes
@@ -57,19 +59,23 @@ pub record IsFirstBranch (list : List Rule) (states : ℕ) (content : Content) (
   pub symbol : branch.symbol < MAX_SYMBOLS
   pub held : branch.held ≡ cell content branch.position
   pub nonzero_known : branch.nonzero_known ≡ frame.nonzero_known
+  pub lowest : branch.lowest ≡ frame.lowest
+  pub highest : branch.highest ≡ frame.highest
   pub further : frame.next < next
   pub within : next ≤ frame.end
   pub first : branches list content frame
       ≡ branch_node content branch ∷ branches list content (record frame { next = next })
 
 -- the tree of a root was walked through, and the tape is blank; or no tree ends within the bounds
-abbrev pub Explores : List Rule → (Dir → List ℕ) → Branch → Count → Count → Count → Content → Bool → Type 0
-Explores list starts root most old new content true = (content ≡ blank)
+abbrev pub Explores : List Rule → (Dir → List ℕ) → (Dir → ℕ) → Branch → Count → Count → Count → Content → Bool
+    → Type 0
+Explores list starts sets root most old new content true = (content ≡ blank)
     × ((table : Table) (rest : List Node) → AreRules table list starts
     → IsWalked table ((branch_node blank root ∷ rest) ∷ []) old.nodes old.levels
     → IsWalked table (rest ∷ []) new.nodes new.levels)
-Explores list starts root most old new content false = (table : Table) (rest : List Node)
+Explores list starts sets root most old new content false = (table : Table) (rest : List Node)
     → AreRules table list starts
+    → AreEndless table sets
     → IsWalked table ((branch_node blank root ∷ rest) ∷ []) old.nodes old.levels
     → EndsNowhere table most.levels most.nodes
 

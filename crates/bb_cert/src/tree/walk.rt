@@ -2,7 +2,7 @@
 //!
 //! The tape has the known cells of a node: a known symbol `r` as `r + 1`, and an unknown cell as 0.
 ghost use Rattle.std.specs.Prelude.{◌≡◌, ◌<◌, ◌≤◌, ◌+◌, ◌-◌, ◌*◌, ◌^◌, [], length, min, pos, neg_ℤ};
-ghost use Rattle.std.specs.Prelude.{◌+ℤ◌, ◌≤ℤ◌, IfOk, IfSome, IsTrue, MatchOption, OnErr, OnOk};
+ghost use Rattle.std.specs.Prelude.{◌⊎◌, ◌+ℤ◌, ◌≤ℤ◌, IfOk, IfSome, IsTrue, MatchOption, OnErr, OnOk};
 ghost use Rattle.std.specs.List.{AllByRecursion};
 ghost use Rattle.bb_machine.specs.Machine.{IsMachine};
 ghost use Rattle.bb_tape.specs.Content.{blank};
@@ -12,16 +12,17 @@ ghost use Rattle.bb_cert.specs.tree.Path.{depth_of};
 ghost use Rattle.bb_cert.specs.tree.Tree as tree;
 ghost use Rattle.bb_cert.specs.tree.WalkMeter.{IsWithinWalk, walked};
 ghost use Rattle.bb_cert.specs.tree.Tree.{EndsWithin, EndsNowhere};
-ghost use Rattle.bb_cert.specs.inside.Walk.{HasRoom, IsBranch, IsRule, Refused, branch_node, branches};
-ghost use Rattle.bb_cert.specs.inside.Walk.{starts_of};
+ghost use Rattle.bb_cert.specs.inside.Walk.{HasRoom, IsBranch, IsIn, IsRule, Refused, branch_node, branches};
+ghost use Rattle.bb_cert.specs.inside.Walk.{endless_of, starts_of};
 ghost use Rattle.bb_cert.specs.inside.Steps.{Enters, Explores, HasTable, IsFirstBranch, IsWithin, WalksAll};
 ghost use Rattle.bb_cert.specs.inside.Steps.{entered_on, states_of};
 
+use crate::tree::endless::{Endless, has_state};
 use crate::tree::path::{Frame, Path};
 use crate::tree::rules::Rules;
 use arrayvec::ArrayVec;
 use bb_machine::limits::MAX_LEVELS;
-use bb_machine::{Dir, Entry, Machine};
+use bb_machine::{Dir, Entry, MAX_STATES, Machine};
 use bb_sim::Meter;
 use bb_tape::{Memory, Tape};
 
@@ -36,6 +37,10 @@ struct Count {
 #[derive(Clone, Copy, Debug)]
 struct Branch {
     position: i64,
+    /// The lowest position of a cell known in the node.
+    lowest: i64,
+    /// The highest position of a cell known in the node.
+    highest: i64,
     state: u8,
     symbol: u8,
     /// The head's move from it to the node.
@@ -108,6 +113,10 @@ fn explore_all<T: Tape>(
     ensures depth { depth_of path.new ≡ depth_of path.old }
     ensures memory { OnErr result (IsTrue T.GROWS) }
 {
+    let endless = Endless::of_machine(machine);
+    if endless.has_root(machine) {
+        return Ok(false);
+    }
     let mut rules = Rules {
         list: ArrayVec::new(),
         left_first: ArrayVec::new(),
@@ -119,13 +128,15 @@ fn explore_all<T: Tape>(
         let rule = rules.list[index as usize];
         let root = Branch {
             position: 0,
+            lowest: 0,
+            highest: 0,
             state: rule.state,
             symbol: rule.symbol,
             dir: Dir::R,
             held: 0,
             nonzero_known: 0,
         };
-        if !explore(&rules, root, most, tape, path, entered)? {
+        if !explore(&rules, endless, root, most, tape, path, entered)? {
             return Ok(false);
         }
     }
@@ -135,6 +146,7 @@ fn explore_all<T: Tape>(
 /// Walks through the tree of one halting entry. False if it doesn't end within the bounds.
 fn explore<T: Tape>(
     rules: &Rules,
+    endless: Endless,
     root: Branch,
     most: Count,
     tape: &mut T,
@@ -142,13 +154,14 @@ fn explore<T: Tape>(
     entered: &mut Count,
 ) -> Result<bool, Memory>
     requires rules { HasTable rules.now.list.items (starts_of rules.now) }
+    requires states { states_of (starts_of rules.now) ≤ MAX_STATES }
     requires root { IsBranch (states_of (starts_of rules.now)) blank 0 root }
     requires blank { (T.view tape.old).content ≡ blank }
     requires room { HasRoom (T.view tape.old) most.levels }
     requires path { most.levels ≤ depth_of path.old }
     requires within { IsWithin most entered.old }
-    ensures explores { IfOk result (Explores rules.now.list.items (starts_of rules.now) root most entered.old
-        entered.new (T.view tape.new).content) }
+    ensures explores { IfOk result (Explores rules.now.list.items (starts_of rules.now)
+        (endless_of endless) root most entered.old entered.new (T.view tape.new).content) }
     ensures room { HasRoom (T.view tape.new) most.levels }
     ensures within { IsWithin most entered.new }
     ensures limit { (T.view tape.new).limit ≡ (T.view tape.old).limit }
@@ -156,13 +169,22 @@ fn explore<T: Tape>(
     ensures memory { OnErr result (IsTrue T.GROWS) }
 {
     path.clear();
-    let Some(mut top) = enter(rules, root, 0, most, tape, entered)? else {
+    let Some(mut top) = enter(rules, endless, root, 0, most, tape, entered)? else {
         return Ok(false);
     };
     loop {
         match next_branch(rules, top, tape) {
             Some((branch, next)) => {
-                let Some(child) = enter(rules, branch, path.len() + 1, most, tape, entered)? else {
+                let Some(child) = enter(
+                    rules,
+                    endless,
+                    branch,
+                    path.len() + 1,
+                    most,
+                    tape,
+                    entered,
+                )?
+                else {
                     return Ok(false);
                 };
                 top.next = next;
@@ -184,6 +206,7 @@ fn explore<T: Tape>(
 #[inline]
 fn enter<T: Tape>(
     rules: &Rules,
+    endless: Endless,
     branch: Branch,
     level: u64,
     most: Count,
@@ -191,6 +214,7 @@ fn enter<T: Tape>(
     entered: &mut Count,
 ) -> Result<Option<Frame>, Memory>
     requires rules { HasTable rules.now.list.items (starts_of rules.now) }
+    requires states { states_of (starts_of rules.now) ≤ MAX_STATES }
     requires branch { IsBranch (states_of (starts_of rules.now)) (T.view tape.old).content level branch }
     requires beside { IsBeside (T.view tape.old) branch.position }
     requires level { level ≤ MAX_LEVELS }
@@ -201,8 +225,8 @@ fn enter<T: Tape>(
     ensures counted { IfOk result (λ frame. IfSome frame (λ frame. (level < most.levels)
         × (entered.old.nodes < most.nodes) × (entered.new ≡ entered_on level entered.old))) }
     ensures refused { IfOk result (λ frame. MatchOption frame
-        (Refused (branch_node (T.view tape.old).content branch) level entered.old.nodes most.nodes
-        most.levels)
+        (Refused (endless_of endless) (branch_node (T.view tape.old).content branch) level
+        entered.old.nodes most.nodes most.levels)
         (λ frame. Unit {0})) }
     ensures room { HasRoom (T.view tape.new) most.levels }
     ensures within { IsWithin most entered.new }
@@ -210,6 +234,9 @@ fn enter<T: Tape>(
     ensures memory { OnErr result (IsTrue T.GROWS) }
 {
     if most.levels <= level || most.nodes <= entered.nodes {
+        return Ok(None);
+    }
+    if has_no_end(endless, branch) {
         return Ok(None);
     }
     let Ok(()) = tape.visit(branch.position) else {
@@ -227,12 +254,26 @@ fn enter<T: Tape>(
     let (next, end) = rules.range(branch.state, branch.dir);
     Ok(Some(Frame {
         position: branch.position,
+        lowest: branch.lowest.min(branch.position),
+        highest: branch.highest.max(branch.position),
         state: branch.state,
         before: branch.held,
         nonzero_known,
         next,
         end,
     }))
+}
+
+/// Whether a node has an endless path of predecessors by moves in one direction: its state has one, and no cell
+/// that they would write is known.
+#[inline]
+fn has_no_end(endless: Endless, branch: Branch) -> bool
+    requires { branch.state < MAX_STATES }
+    ensures { IsTrue result → ((branch.position ≤ℤ branch.lowest) × IsIn endless.right branch.state)
+        ⊎ ((branch.highest ≤ℤ branch.position) × IsIn endless.left branch.state) }
+{
+    branch.position <= branch.lowest && has_state(endless.right, branch.state)
+        || branch.highest <= branch.position && has_state(endless.left, branch.state)
 }
 
 /// How many cells a branch's node knows to be other than 0.
@@ -287,6 +328,8 @@ fn next_branch<T: Tape>(rules: &Rules, frame: Frame, tape: &T) -> Option<(Branch
         if held == 0 || held == write + 1 {
             let branch = Branch {
                 position,
+                lowest: frame.lowest,
+                highest: frame.highest,
                 state: rule.state,
                 symbol: rule.symbol,
                 dir,

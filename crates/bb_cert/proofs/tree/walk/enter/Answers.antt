@@ -1,9 +1,29 @@
 use Rattle.std.proofs.Common.{ℕ, ◌+◌, ◌<◌, ◌≤◌, inl, inr, FitsSigned, w64, refl}
-use Rattle.std.proofs.Common.{arith, rules}
+use Rattle.std.proofs.Common.{◌≡◌, Err, ap, ◌∙◌, arith, rules}
+use Rattle.bb_tape.specs.declared.tape.TapeFault.TheVariants.{Cells}
 use Rattle.std.proofs.lemmas.Int.{to_z-of_z}
-use Rattle.bb_cert.proofs.tree_lemmas.Entering.{has_some, room_entered, matched_start, entered_frame}
+use Rattle.bb_cert.proofs.tree_lemmas.Entering.{has_some, room_entered, matched_start, inside_visited, open_refused, room_for, entered_frame}
 use Rattle.bb_cert.proofs.tree_lemmas.Entering.{room_widened}
 use Rattle.bb_cert.proofs.tree.walk.enter.Goals as goal
+
+pub has_no_end-requires : goal.has_no_end-requires
+has_no_end-requires g c =
+    let state = c.requires.branch.state in let states = c.requires.states in omega (arith, state, states)
+
+pub returns-then-has_no_end-clause-refused : goal.returns-then-has_no_end-clause-refused
+returns-then-has_no_end-clause-refused g c =
+    open_refused (g.T.Tape.view c.args.tape.now) c.requires.branch (c.if-has_no_end.ensures refl)
+
+pub unreachable-requires : goal.unreachable-requires
+unreachable-requires g c =
+    let fits : FitsSigned w64 c.args.branch.position = search rules in
+    let full : c.visit.result ≡ Err Cells = c.in_default.is ∙ ap Err c.in_default.ensures.memory in
+    room_for (g.T.Tape.view c.args.tape.now) c.args.level c.args.most.levels c.requires.room
+    c.if-most-level.false c.requires.branch.not_below c.requires.branch.not_above (to_z-of_z _ _ fits)
+    (c.visit.ensures.cells.0 full)
+
+pub write-requires-clause-inside : goal.write-requires-clause-inside
+write-requires-clause-inside g c = inside_visited (g.T.Tape.view c.args.tape.now) _ c.in-Ok.ensures.ok
 
 pub returns-in_default-write-clause-room : goal.returns-in_default-write-clause-room
 returns-in_default-write-clause-room g c =
@@ -30,9 +50,12 @@ returns-then-nonzero_known-eq0-clause-room g c =
 pub returns-clause-enters : goal.returns-clause-enters
 returns-clause-enters g c =
     let fits : FitsSigned w64 c.args.branch.position = search rules in
+    let fits_low : FitsSigned w64 c.min.result = search rules in
+    let fits_high : FitsSigned w64 c.max.result = search rules in
     entered_frame (g.T.Tape.view c.args.tape.now) c.requires.branch (to_z-of_z _ _ fits) c.in-Ok.ensures.ok
     c.in-Ok-write.ensures.ok c.count_known-nonzero_known.ensures
-    c.range-next.ensures.from c.range-next.ensures.to
+    c.range-next.ensures.from c.range-next.ensures.to (to_z-of_z _ _ fits_low ∙ search rules)
+    (to_z-of_z _ _ fits_high ∙ search rules)
     (λ in_a none. elim c.else-branch-eq0.either [ inl both ↦ both.1 none | inr other ↦ other in_a ])
 
 pub returns-clause-room : goal.returns-clause-room
