@@ -103,20 +103,23 @@ module _ {table : Table} (sets : Dir → ℕ) (dir : Dir) (endless : IsEndless t
       }))
 
   opens_levels : (i d : ℕ) → OneOpen sets dir (level table i) → OneOpen sets dir (level table (d + i))
-  opens_levels i zero one = let n : i ≡ 0 + i = omega arith in subst (λ j. OneOpen sets dir (level table j)) n one
+  opens_levels i zero one =
+      let n : i ≡ 0 + i = omega arith in
+      subst (λ j. OneOpen sets dir (level table j)) n one
   opens_levels i (suc d) one =
       let n : suc (d + i) ≡ suc d + i = omega arith in
       subst (λ j. OneOpen sets dir (level table j)) n
       ((one-flat_map (IsOpen sets dir) (before table) (level table (d + i))).1
-      (one_more (IsOpen sets dir) (λ node. OneOpen sets dir (before table node)) opens_before (level table (d + i))
-      (opens_levels i d one)))
+      (one_more (IsOpen sets dir) (λ node. OneOpen sets dir (before table node)) opens_before
+      (level table (d + i)) (opens_levels i d one)))
 
   -- with such a node on a level no level is empty
   pub never_empty : (i h : ℕ) → OneOpen sets dir (level table i) → level table h ≢ []
   never_empty i h one none = elim (cases_lt i h) [
     | inl less ↦
         let n : (h - i) + i ≡ h = omega (arith, less) in
-        subst (OneOpen sets dir) none (subst (λ j. OneOpen sets dir (level table j)) n (opens_levels i (h - i) one))
+        let later = opens_levels i (h - i) one in
+        subst (OneOpen sets dir) none (subst (λ j. OneOpen sets dir (level table j)) n later)
     | inr more ↦ subst (OneOpen sets dir) (empty_levels_stay table h i more none) one
   ]
 

@@ -1,18 +1,17 @@
 -- What entering a branch does to the tape and its window.
 use Rattle.std.proofs.Common.{◌≡◌, ℕ, ◌+◌, ◌-◌, ◌<◌, min, List, slice_index, ℤ, pos, neg_ℤ, ◌≤ℤ◌, refl, ap}
-use Rattle.std.proofs.Common.{◌+ℤ◌, ◌⊎◌, inl, inr, subst, ◌<ℤ◌, ◌∙◌, arith}
+use Rattle.std.proofs.Common.{◌≢◌, None, ◌+ℤ◌, ◌-ℤ◌, sym, subst, ◌<ℤ◌, ◌∙◌, arith}
 use Rattle.std.specs.Int.{int_min, int_max}
 use Rattle.std.proofs.lemmas.Int.{ints, clamps}
 use Rattle.bb_machine.specs.declared.entry.Dir.{Dir}
 use Rattle.bb_machine.specs.declared.entry.Dir.TheVariants.{L, R}
 use Rattle.bb_tape.specs.Content.{Content, cell}
 use Rattle.bb_tape.specs.TapeView.{IsInside, TapeView, visited, width, written}
-use Rattle.bb_tape.proofs.Facts.{cell-with_cell-other}
+use Rattle.bb_tape.proofs.Facts.{by_position, cell-with_cell-other, cell-with_cell-same}
 use Rattle.bb_sim.proofs.Facts.{max_right, min_right}
-use Rattle.bb_cert.specs.declared.tree.endless.Endless.{Endless}
 use Rattle.bb_cert.specs.declared.tree.walk.Branch.{Branch}
-use Rattle.bb_cert.specs.inside.Walk.{HasNonzero, HasRoom, IsBranch, IsIn, IsUnknownOutside, Refused}
-use Rattle.bb_cert.specs.inside.Walk.{matched, without_end, branch_node, content_in, endless_of, shown_symbol}
+use Rattle.bb_cert.specs.inside.Walk.{HasNonzero, HasRoom, HasSpan, IsAtEdge, IsBranch, IsOpen, Refused}
+use Rattle.bb_cert.specs.inside.Walk.{matched, without_end, branch_node, content_in, shown, shown_symbol}
 use Rattle.bb_cert.specs.inside.Steps.{Enters}
 use Rattle.bb_cert.proofs.tree_lemmas.Shown.{written_nonzero, some_nonzero, start_matches, matched_in_a}
 use Rattle.bb_cert.proofs.tree_lemmas.Shown.{matched_none}
@@ -30,19 +29,49 @@ high_kept high p level levels deep a b =
     let d : p ≤ℤ pos (levels - 1) = omega (arith, ints, deep, b) in
     omega (arith, ints, clamps, a, d)
 
--- after a branch was entered no cell further out than it is known
-pub outside_entered : {states level : ℕ} (content : Content) {branch : Branch}
-    → IsBranch states content level branch
-    → IsUnknownOutside (content_in content branch) (int_min branch.lowest branch.position)
-    (int_max branch.highest branch.position)
-outside_entered content {branch} is = record {
-  below = λ p less. cell-with_cell-other content branch.position (branch.symbol + 1) p
-      (λ e. omega (arith, ints, clamps, e, less))
-      ∙ is.outside.below p (omega (arith, ints, clamps, less));
-  above = λ p more. cell-with_cell-other content branch.position (branch.symbol + 1) p
-      (λ e. omega (arith, ints, clamps, e, more))
-      ∙ is.outside.above p (omega (arith, ints, clamps, more));
+not_up_to : (p q : ℤ) → (p ≤ℤ q → ⊥) → q <ℤ p
+not_up_to p q past = grind (arith, ints, past)
+
+-- known cells that reach further also reach so far
+pub span_nearer : {content : Content} {from to from' to' : ℤ} → HasSpan content from to → from ≤ℤ from'
+    → to' ≤ℤ to → HasSpan content from' to'
+span_nearer span low high = record {
+  lowest = span.lowest;
+  highest = span.highest;
+  below = span.below;
+  above = span.above;
+  known = span.known;
+  reaches_from = let a = span.reaches_from in omega (arith, ints, a, low);
+  reaches_to = let a = span.reaches_to in omega (arith, ints, a, high);
 }
+
+-- where a branch is entered, the known cells become one more, or stay the same ones
+pub span_entered : {states level : ℕ} (content : Content) {branch : Branch}
+    → IsBranch states content level branch
+    → HasSpan (content_in content branch) branch.position branch.position
+span_entered content {branch} is =
+    let p = branch.position in
+    let low = is.span.reaches_from in
+    let high = is.span.reaches_to in
+    let other = cell-with_cell-other content p (branch.symbol + 1) in
+    record {
+      lowest = int_min is.span.lowest p;
+      highest = int_max is.span.highest p;
+      below = λ q less. other q (λ e. omega (arith, ints, clamps, e, less))
+          ∙ is.span.below q (omega (arith, ints, clamps, less));
+      above = λ q more. other q (λ e. omega (arith, ints, clamps, e, more))
+          ∙ is.span.above q (omega (arith, ints, clamps, more));
+      known = λ q from to. by_position q p _
+          (λ here none.
+          let new = ap (cell (content_in content branch)) here
+          ∙ cell-with_cell-same content p (branch.symbol + 1) in
+          omega (arith, new, none))
+          (λ apart none.
+          is.span.known q (omega (arith, ints, clamps, from, low, apart))
+          (omega (arith, ints, clamps, to, high, apart)) (sym (other q apart) ∙ none));
+      reaches_from = omega (arith, ints, clamps);
+      reaches_to = omega (arith, ints, clamps);
+    }
 
 -- widening the window to a position of a level keeps the room
 pub room_visited : (s : TapeView) (p : ℤ) (level levels : ℕ) → HasRoom s levels → level < levels
@@ -75,27 +104,39 @@ has_some {content = content} {branch} is more = let held = is.held in
 
 module _ {states level : ℕ} (old : TapeView) {branch : Branch}
     (is : IsBranch states old.content level branch) where
-  -- where nothing is known further out than the branch, its node is open
-  module _ {endless : Endless} (found : ((branch.position ≤ℤ branch.lowest) × IsIn endless.right branch.state)
-      ⊎ ((branch.highest ≤ℤ branch.position) × IsIn endless.left branch.state)) where
-    pub open_refused : {nodes most_nodes levels : ℕ}
-        → Refused (endless_of endless) (branch_node old.content branch) level nodes most_nodes levels
-    open_refused = elim found [
-      | inl right ↦ without_end R (record {
-        state = right.1;
-        unknown = λ d behind. ap shown_symbol
-            (cell-with_cell-other old.content branch.position (branch.symbol + 1) (branch.position +ℤ d)
-            (λ e. omega (arith, ints, e, behind))
-            ∙ is.outside.below (branch.position +ℤ d) (omega (arith, ints, right.0, behind)));
-      })
-      | inr left ↦ without_end L (record {
-        state = left.1;
-        unknown = λ d behind. ap shown_symbol
-            (cell-with_cell-other old.content branch.position (branch.symbol + 1) (branch.position +ℤ d)
-            (λ e. omega (arith, ints, e, behind))
-            ∙ is.outside.above (branch.position +ℤ d) (omega (arith, ints, left.0, behind)));
-      })
-    ]
+  -- where the cell next to a branch is unknown, all further ones are
+
+  none_known : (d : ℤ) → d ≢ pos 0 → cell old.content (branch.position +ℤ d) ≡ 0
+      → shown (content_in old.content branch) branch.position d ≡ None
+  none_known d apart none = ap shown_symbol
+      (cell-with_cell-other old.content branch.position (branch.symbol + 1) (branch.position +ℤ d)
+      (λ e. apart (omega (arith, ints, e))) ∙ none)
+
+  open_towards : (sets : Dir → ℕ) (dir : Dir) → IsAtEdge sets old.content branch dir
+      → IsOpen sets dir (branch_node old.content branch)
+  open_towards sets L edge = record {
+    state = edge.0;
+    unknown = λ d behind.
+        let next = branch.position +ℤ pos 1 in
+        let past : next ≤ℤ is.span.highest → ⊥ = λ at. is.span.known next is.span.reaches_from at edge.1 in
+        none_known d (λ e. omega (arith, ints, e, behind))
+        (is.span.above (branch.position +ℤ d)
+        (let far = not_up_to next is.span.highest past in omega (arith, ints, far, behind)));
+  }
+  open_towards sets R edge = record {
+    state = edge.0;
+    unknown = λ d behind.
+        let next = branch.position -ℤ pos 1 in
+        let past : is.span.lowest ≤ℤ next → ⊥ = λ at. is.span.known next at is.span.reaches_to edge.1 in
+        none_known d (λ e. omega (arith, ints, e, behind))
+        (is.span.below (branch.position +ℤ d)
+        (let far = not_up_to is.span.lowest next past in omega (arith, ints, far, behind)));
+  }
+
+  pub edge_refused : {sets : Dir → ℕ} {nodes most_nodes levels : ℕ} (dir : Dir)
+      → IsAtEdge sets old.content branch dir
+      → Refused sets (branch_node old.content branch) level nodes most_nodes levels
+  edge_refused {sets} dir edge = without_end dir (open_towards sets dir edge)
 
   -- after the window was widened
   module _ {widened : TapeView} {p : ℤ} (same : p ≡ branch.position) (first : widened ≡ visited old p) where
@@ -131,14 +172,10 @@ module _ {states level : ℕ} (old : TapeView) {branch : Branch}
 
         pub entered_frame : {starts : Dir → List ℕ} {next to : ℕ}
             → next ≡ slice_index (starts branch.dir) branch.state
-            → to ≡ slice_index (starts branch.dir) (branch.state + 1) → {lowest highest : ℤ}
-            → lowest ≡ int_min branch.lowest branch.position
-            → highest ≡ int_max branch.highest branch.position → (branch.state ≡ 0 → nonzero ≡ 0 → ⊥)
+            → to ≡ slice_index (starts branch.dir) (branch.state + 1) → (branch.state ≡ 0 → nonzero ≡ 0 → ⊥)
             → Enters starts branch level old new
             (record {
               position = p;
-              lowest = lowest;
-              highest = highest;
               state = branch.state;
               before = branch.held;
               nonzero_known = nonzero;
@@ -146,7 +183,7 @@ module _ {states level : ℕ} (old : TapeView) {branch : Branch}
                   next;
               end = to;
             })
-        entered_frame is_next is_to is_lowest is_highest apart = record {
+        entered_frame is_next is_to apart = record {
           content = ap (λ s. s.content) whole;
           low = ap (λ s. s.low) whole;
           high = ap (λ s. s.high) whole;
@@ -157,8 +194,6 @@ module _ {states level : ℕ} (old : TapeView) {branch : Branch}
           to = is_to;
           nonzero_known = rw (ap (λ s. s.content) whole) more_nonzero;
           few_nonzero = let few = is.few_nonzero in omega (arith, sum, few);
-          lowest = is_lowest;
-          highest = is_highest;
           apart = λ matches. apart
               (matched_in_a (content_in old.content branch) branch.position branch.state matches)
               (matched_none (content_in old.content branch) branch.position branch.state nonzero more_nonzero

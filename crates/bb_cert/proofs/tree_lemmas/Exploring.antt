@@ -23,7 +23,7 @@ use Rattle.bb_cert.specs.inside.Walk.{AreRules, AreFrames, IsFrame, IsBranch, Is
 use Rattle.bb_cert.specs.inside.Walk.{Refused}
 use Rattle.bb_cert.specs.inside.Walk.{branches, comb_of, branch_node}
 use Rattle.bb_cert.specs.inside.Steps.{HasTable, Enters, Explores, IsFirstBranch, entered_on, states_of}
-use Rattle.bb_cert.proofs.tree_lemmas.Entering.{outside_entered}
+use Rattle.bb_cert.proofs.tree_lemmas.Entering.{span_entered, span_nearer}
 use Rattle.bb_cert.proofs.tree_lemmas.Walked.{walk_enters, walk_leaves, walk_refused}
 use Rattle.bb_cert.proofs.tree_lemmas.Orders.{AreAlike, alike_permuted, walk_rearranged}
 
@@ -41,7 +41,7 @@ frame_kept next below above within is = record {
   in_rules = is.in_rules;
   nonzero_known = is.nonzero_known;
   few_nonzero = is.few_nonzero;
-  outside = is.outside;
+  span = is.span;
 }
 
 frames_wider : (list : List Rule) {low high low' high' : ℤ} → low' ≤ℤ low → high ≤ℤ high'
@@ -92,7 +92,7 @@ module _ {list : List Rule} {starts : Dir → List ℕ} (known : HasTable list s
     in_rules = range.within;
     nonzero_known = enters.nonzero_known;
     few_nonzero = enters.few_nonzero;
-    outside = rw (enters.lowest, enters.highest, enters.content) (outside_entered old.content is);
+    span = rw (enters.position, enters.content) (span_entered old.content is);
   }
 
   pub frames_entered : (fs : List Frame) → length fs ≡ level → AreFrames list old.low old.high old.content fs
@@ -184,7 +184,8 @@ module _ {list : List Rule} {starts : Dir → List ℕ} {root : Branch} {old mos
       symbol = first.symbol;
       held = first.held;
       nonzero_known = rw first.nonzero_known top_is.nonzero_known;
-      outside = rw (first.lowest, first.highest) top_is.outside;
+      span = span_nearer top_is.span (omega (arith, ints, first.not_below))
+          (omega (arith, ints, first.not_above));
       few_nonzero = omega (arith, top_is.few_nonzero, first.nonzero_known);
     }
 
@@ -281,5 +282,5 @@ pub root_refused : (list : List Rule) (starts : Dir → List ℕ) (sets : Dir �
     (old most new : Count) (content after : Content) → content ≡ blank
     → Refused sets (branch_node content root) 0 old.nodes most.nodes most.levels
     → Explores list starts sets root most old new after false
-root_refused list starts sets root old most new content after blank_before refused table rest rules are walked =
-    walk_refused are walked (rw blank_before at refused)
+root_refused list starts sets root old most new content after none refused table rest rules are walked =
+    walk_refused are walked (rw none at refused)

@@ -13,7 +13,8 @@ use Rattle.bb_cert.specs.declared.tree.rules.Rule.{Rule}
 use Rattle.bb_cert.specs.declared.tree.walk.Branch.{Branch}
 use Rattle.bb_cert.specs.declared.tree.walk.Count.{Count}
 use Rattle.bb_cert.specs.tree.Tree.{halting_node, rules_to, EndsNowhere}
-use Rattle.bb_cert.specs.inside.Walk.{AreEndless, AreInOrder, AreRules, IsBranch, IsRange, IsRule, IsWalked, branch_node}
+use Rattle.bb_cert.specs.inside.Walk.{AreEndless, AreInOrder, AreRules, IsBranch, IsRange, IsRule}
+use Rattle.bb_cert.specs.inside.Walk.{IsWalked, branch_node}
 use Rattle.bb_cert.specs.inside.Steps.{Explores, HasTable, IsWithin, WalksAll, states_of}
 use Rattle.bb_cert.proofs.tree_lemmas.Walked.{walk_begins, walk_ends}
 use Rattle.bb_cert.proofs.tree_lemmas.Orders.{alike_mapped, walk_rearranged}
@@ -25,8 +26,6 @@ abbrev pub root_of : Rule → Branch
 root_of rule =
     record {
       position = pos 0;
-      lowest = pos 0;
-      highest = pos 0;
       state = rule.state;
       symbol = rule.symbol;
       dir = R;
@@ -65,7 +64,15 @@ module _ {table : Table} {list seen : List Rule} {starts : Dir → List ℕ} {in
         held = sym (cell-blank (pos 0));
         nonzero_known = blank_nonzero;
         few_nonzero = omega arith;
-        outside = record { below = λ p less. cell-blank p; above = λ p more. cell-blank p };
+        span = record {
+          lowest = pos 1;
+          highest = pos 0;
+          below = λ p less. cell-blank p;
+          above = λ p more. cell-blank p;
+          known = λ p from to none. omega (arith, ints, from, to);
+          reaches_from = omega (arith, ints);
+          reaches_to = omega (arith, ints);
+        };
       }
 
   pub roots_first : map halting_node (slice_range list index to) ≡ branch_node blank (root_of
@@ -75,7 +82,8 @@ module _ {table : Table} {list seen : List Rule} {starts : Dir → List ℕ} {in
       ∙ ap (λ n. n ∷ map halting_node (slice_range list (index + 1) to)) (halting_shown
       (get_or list index no_rule) (pos 0) ∙ ap (λ r. branch_node blank (root_of r)) (sym there))
 
-  pub root_explored : (old new most : Count) (sets : Dir → ℕ) {content : Content} → Explores list starts sets (root_of
+  pub root_explored : (old new most : Count) (sets : Dir → ℕ) {content : Content}
+      → Explores list starts sets (root_of
       (get_or seen index no_rule)) most old new content true → IsWalked table (map halting_node
       (slice_range list index to) ∷ []) old.nodes old.levels → IsWalked table (map halting_node
       (slice_range list (index + 1) to) ∷ []) new.nodes new.levels

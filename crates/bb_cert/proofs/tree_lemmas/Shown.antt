@@ -169,8 +169,7 @@ module _ {list seen : List Rule} (same : seen ≡ list) (content : Content) (f :
       ∙ none_before content f.position f.state tried e)
 
   module _ {write : ℕ} {dir : Dir} {next : Next} (entry : tried.entry ≡ Go write dir next) {p : ℤ}
-      (at : p ≡ f.position +ℤ left_cell dir) {lowest highest : ℤ} (is_lowest : lowest ≡ f.lowest)
-      (is_highest : highest ≡ f.highest) {held : ℕ} (shows : held ≡ cell content p) where
+      (at : p ≡ f.position +ℤ left_cell dir) {held : ℕ} (shows : held ≡ cell content p) where
     shows_left : held ≡ cell content (f.position +ℤ left_cell dir)
     shows_left = shows ∙ ap (cell content) at
 
@@ -192,8 +191,6 @@ module _ {list seen : List Rule} (same : seen ≡ list) (content : Content) (f :
     abbrev found : Branch
     found = record {
       position = p;
-      lowest = lowest;
-      highest = highest;
       state = tried.state;
       symbol = tried.symbol;
       dir = dir;
@@ -218,8 +215,6 @@ module _ {list seen : List Rule} (same : seen ≡ list) (content : Content) (f :
           symbol = is.symbol;
           held = shows;
           nonzero_known = refl;
-          lowest = is_lowest;
-          highest = is_highest;
           further = omega (arith, from);
           within = omega (arith, less);
           first = branch_here fits;

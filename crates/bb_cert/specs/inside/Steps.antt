@@ -14,7 +14,8 @@ use Rattle.bb_cert.specs.declared.tree.rules.Rule.{Rule}
 use Rattle.bb_cert.specs.declared.tree.walk.Branch.{Branch}
 use Rattle.bb_cert.specs.declared.tree.walk.Count.{Count}
 use Rattle.bb_cert.specs.tree.Tree.{Node, Matches, Ends, Clear, EndsNowhere}
-use Rattle.bb_cert.specs.inside.Walk.{AreEndless, AreRules, HasNonzero, IsWalked, branch_node, branches, content_in}
+use Rattle.bb_cert.specs.inside.Walk.{AreEndless, AreRules, HasNonzero, IsWalked, branch_node, branches}
+use Rattle.bb_cert.specs.inside.Walk.{content_in}
 
 -- of how many states the rules are
 abbrev pub states_of : (Dir → List ℕ) → ℕ
@@ -46,8 +47,6 @@ pub record Enters (starts : Dir → List ℕ) (branch : Branch) (level : ℕ) (o
   pub to : frame.end ≡ slice_index (starts branch.dir) (branch.state + 1)
   pub nonzero_known : HasNonzero new.content frame.nonzero_known
   pub few_nonzero : frame.nonzero_known ≤ level + 1
-  pub lowest : frame.lowest ≡ int_min branch.lowest branch.position
-  pub highest : frame.highest ≡ int_max branch.highest branch.position
   pub apart : Matches (branch_node old.content branch) start → ⊥
 
 -- the first of a frame's branches, and the rule after the one by which it comes
@@ -59,8 +58,6 @@ pub record IsFirstBranch (list : List Rule) (states : ℕ) (content : Content) (
   pub symbol : branch.symbol < MAX_SYMBOLS
   pub held : branch.held ≡ cell content branch.position
   pub nonzero_known : branch.nonzero_known ≡ frame.nonzero_known
-  pub lowest : branch.lowest ≡ frame.lowest
-  pub highest : branch.highest ≡ frame.highest
   pub further : frame.next < next
   pub within : next ≤ frame.end
   pub first : branches list content frame

@@ -1,7 +1,7 @@
 -- How a walk in depth holds the nodes of the tree. No public contract speaks of it.
 use Rattle.std.specs.Prelude.{◌≡◌, ◌≢◌, ℕ, zero, suc, ◌+◌, ◌-◌, ◌*◌, ◌<◌, ◌≤◌, ◌⊎◌, Option, Some, None, List}
-use Rattle.std.specs.Prelude.{[], ◌∷◌, ◌++◌, length, slice_index, slice_range, ℤ, pos, neg_ℤ, ◌+ℤ◌, ◌≤ℤ◌, ◌<ℤ◌}
-use Rattle.std.specs.Prelude.{slice_index_or}
+use Rattle.std.specs.Prelude.{[], ◌∷◌, ◌++◌, length, slice_index, slice_range, ℤ, pos, neg_ℤ, ◌+ℤ◌, ◌≤ℤ◌}
+use Rattle.std.specs.Prelude.{slice_index_or, ◌-ℤ◌, ◌<ℤ◌}
 use Rattle.std.specs.Int.{bit_at}
 use Rattle.std.specs.List.{flat_map, AllByRecursion}
 use Rattle.std.specs.List.Sorted.{IsPermutation}
@@ -23,7 +23,7 @@ use Rattle.bb_cert.specs.declared.tree.rules.Rules.{Rules}
 use Rattle.bb_cert.specs.declared.tree.walk.Branch.{Branch}
 use Rattle.bb_cert.specs.tree.Tree.{Node, Matches, MatchesOne, OneOf, before_by, grown, level, grown_below}
 use Rattle.bb_cert.specs.tree.Tree.{nodes_below}
-use Rattle.bb_cert.specs.tree.Tree.{goes_to, rules_to}
+use Rattle.bb_cert.specs.tree.Tree.{goes_to, left_cell, rules_to}
 
 -- a tape shows the symbol r as r + 1, and an unknown cell as 0
 abbrev pub shown_symbol : ℕ → Option ℕ
@@ -85,10 +85,15 @@ pub record IsWalked (table : Table) (comb : List (List Node)) (nodes levels : �
   pub parts : AreParts table comb
   pub matches : (i : ℕ) → MatchesOne (level table i) start → CombMatches table comb i
 
--- no cell outside these positions is known
-pub record IsUnknownOutside (content : Content) (lowest highest : ℤ) : Type 0 where
+-- the known cells are those from a lowest to a highest position, which reach from one position to another
+pub record HasSpan (content : Content) (from to : ℤ) : Type 0 where
+  pub lowest : ℤ
+  pub highest : ℤ
   pub below : (p : ℤ) → p <ℤ lowest → cell content p ≡ 0
   pub above : (p : ℤ) → highest <ℤ p → cell content p ≡ 0
+  pub known : (p : ℤ) → lowest ≤ℤ p → p ≤ℤ highest → cell content p ≢ 0
+  pub reaches_from : lowest ≤ℤ from
+  pub reaches_to : to ≤ℤ highest
 
 -- a frame of a node on a level, whose node the tape shows
 pub record IsFrame (rules : List Rule) (low high : ℤ) (content : Content) (level : ℕ) (f : Frame)
@@ -102,7 +107,7 @@ pub record IsFrame (rules : List Rule) (low high : ℤ) (content : Content) (lev
   pub in_rules : f.end ≤ length rules
   pub nonzero_known : HasNonzero content f.nonzero_known
   pub few_nonzero : f.nonzero_known ≤ level + 1
-  pub outside : IsUnknownOutside content f.lowest f.highest
+  pub span : HasSpan content f.position f.position
 
 -- the frames of the nodes on the way to one, the deepest first; when all are left the tape is blank
 abbrev pub AreFrames : List Rule → ℤ → ℤ → Content → List Frame → Type 0
@@ -163,7 +168,7 @@ pub record IsBranch (states : ℕ) (content : Content) (level : ℕ) (branch : B
   pub held : branch.held ≡ cell content branch.position
   pub nonzero_known : HasNonzero content branch.nonzero_known
   pub few_nonzero : branch.nonzero_known ≤ level
-  pub outside : IsUnknownOutside content branch.lowest branch.highest
+  pub span : HasSpan content (branch.position +ℤ pos 1) (branch.position -ℤ pos 1)
 
 -- what a tape has when a branch is entered, and its node
 abbrev pub content_in : Content → Branch → Content
@@ -221,6 +226,11 @@ IsBehind R distance = distance <ℤ pos 0
 pub record IsOpen (sets : Dir → ℕ) (dir : Dir) (node : Node) : Type 0 where
   pub state : IsIn (sets dir) node.state
   pub unknown : (distance : ℤ) → IsBehind dir distance → node.known distance ≡ None
+
+-- a branch's state is in the set of a direction, and the cell from which such a move comes isn't known
+abbrev pub IsAtEdge : (Dir → ℕ) → Content → Branch → Dir → Type 0
+IsAtEdge sets content branch dir =
+    IsIn (sets dir) branch.state × (cell content (branch.position +ℤ left_cell dir) ≡ 0)
 
 -- why a walk doesn't go on with a node, with these endless sets
 pub data Refused (sets : Dir → ℕ) (node : Node) (level nodes most_nodes most_levels : ℕ) : Type 0 where

@@ -1,5 +1,5 @@
-//! The states of which the backward tree can't end.
-ghost use Rattle.std.specs.Prelude.{ℕ, ◌<◌, ◌↔◌, length, IsTrue};
+//! States with endless backward trees.
+ghost use Rattle.std.specs.Prelude.{◌≡◌, ℕ, ◌<◌, ◌↔◌, length, IsTrue};
 ghost use Rattle.bb_machine.specs.Machine.{IsMachine};
 ghost use Rattle.bb_cert.specs.tree.Tree.{EndsNowhere};
 ghost use Rattle.bb_cert.specs.inside.Walk.{AreEndless, IsEndless, IsEntered, IsEnteredFrom, IsIn, MayHalt};
@@ -27,6 +27,17 @@ impl Endless {
         }
     }
 
+    /// The set of a direction.
+    #[inline]
+    pub(crate) fn by_moves(self, dir: Dir) -> u32
+        ensures { result ≡ endless_of self dir }
+    {
+        match dir {
+            Dir::L => self.left,
+            Dir::R => self.right,
+        }
+    }
+
     /// Whether a halting entry's state is in one of the sets, so that its tree has no end.
     pub(crate) fn has_root(&self, machine: &Machine) -> bool
         requires { AreEndless machine.now (endless_of self.now) }
@@ -42,7 +53,8 @@ impl Endless {
     }
 }
 
-/// The states with an endless path of predecessors by moves in a direction.
+/// The states with an endless path of predecessors by moves in a direction. Each round but the last one
+/// removes a state.
 fn endless_by(machine: &Machine, dir: Dir) -> u32
     ensures { IsEndless machine.now dir result }
 {

@@ -11,10 +11,6 @@ use std::alloc::Global;
 pub(crate) struct Frame {
     /// The head's position.
     pub(crate) position: i64,
-    /// The lowest position of a known cell.
-    pub(crate) lowest: i64,
-    /// The highest position of a known cell.
-    pub(crate) highest: i64,
     pub(crate) state: u8,
     /// The cell's content before.
     pub(crate) before: u8,

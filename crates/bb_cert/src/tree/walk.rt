@@ -2,7 +2,7 @@
 //!
 //! The tape has the known cells of a node: a known symbol `r` as `r + 1`, and an unknown cell as 0.
 ghost use Rattle.std.specs.Prelude.{◌≡◌, ◌<◌, ◌≤◌, ◌+◌, ◌-◌, ◌*◌, ◌^◌, [], length, min, pos, neg_ℤ};
-ghost use Rattle.std.specs.Prelude.{◌⊎◌, ◌+ℤ◌, ◌≤ℤ◌, IfOk, IfSome, IsTrue, MatchOption, OnErr, OnOk};
+ghost use Rattle.std.specs.Prelude.{◌+ℤ◌, ◌≤ℤ◌, IfOk, IfSome, IsTrue, MatchOption, OnErr, OnOk};
 ghost use Rattle.std.specs.List.{AllByRecursion};
 ghost use Rattle.bb_machine.specs.Machine.{IsMachine};
 ghost use Rattle.bb_tape.specs.Content.{blank};
@@ -12,8 +12,8 @@ ghost use Rattle.bb_cert.specs.tree.Path.{depth_of};
 ghost use Rattle.bb_cert.specs.tree.Tree as tree;
 ghost use Rattle.bb_cert.specs.tree.WalkMeter.{IsWithinWalk, walked};
 ghost use Rattle.bb_cert.specs.tree.Tree.{EndsWithin, EndsNowhere};
-ghost use Rattle.bb_cert.specs.inside.Walk.{HasRoom, IsBranch, IsIn, IsRule, Refused, branch_node, branches};
-ghost use Rattle.bb_cert.specs.inside.Walk.{endless_of, starts_of};
+ghost use Rattle.bb_cert.specs.inside.Walk.{HasRoom, IsAtEdge, IsBranch, IsRule, Refused, branch_node};
+ghost use Rattle.bb_cert.specs.inside.Walk.{branches, endless_of, starts_of};
 ghost use Rattle.bb_cert.specs.inside.Steps.{Enters, Explores, HasTable, IsFirstBranch, IsWithin, WalksAll};
 ghost use Rattle.bb_cert.specs.inside.Steps.{entered_on, states_of};
 
@@ -37,10 +37,6 @@ struct Count {
 #[derive(Clone, Copy, Debug)]
 struct Branch {
     position: i64,
-    /// The lowest position of a cell known in the node.
-    lowest: i64,
-    /// The highest position of a cell known in the node.
-    highest: i64,
     state: u8,
     symbol: u8,
     /// The head's move from it to the node.
@@ -128,8 +124,6 @@ fn explore_all<T: Tape>(
         let rule = rules.list[index as usize];
         let root = Branch {
             position: 0,
-            lowest: 0,
-            highest: 0,
             state: rule.state,
             symbol: rule.symbol,
             dir: Dir::R,
@@ -236,7 +230,7 @@ fn enter<T: Tape>(
     if most.levels <= level || most.nodes <= entered.nodes {
         return Ok(None);
     }
-    if has_no_end(endless, branch) {
+    if has_no_end(endless, branch, tape) {
         return Ok(None);
     }
     let Ok(()) = tape.visit(branch.position) else {
@@ -254,8 +248,6 @@ fn enter<T: Tape>(
     let (next, end) = rules.range(branch.state, branch.dir);
     Ok(Some(Frame {
         position: branch.position,
-        lowest: branch.lowest.min(branch.position),
-        highest: branch.highest.max(branch.position),
         state: branch.state,
         before: branch.held,
         nonzero_known,
@@ -264,16 +256,17 @@ fn enter<T: Tape>(
     }))
 }
 
-/// Whether a node has an endless path of predecessors by moves in one direction: its state has one, and no cell
-/// that they would write is known.
+/// Whether a node has an endless path of predecessors by moves in the branch's direction: its state has one,
+/// and the next cell is unknown. Known cells are a stretch, so all that the path writes are unknown.
 #[inline]
-fn has_no_end(endless: Endless, branch: Branch) -> bool
-    requires { branch.state < MAX_STATES }
-    ensures { IsTrue result → ((branch.position ≤ℤ branch.lowest) × IsIn endless.right branch.state)
-        ⊎ ((branch.highest ≤ℤ branch.position) × IsIn endless.left branch.state) }
+fn has_no_end<T: Tape>(endless: Endless, branch: Branch, tape: &T) -> bool
+    requires state { branch.state < MAX_STATES }
+    requires low { neg_ℤ (pos MAX_LEVELS) ≤ℤ branch.position }
+    requires high { branch.position ≤ℤ pos MAX_LEVELS }
+    ensures { IsTrue result → IsAtEdge (endless_of endless) (T.view tape.now).content branch branch.dir }
 {
-    branch.position <= branch.lowest && has_state(endless.right, branch.state)
-        || branch.highest <= branch.position && has_state(endless.left, branch.state)
+    has_state(endless.by_moves(branch.dir), branch.state)
+        && tape.read(left_cell(branch.position, branch.dir)) == 0
 }
 
 /// How many cells a branch's node knows to be other than 0.
@@ -328,8 +321,6 @@ fn next_branch<T: Tape>(rules: &Rules, frame: Frame, tape: &T) -> Option<(Branch
         if held == 0 || held == write + 1 {
             let branch = Branch {
                 position,
-                lowest: frame.lowest,
-                highest: frame.highest,
                 state: rule.state,
                 symbol: rule.symbol,
                 dir,

@@ -2,17 +2,17 @@ use Rattle.std.proofs.Common.{ℕ, ◌+◌, ◌<◌, ◌≤◌, inl, inr, FitsSi
 use Rattle.std.proofs.Common.{◌≡◌, Err, ap, ◌∙◌, arith, rules}
 use Rattle.bb_tape.specs.declared.tape.TapeFault.TheVariants.{Cells}
 use Rattle.std.proofs.lemmas.Int.{to_z-of_z}
-use Rattle.bb_cert.proofs.tree_lemmas.Entering.{has_some, room_entered, matched_start, inside_visited, open_refused, room_for, entered_frame}
-use Rattle.bb_cert.proofs.tree_lemmas.Entering.{room_widened}
+use Rattle.bb_cert.proofs.tree_lemmas.Entering.{edge_refused, has_some, room_entered, matched_start}
+use Rattle.bb_cert.proofs.tree_lemmas.Entering.{entered_frame, inside_visited, room_for, room_widened}
 use Rattle.bb_cert.proofs.tree.walk.enter.Goals as goal
 
-pub has_no_end-requires : goal.has_no_end-requires
-has_no_end-requires g c =
+pub has_no_end-requires-clause-state : goal.has_no_end-requires-clause-state
+has_no_end-requires-clause-state g c =
     let state = c.requires.branch.state in let states = c.requires.states in omega (arith, state, states)
 
 pub returns-then-has_no_end-clause-refused : goal.returns-then-has_no_end-clause-refused
 returns-then-has_no_end-clause-refused g c =
-    open_refused (g.T.Tape.view c.args.tape.now) c.requires.branch (c.if-has_no_end.ensures refl)
+    edge_refused (g.T.Tape.view c.args.tape.now) c.requires.branch _ (c.if-has_no_end.ensures refl)
 
 pub unreachable-requires : goal.unreachable-requires
 unreachable-requires g c =
@@ -50,12 +50,9 @@ returns-then-nonzero_known-eq0-clause-room g c =
 pub returns-clause-enters : goal.returns-clause-enters
 returns-clause-enters g c =
     let fits : FitsSigned w64 c.args.branch.position = search rules in
-    let fits_low : FitsSigned w64 c.min.result = search rules in
-    let fits_high : FitsSigned w64 c.max.result = search rules in
     entered_frame (g.T.Tape.view c.args.tape.now) c.requires.branch (to_z-of_z _ _ fits) c.in-Ok.ensures.ok
     c.in-Ok-write.ensures.ok c.count_known-nonzero_known.ensures
-    c.range-next.ensures.from c.range-next.ensures.to (to_z-of_z _ _ fits_low ∙ search rules)
-    (to_z-of_z _ _ fits_high ∙ search rules)
+    c.range-next.ensures.from c.range-next.ensures.to
     (λ in_a none. elim c.else-branch-eq0.either [ inl both ↦ both.1 none | inr other ↦ other in_a ])
 
 pub returns-clause-room : goal.returns-clause-room

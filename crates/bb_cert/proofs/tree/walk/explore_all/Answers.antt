@@ -60,7 +60,8 @@ returns-then-not-branch-clause-walked g c =
     let root = root_here g (goal.at.returns-then-not-branch-clause-walked g c).After-deref-in-loop-index in
     let e : c.in_ok-explore.field-0 ≡ false = search rules in
     root_stops root c.loop-index.entered c.explore.new.entered c.args.most
-    (g.T.Tape.view c.explore.new.tape).content c.of_machine-endless.ensures (rw e at c.in_ok-explore.ensures.explores)
+    (g.T.Tape.view c.explore.new.tape).content c.of_machine-endless.ensures
+    (rw e at c.in_ok-explore.ensures.explores)
     c.loop-index.invariant.walked
 
 pub loop-index-preserved : goal.loop-index-preserved

@@ -28,11 +28,8 @@ cell_left g c =
 pub returns-then-held-eq0 : goal.returns-then-held-eq0
 returns-then-held-eq0 g c =
     let at = cell_left g (goal.at.returns-then-held-eq0 g c).After-left_cell-position in
-    let fits_lowest : FitsSigned w64 c.args.frame.lowest = search rules in
-    let fits_highest : FitsSigned w64 c.args.frame.highest = search rules in
     first_fitting c.deref.ensures.0 _ c.args.frame no_rule c.loop-index.auto.index c.loop-index-test.true
-    c.requires.within c.loop-index.invariant c.in-Go.is at (to_z-of_z _ _ fits_lowest)
-    (to_z-of_z _ _ fits_highest) c.read-held.ensures c.requires.rules
+    c.requires.within c.loop-index.invariant c.in-Go.is at c.read-held.ensures c.requires.rules
     (elim c.then-held-eq0.branch [
       | then-held-eq0-via-then-held-eq0 w ↦ inl w.if-held-eq0.true
       | then-held-eq0-via-else-held-eq0+then-held-write w ↦ inr w.if-held-write.true
@@ -42,7 +39,7 @@ pub loop-index-preserved : goal.loop-index-preserved
 loop-index-preserved g c =
     let at = cell_left g (goal.at.loop-index-preserved g c).After-left_cell-position in
     skips_unfit c.deref.ensures.0 _ c.args.frame no_rule c.loop-index.auto.index c.loop-index-test.true
-    c.requires.within c.loop-index.invariant c.in-Go.is at refl refl c.read-held.ensures c.if-held-eq0.false
+    c.requires.within c.loop-index.invariant c.in-Go.is at c.read-held.ensures c.if-held-eq0.false
     c.if-held-write.false
 
 pub returns : goal.returns
