@@ -3,6 +3,7 @@ pub mod OneOf
 pub mod RuleEntries
 pub mod Levels
 pub mod TreeEnds
+pub mod Endless
 pub mod Walked
 pub mod Orders
 pub mod Shown

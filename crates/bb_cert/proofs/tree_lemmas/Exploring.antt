@@ -23,6 +23,7 @@ use Rattle.bb_cert.specs.inside.Walk.{AreRules, AreFrames, IsFrame, IsBranch, Is
 use Rattle.bb_cert.specs.inside.Walk.{Refused}
 use Rattle.bb_cert.specs.inside.Walk.{branches, comb_of, branch_node}
 use Rattle.bb_cert.specs.inside.Steps.{HasTable, Enters, Explores, IsFirstBranch, entered_on, states_of}
+use Rattle.bb_cert.proofs.tree_lemmas.Entering.{span_entered, span_nearer}
 use Rattle.bb_cert.proofs.tree_lemmas.Walked.{walk_enters, walk_leaves, walk_refused}
 use Rattle.bb_cert.proofs.tree_lemmas.Orders.{AreAlike, alike_permuted, walk_rearranged}
 
@@ -40,6 +41,7 @@ frame_kept next below above within is = record {
   in_rules = is.in_rules;
   nonzero_known = is.nonzero_known;
   few_nonzero = is.few_nonzero;
+  span = is.span;
 }
 
 frames_wider : (list : List Rule) {low high low' high' : ℤ} → low' ≤ℤ low → high ≤ℤ high'
@@ -90,6 +92,7 @@ module _ {list : List Rule} {starts : Dir → List ℕ} (known : HasTable list s
     in_rules = range.within;
     nonzero_known = enters.nonzero_known;
     few_nonzero = enters.few_nonzero;
+    span = rw (enters.position, enters.content) (span_entered old.content is);
   }
 
   pub frames_entered : (fs : List Frame) → length fs ≡ level → AreFrames list old.low old.high old.content fs
@@ -181,6 +184,8 @@ module _ {list : List Rule} {starts : Dir → List ℕ} {root : Branch} {old mos
       symbol = first.symbol;
       held = first.held;
       nonzero_known = rw first.nonzero_known top_is.nonzero_known;
+      span = span_nearer top_is.span (omega (arith, ints, first.not_below))
+          (omega (arith, ints, first.not_above));
       few_nonzero = omega (arith, top_is.few_nonzero, first.nonzero_known);
     }
 
@@ -210,11 +215,11 @@ module _ {list : List Rule} {starts : Dir → List ℕ} {root : Branch} {old mos
         tail_of rest) entered.nodes entered.levels
     walked_first table rest rules walked = rw (comb_first rest) at (now.walked table rest rules walked)
 
-    pub branch_refused : Refused (branch_node view.content branch) (length frames + 1) entered.nodes
-        most.nodes most.levels → (content : Content) (new : Count)
-        → Explores list starts root most old new content false
-    branch_refused refused content new table rest rules walked =
-        walk_refused (walked_first table rest rules walked) (rw (tail_long rest) refused)
+    pub branch_refused : {sets : Dir → ℕ} → Refused sets (branch_node view.content branch)
+        (length frames + 1) entered.nodes most.nodes most.levels → (content : Content) (new : Count)
+        → Explores list starts sets root most old new content false
+    branch_refused refused content new table rest rules are walked =
+        walk_refused are (walked_first table rest rules walked) (rw (tail_long rest) refused)
 
     reversed : reverse (frames ++ (tried_top ∷ [])) ≡ tried_top ∷ reverse frames
     reversed = reverse-append frames (tried_top ∷ [])
@@ -250,9 +255,9 @@ module _ {list : List Rule} {starts : Dir → List ℕ} {root : Branch} {old mos
     walked_left table rest rules walked =
         walk_leaves (rw none at (now.walked table rest rules walked))
 
-    pub explored : frames ≡ [] → {content : Content} → content ≡ after.content
-        → Explores list starts root most old entered content true
-    explored empty same =
+    pub explored : (sets : Dir → ℕ) → frames ≡ [] → {content : Content} → content ≡ after.content
+        → Explores list starts sets root most old entered content true
+    explored sets empty same =
         let gone : reverse frames ≡ [] = ap reverse empty in (
           same ∙ ap (λ s. s.content) left ∙ (rw gone at now.are.1),
           λ table rest rules walked. rw gone at (walked_left table rest rules walked),
@@ -273,9 +278,9 @@ module _ {list : List Rule} {starts : Dir → List ℕ} {root : Branch} {old mos
         }
 
 -- the root itself is refused
-pub root_refused : (list : List Rule) (starts : Dir → List ℕ) (root : Branch) (old most new : Count)
-    (content after : Content) → content ≡ blank
-    → Refused (branch_node content root) 0 old.nodes most.nodes most.levels
-    → Explores list starts root most old new after false
-root_refused list starts root old most new content after blank_before refused table rest rules walked =
-    walk_refused walked (rw blank_before at refused)
+pub root_refused : (list : List Rule) (starts : Dir → List ℕ) (sets : Dir → ℕ) (root : Branch)
+    (old most new : Count) (content after : Content) → content ≡ blank
+    → Refused sets (branch_node content root) 0 old.nodes most.nodes most.levels
+    → Explores list starts sets root most old new after false
+root_refused list starts sets root old most new content after none refused table rest rules are walked =
+    walk_refused are walked (rw none at refused)

@@ -5,14 +5,16 @@ use Rattle.std.proofs.lemmas.Int.{ints}
 use Rattle.bb_machine.specs.declared.entry.Dir.{Dir}
 use Rattle.bb_machine.specs.declared.entry.Dir.TheVariants.{L, R}
 use Rattle.bb_machine.specs.declared.entry.Next.TheVariants.{Halt}
-use Rattle.bb_machine.specs.Machine.{Table}
+use Rattle.bb_machine.specs.declared.machine.TheConstants.{MAX_STATES}
+use Rattle.bb_machine.specs.Machine.{IsMachine, Table}
 use Rattle.bb_tape.specs.Content.{Content, blank}
 use Rattle.bb_tape.proofs.Facts.{cell-blank}
 use Rattle.bb_cert.specs.declared.tree.rules.Rule.{Rule}
 use Rattle.bb_cert.specs.declared.tree.walk.Branch.{Branch}
 use Rattle.bb_cert.specs.declared.tree.walk.Count.{Count}
 use Rattle.bb_cert.specs.tree.Tree.{halting_node, rules_to, EndsNowhere}
-use Rattle.bb_cert.specs.inside.Walk.{AreInOrder, AreRules, IsBranch, IsRange, IsRule, IsWalked, branch_node}
+use Rattle.bb_cert.specs.inside.Walk.{AreEndless, AreInOrder, AreRules, IsBranch, IsRange, IsRule}
+use Rattle.bb_cert.specs.inside.Walk.{IsWalked, branch_node}
 use Rattle.bb_cert.specs.inside.Steps.{Explores, HasTable, IsWithin, WalksAll, states_of}
 use Rattle.bb_cert.proofs.tree_lemmas.Walked.{walk_begins, walk_ends}
 use Rattle.bb_cert.proofs.tree_lemmas.Orders.{alike_mapped, walk_rearranged}
@@ -62,6 +64,15 @@ module _ {table : Table} {list seen : List Rule} {starts : Dir → List ℕ} {in
         held = sym (cell-blank (pos 0));
         nonzero_known = blank_nonzero;
         few_nonzero = omega arith;
+        span = record {
+          lowest = pos 1;
+          highest = pos 0;
+          below = λ p less. cell-blank p;
+          above = λ p more. cell-blank p;
+          known = λ p from to none. omega (arith, ints, from, to);
+          reaches_from = omega (arith, ints);
+          reaches_to = omega (arith, ints);
+        };
       }
 
   pub roots_first : map halting_node (slice_range list index to) ≡ branch_node blank (root_of
@@ -71,19 +82,21 @@ module _ {table : Table} {list seen : List Rule} {starts : Dir → List ℕ} {in
       ∙ ap (λ n. n ∷ map halting_node (slice_range list (index + 1) to)) (halting_shown
       (get_or list index no_rule) (pos 0) ∙ ap (λ r. branch_node blank (root_of r)) (sym there))
 
-  pub root_explored : (old new most : Count) {content : Content} → Explores list starts (root_of
+  pub root_explored : (old new most : Count) (sets : Dir → ℕ) {content : Content}
+      → Explores list starts sets (root_of
       (get_or seen index no_rule)) most old new content true → IsWalked table (map halting_node
       (slice_range list index to) ∷ []) old.nodes old.levels → IsWalked table (map halting_node
       (slice_range list (index + 1) to) ∷ []) new.nodes new.levels
-  root_explored old new most explores walked =
+  root_explored old new most sets explores walked =
       explores.1 table (map halting_node (slice_range list (index + 1) to)) root.rules
       (rw roots_first at walked)
 
-  pub root_stops : (old new most : Count) (content : Content) → Explores list starts (root_of
+  pub root_stops : (old new most : Count) {sets : Dir → ℕ} (content : Content) → AreEndless table sets
+      → Explores list starts sets (root_of
       (get_or seen index no_rule)) most old new content false → IsWalked table (map halting_node
       (slice_range list index to) ∷ []) old.nodes old.levels → EndsNowhere table most.levels most.nodes
-  root_stops old new most content explores walked =
-      explores table (map halting_node (slice_range list (index + 1) to)) root.rules
+  root_stops old new most content are explores walked =
+      explores table (map halting_node (slice_range list (index + 1) to)) root.rules are
       (rw roots_first at walked)
 
 pub roots_begin : {table : Table} {list : List Rule} {from to nodes levels : ℕ}
@@ -124,6 +137,12 @@ pub state_within : {list : List Rule} {starts : Dir → List ℕ} {state : ℕ} 
     → (first : Dir) → state < states_of starts → state + 1 < length (starts first)
 state_within known first h =
     omega (arith, (known.1.in_order L).count, (known.1.in_order first).count, h)
+
+-- the rules of a machine are of no more states than a machine may have
+pub few_states : {table : Table} {list : List Rule} {starts : Dir → List ℕ} → AreRules table list starts
+    → IsMachine table → states_of starts ≤ MAX_STATES
+few_states rules machine =
+    let count = (rules.in_order L).count in let few = machine.states in omega (arith, count, few)
 
 pub below_next : {state long : ℕ} → state + 1 < long → state < long
 below_next h = omega (arith, h)

@@ -4,12 +4,14 @@ use Rattle.std.proofs.Common.{length, refl, ap, sym, subst, ◌∙◌, length-ap
 use Rattle.std.specs.List.{flat_map}
 use Rattle.std.proofs.lemmas.Bool.{cases_lt}
 use Rattle.std.proofs.lemmas.List.Concat.{flat_map-append}
+use Rattle.bb_machine.specs.declared.entry.Dir.{Dir}
 use Rattle.bb_machine.specs.Machine.{Table}
 use Rattle.bb_sim.specs.Configuration.{start}
 use Rattle.bb_cert.specs.tree.Tree.{Node, Matches, OneOf, MatchesOne, before, grown, level, grown_below, Ends}
 use Rattle.bb_cert.specs.tree.Tree.{Clear, EndsNowhere}
 use Rattle.bb_cert.specs.inside.Walk.{comb_below, CombMatches, IsPart, IsWalked, Refused, too_deep, too_many}
-use Rattle.bb_cert.specs.inside.Walk.{matched}
+use Rattle.bb_cert.specs.inside.Walk.{matched, without_end, AreEndless, IsOpen}
+use Rattle.bb_cert.proofs.tree_lemmas.Endless.{never_empty}
 use Rattle.bb_cert.proofs.tree_lemmas.OneOf.{one_more, one-append, one-flat_map}
 use Rattle.bb_cert.proofs.tree_lemmas.TreeEnds.{empty_levels_stay}
 
@@ -156,21 +158,30 @@ module _ {table : Table} {node : Node} {rest : List Node} {comb : List (List Nod
       ] in
       omega (arith, walked.counted h deep, below_entered table node rest comb h goes_deeper, ends.counted)
 
+  -- it is one of its level's nodes
+  on_level : (P : Node → Type 0) → P node → OneOf P (level table (length comb))
+  on_level P here = one_more (λ other. other ≡ node) P (λ other same. subst P (sym same) here)
+      (level table (length comb)) (walked.parts.0 node (inl refl))
+
   never_clear : Matches node start → Clear table h → ⊥
-  never_clear here clear = clear.clear (length comb) goes_deeper
-      (one_more (λ other. other ≡ node) (λ n. Matches n start)
-      (λ other same. subst (λ n. Matches n start) (sym same) here) (level table (length comb))
-      (walked.parts.0 node (inl refl)))
+  never_clear here clear = clear.clear (length comb) goes_deeper (on_level (λ n. Matches n start) here)
+
+  never_ends : (sets : Dir → ℕ) → AreEndless table sets → (dir : Dir) → IsOpen sets dir node → ⊥
+  never_ends sets are dir open_here = never_empty sets dir (are dir) (length comb) h
+      (on_level (IsOpen sets dir) open_here) ends.is_empty
 
 pub walk_refused : {table : Table} {node : Node} {rest : List Node} {comb : List (List Node)}
-    {nodes levels most_nodes most_levels : ℕ} → IsWalked table ((node ∷ rest) ∷ comb) nodes levels
-    → Refused node (length comb) nodes most_nodes most_levels → EndsNowhere table most_levels most_nodes
-walk_refused walked (too_deep deep) =
+    {nodes levels most_nodes most_levels : ℕ} {sets : Dir → ℕ} → AreEndless table sets
+    → IsWalked table ((node ∷ rest) ∷ comb) nodes levels
+    → Refused sets node (length comb) nodes most_nodes most_levels → EndsNowhere table most_levels most_nodes
+walk_refused are walked (too_deep deep) =
     record { nowhere = λ h k tree. omega (arith, tree.within_levels, goes_deeper walked tree.ends) }
-walk_refused walked (too_many many) =
+walk_refused are walked (too_many many) =
     record { nowhere = λ h k tree. omega (arith, tree.within_nodes, goes_further walked tree.ends) }
-walk_refused walked (matched here) =
+walk_refused are walked (matched here) =
     record { nowhere = λ h k tree. never_clear walked tree.ends here tree.clear }
+walk_refused {sets = sets} are walked (without_end dir open_here) =
+    record { nowhere = λ h k tree. never_ends walked tree.ends sets are dir open_here }
 
 -- the walk's start and its end
 

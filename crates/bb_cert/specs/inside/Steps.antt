@@ -14,7 +14,8 @@ use Rattle.bb_cert.specs.declared.tree.rules.Rule.{Rule}
 use Rattle.bb_cert.specs.declared.tree.walk.Branch.{Branch}
 use Rattle.bb_cert.specs.declared.tree.walk.Count.{Count}
 use Rattle.bb_cert.specs.tree.Tree.{Node, Matches, Ends, Clear, EndsNowhere}
-use Rattle.bb_cert.specs.inside.Walk.{AreRules, HasNonzero, IsWalked, branch_node, branches, content_in}
+use Rattle.bb_cert.specs.inside.Walk.{AreEndless, AreRules, HasNonzero, IsWalked, branch_node, branches}
+use Rattle.bb_cert.specs.inside.Walk.{content_in}
 
 -- of how many states the rules are
 abbrev pub states_of : (Dir → List ℕ) → ℕ
@@ -63,13 +64,15 @@ pub record IsFirstBranch (list : List Rule) (states : ℕ) (content : Content) (
       ≡ branch_node content branch ∷ branches list content (record frame { next = next })
 
 -- the tree of a root was walked through, and the tape is blank; or no tree ends within the bounds
-abbrev pub Explores : List Rule → (Dir → List ℕ) → Branch → Count → Count → Count → Content → Bool → Type 0
-Explores list starts root most old new content true = (content ≡ blank)
+abbrev pub Explores : List Rule → (Dir → List ℕ) → (Dir → ℕ) → Branch → Count → Count → Count → Content → Bool
+    → Type 0
+Explores list starts sets root most old new content true = (content ≡ blank)
     × ((table : Table) (rest : List Node) → AreRules table list starts
     → IsWalked table ((branch_node blank root ∷ rest) ∷ []) old.nodes old.levels
     → IsWalked table (rest ∷ []) new.nodes new.levels)
-Explores list starts root most old new content false = (table : Table) (rest : List Node)
+Explores list starts sets root most old new content false = (table : Table) (rest : List Node)
     → AreRules table list starts
+    → AreEndless table sets
     → IsWalked table ((branch_node blank root ∷ rest) ∷ []) old.nodes old.levels
     → EndsNowhere table most.levels most.nodes
 

@@ -1,6 +1,8 @@
 -- How a walk in depth holds the nodes of the tree. No public contract speaks of it.
 use Rattle.std.specs.Prelude.{◌≡◌, ◌≢◌, ℕ, zero, suc, ◌+◌, ◌-◌, ◌*◌, ◌<◌, ◌≤◌, ◌⊎◌, Option, Some, None, List}
 use Rattle.std.specs.Prelude.{[], ◌∷◌, ◌++◌, length, slice_index, slice_range, ℤ, pos, neg_ℤ, ◌+ℤ◌, ◌≤ℤ◌}
+use Rattle.std.specs.Prelude.{slice_index_or, ◌-ℤ◌, ◌<ℤ◌}
+use Rattle.std.specs.Int.{bit_at}
 use Rattle.std.specs.List.{flat_map, AllByRecursion}
 use Rattle.std.specs.List.Sorted.{IsPermutation}
 use Rattle.bb_machine.specs.declared.entry.Dir.{Dir}
@@ -8,18 +10,20 @@ use Rattle.bb_machine.specs.declared.entry.Dir.TheVariants.{L, R}
 use Rattle.bb_machine.specs.declared.entry.Next.{Next}
 use Rattle.bb_machine.specs.declared.entry.Next.TheVariants.{State, Halt}
 use Rattle.bb_machine.specs.declared.machine.TheConstants.{MAX_STATES, MAX_SYMBOLS}
+use Rattle.bb_machine.specs.declared.entry.Entry.TheVariants.{Go}
 use Rattle.bb_machine.specs.Entry.{IsEntryOf}
-use Rattle.bb_machine.specs.Machine.{Table}
+use Rattle.bb_machine.specs.Machine.{Table, entry_of}
 use Rattle.bb_tape.specs.Content.{Content, blank, cell, with_cell, score}
 use Rattle.bb_tape.specs.TapeView.{TapeView}
 use Rattle.bb_sim.specs.Configuration.{start}
+use Rattle.bb_cert.specs.declared.tree.endless.Endless.{Endless}
 use Rattle.bb_cert.specs.declared.tree.path.Frame.{Frame}
 use Rattle.bb_cert.specs.declared.tree.rules.Rule.{Rule}
 use Rattle.bb_cert.specs.declared.tree.rules.Rules.{Rules}
 use Rattle.bb_cert.specs.declared.tree.walk.Branch.{Branch}
 use Rattle.bb_cert.specs.tree.Tree.{Node, Matches, MatchesOne, OneOf, before_by, grown, level, grown_below}
 use Rattle.bb_cert.specs.tree.Tree.{nodes_below}
-use Rattle.bb_cert.specs.tree.Tree.{rules_to}
+use Rattle.bb_cert.specs.tree.Tree.{goes_to, left_cell, rules_to}
 
 -- a tape shows the symbol r as r + 1, and an unknown cell as 0
 abbrev pub shown_symbol : ℕ → Option ℕ
@@ -81,6 +85,16 @@ pub record IsWalked (table : Table) (comb : List (List Node)) (nodes levels : �
   pub parts : AreParts table comb
   pub matches : (i : ℕ) → MatchesOne (level table i) start → CombMatches table comb i
 
+-- the known cells are those from a lowest to a highest position, which reach from one position to another
+pub record HasSpan (content : Content) (from to : ℤ) : Type 0 where
+  pub lowest : ℤ
+  pub highest : ℤ
+  pub below : (p : ℤ) → p <ℤ lowest → cell content p ≡ 0
+  pub above : (p : ℤ) → highest <ℤ p → cell content p ≡ 0
+  pub known : (p : ℤ) → lowest ≤ℤ p → p ≤ℤ highest → cell content p ≢ 0
+  pub reaches_from : lowest ≤ℤ from
+  pub reaches_to : to ≤ℤ highest
+
 -- a frame of a node on a level, whose node the tape shows
 pub record IsFrame (rules : List Rule) (low high : ℤ) (content : Content) (level : ℕ) (f : Frame)
     : Type 0 where
@@ -93,6 +107,7 @@ pub record IsFrame (rules : List Rule) (low high : ℤ) (content : Content) (lev
   pub in_rules : f.end ≤ length rules
   pub nonzero_known : HasNonzero content f.nonzero_known
   pub few_nonzero : f.nonzero_known ≤ level + 1
+  pub span : HasSpan content f.position f.position
 
 -- the frames of the nodes on the way to one, the deepest first; when all are left the tape is blank
 abbrev pub AreFrames : List Rule → ℤ → ℤ → Content → List Frame → Type 0
@@ -153,6 +168,7 @@ pub record IsBranch (states : ℕ) (content : Content) (level : ℕ) (branch : B
   pub held : branch.held ≡ cell content branch.position
   pub nonzero_known : HasNonzero content branch.nonzero_known
   pub few_nonzero : branch.nonzero_known ≤ level
+  pub span : HasSpan content (branch.position +ℤ pos 1) (branch.position -ℤ pos 1)
 
 -- what a tape has when a branch is entered, and its node
 abbrev pub content_in : Content → Branch → Content
@@ -167,8 +183,58 @@ pub record HasRoom (view : TapeView) (levels : ℕ) : Type 0 where
   pub not_above : view.high ≤ℤ pos (levels - 1)
   pub limit : 2 * levels ≤ view.limit + 1
 
--- why a walk doesn't go on with a node
-pub data Refused (node : Node) (level nodes most_nodes most_levels : ℕ) : Type 0 where
-  too_deep : most_levels ≤ level → Refused node level nodes most_nodes most_levels
-  too_many : most_nodes ≤ nodes → Refused node level nodes most_nodes most_levels
-  matched : Matches node start → Refused node level nodes most_nodes most_levels
+-- a state is in a set, a number with the bit of each of its states
+abbrev pub IsIn : ℕ → ℕ → Type 0
+IsIn set state = bit_at set state ≡ 1
+
+-- an entry of a state moves in a direction and leads to another state
+pub record IsEnteredFrom (table : Table) (dir : Dir) (from state : ℕ) : Type 0 where
+  pub symbol : ℕ
+  pub write : ℕ
+  pub entry : entry_of table from symbol ≡ Go write dir (State state)
+
+-- the same of a state in a set
+pub record IsEntered (table : Table) (dir : Dir) (set state : ℕ) : Type 0 where
+  pub from : ℕ
+  pub is_in : IsIn set from
+  pub enters : IsEnteredFrom table dir from state
+
+-- each state of the set is entered from a state of the set, by a move in one direction
+abbrev pub IsEndless : Table → Dir → ℕ → Type 0
+IsEndless table dir set = (state : ℕ) → IsIn set state → IsEntered table dir set state
+
+-- so it is with the set of each direction
+abbrev pub AreEndless : Table → (Dir → ℕ) → Type 0
+AreEndless table sets = (dir : Dir) → IsEndless table dir (sets dir)
+
+abbrev pub endless_of : Endless → Dir → ℕ
+endless_of endless L = endless.left
+endless_of endless R = endless.right
+
+-- an entry of the state halts
+pub record MayHalt (table : Table) (state : ℕ) : Type 0 where
+  pub symbol : ℕ
+  pub within : symbol < length (slice_index_or table state [])
+  pub halts : goes_to (entry_of table state symbol) ≡ Halt
+
+-- a move in the direction comes from this side of the head
+abbrev pub IsBehind : Dir → ℤ → Type 0
+IsBehind L distance = pos 0 <ℤ distance
+IsBehind R distance = distance <ℤ pos 0
+
+-- the node's state is in the set of a direction, and no cell is known on the side from which such moves come
+pub record IsOpen (sets : Dir → ℕ) (dir : Dir) (node : Node) : Type 0 where
+  pub state : IsIn (sets dir) node.state
+  pub unknown : (distance : ℤ) → IsBehind dir distance → node.known distance ≡ None
+
+-- a branch's state is in the set of a direction, and the cell from which such a move comes isn't known
+abbrev pub IsAtEdge : (Dir → ℕ) → Content → Branch → Dir → Type 0
+IsAtEdge sets content branch dir =
+    IsIn (sets dir) branch.state × (cell content (branch.position +ℤ left_cell dir) ≡ 0)
+
+-- why a walk doesn't go on with a node, with these endless sets
+pub data Refused (sets : Dir → ℕ) (node : Node) (level nodes most_nodes most_levels : ℕ) : Type 0 where
+  too_deep : most_levels ≤ level → Refused sets node level nodes most_nodes most_levels
+  too_many : most_nodes ≤ nodes → Refused sets node level nodes most_nodes most_levels
+  matched : Matches node start → Refused sets node level nodes most_nodes most_levels
+  without_end : (dir : Dir) → IsOpen sets dir node → Refused sets node level nodes most_nodes most_levels

@@ -145,7 +145,7 @@ fn add_rules_of(machine: &Machine, state: u8, next: Next, list: &mut ArrayVec<Ru
 }
 
 /// Whether an entry leads to a state, or halts.
-fn leads_to(entry: Entry, next: Next) -> bool
+pub(crate) fn leads_to(entry: Entry, next: Next) -> bool
     ensures { IsTrue result ↔ (tree.goes_to entry ≡ next) }
 {
     goes_to(entry) == next

@@ -12,16 +12,17 @@ ghost use Rattle.bb_cert.specs.tree.Path.{depth_of};
 ghost use Rattle.bb_cert.specs.tree.Tree as tree;
 ghost use Rattle.bb_cert.specs.tree.WalkMeter.{IsWithinWalk, walked};
 ghost use Rattle.bb_cert.specs.tree.Tree.{EndsWithin, EndsNowhere};
-ghost use Rattle.bb_cert.specs.inside.Walk.{HasRoom, IsBranch, IsRule, Refused, branch_node, branches};
-ghost use Rattle.bb_cert.specs.inside.Walk.{starts_of};
+ghost use Rattle.bb_cert.specs.inside.Walk.{HasRoom, IsAtEdge, IsBranch, IsRule, Refused, branch_node};
+ghost use Rattle.bb_cert.specs.inside.Walk.{branches, endless_of, starts_of};
 ghost use Rattle.bb_cert.specs.inside.Steps.{Enters, Explores, HasTable, IsFirstBranch, IsWithin, WalksAll};
 ghost use Rattle.bb_cert.specs.inside.Steps.{entered_on, states_of};
 
+use crate::tree::endless::{Endless, has_state};
 use crate::tree::path::{Frame, Path};
 use crate::tree::rules::Rules;
 use arrayvec::ArrayVec;
 use bb_machine::limits::MAX_LEVELS;
-use bb_machine::{Dir, Entry, Machine};
+use bb_machine::{Dir, Entry, MAX_STATES, Machine};
 use bb_sim::Meter;
 use bb_tape::{Memory, Tape};
 
@@ -108,6 +109,10 @@ fn explore_all<T: Tape>(
     ensures depth { depth_of path.new ≡ depth_of path.old }
     ensures memory { OnErr result (IsTrue T.GROWS) }
 {
+    let endless = Endless::of_machine(machine);
+    if endless.has_root(machine) {
+        return Ok(false);
+    }
     let mut rules = Rules {
         list: ArrayVec::new(),
         left_first: ArrayVec::new(),
@@ -125,7 +130,7 @@ fn explore_all<T: Tape>(
             held: 0,
             nonzero_known: 0,
         };
-        if !explore(&rules, root, most, tape, path, entered)? {
+        if !explore(&rules, endless, root, most, tape, path, entered)? {
             return Ok(false);
         }
     }
@@ -135,6 +140,7 @@ fn explore_all<T: Tape>(
 /// Walks through the tree of one halting entry. False if it doesn't end within the bounds.
 fn explore<T: Tape>(
     rules: &Rules,
+    endless: Endless,
     root: Branch,
     most: Count,
     tape: &mut T,
@@ -142,13 +148,14 @@ fn explore<T: Tape>(
     entered: &mut Count,
 ) -> Result<bool, Memory>
     requires rules { HasTable rules.now.list.items (starts_of rules.now) }
+    requires states { states_of (starts_of rules.now) ≤ MAX_STATES }
     requires root { IsBranch (states_of (starts_of rules.now)) blank 0 root }
     requires blank { (T.view tape.old).content ≡ blank }
     requires room { HasRoom (T.view tape.old) most.levels }
     requires path { most.levels ≤ depth_of path.old }
     requires within { IsWithin most entered.old }
-    ensures explores { IfOk result (Explores rules.now.list.items (starts_of rules.now) root most entered.old
-        entered.new (T.view tape.new).content) }
+    ensures explores { IfOk result (Explores rules.now.list.items (starts_of rules.now)
+        (endless_of endless) root most entered.old entered.new (T.view tape.new).content) }
     ensures room { HasRoom (T.view tape.new) most.levels }
     ensures within { IsWithin most entered.new }
     ensures limit { (T.view tape.new).limit ≡ (T.view tape.old).limit }
@@ -156,13 +163,22 @@ fn explore<T: Tape>(
     ensures memory { OnErr result (IsTrue T.GROWS) }
 {
     path.clear();
-    let Some(mut top) = enter(rules, root, 0, most, tape, entered)? else {
+    let Some(mut top) = enter(rules, endless, root, 0, most, tape, entered)? else {
         return Ok(false);
     };
     loop {
         match next_branch(rules, top, tape) {
             Some((branch, next)) => {
-                let Some(child) = enter(rules, branch, path.len() + 1, most, tape, entered)? else {
+                let Some(child) = enter(
+                    rules,
+                    endless,
+                    branch,
+                    path.len() + 1,
+                    most,
+                    tape,
+                    entered,
+                )?
+                else {
                     return Ok(false);
                 };
                 top.next = next;
@@ -184,6 +200,7 @@ fn explore<T: Tape>(
 #[inline]
 fn enter<T: Tape>(
     rules: &Rules,
+    endless: Endless,
     branch: Branch,
     level: u64,
     most: Count,
@@ -191,6 +208,7 @@ fn enter<T: Tape>(
     entered: &mut Count,
 ) -> Result<Option<Frame>, Memory>
     requires rules { HasTable rules.now.list.items (starts_of rules.now) }
+    requires states { states_of (starts_of rules.now) ≤ MAX_STATES }
     requires branch { IsBranch (states_of (starts_of rules.now)) (T.view tape.old).content level branch }
     requires beside { IsBeside (T.view tape.old) branch.position }
     requires level { level ≤ MAX_LEVELS }
@@ -201,8 +219,8 @@ fn enter<T: Tape>(
     ensures counted { IfOk result (λ frame. IfSome frame (λ frame. (level < most.levels)
         × (entered.old.nodes < most.nodes) × (entered.new ≡ entered_on level entered.old))) }
     ensures refused { IfOk result (λ frame. MatchOption frame
-        (Refused (branch_node (T.view tape.old).content branch) level entered.old.nodes most.nodes
-        most.levels)
+        (Refused (endless_of endless) (branch_node (T.view tape.old).content branch) level
+        entered.old.nodes most.nodes most.levels)
         (λ frame. Unit {0})) }
     ensures room { HasRoom (T.view tape.new) most.levels }
     ensures within { IsWithin most entered.new }
@@ -210,6 +228,9 @@ fn enter<T: Tape>(
     ensures memory { OnErr result (IsTrue T.GROWS) }
 {
     if most.levels <= level || most.nodes <= entered.nodes {
+        return Ok(None);
+    }
+    if has_no_end(endless, branch, tape) {
         return Ok(None);
     }
     let Ok(()) = tape.visit(branch.position) else {
@@ -233,6 +254,19 @@ fn enter<T: Tape>(
         next,
         end,
     }))
+}
+
+/// Whether a node has an endless path of predecessors by moves in the branch's direction: its state has one,
+/// and the next cell is unknown. Known cells are a stretch, so all that the path writes are unknown.
+#[inline]
+fn has_no_end<T: Tape>(endless: Endless, branch: Branch, tape: &T) -> bool
+    requires state { branch.state < MAX_STATES }
+    requires low { neg_ℤ (pos MAX_LEVELS) ≤ℤ branch.position }
+    requires high { branch.position ≤ℤ pos MAX_LEVELS }
+    ensures { IsTrue result → IsAtEdge (endless_of endless) (T.view tape.now).content branch branch.dir }
+{
+    has_state(endless.by_moves(branch.dir), branch.state)
+        && tape.read(left_cell(branch.position, branch.dir)) == 0
 }
 
 /// How many cells a branch's node knows to be other than 0.

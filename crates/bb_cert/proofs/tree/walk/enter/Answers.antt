@@ -1,9 +1,29 @@
 use Rattle.std.proofs.Common.{ℕ, ◌+◌, ◌<◌, ◌≤◌, inl, inr, FitsSigned, w64, refl}
-use Rattle.std.proofs.Common.{arith, rules}
+use Rattle.std.proofs.Common.{◌≡◌, Err, ap, ◌∙◌, arith, rules}
+use Rattle.bb_tape.specs.declared.tape.TapeFault.TheVariants.{Cells}
 use Rattle.std.proofs.lemmas.Int.{to_z-of_z}
-use Rattle.bb_cert.proofs.tree_lemmas.Entering.{has_some, room_entered, matched_start, entered_frame}
-use Rattle.bb_cert.proofs.tree_lemmas.Entering.{room_widened}
+use Rattle.bb_cert.proofs.tree_lemmas.Entering.{edge_refused, has_some, room_entered, matched_start}
+use Rattle.bb_cert.proofs.tree_lemmas.Entering.{entered_frame, inside_visited, room_for, room_widened}
 use Rattle.bb_cert.proofs.tree.walk.enter.Goals as goal
+
+pub has_no_end-requires-clause-state : goal.has_no_end-requires-clause-state
+has_no_end-requires-clause-state g c =
+    let state = c.requires.branch.state in let states = c.requires.states in omega (arith, state, states)
+
+pub returns-then-has_no_end-clause-refused : goal.returns-then-has_no_end-clause-refused
+returns-then-has_no_end-clause-refused g c =
+    edge_refused (g.T.Tape.view c.args.tape.now) c.requires.branch _ (c.if-has_no_end.ensures refl)
+
+pub unreachable-requires : goal.unreachable-requires
+unreachable-requires g c =
+    let fits : FitsSigned w64 c.args.branch.position = search rules in
+    let full : c.visit.result ≡ Err Cells = c.in_default.is ∙ ap Err c.in_default.ensures.memory in
+    room_for (g.T.Tape.view c.args.tape.now) c.args.level c.args.most.levels c.requires.room
+    c.if-most-level.false c.requires.branch.not_below c.requires.branch.not_above (to_z-of_z _ _ fits)
+    (c.visit.ensures.cells.0 full)
+
+pub write-requires-clause-inside : goal.write-requires-clause-inside
+write-requires-clause-inside g c = inside_visited (g.T.Tape.view c.args.tape.now) _ c.in-Ok.ensures.ok
 
 pub returns-in_default-write-clause-room : goal.returns-in_default-write-clause-room
 returns-in_default-write-clause-room g c =

@@ -1,6 +1,6 @@
 use Rattle.std.proofs.Common.{◌≡◌, ℕ, ◌+◌, ◌<◌, ◌≤◌, refl, ◌∙◌, arith, rules}
 use Rattle.bb_machine.specs.declared.limits.TheConstants.{MAX_LEVELS}
-use Rattle.bb_cert.specs.inside.Walk.{starts_of}
+use Rattle.bb_cert.specs.inside.Walk.{endless_of, starts_of}
 use Rattle.bb_cert.proofs.tree_lemmas.Entering.{room_written}
 use Rattle.bb_cert.proofs.tree_lemmas.Exploring.{exploring_begins, top_is, top_low, top_high}
 use Rattle.bb_cert.proofs.tree_lemmas.Exploring.{all_named, top_inside}
@@ -11,7 +11,8 @@ use Rattle.bb_cert.proofs.tree.walk.explore.Goals as goal
 
 pub returns-in_default-clause-explores : goal.returns-in_default-clause-explores
 returns-in_default-clause-explores g c = root_refused c.args.rules.now.list.items
-    (starts_of c.args.rules.now) c.args.root c.args.entered.now c.args.most c.enter.new.entered
+    (starts_of c.args.rules.now) (endless_of c.args.endless) c.args.root c.args.entered.now c.args.most
+    c.enter.new.entered
     (g.T.Tape.view c.args.tape.now).content (g.T.Tape.view c.enter.new.tape).content c.requires.blank
     (rw c.in_default.is at c.in_ok-top.ensures.refused)
 
@@ -55,6 +56,7 @@ enter-requires-in-Some-next_branch g c =
     let most = most_levels _ _ _ c.requires.path c.loop-branch.invariant.depth c.loop-branch.path.few in
     record {
       rules = c.requires.rules;
+      states = c.requires.states;
       branch = rw c.len.ensures (branch_is now first);
       beside = branch_beside now first;
       level = few_levels _ _ _ _ now.few most c.len.ensures;
@@ -139,7 +141,7 @@ returns-in-None-pop g c =
     let left = c.in_ok-leave-in-None.ensures.left in
     record {
       explores = explored c.loop-branch.invariant.exploring c.in-None.ensures left
-          c.in-None-pop.ensures.frames refl;
+          (endless_of c.args.endless) c.in-None-pop.ensures.frames refl;
       room = rw left (room_written _ _ _ _ c.loop-branch.invariant.room);
       within = c.loop-branch.invariant.within;
       limit = rw left c.loop-branch.invariant.limit;

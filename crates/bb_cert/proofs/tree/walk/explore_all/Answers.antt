@@ -1,10 +1,10 @@
 use Rattle.std.proofs.Common.{◌≡◌, ◌+◌, ◌<◌, false, true, length, get_or, slice_index}
 use Rattle.std.proofs.Common.{ap, refl, sym, subst, ◌∙◌, rules}
 use Rattle.bb_machine.specs.declared.entry.Dir.TheVariants.{R}
-use Rattle.bb_cert.specs.inside.Walk.{starts_of}
+use Rattle.bb_cert.specs.inside.Walk.{endless_of, starts_of}
 use Rattle.bb_cert.proofs.tree_lemmas.Roots.{IsRoot, root_is, root_explored, root_stops, roots_begin}
 use Rattle.bb_cert.proofs.tree_lemmas.Roots.{before_end, end_at, no_more, past_end, roots_end}
-use Rattle.bb_cert.proofs.tree_lemmas.Roots.{below_next, rule_within, start_within}
+use Rattle.bb_cert.proofs.tree_lemmas.Roots.{below_next, few_states, rule_within, start_within}
 use Rattle.bb_cert.proofs.tree.walk.explore_all.Goals as goal
 use Rattle.bb_cert.proofs.tree.walk.explore_all.Goals.{After-deref-in-loop-index}
 use Rattle.bb_cert.proofs.tree.walk.explore_all.Given as given
@@ -48,6 +48,9 @@ bounds-deref-halting-2 g c = subst (λ starts. c.states-halting.result + 1 < len
 pub bounds-deref-index : goal.bounds-deref-index
 bounds-deref-index g c = rule_within (root_here g c)
 
+pub explore-requires-clause-states : goal.explore-requires-clause-states
+explore-requires-clause-states g c = few_states c.gather.ensures.rules c.gather.ensures.machine
+
 pub explore-requires-clause-root : goal.explore-requires-clause-root
 explore-requires-clause-root g c =
     root_is (root_here g (goal.at.explore-requires-clause-root g c).After-deref-in-loop-index)
@@ -57,7 +60,8 @@ returns-then-not-branch-clause-walked g c =
     let root = root_here g (goal.at.returns-then-not-branch-clause-walked g c).After-deref-in-loop-index in
     let e : c.in_ok-explore.field-0 ≡ false = search rules in
     root_stops root c.loop-index.entered c.explore.new.entered c.args.most
-    (g.T.Tape.view c.explore.new.tape).content (rw e at c.in_ok-explore.ensures.explores)
+    (g.T.Tape.view c.explore.new.tape).content c.of_machine-endless.ensures
+    (rw e at c.in_ok-explore.ensures.explores)
     c.loop-index.invariant.walked
 
 pub loop-index-preserved : goal.loop-index-preserved
@@ -66,7 +70,8 @@ loop-index-preserved g c =
     let e : c.in_ok-explore.field-0 ≡ true = search rules in
     let explores = rw e at c.in_ok-explore.ensures.explores in
     record {
-      walked = root_explored root c.loop-index.entered c.explore.new.entered c.args.most explores
+      walked = root_explored root c.loop-index.entered c.explore.new.entered c.args.most
+          (endless_of c.of_machine-endless.result) explores
           c.loop-index.invariant.walked;
       blank = explores.0;
       room = c.explore.ensures.room;
