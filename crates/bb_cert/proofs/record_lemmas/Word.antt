@@ -1,5 +1,5 @@
 -- Records of a run among 64 positions: what is compared lies there.
-use Rattle.std.proofs.Common.{ℕ, suc, zero, ◌+◌, ◌<◌, ◌≤◌, ℤ, pos, arith}
+use Rattle.std.proofs.Common.{ℕ, suc, zero, ◌<◌, ℤ, arith}
 use Rattle.std.proofs.lemmas.Int.{clamps, ints}
 use Rattle.bb_tape.specs.TapeView.{IsInside, IsStretch, TapeView, visited}
 use Rattle.bb_sim.specs.declared.runner.Runner.{Runner}

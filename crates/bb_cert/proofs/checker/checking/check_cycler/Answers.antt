@@ -1,4 +1,3 @@
-use Rattle.bb_cert.specs.declared.checker.answer.Answer.{Answer}
 use Rattle.bb_cert.specs.declared.verdict.Verdict.TheVariants.{Cycler}
 use Rattle.bb_cert.specs.inside.Checks.{Checks}
 use Rattle.bb_cert.proofs.checker_lemmas.AnswerRules.{where_ok}

@@ -1,7 +1,6 @@
-use Rattle.std.proofs.Common.{◌≡◌, ap, subst, ◌∙◌, arith}
+use Rattle.std.proofs.Common.{ap, ◌∙◌, arith}
 use Rattle.bb_sim.specs.declared.meter.Meter.{Meter}
 use Rattle.bb_sim.proofs.Facts.{inside_here}
-use Rattle.bb_sim.specs.Meter.{counted}
 use Rattle.bb_narrow.proofs.Facts.{counted_so_far}
 use Rattle.bb_cert.specs.inside.Checks.{IsUnderWay}
 use Rattle.bb_cert.proofs.checker_lemmas.InRegisters.{room_is_less}

@@ -1,4 +1,4 @@
-use Rattle.std.proofs.Common.{◌≡◌, ◌<ℤ◌, ◌≤ℤ◌, ℤ, pos, inr, Err, arith, ap, sym, subst, ◌∙◌, w64, of_z, rules}
+use Rattle.std.proofs.Common.{◌≡◌, ◌<ℤ◌, ◌≤ℤ◌, ℤ, pos, inr, Err, arith, ap, sym, subst, w64, rules}
 use Rattle.std.proofs.Common.{FitsSigned}
 use Rattle.std.proofs.lemmas.Int.{ints, to_z-of_z}
 use Rattle.bb_tape.specs.TapeView.{TapeView, visited, width}
