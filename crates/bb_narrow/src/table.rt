@@ -1,5 +1,6 @@
 //! The table of a machine of two symbols in two numbers.
-ghost use Rattle.std.specs.Prelude.{◌≡◌, ◌+◌, ◌*◌, ◌/◌, ◌%◌, ◌<◌, ◌≤◌, ◌^◌, ℕ, length, true, false, Some, None};
+ghost use Rattle.std.specs.Prelude.{◌≡◌, ◌+◌, ◌*◌, ◌/◌, ◌%◌, ◌<◌, ◌≤◌, ◌^◌, ℕ, length, true, false};
+ghost use Rattle.std.specs.Prelude.{Some, None};
 ghost use Rattle.bb_machine.specs.declared.entry.Entry.{Entry};
 ghost use Rattle.bb_machine.specs.Entry.{IsEntryOf, step_of};
 ghost use Rattle.bb_machine.specs.Machine.{entry_of, symbols_of};

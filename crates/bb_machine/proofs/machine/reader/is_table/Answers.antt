@@ -1,5 +1,5 @@
-use Rattle.std.proofs.Common.{◌≡◌, ◌++◌, ◌∷◌, [], ◌+◌, ◌-◌, ◌*◌, ◌≤◌, ◌<◌, ℕ, List, get_or, drop, length, arith, rules, ap}
-use Rattle.std.proofs.Common.{sym, ◌∙◌}
+use Rattle.std.proofs.Common.{◌≡◌, ◌++◌, ◌∷◌, [], ◌+◌, ◌-◌, ◌*◌, ◌≤◌, ◌<◌, ℕ, List, get_or, drop, length}
+use Rattle.std.proofs.Common.{ap, sym, ◌∙◌, arith, rules}
 use Rattle.std.proofs.Math.Nat.{mul-le-mul}
 use Rattle.bb_machine.specs.Machine.{group_text}
 use Rattle.bb_machine.proofs.Checked.{bar_there, group_there, groups_grow, stands_by, begins_by}
@@ -34,7 +34,9 @@ returns-then-not-is_group c =
       λ is_so. absurd (search rules),
       λ t. let g =
           group_there c.args.states c.args.symbols line t.0 t.1 t.2 c.loop-row.row c.loop-row-test.true in
-          let no = c.is_group.ensures.1 (g.0, g.1, begins_by line c.if-row-gt0.rest.now (c.loop-row.row * width) is (group_text g.0) g.2) in
+          let begins =
+          begins_by line c.if-row-gt0.rest.now (c.loop-row.row * width) is (group_text g.0) g.2 in
+          let no = c.is_group.ensures.1 (g.0, g.1, begins) in
           absurd (search rules),
     )
 
@@ -55,7 +57,8 @@ loop-row-preserved c =
     let bar : 0 < row → get_or line (row * width - 1) 0 ≡ 95 =
     λ later. elim c.if-row-gt0.branch [
       | then-row-gt0+else-rest-ne95 w ↦
-          sym (first_by line c.loop-row.rest.now (row * width - 1) c.loop-row.invariant.rest) ∙ w.if-rest-ne95.false
+          sym (first_by line c.loop-row.rest.now (row * width - 1) c.loop-row.invariant.rest)
+          ∙ w.if-rest-ne95.false
       | else-row-gt0 w ↦ absurd (omega (arith, later, w.if-row-gt0.false))
     ] in
     let so_far = c.loop-row.invariant.groups in
@@ -70,5 +73,6 @@ loop-row-preserved c =
         groups_grow c.args.states c.args.symbols row line so_far.0 g.0 so_far.1 g.1
             (stands_by line c.if-row-gt0.rest.now (row * width) is (group_text g.0) g.2) inside bar,
       );
-      rest = rest_by line c.if-row-gt0.rest.now (row * width) is (3 * c.args.symbols) ∙ ap (λ n. drop n line) next;
+      rest = rest_by line c.if-row-gt0.rest.now (row * width) is (3 * c.args.symbols)
+          ∙ ap (λ n. drop n line) next;
     }

@@ -16,7 +16,8 @@ long line gs symbols machine is same =
 pub returns-in_err-states : goal.returns-in_err-states
 returns-in_err-states c = rw c.from_residual.ensures none
   where
-    none : (gs : List (List Entry)) → IsMachine gs → symbols_of gs ≡ c.args.symbols → text gs ≡ c.args.line.now → ⊥
+    none : (gs : List (List Entry)) → IsMachine gs → symbols_of gs ≡ c.args.symbols
+        → text gs ≡ c.args.line.now → ⊥
     none gs machine symbols is =
         c.in_err-states.ensures (length gs) machine.some_state machine.states
         (long c.args.line.now gs c.args.symbols machine is (sym symbols))
