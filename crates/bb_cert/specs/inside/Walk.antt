@@ -85,7 +85,7 @@ pub record IsWalked (table : Table) (comb : List (List Node)) (nodes levels : �
   pub parts : AreParts table comb
   pub matches : (i : ℕ) → MatchesOne (level table i) start → CombMatches table comb i
 
--- the known cells are those from a lowest to a highest position, which reach from one position to another
+-- the known cells are those from a lowest to a highest position, and reach at least so far
 pub record HasSpan (content : Content) (from to : ℤ) : Type 0 where
   pub lowest : ℤ
   pub highest : ℤ
@@ -222,12 +222,12 @@ abbrev pub IsBehind : Dir → ℤ → Type 0
 IsBehind L distance = pos 0 <ℤ distance
 IsBehind R distance = distance <ℤ pos 0
 
--- the node's state is in the set of a direction, and no cell is known on the side from which such moves come
+-- the node's state is in the set of a direction, and no cell is known on the side such moves come from
 pub record IsOpen (sets : Dir → ℕ) (dir : Dir) (node : Node) : Type 0 where
   pub state : IsIn (sets dir) node.state
   pub unknown : (distance : ℤ) → IsBehind dir distance → node.known distance ≡ None
 
--- a branch's state is in the set of a direction, and the cell from which such a move comes isn't known
+-- a branch's state is in the set of a direction, and the cell that such a move would leave is unknown
 abbrev pub IsAtEdge : (Dir → ℕ) → Content → Branch → Dir → Type 0
 IsAtEdge sets content branch dir =
     IsIn (sets dir) branch.state × (cell content (branch.position +ℤ left_cell dir) ≡ 0)
