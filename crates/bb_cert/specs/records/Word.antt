@@ -7,7 +7,8 @@ use Rattle.bb_narrow.specs.BitCells.{IsInWord, content_of}
 use Rattle.bb_cert.specs.declared.records.Records.{Records}
 use Rattle.bb_cert.specs.records.Follow.{HasSameCells, IsComparable, IsKeptInStateOf}
 
--- the cells are those of two tapes on which the records can be compared, the run's window among the 64 positions
+-- the cells are those of two tapes on which the records can be compared, the window of the run's tape among
+-- the 64 positions
 pub record IsComparableInWord (records : Records) (runner : Runner) (saved run : BitCells) : Type 0 where
   pub saved_view : TapeView
   pub run_view : TapeView

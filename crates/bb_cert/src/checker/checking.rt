@@ -49,7 +49,8 @@ pub fn check<T: Tape>(
     ensures answer { IfOk result (IsAnswer machine.now limits.now verdict.now) }
     ensures claim { IfOk result (λ answer. answer ≡ Answer.Ok → Claim machine.now verdict.now) }
     ensures never { IfOk result (λ answer. answer ≡ Answer.Ok → SaysNever verdict.now → Never machine.now) }
-    ensures counted { IfOk result (λ answer. answer ≡ Answer.Ok → CountsClaim verdict.now meter.new) }
+    ensures counted { IfOk result (λ answer. answer ≡ Answer.Ok
+        → CountsClaim verdict.now meter.new) }
     ensures within { IsWithinClaim limits.now verdict.now meter.new }
     ensures window { IfOk result (λ answer.
         CountsWindow machine.now limits.now verdict.now meter.new.most_cells) }
@@ -122,7 +123,8 @@ fn check_claim<T: Tape>(
     requires path { limits.now.depth ≤ depth_of path.old }
     requires meter { meter.old ≡ zero_meter }
     ensures checks { IfOk result (Checks machine.now limits.now verdict) }
-    ensures counted { IfOk result (λ answer. answer ≡ Answer.Ok → CountsClaim verdict meter.new) }
+    ensures counted { IfOk result (λ answer. answer ≡ Answer.Ok
+        → CountsClaim verdict meter.new) }
     ensures within { IsWithinClaim limits.now verdict meter.new }
     ensures window { IfOk result (λ answer.
         CountsWindow machine.now limits.now verdict meter.new.most_cells) }
@@ -249,7 +251,8 @@ fn check_translated<T: Tape>(
     requires tapes { PairHasCells T.view limits.now.cells pair.old }
     requires meter { meter.old ≡ zero_meter }
     ensures checks { IfOk result (Checks machine.now limits.now (claim_up_to second claim)) }
-    ensures counted { IfOk result (λ answer. answer ≡ Answer.Ok → CountsClaim (claim_up_to second claim) meter.new) }
+    ensures counted { IfOk result (λ answer. answer ≡ Answer.Ok
+        → CountsClaim (claim_up_to second claim) meter.new) }
     ensures within { IsWithinClaim limits.now (claim_up_to second claim) meter.new }
     ensures replayed { IfOk result (λ answer.
         CountsRun machine.now (record limits.now { steps = second }) zero_meter meter.new) }

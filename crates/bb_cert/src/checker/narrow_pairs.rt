@@ -39,7 +39,8 @@ fn move_run<T: Tape>(
     requires run { IsNarrowRun machine.now limits.now run.now }
     requires limit { (T.view tape.old).limit ≡ limits.now.cells }
     requires meter { meter.old ≡ zero_meter }
-    ensures under_way { IfOk result (λ runner. IsUnderWay machine.now limits.now runner (T.view tape.new) meter.new) }
+    ensures under_way { IfOk result (λ runner.
+        IsUnderWay machine.now limits.now runner (T.view tape.new) meter.new) }
     ensures steps { IfOk result (λ runner. steps_of runner ≡ run.now.steps) }
     ensures within { IsWithinRun limits.now zero_meter meter.new }
     ensures limit { (T.view tape.new).limit ≡ (T.view tape.old).limit }
@@ -84,8 +85,8 @@ fn answer_of(outcome: Outcome) -> Answer
     }
 }
 
-/// Whether the configuration of one step comes again at the limit of steps. A tape that grows is used from the
-/// start.
+/// Whether the configuration of one step comes again at the limit of steps. A tape that grows is used from
+/// the start.
 pub(crate) fn check_cycler_to_limit<T: Tape>(
     machine: &Machine,
     first: u64,
@@ -97,7 +98,8 @@ pub(crate) fn check_cycler_to_limit<T: Tape>(
     requires tapes { PairHasCells T.view limits.now.cells pair.old }
     requires meter { meter.old ≡ zero_meter }
     ensures checks { IfOk result (Checks machine.now limits.now (Verdict.Cycler first limits.now.steps)) }
-    ensures counted { IfOk result (λ answer. answer ≡ Answer.Ok → CountsClaim (Verdict.Cycler first limits.now.steps) meter.new) }
+    ensures counted { IfOk result (λ answer. answer ≡ Answer.Ok
+        → CountsClaim (Verdict.Cycler first limits.now.steps) meter.new) }
     ensures within { IsWithinClaim limits.now (Verdict.Cycler first limits.now.steps) meter.new }
     ensures replayed { IfOk result (λ answer. CountsRun machine.now limits.now zero_meter meter.new) }
     ensures tapes { PairHasCells T.view limits.now.cells pair.new }
@@ -179,7 +181,8 @@ pub(crate) fn check_translated_to_limit<T: Tape>(
     requires tapes { PairHasCells T.view limits.now.cells pair.old }
     requires meter { meter.old ≡ zero_meter }
     ensures checks { IfOk result (Checks machine.now limits.now (claim_of limits.now claim)) }
-    ensures counted { IfOk result (λ answer. answer ≡ Answer.Ok → CountsClaim (claim_of limits.now claim) meter.new) }
+    ensures counted { IfOk result (λ answer. answer ≡ Answer.Ok
+        → CountsClaim (claim_of limits.now claim) meter.new) }
     ensures within { IsWithinClaim limits.now (claim_of limits.now claim) meter.new }
     ensures replayed { IfOk result (λ answer. CountsRun machine.now limits.now zero_meter meter.new) }
     ensures tapes { PairHasCells T.view limits.now.cells pair.new }
@@ -209,7 +212,8 @@ fn check_translated_in_registers<T: Tape>(
     requires tapes { PairHasCells T.view limits.now.cells pair.old }
     requires meter { meter.old ≡ zero_meter }
     ensures checks { IfOk result (Checks machine.now limits.now (claim_of limits.now claim)) }
-    ensures counted { IfOk result (λ answer. answer ≡ Answer.Ok → CountsClaim (claim_of limits.now claim) meter.new) }
+    ensures counted { IfOk result (λ answer. answer ≡ Answer.Ok
+        → CountsClaim (claim_of limits.now claim) meter.new) }
     ensures within { IsWithinClaim limits.now (claim_of limits.now claim) meter.new }
     ensures replayed { IfOk result (λ answer. CountsRun machine.now limits.now zero_meter meter.new) }
     ensures tapes { PairHasCells T.view limits.now.cells pair.new }
@@ -259,7 +263,8 @@ fn check_second_record<T: Tape>(
     requires meter { meter.old ≡ zero_meter }
     requires kept { IsKeptInRegisters machine.now limits.now claim.side claim.first kept saved.now }
     ensures checks { IfOk result (Checks machine.now limits.now (claim_of limits.now claim)) }
-    ensures counted { IfOk result (λ answer. answer ≡ Answer.Ok → CountsClaim (claim_of limits.now claim) meter.new) }
+    ensures counted { IfOk result (λ answer. answer ≡ Answer.Ok
+        → CountsClaim (claim_of limits.now claim) meter.new) }
     ensures within { IsWithinClaim limits.now (claim_of limits.now claim) meter.new }
     ensures replayed { IfOk result (λ answer. CountsRun machine.now limits.now zero_meter meter.new) }
     ensures tapes { PairHasCells T.view limits.now.cells pair.new }

@@ -136,7 +136,8 @@ pub(crate) fn check_translated_on_tape<T: Tape>(
     requires tapes { PairHasCells T.view limits.now.cells pair.old }
     requires meter { meter.old ≡ zero_meter }
     ensures checks { IfOk result (Checks machine.now limits.now (claim_of limits.now claim)) }
-    ensures counted { IfOk result (λ answer. answer ≡ Answer.Ok → CountsClaim (claim_of limits.now claim) meter.new) }
+    ensures counted { IfOk result (λ answer. answer ≡ Answer.Ok
+        → CountsClaim (claim_of limits.now claim) meter.new) }
     ensures within { IsWithinClaim limits.now (claim_of limits.now claim) meter.new }
     ensures replayed { IfOk result (λ answer. CountsRun machine.now limits.now zero_meter meter.new) }
     ensures tapes { PairHasCells T.view limits.now.cells pair.new }
@@ -167,7 +168,8 @@ pub(crate) fn continue_translated<T: Tape>(
     requires ahead { steps_of start ≤ claim.first }
     requires followed { IsFollowedFromStart machine.now claim.side (steps_of start) followed }
     ensures checks { IfOk result (Checks machine.now limits.now (claim_of limits.now claim)) }
-    ensures counted { IfOk result (λ answer. answer ≡ Answer.Ok → CountsClaim (claim_of limits.now claim) meter.new) }
+    ensures counted { IfOk result (λ answer. answer ≡ Answer.Ok
+        → CountsClaim (claim_of limits.now claim) meter.new) }
     ensures within { IsWithinClaim limits.now (claim_of limits.now claim) meter.new }
     ensures replayed { IfOk result (λ answer. CountsRun machine.now limits.now zero_meter meter.new) }
     ensures tapes { PairHasCells T.view limits.now.cells pair.new }
@@ -211,7 +213,8 @@ pub(crate) fn continue_from_record<T: Tape>(
     requires kept { IsKeptUpTo machine.now claim.side claim.first (steps_of start) followed
         (T.view pair.old.saved) }
     ensures checks { IfOk result (Checks machine.now limits.now (claim_of limits.now claim)) }
-    ensures counted { IfOk result (λ answer. answer ≡ Answer.Ok → CountsClaim (claim_of limits.now claim) meter.new) }
+    ensures counted { IfOk result (λ answer. answer ≡ Answer.Ok
+        → CountsClaim (claim_of limits.now claim) meter.new) }
     ensures within { IsWithinClaim limits.now (claim_of limits.now claim) meter.new }
     ensures replayed { IfOk result (λ answer. CountsRun machine.now limits.now zero_meter meter.new) }
     ensures tapes { PairHasCells T.view limits.now.cells pair.new }

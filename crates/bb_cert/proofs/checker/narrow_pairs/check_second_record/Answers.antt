@@ -61,7 +61,8 @@ module _ (g : given.Over) (c : After-of_bits-saved_cells g) where
       c.requires.kept.is_run.view c.follow_registers_to-second.ensures.run.view
   with_kept both = (
     both.0,
-    same_cells_of c.follow_registers_to-second.result.replay.records c.runner-runner.result (c.of_bits-saved_cells.ensures ∙ sym c.requires.kept.is_run.at.content)
+    same_cells_of c.follow_registers_to-second.result.replay.records c.runner-runner.result
+        (c.of_bits-saved_cells.ensures ∙ sym c.requires.kept.is_run.at.content)
         (c.of_bits-cells.ensures ∙ sym c.follow_registers_to-second.ensures.run.at.content) both.1,
   )
 
@@ -71,7 +72,8 @@ module _ (g : given.Over) (c : After-of_bits-saved_cells g) where
       c.of_bits-saved_cells.result c.of_bits-cells.result
   there both = (
     both.0,
-    same_cells_of c.follow_registers_to-second.result.replay.records c.runner-runner.result (c.requires.kept.is_run.at.content ∙ sym c.of_bits-saved_cells.ensures)
+    same_cells_of c.follow_registers_to-second.result.replay.records c.runner-runner.result
+        (c.requires.kept.is_run.at.content ∙ sym c.of_bits-saved_cells.ensures)
         (c.follow_registers_to-second.ensures.run.at.content ∙ sym c.of_bits-cells.ensures) both.1,
   )
 

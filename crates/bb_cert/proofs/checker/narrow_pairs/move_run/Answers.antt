@@ -24,7 +24,8 @@ moved g c =
     let made = c.in_ok-runner.ensures in
     record {
       stands = made.stands;
-      inside = inside_here _ _ _ c.args.limits.now made.stands (g.met.T.Tape.sound c.move_to_tape.new.tape) (c.move_to_tape.ensures.limit ∙ c.requires.limit)
+      inside = inside_here _ _ _ c.args.limits.now made.stands (g.met.T.Tape.sound c.move_to_tape.new.tape)
+          (c.move_to_tape.ensures.limit ∙ c.requires.limit)
           (omega (arith, made.steps, known.few));
       limit = c.move_to_tape.ensures.limit ∙ c.requires.limit;
       counts = counted_so_far known _ _ (made.steps ∙ known.steps_is)
