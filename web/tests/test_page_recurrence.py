@@ -83,7 +83,8 @@ def test_machines_without_one(tab: Page) -> None:
     tab.open_list(CYCLE + " cycler 2 5", CYCLE + " cycler 4 16", plan={}, mode="check")
     assert tab.get("recurrence", "hidden")
     tab.open_row(1)
-    tab.until(lambda: tab.text("exact-start") == "Step 0.")
+    tab.until(lambda: not tab.get("recurrence", "hidden"))
+    assert tab.text("exact-start") == "Step 0."
     assert tab.text("exact-period") == "2 steps."
 
 
