@@ -1,16 +1,15 @@
 -- Decimal texts: one for each number, with no sign and no leading zero.
-use Rattle.std.proofs.Common.{◌≡◌, ◌≢◌, ℕ, ◌<◌, ◌^◌, List, ◌∷◌, ◌++◌, length, get_or, decimal, Option, Some}
-use Rattle.std.proofs.Common.{None, Result, Ok, Err, refl, sym, ◌∙◌, ap, inl, inr, arith}
-use Rattle.std.specs.Result.{MatchResult}
+use Rattle.std.proofs.Common.{◌≡◌, ◌≢◌, ℕ, ◌+◌, ◌*◌, ◌<◌, ◌≤◌, ◌^◌, List, [], ◌∷◌, ◌++◌, length, get_or, decimal, Option}
+use Rattle.std.proofs.Common.{Some, None, refl, subst, sym, ◌∙◌, ap, inl, inr, arith}
 use Rattle.std.specs.Str.{IsUtf8}
-use Rattle.std.specs.Str.Parse.{AllDigits, digits_value, ParsesUnsigned}
+use Rattle.std.specs.Char.{digit_value}
+use Rattle.std.specs.Str.Parse.{AllDigits, digits_value, digits_value_after}
 use Rattle.std.proofs.lemmas.Bool.{cases_lt}
-use Rattle.std.proofs.lemmas.Fmt.{decimal_digit, decimal_nonempty, first_decimal, IsAscii-decimal}
-use Rattle.std.proofs.lemmas.Fmt.{decimal_injective, digits_decimal, decimal-digits_value, parse-decimal}
+use Rattle.std.proofs.lemmas.Fmt.{decimal_digit, first_decimal, IsAscii-decimal}
+use Rattle.std.proofs.lemmas.Fmt.{decimal_injective, digits_decimal, decimal-digits_value, digits_value-decimal}
 use Rattle.std.proofs.lemmas.List.Elements.{All-from_get_or}
 use Rattle.std.proofs.lemmas.Str.{IsUtf8-from_ascii}
 use Rattle.std.proofs.lemmas.Str.Parse.{IsNumeralModel, digit_at, numerals_by_value, tells_digits}
-use Rattle.std.proofs.lemmas.Str.Parse.{parse_plain}
 use Rattle.bb_cert.specs.declared.verdict.Extent.{Extent}
 use Rattle.bb_cert.specs.verdict.Line.{pair_text, records_text, second_text}
 use Rattle.bb_cert.proofs.verdict_lemmas.Spaces.{HasNoSpace, no_space_within, same_split}
@@ -26,10 +25,6 @@ decimal_no_space n fits =
     All-from_get_or (λ byte. byte ≢ 32) (decimal n) 0 (λ i inside.
     λ is. omega (arith, digit_at (decimal n) i (digits_decimal model n fits) inside, is))
 
-pub decimal_no_plus : (n : ℕ) → n < 2 ^ 64 → get_or (decimal n) 0 0 ≢ 43
-decimal_no_plus n fits is =
-    omega (arith, digit_at (decimal n) 0 (digits_decimal model n fits) (decimal_nonempty n fits), is)
-
 pub decimal_no_zero : (n : ℕ) → n < 2 ^ 64 → 1 < length (decimal n) → get_or (decimal n) 0 0 ≢ 48
 decimal_no_zero n fits long is =
     elim (cases_lt 0 n) [
@@ -37,23 +32,27 @@ decimal_no_zero n fits long is =
       | inr none ↦ omega (arith, long, ap length (decimal_digit n (omega arith)))
     ]
 
--- what `parse` answers where no plus and no leading zero stands in front
-pub number_parsed : {E : Type 0} (bytes : List ℕ) (r : Result ℕ E) → ParsesUnsigned 64 10 bytes r
-    → get_or bytes 0 0 ≢ 43 → (1 < length bytes → get_or bytes 0 0 ≢ 48)
-    → MatchResult r (λ n. (n < 2 ^ 64) × (decimal n ≡ bytes)) (λ _. (n : ℕ) → n < 2 ^ 64 → decimal n ≢ bytes)
-number_parsed {E} bytes (Ok n) parses no_plus no_zero =
-    let read = parse_plain model {E = E} 64 bytes (Ok n) parses no_plus in
-    let fits : digits_value 10 bytes < 2 ^ 64 = read.0.2 in
-    let value : n ≡ digits_value 10 bytes = read.1 in
+-- a value within 64 bits, of digits without a leading zero, is the number with that text
+pub number_read : (bytes : List ℕ) (n : ℕ) → AllDigits 10 bytes → 0 < length bytes
+    → (1 < length bytes → get_or bytes 0 0 ≢ 48) → n < 2 ^ 64 → digits_value 10 bytes ≡ n → decimal n ≡ bytes
+number_read bytes n all some no_zero fits is =
     let one : get_or bytes 0 0 ≡ 48 → length bytes ≡ 1 = λ zero.
     elim (cases_lt 1 (length bytes)) [
       | inl long ↦ absurd (no_zero long zero)
-      | inr short ↦ omega (arith, read.0.1)
+      | inr short ↦ omega (arith, some)
     ] in
-    (omega arith, ap decimal value ∙ decimal-digits_value model bytes read.0.0 read.0.1 one fits)
-number_parsed {E} bytes (Err e) parses no_plus no_zero =
-    λ n fits is. let read : ◌≡◌ {A = Result ℕ E} (Err e) (Ok n) = parse-decimal {E = E} 64 n bytes (Err e)
-    fits fits (sym is) parses in cc
+    ap decimal (sym is) ∙ decimal-digits_value model bytes all some one (omega (arith, is))
+
+-- other bytes, and a value from 2^64 on, are the text of no number
+pub no_number_read : (bytes : List ℕ) → (AllDigits 10 bytes → 2 ^ 64 ≤ digits_value 10 bytes)
+    → (n : ℕ) → n < 2 ^ 64 → decimal n ≢ bytes
+no_number_read bytes large n fits is =
+    omega (
+      arith,
+      large (subst (AllDigits 10) is (digits_decimal model n fits)),
+      digits_value-decimal model n fits,
+      ap (digits_value 10) is,
+    )
 
 -- two numbers with a space between them are split at that space
 pub pair_split : (a b : ℕ) {prefix rest bytes : List ℕ} → a < 2 ^ 64 → HasNoSpace prefix
@@ -85,3 +84,29 @@ pub pair_apart : (a b c d : ℕ) → a < 2 ^ 64 → b < 2 ^ 64 → c < 2 ^ 64 �
 pair_apart a b c d p q r s is =
     let parts = pair_split a b p (decimal_no_space c r) refl is in
     (decimal_injective a c p r parts.0, decimal_injective b d q s parts.1)
+
+-- with nothing left to read, the value is that of all digits
+pub value_at_end : (digits rest : List ℕ) (value : ℕ) → length rest ≡ 0
+    → (AllDigits 10 rest → AllDigits 10 digits) → digits_value_after 10 value rest ≡ digits_value 10 digits
+    → AllDigits 10 digits × (digits_value 10 digits ≡ value)
+value_at_end digits [] value none read is = (read tt, sym is)
+value_at_end digits (c ∷ cs) value none read is = absurd (omega (arith, none))
+
+value_after_not_below : (n : ℕ) (digits : List ℕ) → n ≤ digits_value_after 10 n digits
+value_after_not_below n [] = omega arith
+value_after_not_below n (c ∷ cs) = omega (arith, value_after_not_below (n * 10 + digit_value c) cs)
+
+-- if it is too large with one more digit, it is with all
+pub value_too_large : (digits rest : List ℕ) (value digit : ℕ) (others : List ℕ) → rest ≡ digit ∷ others
+    → (AllDigits 10 digits → AllDigits 10 rest) → digits_value_after 10 value rest ≡ digits_value 10 digits
+    → (digit_value digit < 10 → 2 ^ 64 ≤ value * 10 + digit_value digit)
+    → AllDigits 10 digits → 2 ^ 64 ≤ digits_value 10 digits
+value_too_large digits rest value digit others parts ahead is large all =
+    let here = subst (AllDigits 10) parts (ahead all) in
+    omega (
+      arith,
+      large here.0,
+      value_after_not_below (value * 10 + digit_value digit) others,
+      ap (digits_value_after 10 value) parts,
+      is,
+    )

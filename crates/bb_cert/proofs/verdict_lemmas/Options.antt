@@ -1,9 +1,8 @@
--- What `ok` of a result is.
-use Rattle.std.proofs.Common.{◌≡◌, Option, Result, Ok, Err}
+-- Weaker statements on both cases of an option.
+use Rattle.std.proofs.Common.{Option, Some, None}
 use Rattle.std.specs.Option.{MatchOption}
-use Rattle.std.specs.Result.{MatchResult, result_ok}
 
-pub MatchOption-result_ok : {T E : Type 0} (r : Result T E) (o : Option T) (P : T → Type 0) (Q : Type 0)
-    → o ≡ result_ok r → MatchResult r P (λ _. Q) → MatchOption o Q P
-MatchOption-result_ok (Ok x) o P Q is holds = rw is holds
-MatchOption-result_ok (Err e) o P Q is holds = rw is holds
+pub MatchOption-weaker : {A : Type 0} (o : Option A) {N N' : Type 0} {P P' : A → Type 0} → MatchOption o N P
+    → (N → N') → ((a : A) → P a → P' a) → MatchOption o N' P'
+MatchOption-weaker (Some a) holds none some = some a holds
+MatchOption-weaker None holds none some = none holds

@@ -1,6 +1,8 @@
 //! The reader of verdict lines.
 ghost use Rattle.std.specs.Prelude.{◌≡◌, ◌≢◌, ℕ, ◌+◌, ◌≤◌, ◌<◌, ◌^◌, List, ◌∷◌, ◌++◌, decimal};
-ghost use Rattle.std.specs.Prelude.{All, IfNone, IfSome, MatchOption, Option, Some};
+ghost use Rattle.std.specs.Prelude.{◌*◌, All, IfNone, IfSome, MatchOption, Option, Some};
+ghost use Rattle.std.specs.Char.{digit_value};
+ghost use Rattle.std.specs.Str.Parse.{AllDigits, digits_value};
 ghost use Rattle.bb_cert.specs.declared.verdict.Extent.{Extent};
 ghost use Rattle.bb_cert.specs.declared.verdict.Verdict.{Verdict};
 ghost use Rattle.bb_cert.specs.declared.verdict.reader.Line.{Line};
@@ -11,6 +13,7 @@ ghost use Rattle.bb_cert.specs.verdict.Line.{stated_line, IsLineOf};
 
 use crate::verdict::{Extent, Side, Verdict, Why};
 use bb_machine::{LINE, Machine};
+use memchr::memchr;
 
 /// The content of a verdict line.
 #[derive(Drop)]
@@ -166,18 +169,45 @@ fn read_number(digits: &[u8]) -> Option<u64>
         (λ n. (n < 2 ^ 64) × (decimal n ≡ digits.now)) }
 {
     let first = *digits.first()?;
-    if first == b'+' || first == b'0' && digits.len() > 1 {
+    if first == b'0' && digits.len() > 1 {
         return None;
     }
-    str::from_utf8(digits).ok()?.parse().ok()
+    value_of(digits)
+}
+
+/// The number that decimal digits write, leading zeros allowed; 0 for none.
+fn value_of(digits: &[u8]) -> Option<u64>
+    ensures { MatchOption result
+        (AllDigits 10 digits.now → 2 ^ 64 ≤ digits_value 10 digits.now)
+        (λ n. (n < 2 ^ 64) × AllDigits 10 digits.now × (digits_value 10 digits.now ≡ n)) }
+{
+    let mut value = 0;
+    let mut rest = digits;
+    while let Some((digit, others)) = rest.split_first() {
+        value = with_digit(value, *digit)?;
+        rest = others;
+    }
+    Some(value)
+}
+
+/// A number with one more decimal digit.
+#[inline(always)]
+fn with_digit(value: u64, digit: u8) -> Option<u64>
+    ensures { MatchOption result
+        (digit_value digit < 10 → 2 ^ 64 ≤ value * 10 + digit_value digit)
+        (λ n. (n < 2 ^ 64) × (digit_value digit < 10) × (value * 10 + digit_value digit ≡ n)) }
+{
+    let added = char::from(digit).to_digit(10)?;
+    value.checked_mul(10)?.checked_add(u64::from(added))
 }
 
 /// The bytes before the first space, and those after it.
+#[inline(always)]
 fn split_at_space(bytes: &[u8]) -> Option<(&[u8], &[u8])>
     ensures { MatchOption result
         ((prefix rest : List ℕ) → prefix ++ 32 ∷ rest ≢ bytes.now)
         (λ parts. All (λ byte. byte ≢ 32) parts.0.now × (parts.0.now ++ 32 ∷ parts.1.now ≡ bytes.now)) }
 {
-    let space = bytes.iter().position(|byte| *byte == b' ')?;
+    let space = memchr(b' ', bytes)?;
     Some((&bytes[..space], &bytes[space + 1..]))
 }
