@@ -19,12 +19,12 @@ pub use Rattle.bb_cert.proofs.record_lemmas.RecordPairs.{record_pair}
 pub use Rattle.bb_cert.proofs.record_lemmas.Records.{record_has_one_step, record_takes_steps}
 pub use Rattle.bb_cert.proofs.record_lemmas.Records.{records_in_order, stands_on}
 pub use Rattle.bb_cert.proofs.claim_lemmas.Repeats.{repeats_go_on, repeats_keep_distance, repeats_never_halt}
-pub use Rattle.bb_cert.proofs.claim_lemmas.Runs.{earlier, moves, steps_of_never}
+pub use Rattle.bb_tree.proofs.Facts.{earlier, moves, steps_of_never}
 pub use Rattle.bb_cert.proofs.record_lemmas.Stretches.{IsCompared, are_narrow, compared, comparable_wider}
 pub use Rattle.bb_cert.proofs.record_lemmas.Stretches.{distance_is, length_is, out_as_far, seen_at}
 pub use Rattle.bb_cert.proofs.claim_lemmas.Standing.{AreAlike, same_of_alike, alike_of_same}
 pub use Rattle.bb_cert.proofs.claim_lemmas.Standing.{no_repeat_at_once}
-pub use Rattle.bb_cert.proofs.tree_lemmas.Levels.{matches_level, halts_from_level}
+pub use Rattle.bb_tree.proofs.Facts.{matches_level, halts_from_level}
 pub use Rattle.bb_cert.proofs.record_lemmas.Tops.{MakesJust, farther, made_next, makes_just, nearer_on}
-pub use Rattle.bb_cert.proofs.tree_lemmas.TreeEnds.{empty_levels_stay, tree_has_one_end}
-pub use Rattle.bb_cert.proofs.tree_lemmas.TreeEnds.{at_end, before_z, clear_trees_never_halt}
+pub use Rattle.bb_tree.proofs.Facts.{empty_levels_stay, tree_has_one_end}
+pub use Rattle.bb_tree.proofs.Facts.{at_end, before_z, clear_trees_never_halt}

@@ -1,6 +1,5 @@
 pub mod verdict_lemmas
 pub mod claim_lemmas
 pub mod record_lemmas
-pub mod tree_lemmas
 pub mod checker_lemmas
 pub mod Facts

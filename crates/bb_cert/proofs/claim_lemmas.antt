@@ -1,5 +1,4 @@
 -- What a verdict claims, and the laws of claims.
-pub mod Runs
 pub mod Regions
 pub mod Repeats
 pub mod NoRecords

@@ -1,7 +1,6 @@
 pub mod verdict
 pub mod claims
 pub mod records
-pub mod tree
 pub mod inside
 pub mod checker
 pub mod Numbers

@@ -4,15 +4,13 @@
 pub mod checker;
 pub mod claims;
 pub mod records;
-pub mod tree;
 pub mod verdict;
 
 pub use bb_sim::is_same;
+pub use bb_tree::{Path, walk};
 pub use checker::answer::Answer;
 pub use checker::checking::{Pair, check};
 pub use claims::laws;
-pub use tree::path::Path;
-pub use tree::walk::walk;
 pub use verdict::line::{
     LINE_BUFFER, LONGEST, line_into, lines_are_short, refusal_into, verdict_into,
 };

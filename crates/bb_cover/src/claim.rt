@@ -2,7 +2,7 @@
 ghost use Rattle.std.specs.Prelude.{◌≡◌, ◌≤◌, IfOk, IsTrue, OnErr};
 ghost use Rattle.bb_cert.specs.checker.Pair.{PairHasCells};
 ghost use Rattle.bb_cert.specs.checker.Answer.{IsAnswer};
-ghost use Rattle.bb_cert.specs.tree.Path.{depth_of};
+ghost use Rattle.bb_tree.specs.Path.{depth_of};
 ghost use Rattle.bb_cover.specs.Claims.{IsHalt, IsJudged, IsJudgedContent, IsOneOf};
 
 use crate::content::Content;

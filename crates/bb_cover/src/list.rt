@@ -3,7 +3,7 @@ ghost use Rattle.std.specs.Prelude.{◌≡◌, ◌≢◌, ◌↔◌, ◌⊎◌, 
 ghost use Rattle.std.specs.Prelude.{IfNone, IfOk, IfSome, IsTrue, None};
 ghost use Rattle.bb_machine.specs.Machine.{Table};
 ghost use Rattle.bb_cert.specs.checker.Pair.{PairHasCells};
-ghost use Rattle.bb_cert.specs.tree.Path.{depth_of};
+ghost use Rattle.bb_tree.specs.Path.{depth_of};
 ghost use Rattle.bb_lines.specs.Watched.{is_marked, watched_inner};
 ghost use Rattle.bb_cover.specs.Counts.{counted, saturated};
 ghost use Rattle.bb_cover.specs.CoverProgress.{GoesOn, IsAsked, IsFoundBy, Starts};
@@ -181,7 +181,7 @@ impl<T: Tape> LineSink for Checker<'_, T> {
     ghost use Rattle.std.proofs.Common.{rules};
     ghost use Rattle.bb_cert.specs.declared.verdict.line.TheConstants.{LINE_BUFFER};
     ghost use Rattle.bb_cert.specs.checker.Pair.{PairHasCells};
-    ghost use Rattle.bb_cert.specs.tree.Path.{depth_of};
+    ghost use Rattle.bb_tree.specs.Path.{depth_of};
     ghost use Rattle.bb_cover.specs.CoverProgress.{Took};
     ghost use Rattle.bb_cover.specs.KeptBytes.{took_of_kept};
 

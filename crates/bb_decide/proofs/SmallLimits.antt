@@ -7,7 +7,7 @@ use Rattle.bb_sim.specs.Span.{Inside}
 use Rattle.bb_sim.proofs.Facts.{earlier_is_inside}
 use Rattle.bb_cert.specs.declared.verdict.Side.{Side}
 use Rattle.bb_cert.specs.declared.verdict.Verdict.TheVariants.{Halt, Cycler, Translated}
-use Rattle.bb_cert.specs.tree.Tree.{Back}
+use Rattle.bb_tree.specs.Tree.{Back}
 use Rattle.bb_decide.specs.Cycle.{IsFirstCycle}
 use Rattle.bb_decide.specs.Laws.{SmallLimitsDecide}
 use Rattle.bb_decide.specs.Sure.{NoneIsSmaller}

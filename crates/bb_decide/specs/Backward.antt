@@ -6,8 +6,8 @@ use Rattle.bb_machine.specs.Machine.{Table}
 use Rattle.bb_sim.specs.declared.meter.Meter.{Meter}
 use Rattle.bb_cert.specs.declared.verdict.Verdict.{Verdict}
 use Rattle.bb_cert.specs.declared.verdict.Verdict.TheVariants.{Backward}
-use Rattle.bb_cert.specs.tree.Tree.{Back, EndsNowhere}
-use Rattle.bb_cert.specs.tree.WalkMeter.{IsWithinWalk, walked}
+use Rattle.bb_tree.specs.Tree.{Back, EndsNowhere}
+use Rattle.bb_tree.specs.WalkMeter.{IsWithinWalk, walked}
 
 -- no tree ends within the bounds without a node that the start matches
 abbrev pub HasNoTree : Table → Bounds → Type 0

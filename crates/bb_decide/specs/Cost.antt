@@ -6,7 +6,7 @@ use Rattle.bb_sim.specs.declared.meter.Meter.{Meter}
 use Rattle.bb_sim.specs.Outcome.{HaltsNowhere}
 use Rattle.bb_sim.specs.Span.{span, IsLastInside}
 use Rattle.bb_cert.specs.declared.verdict.Side.{Side}
-use Rattle.bb_cert.specs.tree.Tree.{Back}
+use Rattle.bb_tree.specs.Tree.{Back}
 use Rattle.bb_machine.specs.declared.plan.Plan.{Plan}
 use Rattle.bb_decide.specs.Cycle.{HasNoCycle, IsFirstCycle}
 use Rattle.bb_decide.specs.Translation.{HasNoTranslation, IsFirstTranslation}

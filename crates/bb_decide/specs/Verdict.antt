@@ -8,7 +8,7 @@ use Rattle.bb_cert.specs.declared.verdict.Why.TheVariants.{Steps, Cells}
 use Rattle.bb_cert.specs.declared.verdict.Verdict.{Verdict}
 use Rattle.bb_cert.specs.declared.verdict.Verdict.TheVariants.{Halt, Cycler, Translated, Backward, Undecided}
 use Rattle.bb_cert.specs.verdict.Extent.{TellsExtent}
-use Rattle.bb_cert.specs.tree.Tree.{Back}
+use Rattle.bb_tree.specs.Tree.{Back}
 use Rattle.bb_machine.specs.declared.plan.Plan.{Plan}
 use Rattle.bb_decide.specs.Backward.{HasNoTree}
 use Rattle.bb_decide.specs.Cycle.{HasNoCycle, IsFirstCycle}

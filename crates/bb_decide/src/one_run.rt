@@ -6,7 +6,7 @@ ghost use Rattle.bb_cert.specs.declared.verdict.reader.Line.{Line};
 ghost use Rattle.bb_cert.specs.checker.Answer.{IsAnswer, IsUndecided};
 ghost use Rattle.bb_cert.specs.claims.Claim.{Claim, SaysNever};
 ghost use Rattle.bb_cert.specs.verdict.Line.{IsLineOf, line_text};
-ghost use Rattle.bb_cert.specs.tree.Path.{depth_of};
+ghost use Rattle.bb_tree.specs.Path.{depth_of};
 ghost use Rattle.bb_cert.specs.verdict.Verdict.{HasNumbers};
 ghost use Rattle.bb_decide.specs.Bench.{BenchHasCells};
 ghost use Rattle.bb_decide.specs.FewCells.{DecidesFewCells};

@@ -2,9 +2,9 @@
 ghost use Rattle.std.specs.Prelude.{◌≡◌, IfOk, IfSome, IsTrue, OnErr};
 ghost use Rattle.bb_sim.specs.Run.{Never};
 ghost use Rattle.bb_cert.specs.claims.Claim.{Claim};
-ghost use Rattle.bb_cert.specs.tree.Path.{depth_of};
+ghost use Rattle.bb_tree.specs.Path.{depth_of};
 ghost use Rattle.bb_cert.specs.verdict.Verdict.{HasNumbers};
-ghost use Rattle.bb_cert.specs.tree.WalkMeter.{IsWithinWalk};
+ghost use Rattle.bb_tree.specs.WalkMeter.{IsWithinWalk};
 ghost use Rattle.bb_decide.specs.Backward.{CountsTree, FindsTree, without_nodes};
 ghost use Rattle.bb_decide.specs.Bench.{BenchHasCells};
 

@@ -1,6 +1,6 @@
 //! The exact recurrence behind each verdict line of a list.
 ghost use Rattle.std.specs.Prelude.{◌≡◌, ◌++◌, ◌+◌, ◌≤◌, ◌↔◌, [], false, true, IfOk, IsTrue, OnErr, OnOk};
-ghost use Rattle.bb_cert.specs.tree.Path.{depth_of};
+ghost use Rattle.bb_tree.specs.Path.{depth_of};
 ghost use Rattle.bb_lines.specs.Watched.{is_marked, watched_inner};
 ghost use Rattle.bb_repetition.specs.RecurrenceEnds.{RecurrenceEnds};
 ghost use Rattle.bb_repetition.specs.RecurrenceSeen.{is_clean};
@@ -47,7 +47,7 @@ impl<T: Tape> Responder for Finder<'_, T> {
     ghost use Rattle.std.specs.Prelude.{◌≡◌, ◌+◌, ◌≤◌};
     ghost use Rattle.std.proofs.Common.{rules};
     ghost use Rattle.bb_cert.specs.declared.verdict.line.TheConstants.{LINE_BUFFER};
-    ghost use Rattle.bb_cert.specs.tree.Path.{depth_of};
+    ghost use Rattle.bb_tree.specs.Path.{depth_of};
     ghost use Rattle.bb_repetition.specs.RecurrenceReply.{IsRecurrenceReply};
     ghost use Rattle.bb_repetition.specs.RecurrenceSeen.{RecurrenceSaw};
     ghost use Rattle.bb_repetition.specs.RecurrenceKeptBytes.{recurrence_reply_kept};

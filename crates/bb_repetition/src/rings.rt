@@ -1,6 +1,6 @@
 //! Rings for a whole list, made once: the only memory for its recurrences.
 ghost use Rattle.std.specs.Prelude.{◌≡◌, IfOk};
-ghost use Rattle.bb_cert.specs.tree.Path.{depth_of};
+ghost use Rattle.bb_tree.specs.Path.{depth_of};
 ghost use Rattle.bb_repetition.specs.Tapes.{TapesHaveCells};
 
 use crate::recurrence::Tapes;

@@ -3,7 +3,7 @@ ghost use Rattle.std.specs.Prelude.{◌≡◌, ◌-◌, ◌*◌, ◌<◌, ◌≤
 ghost use Rattle.bb_cert.specs.claims.Claim.{Claim};
 ghost use Rattle.bb_cert.specs.checker.Answer.{IsAnswer};
 ghost use Rattle.bb_cert.specs.declared.checker.answer.Answer.{Answer};
-ghost use Rattle.bb_cert.specs.tree.Path.{depth_of};
+ghost use Rattle.bb_tree.specs.Path.{depth_of};
 ghost use Rattle.bb_sim.specs.Span.{Inside};
 ghost use Rattle.laws_of_repetition.specs.Repetition.{Repeats};
 ghost use Rattle.bb_repetition.specs.Finding.{CountsFinding, IsFinding, NamesNone, NamesPair};

@@ -1,7 +1,7 @@
 //! Answers to the verdict lines of a list, a word each.
 ghost use Rattle.std.specs.Prelude.{◌≡◌, ◌↔◌, ◌≤◌, [], false, true, IsTrue, length};
 ghost use Rattle.bb_cert.specs.checker.Pair.{PairHasCells};
-ghost use Rattle.bb_cert.specs.tree.Path.{depth_of};
+ghost use Rattle.bb_tree.specs.Path.{depth_of};
 ghost use Rattle.bb_lines.specs.Watched.{is_marked, watched_inner};
 ghost use Rattle.bb_run.specs.CheckEnds.{CheckEnds};
 
@@ -38,7 +38,7 @@ impl<T: Tape> Responder for Checker<'_, T> {
     ghost use Rattle.std.proofs.Common.{rules};
     ghost use Rattle.bb_cert.specs.declared.verdict.line.TheConstants.{LINE_BUFFER};
     ghost use Rattle.bb_cert.specs.checker.Pair.{PairHasCells};
-    ghost use Rattle.bb_cert.specs.tree.Path.{depth_of};
+    ghost use Rattle.bb_tree.specs.Path.{depth_of};
     ghost use Rattle.bb_run.specs.CheckReply.{IsCheckReply};
     ghost use Rattle.bb_run.specs.CheckSeen.{CheckSaw};
     ghost use Rattle.bb_run.specs.CheckKeptBytes.{check_reply_kept, check_reply_of_kept, check_saw_of_kept};

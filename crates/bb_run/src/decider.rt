@@ -5,7 +5,7 @@ ghost use Rattle.bb_machine.specs.Machine.{Table};
 ghost use Rattle.bb_machine.specs.declared.plan.Plan.{Plan};
 ghost use Rattle.bb_sim.specs.declared.meter.Meter.{Meter};
 ghost use Rattle.bb_cert.specs.declared.verdict.reader.Line.{Line};
-ghost use Rattle.bb_cert.specs.tree.Path.{depth_of};
+ghost use Rattle.bb_tree.specs.Path.{depth_of};
 ghost use Rattle.bb_cert.specs.verdict.Line.{IsLineOf, line_text};
 ghost use Rattle.bb_cert.specs.verdict.Verdict.{HasNumbers};
 ghost use Rattle.bb_decide.specs.Bench.{BenchHasCells};
@@ -73,7 +73,7 @@ impl<T: Tape, D: Decide> Responder for Decider<'_, T, D> {
     ghost use Rattle.std.specs.Prelude.{◌≡◌, ◌+◌};
     ghost use Rattle.std.proofs.Common.{rules};
     ghost use Rattle.bb_machine.specs.declared.machine.TheConstants.{LINE};
-    ghost use Rattle.bb_cert.specs.tree.Path.{depth_of};
+    ghost use Rattle.bb_tree.specs.Path.{depth_of};
     ghost use Rattle.bb_decide.specs.Bench.{BenchHasCells};
     ghost use Rattle.bb_run.specs.Reply.{IsReply};
     ghost use Rattle.bb_run.specs.Seen.{SawBy};

@@ -1,7 +1,7 @@
 //! Walks along a list on rings of its own, and returns the result.
 ghost use Rattle.std.specs.Prelude.{◌≡◌, ◌≢◌, ◌↔◌, ◌⊎◌, IfOk, false, true};
 ghost use Rattle.bb_cert.specs.checker.Pair.{PairHasCells};
-ghost use Rattle.bb_cert.specs.tree.Path.{depth_of};
+ghost use Rattle.bb_tree.specs.Path.{depth_of};
 ghost use Rattle.bb_lines.specs.Watched.{is_marked, watched_inner};
 ghost use Rattle.bb_cover.specs.Covering.{CoverEnds};
 ghost use Rattle.cover.specs.Status.{end_status};

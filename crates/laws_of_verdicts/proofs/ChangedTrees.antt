@@ -17,9 +17,9 @@ use Rattle.bb_machine.specs.declared.entry.Entry.TheVariants.{Undefined, Go}
 use Rattle.bb_machine.specs.declared.entry.Next.{Next}
 use Rattle.bb_machine.specs.declared.entry.Next.TheVariants.{State, Halt}
 use Rattle.bb_machine.specs.Machine.{Table, IsGroup, IsMachine, entry_of, symbols_of}
-use Rattle.bb_cert.specs.tree.Tree.{Node, rules_in, rules_from, goes_to, is_same, leads_to, rules_to}
-use Rattle.bb_cert.specs.tree.Tree.{with_known, halting_node, left_cell, may_be, seen_from, before_by_entry}
-use Rattle.bb_cert.specs.tree.Tree.{before_by, before, level, nodes_below}
+use Rattle.bb_tree.specs.Tree.{Node, rules_in, rules_from, goes_to, is_same, leads_to, rules_to}
+use Rattle.bb_tree.specs.Tree.{with_known, halting_node, left_cell, may_be, seen_from, before_by_entry}
+use Rattle.bb_tree.specs.Tree.{before_by, before, level, nodes_below}
 use Rattle.laws_of_verdicts.specs.Change.{Change, IsChanged, Renaming, changed_entry, changed_next, turned}
 use Rattle.laws_of_verdicts.proofs.ChangedRuns.{placed, placed-add, placed-twice, placed-zero}
 use Rattle.laws_of_verdicts.proofs.Sums.{length-sum, sum_by-each, sum_by-flat_map, sum_by-map, sum_from}

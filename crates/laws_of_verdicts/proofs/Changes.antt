@@ -24,8 +24,8 @@ use Rattle.bb_cert.specs.declared.verdict.Why.TheVariants.{Steps, Cells}
 use Rattle.bb_cert.specs.checker.Answer.{Applies, Rule}
 use Rattle.bb_cert.specs.checker.Answer.{too_much_needed, claim_holds, all_else}
 use Rattle.bb_cert.specs.claims.Claim.{Claim}
-use Rattle.bb_cert.specs.tree.Tree.{MatchesOne, level, Ends, Clear, EndsWithin, HaltsNextAfter, goes_to}
-use Rattle.bb_cert.specs.tree.Tree.{IsAtHaltingEntry}
+use Rattle.bb_tree.specs.Tree.{MatchesOne, level, Ends, Clear, EndsWithin, HaltsNextAfter, goes_to}
+use Rattle.bb_tree.specs.Tree.{IsAtHaltingEntry}
 use Rattle.bb_cert.specs.verdict.Extent.{TellsExtent}
 use Rattle.bb_cert.proofs.Facts.{matches_level, halts_from_level}
 use Rattle.bb_decide.specs.Backward.{HasNoTree}

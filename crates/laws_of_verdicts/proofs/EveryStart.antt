@@ -8,7 +8,7 @@ use Rattle.bb_machine.specs.Machine.{Table, IsMachine}
 use Rattle.bb_sim.specs.Configuration.{Configuration, next}
 use Rattle.bb_sim.specs.Run.{after}
 use Rattle.bb_sim.proofs.Facts.{IsNamed, next_named}
-use Rattle.bb_cert.specs.tree.Tree.{Node, MatchesOne, IsAtHaltingEntry, Ends}
+use Rattle.bb_tree.specs.Tree.{Node, MatchesOne, IsAtHaltingEntry, Ends}
 use Rattle.bb_cert.proofs.Facts.{at_end, before_z, matches_level, empty_levels_stay}
 use Rattle.laws_of_verdicts.specs.EveryStart.{HaltsFrom, EveryStartHaltsSoonOrNever}
 

@@ -6,7 +6,7 @@ use Rattle.bb_machine.specs.Machine.{Table, IsMachine, symbols_of}
 use Rattle.bb_tape.specs.Content.{cell}
 use Rattle.bb_sim.specs.Configuration.{Configuration, next}
 use Rattle.bb_sim.specs.Run.{after}
-use Rattle.bb_cert.specs.tree.Tree.{Ends}
+use Rattle.bb_tree.specs.Tree.{Ends}
 
 -- one of the machine's states, or Z, at any position on any tape of its symbols
 pub record IsStartOf (table : Table) (c : Configuration) : Type 0 where

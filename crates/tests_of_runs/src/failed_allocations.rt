@@ -1,7 +1,7 @@
 //! Engines over tapes without memory: the output so far, and all lines on the same tapes once there is
 //! memory.
 ghost use Rattle.std.specs.Prelude.{◌≡◌, ◌≤◌};
-ghost use Rattle.bb_cert.specs.tree.Path.{depth_of};
+ghost use Rattle.bb_tree.specs.Path.{depth_of};
 ghost use Rattle.bb_decide.specs.Bench.{BenchHasCells};
 
 use crate::support::checking::checked;

@@ -1,7 +1,7 @@
 //! Claims worked out by hand, and the cost of checking them, over both tapes.
 ghost use Rattle.std.specs.Prelude.{◌≡◌, ◌≤◌};
 ghost use Rattle.bb_cert.specs.checker.Pair.{PairHasCells};
-ghost use Rattle.bb_cert.specs.tree.Path.{depth_of};
+ghost use Rattle.bb_tree.specs.Path.{depth_of};
 
 use bb_cert::{Answer, Extent, Line, Pair, Path, Side, Verdict, check, read_line};
 use bb_machine::{LimitFault, Limits, Machine};

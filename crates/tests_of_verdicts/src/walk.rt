@@ -1,6 +1,6 @@
 //! Trees worked out by hand or by a second program, and bounds at their ends.
 ghost use Rattle.std.specs.Prelude.{◌≡◌, ◌≤◌, ◌*◌, ◌+◌, ◌<◌, ◌^◌};
-ghost use Rattle.bb_cert.specs.tree.Path.{depth_of};
+ghost use Rattle.bb_tree.specs.Path.{depth_of};
 
 use bb_cert::{Path, walk};
 use bb_machine::Machine;

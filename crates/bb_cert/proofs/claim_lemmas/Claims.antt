@@ -4,7 +4,7 @@ use Rattle.bb_cert.specs.declared.verdict.Verdict.TheVariants.{Halt, Cycler, Tra
 use Rattle.bb_cert.specs.claims.Laws.{ClaimsNeverHalt}
 use Rattle.bb_cert.proofs.record_lemmas.Agreements.{agreeing_records_never_halt}
 use Rattle.bb_cert.proofs.claim_lemmas.Repeats.{repeats_never_halt}
-use Rattle.bb_cert.proofs.tree_lemmas.TreeEnds.{clear_trees_never_halt}
+use Rattle.bb_tree.proofs.Facts.{clear_trees_never_halt}
 
 pub claims_never_halt : ClaimsNeverHalt
 claims_never_halt table (Halt steps score) machine says claim = absurd says

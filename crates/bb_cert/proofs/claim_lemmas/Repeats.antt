@@ -8,7 +8,7 @@ use Rattle.bb_sim.specs.Run.{conf, HaltsAt}
 use Rattle.bb_sim.proofs.Facts.{conf-suc}
 use Rattle.bb_cert.specs.claims.Repeat.{Same}
 use Rattle.bb_cert.specs.claims.Laws.{RepeatsGoOn, RepeatsNeverHalt, RepeatsKeepDistance}
-use Rattle.bb_cert.proofs.claim_lemmas.Runs.{no_halt_before, steps_of_never}
+use Rattle.bb_tree.proofs.Facts.{no_halt_before, steps_of_never}
 
 -- the run goes on from both in the same way, also to its end
 pub together : (table : Table) (a b : ℕ) → Same table a b → (u : ℕ) → conf table (a + u) ≡ conf table (b + u)

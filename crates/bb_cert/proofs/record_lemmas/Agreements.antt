@@ -12,7 +12,7 @@ use Rattle.bb_cert.specs.declared.verdict.Side.{Side}
 use Rattle.bb_cert.specs.records.Record.{out, head_at, far}
 use Rattle.bb_cert.specs.records.Agree.{AgreeingRecords}
 use Rattle.bb_cert.specs.claims.Laws.{AgreeingRecordsGoOn, AgreeingRecordsNeverHalt}
-use Rattle.bb_cert.proofs.claim_lemmas.Runs.{moves, earlier, never_of_steps}
+use Rattle.bb_tree.proofs.Facts.{moves, earlier, never_of_steps}
 use Rattle.bb_cert.proofs.record_lemmas.Positions.{out-add, out-subtract, head_at-is}
 use Rattle.bb_cert.proofs.record_lemmas.Records.{stands_on, has_step, records_in_order, blank_beyond}
 use Rattle.bb_cert.proofs.claim_lemmas.Regions.{IsMoved, step_alike}

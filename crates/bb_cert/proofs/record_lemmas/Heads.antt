@@ -17,7 +17,7 @@ use Rattle.bb_cert.specs.declared.verdict.Side.{Side}
 use Rattle.bb_cert.specs.declared.verdict.Side.TheVariants.{L, R}
 use Rattle.bb_cert.specs.records.Record.{out, head_at, far}
 use Rattle.bb_cert.proofs.record_lemmas.Positions.{head_at-is}
-use Rattle.bb_cert.proofs.claim_lemmas.Runs.{earlier, moves}
+use Rattle.bb_tree.proofs.Facts.{earlier, moves}
 
 -- as far out as one is
 pub out-out : (side : Side) (p : ℤ) → out side (out side p) ≡ p

@@ -20,7 +20,7 @@ use Rattle.bb_sim.proofs.Facts.{led, conf-start}
 use Rattle.bb_cert.specs.declared.verdict.Side.{Side}
 use Rattle.bb_cert.specs.declared.verdict.Side.TheVariants.{L, R}
 use Rattle.bb_cert.specs.records.Record.{out, head_of, head_at}
-use Rattle.bb_cert.proofs.claim_lemmas.Runs.{moves}
+use Rattle.bb_tree.proofs.Facts.{moves}
 
 pub through : (p q r : ℤ) → p ≤ℤ q → q ≤ℤ r → p ≤ℤ r
 through p q r a b = omega (arith, ints, a, b)

@@ -14,7 +14,7 @@ use Rattle.bb_cert.specs.declared.verdict.Side.{Side}
 use Rattle.bb_cert.specs.records.Record.{out, head_at, IsRecord}
 use Rattle.bb_cert.specs.claims.Laws.{RecordHasOneStep, RecordsInOrder, LowerRecordsExist, ShortOfRecord}
 use Rattle.bb_cert.specs.claims.Laws.{RecordTakesSteps}
-use Rattle.bb_cert.proofs.claim_lemmas.Runs.{moves, earlier}
+use Rattle.bb_tree.proofs.Facts.{moves, earlier}
 use Rattle.bb_cert.proofs.record_lemmas.Positions.{out-zero, led_by, head_at-is, head_at-start, climbs}
 
 -- where record j is made, the head is j cells out

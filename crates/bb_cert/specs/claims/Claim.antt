@@ -7,7 +7,7 @@ use Rattle.bb_cert.specs.declared.verdict.Verdict.TheVariants.{Halt, Cycler, Tra
 use Rattle.bb_cert.specs.records.Agree.{AgreeingRecords}
 use Rattle.bb_cert.specs.verdict.Extent.{SaysExtent}
 use Rattle.bb_cert.specs.claims.Repeat.{Same}
-use Rattle.bb_cert.specs.tree.Tree.{Clear, Ends}
+use Rattle.bb_tree.specs.Tree.{Clear, Ends}
 
 -- the machine halts after so many steps with so many nonzero cells; or its configuration at the first step is
 -- repeated at the second; or both steps are records of the side and agree, and their extent is right, if it

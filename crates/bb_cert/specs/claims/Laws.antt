@@ -1,9 +1,8 @@
--- Laws of verdict lines, of answers, of repeating runs, and of the backward tree.
-use Rattle.std.specs.Prelude.{◌≡◌, ℕ, ◌+◌, ◌*◌, ◌<◌, ◌≤◌, ◌↔◌, List, [], pos, ◌<ℤ◌}
+-- Laws of verdict lines, of answers and of repeating runs.
+use Rattle.std.specs.Prelude.{◌≡◌, ℕ, ◌+◌, ◌*◌, ◌<◌, ◌≤◌, ◌↔◌, List, pos, ◌<ℤ◌}
 use Rattle.bb_machine.specs.Limits.{Bounds}
 use Rattle.bb_machine.specs.declared.machine.TheConstants.{MAX_STATES, MAX_SYMBOLS}
 use Rattle.bb_machine.specs.Machine.{Table, IsMachine, IsMachineWithin}
-use Rattle.bb_sim.specs.Configuration.{Configuration}
 use Rattle.bb_sim.specs.Run.{Never}
 use Rattle.bb_cert.specs.declared.checker.answer.Answer.{Answer}
 use Rattle.bb_cert.specs.declared.verdict.reader.Line.{Line}
@@ -18,7 +17,6 @@ use Rattle.bb_cert.specs.verdict.Verdict.{HasNumbers}
 use Rattle.bb_cert.specs.claims.Repeat.{Same}
 use Rattle.bb_cert.specs.records.Record.{out, head_at, IsRecord}
 use Rattle.bb_cert.specs.records.Agree.{Agree, AgreeingRecords, GoesAlike}
-use Rattle.bb_cert.specs.tree.Tree.{MatchesOne, level, Ends, Clear, HaltsNextAfter}
 
 -- different claims and columns have different lines
 abbrev pub LinesDiffer : Type 0
@@ -119,24 +117,6 @@ AgreeingRecordsNeverRepeat = (table : Table) (side : Side) (a b c d : ℕ) → A
 abbrev pub ClaimsNeverHalt : Type 0
 ClaimsNeverHalt = (table : Table) (verdict : Verdict) → IsMachine table → SaysNever verdict
     → Claim table verdict → Never table
-
--- i steps after any configuration there is one at a halting entry exactly if it matches a node of level i
-abbrev pub LevelsComeBeforeHalts : Type 0
-LevelsComeBeforeHalts = (table : Table) (c : Configuration) (i : ℕ)
-    → HaltsNextAfter table c i ↔ MatchesOne (level table i) c
-
--- an empty level ends all later ones
-abbrev pub EmptyLevelsStay : Type 0
-EmptyLevelsStay = (table : Table) (i j : ℕ) → i ≤ j → level table i ≡ [] → level table j ≡ []
-
--- a machine whose tree ends, without a node matched by its start, never halts
-abbrev pub ClearTreesNeverHalt : Type 0
-ClearTreesNeverHalt = (table : Table) (h k : ℕ) → IsMachine table → Ends table h k → Clear table h
-    → Never table
-
--- a tree ends in one number of levels, with one number of nodes
-abbrev pub TreeHasOneEnd : Type 0
-TreeHasOneEnd = (table : Table) (h k i j : ℕ) → Ends table h k → Ends table i j → (h ≡ i) × (k ≡ j)
 
 -- no verdict has two answers
 abbrev pub AnswerIsUnique : Type 0

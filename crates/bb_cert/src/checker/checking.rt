@@ -10,18 +10,17 @@ ghost use Rattle.bb_cert.specs.inside.NarrowChecks.{claim_up_to};
 ghost use Rattle.bb_cert.specs.claims.Claim.{Claim, SaysNever};
 ghost use Rattle.bb_cert.specs.checker.ClaimMeter.{CountsClaim, CountsWindow, IsWithinClaim};
 ghost use Rattle.bb_cert.specs.checker.Pair.{PairHasCells};
-ghost use Rattle.bb_cert.specs.tree.Path.{depth_of};
+ghost use Rattle.bb_tree.specs.Path.{depth_of};
 
 use crate::checker::answer::Answer;
 use crate::checker::narrow_pairs::{check_cycler_to_limit, check_translated_to_limit};
 use crate::checker::pairs::RecordPair;
-use crate::tree::path::Path;
-use crate::tree::walk::walk;
 use crate::verdict::Verdict;
 use bb_machine::{Limits, Machine};
 use bb_narrow::simulate_narrow;
 use bb_sim::{Meter, Outcome};
 use bb_tape::{Memory, Tape};
+use bb_tree::{Path, walk};
 
 /// The tapes for checking a claim. Each call resets those it uses.
 #[derive(Drop)]

@@ -7,10 +7,7 @@ ghost use Rattle.bb_cert.specs.claims.Laws.{
   AgreeingRecordsNeverRepeat,
   AnswerIsUnique,
   ClaimsNeverHalt,
-  ClearTreesNeverHalt,
-  EmptyLevelsStay,
   HasRecord,
-  LevelsComeBeforeHalts,
   LinesDiffer,
   LowerRecordsExist,
   RecordHasOneNumber,
@@ -25,8 +22,8 @@ ghost use Rattle.bb_cert.specs.claims.Laws.{
   RepeatsNeverHalt,
   ShortOfRecord,
   SmallerLinesAreLines,
-  TreeHasOneEnd,
 };
+ghost use Rattle.bb_tree.specs.TreeLaws.{ClearTreesNeverHalt, EmptyLevelsStay, LevelsComeBeforeHalts, TreeHasOneEnd};
 ghost use Rattle.std.specs.Prelude.{◌≡◌};
 ghost use Rattle.bb_cert.specs.Numbers.{NumbersAreStated, answer_number};
 

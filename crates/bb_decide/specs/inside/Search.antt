@@ -11,7 +11,7 @@ use Rattle.bb_cert.specs.declared.verdict.Verdict.TheVariants.{Cycler, Translate
 use Rattle.bb_cert.specs.claims.Claim.{Claim}
 use Rattle.bb_cert.specs.verdict.Extent.{TellsExtent}
 use Rattle.bb_cert.specs.verdict.Verdict.{HasNumbers}
-use Rattle.bb_cert.specs.tree.Tree.{Back}
+use Rattle.bb_tree.specs.Tree.{Back}
 use Rattle.bb_machine.specs.declared.plan.Plan.{Plan}
 use Rattle.bb_decide.specs.Cycle.{IsFirstCycle}
 use Rattle.bb_decide.specs.Translation.{IsFirstTranslation}

@@ -1,7 +1,7 @@
 //! Lists of verdict lines, checked from bytes to bytes.
 ghost use Rattle.std.specs.Prelude.{◌≡◌, ◌≤◌};
 ghost use Rattle.bb_cert.specs.checker.Pair.{PairHasCells};
-ghost use Rattle.bb_cert.specs.tree.Path.{depth_of};
+ghost use Rattle.bb_tree.specs.Path.{depth_of};
 
 use crate::support::rows::Row;
 use bb_cert::{Pair, Path};

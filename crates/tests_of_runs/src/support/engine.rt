@@ -1,6 +1,6 @@
 //! The two engines for deciding a list.
 ghost use Rattle.std.specs.Prelude.{◌≡◌, false};
-ghost use Rattle.bb_cert.specs.tree.Path.{depth_of};
+ghost use Rattle.bb_tree.specs.Path.{depth_of};
 ghost use Rattle.bb_decide.specs.Bench.{BenchHasCells};
 ghost use Rattle.bb_lines.specs.Watched.{is_marked};
 

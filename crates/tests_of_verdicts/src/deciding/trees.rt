@@ -1,6 +1,6 @@
 //! Backward reasoning over both tapes, with trees drawn by hand.
 ghost use Rattle.std.specs.Prelude.{◌≡◌};
-ghost use Rattle.bb_cert.specs.tree.Path.{depth_of};
+ghost use Rattle.bb_tree.specs.Path.{depth_of};
 ghost use Rattle.bb_decide.specs.Bench.{BenchHasCells};
 
 use super::{bench_on_maps, bench_on_rings, read_claim};

@@ -1,7 +1,7 @@
 //! Deciding in one run with equal keys, so that different tapes often have one fingerprint: the verdicts stay
 //! the same.
 ghost use Rattle.std.specs.Prelude.{◌≡◌, ◌<◌};
-ghost use Rattle.bb_cert.specs.tree.Path.{depth_of};
+ghost use Rattle.bb_tree.specs.Path.{depth_of};
 ghost use Rattle.bb_decide.specs.Bench.{BenchHasCells};
 
 use super::bench_on_rings;

@@ -4,7 +4,7 @@ use Rattle.bb_sim.specs.declared.meter.Meter.{Meter}
 use Rattle.bb_sim.specs.Meter.{zero_meter}
 use Rattle.bb_cert.specs.declared.verdict.Verdict.TheVariants.{Backward}
 use Rattle.bb_cert.specs.checker.ClaimMeter.{IsWithinClaim}
-use Rattle.bb_cert.specs.tree.WalkMeter.{IsWithinWalk}
+use Rattle.bb_tree.specs.WalkMeter.{IsWithinWalk}
 use Rattle.bb_cert.proofs.checker.checking.check_backward.Goals as goal
 
 walk_counts : (bounds : Bounds) (levels nodes : ℕ) (meter : Meter) → levels ≤ bounds.depth

@@ -1,5 +1,5 @@
-use Rattle.bb_cert.proofs.tree_lemmas.Levels.{levels_come_before_halts}
-use Rattle.bb_cert.proofs.tree_lemmas.TreeEnds.{empty_levels_stay, clear_trees_never_halt, tree_has_one_end}
+use Rattle.bb_tree.proofs.Facts.{levels_come_before_halts}
+use Rattle.bb_tree.proofs.Facts.{empty_levels_stay, clear_trees_never_halt, tree_has_one_end}
 use Rattle.bb_cert.proofs.claims.laws.levels_come_before_halts.Goals as goal
 
 pub returns : goal.returns

@@ -1,5 +1,5 @@
 use Rattle.std.proofs.Common.{◌≡◌}
-use Rattle.bb_cert.specs.tree.Path.{depth_of}
+use Rattle.bb_tree.specs.Path.{depth_of}
 use Rattle.bb_decide.specs.Bench.{BenchHasCells}
 use Rattle.tests_of_verdicts.proofs.deciding.weak_keys.drawn_are_kept.Given as goal
 

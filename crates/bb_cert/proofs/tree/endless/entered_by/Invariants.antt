@@ -1,6 +1,0 @@
-use Rattle.std.proofs.Common.{ℕ}
-use Rattle.bb_cert.specs.inside.Walk.{IsEnteredFrom, IsIn}
-use Rattle.bb_cert.proofs.tree.endless.entered_by.Given as goal
-
-abbrev pub invariant-loop-symbol : goal.invariant-loop-symbol
-invariant-loop-symbol l = (state : ℕ) → IsIn l.entered state → IsEnteredFrom l.machine l.dir l.from state

@@ -1,8 +1,0 @@
-use Rattle.std.proofs.Common.{◌≡◌}
-use Rattle.bb_cert.specs.inside.Walk.{branches}
-use Rattle.bb_cert.proofs.tree.walk.next_branch.Given as goal
-
-abbrev pub invariant-loop-index : goal.invariant-loop-index
-invariant-loop-index g l = let content = (g.T.Tape.view l.tape).content in
-    branches l.rules.list.items content l.frame ≡ branches l.rules.list.items content
-    (record l.frame { next = l.index })

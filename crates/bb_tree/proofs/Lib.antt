@@ -1,0 +1,15 @@
+pub mod Facts
+pub mod Runs
+pub mod OneOf
+pub mod RuleEntries
+pub mod Levels
+pub mod TreeEnds
+pub mod EndlessPaths
+pub mod Walked
+pub mod Orders
+pub mod Shown
+pub mod Entering
+pub mod Exploring
+pub mod Roots
+pub mod RuleLists
+pub mod SortedRules

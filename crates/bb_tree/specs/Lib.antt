@@ -1,0 +1,5 @@
+pub mod Tree
+pub mod Path
+pub mod WalkMeter
+pub mod TreeLaws
+pub mod inside
