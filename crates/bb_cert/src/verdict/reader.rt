@@ -122,6 +122,7 @@ fn read_verdict(words: &[u8]) -> Option<Verdict>
 }
 
 /// The two numbers after these words.
+#[inline(always)]
 fn read_pair(words: &[u8], bytes: &[u8]) -> Option<(u64, u64)>
     ensures { MatchOption result
         ((a b : ℕ) → a < 2 ^ 64 → b < 2 ^ 64 → words.now ++ pair_text a b ≢ bytes.now)
@@ -133,6 +134,7 @@ fn read_pair(words: &[u8], bytes: &[u8]) -> Option<(u64, u64)>
 }
 
 /// The steps of two records after these words, and their extent, if given.
+#[inline(always)]
 fn read_records(words: &[u8], bytes: &[u8]) -> Option<(u64, u64, Option<Extent>)>
     ensures { MatchOption result
         ((a b : ℕ) (extent : Option Extent) → a < 2 ^ 64 → b < 2 ^ 64 → HasExtentNumbers extent
