@@ -72,6 +72,8 @@ EDGES_OF_LISTS = """exec PROGRAM <&-
     head -c -9 verdicts.txt | PROGRAM
     (cat verdicts.txt; printf 1RB) | PROGRAM
     (head -c 9 verdicts.txt; sleep 0.1; tail -c +10 verdicts.txt) | PROGRAM
+    printf '%s\\n' '1RB1LC_1LC0LA_1RD1LB_---0RA translated L 684 861 7 15' | PROGRAM
+    printf '1RB0RB_1LB1RA translated R %s\\n' '10 4033' '4015 4033 6 2' '9010 9028 6 2' | PROGRAM
     ulimit -v 102400; exec PROGRAM --cells 67108864 <verdicts.txt""".splitlines()
 TERMINAL = ["/nonexistent", "/tmp", "--depth 9 --cells 3", "--steps 2000000000000"]
 # All choices of deciders but the default.

@@ -1,10 +1,12 @@
 -- The recorded entries of a run: equal places are equal transitions.
-use Rattle.std.proofs.Common.{◌≡◌, ℕ, ◌+◌, ◌-◌, ◌*◌, ◌<◌, ◌≤◌, Bool, true, false, List, length, Option, Some}
+use Rattle.std.proofs.Common.{◌≡◌, ℕ, ◌+◌, ◌-◌, ◌*◌, ◌/◌, ◌%◌, ◌<◌, ◌≤◌, Bool, true, false, List}
+use Rattle.std.proofs.Common.{length, Option, Some}
 use Rattle.std.proofs.Common.{inl, inr, refl, ap, sym, subst, ◌∙◌, slice_index_or, slice_set, arith}
 use Rattle.std.proofs.Common.{get_or-set_same, get_or-set_other, drop}
 use Rattle.std.proofs.lemmas.Bool.{cases_eq, cases_lt}
 use Rattle.std.proofs.lemmas.List.{ext_get_or, get_or-drop, get_or-take, length-drop, length-take-le}
 use Rattle.std.specs.List.{slice_range}
+use Rattle.std.proofs.Math.Nat.{mul_assoc, mul_comm}
 use Rattle.bb_machine.specs.declared.entry.Next.{Next}
 use Rattle.bb_machine.specs.declared.entry.Next.TheVariants.{State}
 use Rattle.bb_machine.specs.declared.machine.TheConstants.{MAX_SYMBOLS}
@@ -12,12 +14,15 @@ use Rattle.bb_machine.specs.Limits.{Bounds}
 use Rattle.bb_machine.specs.Machine.{Table}
 use Rattle.bb_tape.specs.TapeView.{TapeView}
 use Rattle.bb_sim.specs.declared.runner.Runner.{Runner}
-use Rattle.laws_of_repetition.specs.Repetition.{Transition, transition_at}
-use Rattle.laws_of_repetition.specs.Seen.{IsSeenStart}
+use Rattle.laws_of_repetition.specs.Repetition.{IsMultipleOf, Repeats, Transition, transition_at}
+use Rattle.laws_of_repetition.specs.Seen.{Differs, IsSeenStart}
 use Rattle.bb_repetition.specs.declared.recurrence.Tapes.{Tapes}
-use Rattle.bb_repetition.specs.History.{IsRecorded, KeepsRun, UsesPlace}
+use Rattle.bb_repetition.specs.History.{IsRecorded, KeepsRun, UsesEntry, UsesPlace}
 use Rattle.bb_repetition.specs.Lockstep.{IsAt, TellsRepeats}
+use Rattle.bb_repetition.specs.Period.{IsLeastFrom, TellsPart}
+use Rattle.bb_repetition.proofs.Divisors.{divides_product, half_at_most, quotient_of, some_quotient}
 use Rattle.bb_repetition.proofs.EntryUses.{same_state, same_symbol}
+use Rattle.bb_repetition.proofs.Quotients.{tells_period}
 use Rattle.bb_repetition.proofs.UseSteps.{one_state}
 
 -- ---- one place
@@ -52,17 +57,18 @@ places_of_same table n m p r one two same =
     let is_too = two.is_place in
     omega (arith, is, is_too, q, s)
 
--- a transition's entry has this place
-pub uses_place : (table : Table) (n q s place : ℕ) (x : Transition) → transition_at table n ≡ Some x
-    → x.state ≡ State q → x.symbol ≡ s → s < MAX_SYMBOLS → place ≡ MAX_SYMBOLS * q + s → UsesPlace table n place
-uses_place table n q s place x at is_state is_symbol few is = record {
-  state = q;
-  symbol = s;
-  inside = few;
-  is_place = is;
-  at = at ∙ ap (λ (k : Next). let t : Transition = record { state = k; symbol = x.symbol } in Some t) is_state
-      ∙ ap (λ (k : ℕ). Some (entry_of q k)) is_symbol;
-}
+-- a transition with this state and symbol is that of their entry
+pub entry_used : (table : Table) (n q s : ℕ) (x : Transition) → transition_at table n ≡ Some x
+    → x.state ≡ State q → x.symbol ≡ s → UsesEntry table n q s
+entry_used table n q s x at is_state is_symbol =
+    at ∙ ap (λ (k : Next). let t : Transition = record { state = k; symbol = x.symbol } in Some t) is_state
+    ∙ ap (λ (k : ℕ). Some (entry_of q k)) is_symbol
+
+-- and the entry has this place
+pub uses_place : (table : Table) (n q s place : ℕ) → UsesEntry table n q s → s < MAX_SYMBOLS
+    → place ≡ MAX_SYMBOLS * q + s → UsesPlace table n place
+uses_place table n q s place at few is =
+    record { state = q; symbol = s; inside = few; is_place = is; at = at }
 
 -- ---- what is kept of a run
 
@@ -190,3 +196,59 @@ module _ (table : Table) (first distance end : ℕ) (places : List ℕ) (order :
       let same = ranges_of_places (λ n late soon. places_of_same table n (n + distance) _ _
       (recorded n (omega (arith, soon))) (recorded (n + distance) soon) (all n late)) in
       let t = back same in cc
+
+-- ---- the least period
+
+module _ (table : Table) (first known period : ℕ) (places : List ℕ) (some : 0 < period) (less : period < known)
+    (repeats : Repeats table first known)
+    (recorded : (m : ℕ) → m < first + known → UsesPlace table m (slice_index_or places m 0)) where
+  -- the first step tells already
+  pub part_by_place : (slice_index_or places (first + period) 0 ≡ slice_index_or places first 0 → ⊥)
+      → TellsPart table first known period false
+  part_by_place other divides all = other (places_of_same table first (first + period) _ _
+      (recorded first (omega (arith, some, less))) (recorded (first + period) (omega (arith, less)))
+      (all first (omega arith)))
+
+  -- it doesn't divide
+  pub part_by_remainder : (known % period ≡ 0 → ⊥) → TellsPart table first known period false
+  part_by_remainder other divides =
+      absurd (other (divides_product known period divides.0 (divides.1 ∙ mul_comm divides.0 period)))
+
+  -- all steps tell
+  pub part_by_steps : (tells : Bool) → known % period ≡ 0
+      → TellsRepeats table first period (first + known) tells → TellsPart table first known period tells
+  part_by_steps true by is =
+      let divides : IsMultipleOf period known =
+      (known / period, quotient_of known period by ∙ mul_comm period (known / period)) in
+      (divides, tells_period table first known period true divides some repeats is)
+  part_by_steps false by is = λ divides. is
+
+-- no number below this bound divides the distance and is a period
+abbrev pub HasNoPartBelow : Table → ℕ → ℕ → ℕ → Type 0
+HasNoPartBelow table first known bound =
+    (less : ℕ) → 0 < less → less < bound → IsMultipleOf less known → Differs table first less
+
+pub no_part_at_first : (table : Table) (first known : ℕ) → HasNoPartBelow table first known 1
+no_part_at_first table first known less some below = absurd (omega (arith, some, below))
+
+pub no_part_on : (table : Table) (first known period : ℕ) → HasNoPartBelow table first known period
+    → TellsPart table first known period false → HasNoPartBelow table first known (period + 1)
+no_part_on table first known period none differs less some below divides = elim (cases_lt less period) [
+  | inl before ↦ none less some before divides
+  | inr late ↦
+      let e : period ≡ less = omega (arith, below, late) in
+      subst (Differs table first) e (differs (subst (λ k. IsMultipleOf k known) (sym e) divides))
+]
+
+-- a period is the least one, if no smaller number is
+pub least_of_parts : (table : Table) (first known period bound : ℕ) → Repeats table first period
+    → IsMultipleOf period known → HasNoPartBelow table first known bound
+    → ((less : ℕ) → 2 * less ≤ period → less < bound) → IsLeastFrom table first period
+least_of_parts table first known period bound repeats divides none soon = record {
+  repeats = repeats;
+  no_less = λ q less prime is.
+      none less (some_quotient period q less repeats.some is) (soon less (half_at_most period q less prime.above is)) (
+        divides.0 * q,
+        divides.1 ∙ ap (λ x. divides.0 * x) is ∙ sym (mul_assoc divides.0 q less),
+      );
+}

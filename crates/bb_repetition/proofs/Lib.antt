@@ -4,6 +4,7 @@ mod Divisors
 mod EntryUses
 mod GoingOn
 mod Histories
+mod InRegisters
 mod Quasihalts
 mod Quotients
 mod RecurrenceLaws

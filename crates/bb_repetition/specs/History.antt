@@ -11,13 +11,17 @@ use Rattle.bb_repetition.specs.declared.history.History.{History}
 use Rattle.bb_repetition.specs.declared.recurrence.Tapes.{Tapes}
 use Rattle.bb_repetition.specs.Lockstep.{IsAt}
 
+-- step n uses the entry for this state and symbol
+abbrev pub UsesEntry : Table → ℕ → ℕ → ℕ → Type 0
+UsesEntry table n state symbol = transition_at table n ≡ Some (record { state = State state; symbol = symbol })
+
 -- step n uses the entry with this place: the entries of state A, then those of B, ten places for each state
 pub record UsesPlace (table : Table) (n place : ℕ) : Type 0 where
   pub state : ℕ
   pub symbol : ℕ
   pub inside : symbol < MAX_SYMBOLS
   pub is_place : place ≡ MAX_SYMBOLS * state + symbol
-  pub at : transition_at table n ≡ Some (record { state = State state; symbol = symbol })
+  pub at : UsesEntry table n state symbol
 
 -- the places of the steps before step n
 abbrev pub IsRecorded : Table → ℕ → History → Type 0

@@ -9,6 +9,11 @@ abbrev pub TellsPeriod : Table → ℕ → ℕ → Bool → Type 0
 TellsPeriod table first period true = Repeats table first period
 TellsPeriod table first period false = Differs table first period
 
+-- whether a number that divides a known period is one too
+abbrev pub TellsPart : Table → ℕ → ℕ → ℕ → Bool → Type 0
+TellsPart table first known period true = IsMultipleOf period known × Repeats table first period
+TellsPart table first known period false = IsMultipleOf period known → Differs table first period
+
 -- a period; it divides a known one, and its quotient by the number is none
 pub record IsReduced (table : Table) (first known divisor period : ℕ) : Type 0 where
   pub divides : IsMultipleOf period known

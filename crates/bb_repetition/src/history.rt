@@ -3,7 +3,9 @@ ghost use Rattle.std.specs.Prelude.{◌≡◌, ◌+◌, ◌<◌, ◌≤◌, ◌�
 ghost use Rattle.bb_machine.specs.Machine.{Table};
 ghost use Rattle.laws_of_repetition.specs.Seen.{IsSeenStart};
 ghost use Rattle.bb_repetition.specs.History.{IsRecorded, UsesPlace};
+ghost use Rattle.laws_of_repetition.specs.Repetition.{Repeats};
 ghost use Rattle.bb_repetition.specs.Lockstep.{TellsRepeats};
+ghost use Rattle.bb_repetition.specs.Period.{IsLeastFrom, TellsPart};
 
 /// The most steps that are recorded.
 pub(crate) const MAX_RECORDED: u64 = 4096;
@@ -51,6 +53,42 @@ impl History {
             start -= 1;
         }
         start
+    }
+
+    /// The least period from `first` on of a run that repeats from there on with this distance.
+    pub(crate) fn period(&self, first: u64, distance: u64) -> u64
+        requires some { 0 < distance }
+        requires few { first + distance ≤ MAX_RECORDED }
+        ensures least { (table : Table) → IsRecorded table (first + distance) self.now
+            → Repeats table first distance → IsLeastFrom table first result }
+        ensures within { result ≤ distance }
+    {
+        let mut period = 1;
+        while period <= distance / 2 {
+            if self.is_part(first, distance, period) {
+                return period;
+            }
+            period += 1;
+        }
+        distance
+    }
+
+    /// Whether a number divides a known period and is one too, from `first` on.
+    #[inline(always)]
+    fn is_part(&self, first: u64, known: u64, period: u64) -> bool
+        requires some { 0 < period }
+        requires less { period < known }
+        requires few { first + known ≤ MAX_RECORDED }
+        ensures { (table : Table) → IsRecorded table (first + known) self.now
+            → Repeats table first known → TellsPart table first known period result }
+    {
+        if !self.is_same(first, period) {
+            return false;
+        }
+        if known % period != 0 {
+            return false;
+        }
+        self.repeats(first, period, first + known)
     }
 
     /// Whether a step uses the entry of the step `distance` later.

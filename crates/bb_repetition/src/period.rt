@@ -15,7 +15,7 @@ use bb_sim::{Meter, Runner};
 use bb_tape::{Memory, Tape};
 
 /// The least period from the first step of a pair on. It tests quotients of the distance by primes: at most
-/// twice the logarithm of the distance to base 2. A test of a recorded run makes no step.
+/// twice the logarithm of the distance to base 2. That of a recorded run is found without a step.
 pub(crate) fn least_period<T: Tape>(
     machine: &Machine,
     limits: &Limits,
@@ -42,6 +42,9 @@ pub(crate) fn least_period<T: Tape>(
     ensures memory { OnErr result (IsTrue T.GROWS) }
 {
     limits.show_accepted();
+    if second <= MAX_RECORDED {
+        return Ok(tapes.history.period(first, second - first));
+    }
     let mut period = second - first;
     let mut rest = period;
     let mut divisor = 2;
@@ -72,6 +75,7 @@ fn reduce<T: Tape>(
     meter: &mut Meter,
 ) -> Result<u64, Memory>
     requires tapes { TapesHaveCells T.view limits.now.cells tapes.old }
+    requires long { MAX_RECORDED < second }
     requires above { 1 < divisor }
     requires within { first + known ≤ second }
     requires repeats { Repeats machine.now first known }
@@ -81,7 +85,6 @@ fn reduce<T: Tape>(
     ensures reduced { IfOk result (IsReduced machine.now first known divisor) }
     ensures no_less { meter.old.steps ≤ meter.new.steps }
     ensures few { meter.new.steps ≤ meter.old.steps + 4 * known }
-    ensures short { second ≤ 4096 → meter.new.steps ≡ meter.old.steps }
     ensures saved { (T.view tapes.new.pair.saved) ≡ (T.view tapes.old.pair.saved) }
     ensures history { tapes.new.history ≡ tapes.old.history }
     ensures tapes { TapesHaveCells T.view limits.now.cells tapes.new }
@@ -113,6 +116,7 @@ fn repeats_with<T: Tape>(
     meter: &mut Meter,
 ) -> Result<bool, Memory>
     requires tapes { TapesHaveCells T.view limits.now.cells tapes.old }
+    requires long { MAX_RECORDED < second }
     requires divides { IsMultipleOf quotient period }
     requires some { 0 < quotient }
     requires within { first + period ≤ second }
@@ -123,15 +127,11 @@ fn repeats_with<T: Tape>(
     ensures tells { IfOk result (TellsPeriod machine.now first quotient) }
     ensures no_less { meter.old.steps ≤ meter.new.steps }
     ensures few { meter.new.steps ≤ meter.old.steps + 2 * period }
-    ensures short { second ≤ 4096 → meter.new.steps ≡ meter.old.steps }
     ensures tapes { TapesHaveCells T.view limits.now.cells tapes.new }
     ensures saved { (T.view tapes.new.pair.saved) ≡ (T.view tapes.old.pair.saved) }
     ensures history { tapes.new.history ≡ tapes.old.history }
     ensures memory { OnErr result (IsTrue T.GROWS) }
 {
-    if second <= MAX_RECORDED {
-        return Ok(tapes.history.repeats(first, quotient, first + period));
-    }
     let Ok(()) = tapes.pair.run.copy_from(&tapes.pair.saved) else {
         return Err(Memory);
     };

@@ -1,5 +1,8 @@
 //! The exact recurrence of a run, from a known pair.
-ghost use Rattle.std.specs.Prelude.{◌≡◌, ◌+◌, ◌-◌, ◌*◌, ◌<◌, ◌≤◌, ◌^◌, IfOk, IsTrue, MatchBool, OnErr, OnOk};
+ghost use Rattle.std.specs.Prelude.{◌≡◌, ◌+◌, ◌-◌, ◌*◌, ◌<◌, ◌≤◌, ◌^◌, IfOk, IsTrue, MatchBool, OnErr, OnOk, length};
+ghost use Rattle.bb_machine.specs.Machine.{symbols_of};
+ghost use Rattle.bb_narrow.specs.Packed.{IsTableOf};
+ghost use Rattle.bb_narrow.specs.Registers.{IsNarrowRun};
 ghost use Rattle.bb_sim.specs.Runner.{steps_of};
 ghost use Rattle.bb_sim.specs.Span.{Inside};
 ghost use Rattle.laws_of_repetition.specs.Repetition.{Repeats, RepeatsExactly};
@@ -7,7 +10,7 @@ ghost use Rattle.laws_of_repetition.specs.Seen.{IsSeenStart};
 ghost use Rattle.laws_of_repetition.specs.Shift.{IsShift};
 ghost use Rattle.bb_repetition.specs.History.{IsRecorded, KeepsRun};
 ghost use Rattle.bb_repetition.specs.LastUses.{AreSeen};
-ghost use Rattle.bb_repetition.specs.Lockstep.{IsAt, IsNear, IsOpen};
+ghost use Rattle.bb_repetition.specs.Lockstep.{HasCome, IsAt, IsNear, IsOpen};
 ghost use Rattle.bb_repetition.specs.Recurrence.{CountsAtMost, CountsRecurrence, CountsShift, CountsStart};
 ghost use Rattle.bb_repetition.specs.Tapes.{TapesHaveCells};
 
@@ -17,6 +20,7 @@ use crate::period::least_period;
 use crate::uses::LastUses;
 use bb_cert::Pair;
 use bb_machine::{Limits, Machine};
+use bb_narrow::{NarrowMoved, NarrowRun, NarrowTable, fits_registers};
 use bb_sim::{Meter, Runner};
 use bb_tape::{Memory, Tape};
 
@@ -166,7 +170,74 @@ fn start_of_short<T: Tape>(
     ensures tapes { TapesHaveCells T.view limits.now.cells tapes.new }
     ensures memory { OnErr result (IsTrue T.GROWS) }
 {
-    let mut runner = Runner::start(machine, &mut tapes.pair.run);
+    let (saved, runner) = record_run(machine, limits, first, second, tapes, uses, meter)?;
+    let start = tapes.history.start(first, second - first);
+    Ok((start, saved, runner.position() - saved.position()))
+}
+
+/// Makes a run up to the second step of a pair, and records its entries and last uses: in registers, if the
+/// machine fits there. Returns the runners at both steps.
+fn record_run<T: Tape>(
+    machine: &Machine,
+    limits: &Limits,
+    first: u64,
+    second: u64,
+    tapes: &mut Tapes<T>,
+    uses: &mut LastUses,
+    meter: &mut Meter,
+) -> Result<(Runner, Runner), Memory>
+    requires goes_on { IsOpen machine.now limits.now second }
+    requires tapes { TapesHaveCells T.view limits.now.cells tapes.old }
+    requires order { first ≤ second }
+    requires short { second ≤ MAX_RECORDED }
+    requires room { meter.old.steps + second < 2 ^ 64 }
+    requires seen { AreSeen machine.now 0 uses.old }
+    ensures first { IfOk result (λ both. HasCome machine.now limits.now first both.0) }
+    ensures second { IfOk result (λ both. HasCome machine.now limits.now second both.1) }
+    ensures uses { OnOk result (AreSeen machine.now second uses.new) }
+    ensures recorded { OnOk result (IsRecorded machine.now second tapes.new.history) }
+    ensures counted { OnOk result (meter.new.steps ≡ meter.old.steps + second) }
+    ensures few { meter.new.steps ≤ meter.old.steps + second }
+    ensures tapes { TapesHaveCells T.view limits.now.cells tapes.new }
+    ensures memory { OnErr result (IsTrue T.GROWS) }
+{
+    if fits_registers(machine) {
+        return record_run_in_registers(machine, limits, first, second, tapes, uses, meter);
+    }
+    let start = Runner::start(machine, &mut tapes.pair.run);
+    record_run_from(machine, limits, start, first, second, tapes, uses, meter)
+}
+
+/// The same from a runner that hasn't passed the first step.
+fn record_run_from<T: Tape>(
+    machine: &Machine,
+    limits: &Limits,
+    from: Runner,
+    first: u64,
+    second: u64,
+    tapes: &mut Tapes<T>,
+    uses: &mut LastUses,
+    meter: &mut Meter,
+) -> Result<(Runner, Runner), Memory>
+    requires goes_on { IsOpen machine.now limits.now second }
+    requires tapes { TapesHaveCells T.view limits.now.cells tapes.old }
+    requires at { IsAt machine.now limits.now (steps_of from) from (T.view tapes.old.pair.run) }
+    requires early { steps_of from ≤ first }
+    requires order { first ≤ second }
+    requires short { second ≤ MAX_RECORDED }
+    requires room { meter.old.steps + (second - steps_of from) < 2 ^ 64 }
+    requires seen { AreSeen machine.now (steps_of from) uses.old }
+    requires recorded { IsRecorded machine.now (steps_of from) tapes.old.history }
+    ensures first { IfOk result (λ both. HasCome machine.now limits.now first both.0) }
+    ensures second { IfOk result (λ both. HasCome machine.now limits.now second both.1) }
+    ensures uses { OnOk result (AreSeen machine.now second uses.new) }
+    ensures recorded { OnOk result (IsRecorded machine.now second tapes.new.history) }
+    ensures counted { OnOk result (meter.new.steps ≡ meter.old.steps + (second - steps_of from)) }
+    ensures few { meter.new.steps ≤ meter.old.steps + (second - steps_of from) }
+    ensures tapes { TapesHaveCells T.view limits.now.cells tapes.new }
+    ensures memory { OnErr result (IsTrue T.GROWS) }
+{
+    let mut runner = from;
     record_to(
         machine,
         limits,
@@ -188,8 +259,113 @@ fn start_of_short<T: Tape>(
         uses,
         meter,
     )?;
-    let start = tapes.history.start(first, second - first);
-    Ok((start, saved, runner.position() - saved.position()))
+    Ok((saved, runner))
+}
+
+/// Makes a run up to the second step of a pair in registers, and records it. Where it leaves their 64 cells, the
+/// rest is made on the tape.
+fn record_run_in_registers<T: Tape>(
+    machine: &Machine,
+    limits: &Limits,
+    first: u64,
+    second: u64,
+    tapes: &mut Tapes<T>,
+    uses: &mut LastUses,
+    meter: &mut Meter,
+) -> Result<(Runner, Runner), Memory>
+    requires symbols { symbols_of machine.now ≡ 2 }
+    requires states { length machine.now ≤ 7 }
+    requires goes_on { IsOpen machine.now limits.now second }
+    requires tapes { TapesHaveCells T.view limits.now.cells tapes.old }
+    requires order { first ≤ second }
+    requires short { second ≤ MAX_RECORDED }
+    requires room { meter.old.steps + second < 2 ^ 64 }
+    requires seen { AreSeen machine.now 0 uses.old }
+    ensures first { IfOk result (λ both. HasCome machine.now limits.now first both.0) }
+    ensures second { IfOk result (λ both. HasCome machine.now limits.now second both.1) }
+    ensures uses { OnOk result (AreSeen machine.now second uses.new) }
+    ensures recorded { OnOk result (IsRecorded machine.now second tapes.new.history) }
+    ensures counted { OnOk result (meter.new.steps ≡ meter.old.steps + second) }
+    ensures few { meter.new.steps ≤ meter.old.steps + second }
+    ensures tapes { TapesHaveCells T.view limits.now.cells tapes.new }
+    ensures memory { OnErr result (IsTrue T.GROWS) }
+{
+    let table = NarrowTable::new(machine);
+    let start = NarrowRun::start(machine, limits);
+    let history = &mut tapes.history;
+    let at_first = record_registers_to(
+        machine, &table, start, limits, first, second, history, uses,
+    );
+    meter.steps += at_first.steps;
+    if at_first.steps < first {
+        let runner = at_first.move_to_tape(machine, limits, &mut tapes.pair.run)?;
+        return record_run_from(machine, limits, runner, first, second, tapes, uses, meter);
+    }
+    let saved = at_first.runner(machine, limits);
+    let history = &mut tapes.history;
+    let at_second = record_registers_to(
+        machine, &table, at_first, limits, second, second, history, uses,
+    );
+    meter.steps += at_second.steps - first;
+    if at_second.steps < second {
+        let mut runner = at_second.move_to_tape(machine, limits, &mut tapes.pair.run)?;
+        record_to(
+            machine,
+            limits,
+            &mut runner,
+            second,
+            second,
+            tapes,
+            uses,
+            meter,
+        )?;
+        return Ok((saved, runner));
+    }
+    Ok((saved, at_second.runner(machine, limits)))
+}
+
+/// Advances a run in registers to a step, and records its entries and last uses. It stops before the step where
+/// it would leave the 64 cells.
+#[inline(never)]
+fn record_registers_to(
+    machine: &Machine,
+    table: &NarrowTable,
+    start: NarrowRun,
+    limits: &Limits,
+    to: u64,
+    last: u64,
+    history: &mut History,
+    uses: &mut LastUses,
+) -> NarrowRun
+    requires symbols { symbols_of machine.now ≡ 2 }
+    requires table { IsTableOf machine.now table.now }
+    requires run { IsNarrowRun machine.now limits.now start }
+    requires goes_on { IsOpen machine.now limits.now last }
+    requires later { start.steps ≤ to }
+    requires within { to ≤ last }
+    requires short { last ≤ MAX_RECORDED }
+    requires seen { AreSeen machine.now start.steps uses.old }
+    requires recorded { IsRecorded machine.now start.steps history.old }
+    ensures run { IsNarrowRun machine.now limits.now result }
+    ensures later { start.steps ≤ result.steps }
+    ensures within { result.steps ≤ to }
+    ensures uses { AreSeen machine.now result.steps uses.new }
+    ensures recorded { IsRecorded machine.now result.steps history.new }
+{
+    let table = *table;
+    let limits = *limits;
+    let mut run = start;
+    while run.steps < to {
+        let here = run;
+        match run.advance(machine, &table, &limits) {
+            NarrowMoved::Stepped => {}
+            NarrowMoved::Ended(_) => unreachable!(),
+            NarrowMoved::Outside => return run,
+        }
+        let place = uses.record_in_registers(machine, &limits, &here);
+        history.record(here.steps, place);
+    }
+    run
 }
 
 /// Advances a run to a step, and records its entries and last uses.

@@ -29,8 +29,9 @@ fn find_in(alloc: Global, limits: &Limits, line: &[u8]) -> Result<Finding, Memor
 }
 
 /// A verdict line, and the start, the period and the shift of its machine. The last lines are of runs around
-/// 4,096 steps, up to which each step is recorded.
-static PAIRS: [(&[u8], u64, u64, i64); 9] = [
+/// 4,096 steps, up to which each step is recorded. Three of them leave the 64 cells of registers: two between
+/// the pair's steps, and one before both.
+static PAIRS: [(&[u8], u64, u64, i64); 11] = [
     (b"1RB---_1LB0RB translated L 7 8 1 1", 4, 1, -1),
     (b"1LB0RB_1RA0LC_1RC1RA translated R 60 61 1 1", 55, 1, 1),
     (b"0RB---_0LA--- cycler 2 4", 0, 2, 0),
@@ -38,6 +39,13 @@ static PAIRS: [(&[u8], u64, u64, i64); 9] = [
     (b"1RB0RB_1LB1RA translated R 10 19 3 2", 0, 9, 3),
     (b"1RB---_1LB0RB translated L 4090 4096", 4, 1, -1),
     (b"1RB---_1LB0RB translated L 4091 4097", 4, 1, -1),
+    (
+        b"1RB1LC_1LC0LA_1RD1LB_---0RA translated L 684 861 7 15",
+        305,
+        177,
+        -7,
+    ),
+    (b"1RB0RB_1LB1RA translated R 10 4033", 0, 9, 3),
     (b"1RB0RB_1LB1RA translated R 4015 4033 6 2", 0, 9, 3),
     (b"1RB0RB_1LB1RA translated R 9010 9028 6 2", 0, 9, 3),
 ];

@@ -154,6 +154,10 @@ fn number_into(number: u64, text: &mut Text)
     ensures appended { text.new.items ≡ text.old.items ++ decimal number }
     ensures short { array_vec_len text.new ≤ array_vec_len text.old + 20 }
 {
+    if number < 10 {
+        append(&[b'0' + number as u8], text);
+        return;
+    }
     let mut digits = Buffer::new();
     append(digits.format(number).as_bytes(), text);
 }

@@ -2,14 +2,16 @@
 ghost use Rattle.std.specs.Prelude.{◌≡◌, ℕ, ◌+◌, ◌*◌, ◌<◌, ◌≤◌, ◌^◌, length, max, MatchOption};
 ghost use Rattle.bb_machine.specs.Machine.{IsMachine, Table, symbols_of};
 ghost use Rattle.bb_tape.specs.TapeView.{IsInside};
+ghost use Rattle.bb_narrow.specs.Registers.{IsNarrowRun};
 ghost use Rattle.bb_sim.specs.Run.{Never};
 ghost use Rattle.bb_sim.specs.Runner.{position_of, steps_of};
 ghost use Rattle.laws_of_repetition.specs.Uses.{IsQuasihalt, of_state};
-ghost use Rattle.bb_repetition.specs.History.{UsesPlace};
+ghost use Rattle.bb_repetition.specs.History.{UsesEntry, UsesPlace};
 ghost use Rattle.bb_repetition.specs.Lockstep.{IsAt};
 ghost use Rattle.bb_repetition.specs.LastUses.{AreSeen, AreSeenWhole, IsSeenUse, IsUse, of_entry, IsUseBy};
 
 use bb_machine::{Limits, MAX_STATES, MAX_SYMBOLS, Machine};
+use bb_narrow::NarrowRun;
 use bb_sim::Runner;
 use bb_tape::Tape;
 
@@ -71,12 +73,47 @@ impl LastUses {
         machine.show_machine();
         match runner.state() {
             Some(state) => {
-                let place = place_of(state, tape.read_inside(runner.position()));
-                self.after[place as usize] = runner.steps() + 1;
-                place
+                let symbol = tape.read_inside(runner.position());
+                self.record_entry(machine, state, symbol, runner.steps())
             }
             None => 0,
         }
+    }
+
+    /// Records the entry of the next step of a run in registers, and returns its place.
+    #[inline(always)]
+    pub(crate) fn record_in_registers(
+        &mut self,
+        machine: &Machine,
+        limits: &Limits,
+        run: &NarrowRun,
+    ) -> u8
+        requires run { IsNarrowRun machine.now limits.now run.now }
+        requires seen { AreSeen machine.now run.now.steps self.old }
+        ensures uses { AreSeen machine.now (run.now.steps + 1) self.new }
+        ensures place { UsesPlace machine.now run.now.steps result }
+    {
+        machine.show_machine();
+        limits.show_accepted();
+        let symbol = u8::from(run.registers.reads_one());
+        self.record_entry(machine, run.registers.state(), symbol, run.steps)
+    }
+
+    /// Records the entry of a step, and returns its place.
+    #[inline(always)]
+    fn record_entry(&mut self, machine: &Machine, state: u8, symbol: u8, step: u64) -> u8
+        requires entry { UsesEntry machine.now step state symbol }
+        requires state { state < MAX_STATES }
+        requires symbol { symbol < MAX_SYMBOLS }
+        requires room { step + 1 < 2 ^ 64 }
+        requires seen { AreSeen machine.now step self.old }
+        ensures uses { AreSeen machine.now (step + 1) self.new }
+        ensures place { UsesPlace machine.now step result }
+    {
+        machine.show_machine();
+        let place = place_of(state, symbol);
+        self.after[place as usize] = step + 1;
+        place
     }
 
     /// The last use of a state, by a run that repeats from `start` on, if the uses are those up to the end of
@@ -123,6 +160,11 @@ impl LastUses {
         ensures { (n : ℕ) → AreSeen machine.now n self.now
             → IsSeenUse machine.now (of_state state) n result }
     {
+        if machine.symbols() == 2 {
+            let zero = self.after[place_of(state, 0) as usize];
+            let one = self.after[place_of(state, 1) as usize];
+            return zero.max(one);
+        }
         let mut after = 0;
         for symbol in 0..machine.symbols() {
             after = after.max(self.after[place_of(state, symbol) as usize]);

@@ -10,7 +10,6 @@ loop-rest-init g c = record {
   tapes = c.requires.tapes;
   history = refl;
   kept = c.requires.kept;
-  short = λ few. refl;
   above = omega arith;
   tried = tried_at_first _ _ _ c.requires.pair;
   no_less = omega arith;
@@ -46,7 +45,6 @@ loop-rest-preserved-then-rest-divisor-eq0 g c =
       tapes = c.reduce.ensures.tapes;
       history = c.in_ok-period.ensures.history ∙ here.history;
       kept = kept_on _ _ _ _ _ _ _ _ c.in_ok-period.ensures.saved c.in_ok-period.ensures.history here.kept;
-      short = λ few. c.in_ok-period.ensures.short few ∙ here.short few;
       above = omega (arith, above);
       tried = tried_more _ _ _ _ _ _ here.tried here.above c.if-rest-divisor-eq0.true _ _
           c.in_ok-period.ensures.reduced c.without-rest.ensures;
@@ -71,3 +69,14 @@ loop-rest-smaller-then-rest-divisor-eq0 g c =
     let low = at_least _ _ c.loop-rest-test.true here.tried.none in
     let half = c.without-rest.ensures.half c.if-rest-divisor-eq0.true in
     omega (arith, low, half, c.loop-rest-test.true)
+
+pub returns-then-second-le-MAX_RECORDED-clause-least : goal.returns-then-second-le-MAX_RECORDED-clause-least
+returns-then-second-le-MAX_RECORDED-clause-least g c =
+    let order = c.requires.order in
+    c.period.ensures.least c.args.machine.now
+    (λ m soon. c.requires.kept.short c.if-second-le-MAX_RECORDED.true m (omega (arith, soon, order))) c.requires.pair
+
+pub returns-then-second-le-MAX_RECORDED-clause-few : goal.returns-then-second-le-MAX_RECORDED-clause-few
+returns-then-second-le-MAX_RECORDED-clause-few g c =
+    let order = c.requires.order in
+    record { primes = 0; few_primes = omega (arith, order); counted = omega arith }

@@ -11,7 +11,6 @@ invariant-loop-rest g l = record {
   tapes : TapesHaveCells g.T.Tape.view l.limits.cells l.tapes;
   history : l.tapes.history ≡ l.fn.tapes.history;
   kept : KeepsRun g.T.Tape.view l.machine l.limits l.first l.second l.saved l.tapes;
-  short : l.second ≤ 4096 → l.meter.steps ≡ l.fn.meter.steps;
   above : 1 < l.divisor;
   tried : IsTried l.machine l.first (l.second - l.first) l.period l.rest l.divisor;
   no_less : l.fn.meter.steps ≤ l.meter.steps;

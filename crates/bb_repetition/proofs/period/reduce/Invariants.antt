@@ -11,7 +11,6 @@ invariant-loop-period g l = record {
   tapes : TapesHaveCells g.T.Tape.view l.limits.cells l.tapes;
   history : l.tapes.history ≡ l.fn.tapes.history;
   kept : KeepsRun g.T.Tape.view l.machine l.limits l.first l.second l.saved l.tapes;
-  short : l.second ≤ 4096 → l.meter.steps ≡ l.fn.meter.steps;
   some : 0 < l.period;
   less : l.period ≤ l.known;
   divides : IsMultipleOf l.period l.known;
