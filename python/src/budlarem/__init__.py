@@ -39,8 +39,7 @@ if TYPE_CHECKING:
 else:
 
     def __getattr__(name: str) -> object:
-        """A call, a type or a module of the package. All calls and types are imported at the first use of one, so
-        that the command can handle signals before. Raises AttributeError."""
+        """Imports all calls and types at the first use of one. Raises AttributeError."""
         if name == "__all__" or not name.startswith("_"):
             api = importlib.import_module("budlarem._api")
             if name == "__all__":

@@ -29,7 +29,6 @@ class BatchPace:
         self._is_steady = is_steady
 
     def update(self, seconds: float) -> None:
-        """Records the time of a batch."""
         if self._is_steady:
             return
         if seconds < self.SHORT:
@@ -214,8 +213,7 @@ def _iter_blocks(blocks: Blocks) -> Iterator[bytes]:
 
 
 def whole_lines(blocks: Iterable[bytes]) -> Iterator[bytes]:
-    """Blocks of bytes in whole lines; the last one gets a newline. Of a line without an end at most LONGEST_GIVEN
-    bytes are held."""
+    """Blocks in whole lines, the last one too. At most LONGEST_GIVEN bytes of a line are held."""
     rest = b""
     for block in blocks:
         if whole := block.rfind(b"\n") + 1:
@@ -228,8 +226,7 @@ def whole_lines(blocks: Iterable[bytes]) -> Iterator[bytes]:
 
 
 def batch_bytes(blocks: Blocks, pace: BatchPace) -> Iterator[bytes]:
-    """The bytes in batches of whole lines; a line longer than LONGEST_GIVEN may be cut. The last batch of a block
-    may have half as many bytes more."""
+    """The bytes in batches of whole lines. The last batch of a block may have half as many bytes more."""
     for lines in whole_lines(_iter_blocks(blocks)):
         start = 0
         while start < len(lines):

@@ -75,8 +75,7 @@ class Claim:
 
 
 class Claims(Iterable[Claim]):
-    """The claims of the lines of a list. `skips` counts the skipped lines by kind; `words` translates the
-    words of a table."""
+    """The claims of a list's lines. `skips` counts skipped lines; `words` translates a table's words."""
 
     def __init__(self, lines: Iterator[Numbered], form: ListForm, words: dict[str, Word]) -> None:
         self._lines, self._form, self._words = lines, form, words
@@ -96,7 +95,6 @@ def claim_in(number: int, line: str) -> Claim | None:
 
 
 def _claim_of(number: int, line: str, form: ListForm, words: dict[str, Word]) -> Claim | None:
-    """The claim of a line; None for a skipped line."""
     if form.form in (Form.VERDICTS, Form.TEXT):
         claim = _of_verdict_line(number, line)
         is_rule = form.form is Form.TEXT and not line.partition(" ")[0].strip("-")

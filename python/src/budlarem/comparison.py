@@ -38,8 +38,7 @@ class Comparison:
 
 
 def _halts_agree(first: Halt, second: Halt, undefined_steps: bool) -> bool:
-    """Whether two halts are equal; with `undefined_steps` also if one counts a step for an undefined
-    transition."""
+    """Whether two halts are equal, or by `undefined_steps` one counts a step for an undefined transition."""
     if (first.steps, first.score) == (second.steps, second.score):
         return True
     fewer, more = sorted((first, second), key=lambda halt: halt.steps)
@@ -77,7 +76,6 @@ class _Side:
         self.waiting: dict[str, list[MachineVerdict]] = {}
 
     def take(self, machine: str) -> MachineVerdict | None:
-        """Removes and returns the first waiting verdict on a machine."""
         if (found := self.waiting.get(machine)) is None:
             return None
         verdict = found.pop(0)
@@ -86,7 +84,6 @@ class _Side:
         return verdict
 
     def remaining(self) -> list[MachineVerdict]:
-        """The waiting verdicts."""
         return [verdict for verdicts in self.waiting.values() for verdict in verdicts]
 
 

@@ -53,7 +53,6 @@ class VerdictCounts:
         return counts
 
     def fields(self) -> dict[str, Any]:
-        """The counts and the greatest numbers."""
         return {"counts": {kind: self.kinds[kind] for kind in self.names}, "greatest": self.greatest}
 
     def add(self, line: str) -> str:
@@ -67,8 +66,7 @@ class VerdictCounts:
         return machine
 
     def add_block(self, lines: bytes) -> bytes:
-        """Counts a block of whole verdict lines, with the numbers of halts and trees; equal verdicts are read
-        once. Returns the undecided lines."""
+        """Counts whole verdict lines, with the numbers of halts and trees. Returns the undecided lines."""
         for kind in _NUMBERS:
             self.kinds[kind] += lines.count(b" %s " % kind.encode())
         new = set(_COUNTED.findall(lines)) - self._known
@@ -95,7 +93,6 @@ class VerdictCounts:
         return max((self.greatest[name][0] for name in names if name in self.greatest), default=0)
 
     def count_undecided(self) -> int:
-        """The number of undecided lines."""
         return sum(self.kinds[kind] for kind in UNDECIDED)
 
     def _add_numbers(self, kind: str, numbers: dict[str, int], line: str) -> None:
@@ -148,12 +145,10 @@ _WORDS = {
 
 @functools.lru_cache(maxsize=None)
 def _longer(name: str, digits: int) -> re.Pattern[bytes]:
-    """The pattern of a number of at least so many digits."""
     return re.compile((" %s -?([0-9]{%d,})" % (_WORDS[name], digits)).encode())
 
 
 def _undecided_lines(lines: bytes) -> bytes:
-    """The undecided lines of a block."""
     found, place = [], lines.find(b" undecided ")
     while place >= 0:
         end = lines.index(b"\n", place) + 1

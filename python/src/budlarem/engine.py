@@ -49,20 +49,17 @@ class MachineError(ValueError):
 
 
 def decide_call(limits: Limits, plan: Plan) -> Call:
-    """The call that decides lines."""
     arguments = (*limits.numbers(), *plan.switches())
     return lambda buffer, lines: buffer.call("bb_decide", arguments, lines, _FOLD * len(lines) + _BEYOND)
 
 
 def check_call(limits: Limits) -> Call:
-    """The call that checks verdict lines."""
     arguments = limits.numbers()
     return lambda buffer, lines: buffer.call("bb_check", arguments, lines, len(lines) // _FOR_EACH + _ANSWER)
 
 
 def recurrence_call(limits: Limits, entries: bool = False) -> Call:
-    """The call that finds the recurrences behind verdict lines; `entries` adds the last use of each entry. Of the
-    limits it has steps and cells."""
+    """The call that finds the recurrences behind verdict lines; `entries` adds the last use of each entry."""
     arguments = (limits.steps, limits.cells, entries)
 
     def call(buffer: ReplyBuffer, lines: bytes) -> None:
@@ -95,7 +92,6 @@ def _require_list(name: str, texts: Iterable[object]) -> None:
 def _reply_lines(
     batches: Iterator[Batch], call: Call, threads: int, pace: BatchPace
 ) -> Iterator[tuple[str, str]]:
-    """Each text and the library's line for it."""
     for batch, reply in map_in_order(lambda buffer, one: call(buffer, one.lines), batches, threads, pace):
         yield from zip(batch.texts, reply.text.decode().split("\n"))
 
@@ -135,8 +131,7 @@ def decide(
 
 
 def column_of(text: str) -> int | None:
-    """The column at which the library refuses a text; None for a machine. Nothing is run. Raises LibraryError,
-    RuntimeError, MemoryError."""
+    """The column at which the library refuses a text; None for a machine. Nothing is run."""
     forbid_fork()
     buffer = ReplyBuffer()
     line = text.encode("utf-8", "surrogateescape")[:LONGEST_GIVEN]
@@ -284,8 +279,7 @@ class Trace(Iterator[Configuration]):
         return len("%d Z -%d -%d \n" % (self._upto, self._cells, self._cells)) + visited
 
     def _lines(self) -> list[bytes]:
-        """The next lines, as many as fit into the bytes that are asked for at once. Each call runs the machine
-        from its start. Raises MachineError."""
+        """The next lines, as many as fit. Each call runs the machine from its start. Raises MachineError."""
         rest = (self._upto - self._next) // self._every + 1 if self._next <= self._upto else 0
         count = rest
         while count > 1 and count * self._longest(count) > _TRACED_AT_WORST:
@@ -308,8 +302,7 @@ class Trace(Iterator[Configuration]):
         return lines
 
     def _call(self, count: int, rest: int, room: int) -> Reply:
-        """The reply for the next `count` lines; if they are all the `rest`, with the last step too. A long
-        call is made beside the caller's thread."""
+        """The reply for the next `count` lines; if they are all the `rest`, with the last step too."""
         last = self._upto if count == rest else self._next + self._every * (count - 1)
         arguments: Sequence[int] = (last, self._cells, self._next, self._every)
 

@@ -32,7 +32,6 @@ def _confirm(verdict: Halt | Cycler | Translated, cells: int) -> None:
 
 
 def _configuration_at(machine: str, step: int, cells: int) -> Configuration:
-    """The configuration after so many steps, which the cells allow."""
     (now,) = trace(machine, step, cells, start=step)
     return now
 

@@ -45,8 +45,7 @@ def classify_growth(visited: tuple[int, int, int]) -> Growth:
 
 
 def _visited_by_hundredths(machine: str, steps: int, cells: int) -> tuple[bool | None, list[int]]:
-    """The cells visited after each hundredth of the steps; and whether the cells ended the run before all, None
-    if it made all steps and went on."""
+    """Whether the cells ended the run, None if nothing did; the cells visited after each hundredth."""
     apart = max(steps // 100, 1)
     rows = trace(machine, steps, cells, apart + steps % apart, apart)
     found = list(rows)
@@ -55,7 +54,6 @@ def _visited_by_hundredths(machine: str, steps: int, cells: int) -> tuple[bool |
 
 
 def _last_step(machine: str, steps: int, cells: int) -> int:
-    """The last step of a run within these limits."""
     last, apart = 0, max(steps // 100, 1)
     while True:
         last = max((now.step for now in trace(machine, steps, cells, last, apart)), default=last)

@@ -94,7 +94,6 @@ class ListOverlap:
                 self._listed.setdefault(reading.machine, reading.number)
 
     def add(self, reading: Reading) -> None:
-        """Adds a line of theirs."""
         if reading.machine is not None:
             self._theirs.setdefault(reading.machine, []).append(reading.number)
 
@@ -190,8 +189,7 @@ def translation_in(
 
 
 class JudgedList:
-    """The judged list: its form, the translation of a table's words, and so far the number of skipped
-    lines of each kind, and of lines that aren't UTF-8."""
+    """The judged list: its form, the translation of a table's words, and what was skipped so far."""
 
     def __init__(self, source: RereadableList, claims: Claims, translation: Translation | None) -> None:
         self.form, self.translation = source.form, translation
@@ -278,7 +276,6 @@ class Judging(Iterator[Judged]):
         return found
 
     def _checked_claim(self, claim: Claim) -> Verdict:
-        """The verdict of a claim for the checker."""
         assert claim.verdict is not None
         if self.undefined_steps and isinstance(claim.verdict, Halt):
             return with_steps(claim.verdict)
@@ -363,7 +360,6 @@ def _disagreement(claim: Claim, ours: Verdict) -> str:
 
 
 def _words_of(claim: Claim) -> str:
-    """The word of a record, with its numbers."""
     steps = [] if claim.steps is None else ["after {:,} steps".format(claim.steps)]
     score = [] if claim.score is None else ["with a score of {:,}".format(claim.score)]
     return " ".join([str(claim.word), *steps, *score])
@@ -385,8 +381,7 @@ def halt_with_steps(halt: Halt) -> Halt:
 
 
 def counts_undefined_steps(claims: Iterable[Claim], limits: Limits, checker: Limits, threads: int) -> bool:
-    """Whether each halt of a list at an undefined transition is true of the machine with `1RZ` there, and
-    there is one. Claims over the checker's limits don't count."""
+    """Whether each halt at an undefined transition, one or more, is true of the machine with `1RZ` there."""
     verdicts = (claim.verdict or _complete_halt(claim, limits) for claim in claims)
     halts = (verdict for verdict in verdicts if isinstance(verdict, Halt) and "---" in verdict.machine)
     is_counted = False

@@ -107,7 +107,6 @@ class Archive:
         raise NotImplementedError
 
     def small(self) -> dict[str, bytes]:
-        """The other files, by name."""
         raise NotImplementedError
 
     def _counts(self) -> dict[str, int]:
@@ -175,7 +174,6 @@ class Contents(Archive):
         return [given for given in (self.machines, self.verdicts) if given is not None]
 
     def _greatest(self) -> tuple[int, int, int]:
-        """The greatest steps, levels and nodes of claims."""
         most = self.counts.most
         steps = most("halt steps", "cycler second", "translated second")
         return steps, most("backward levels"), most("backward nodes")
@@ -200,7 +198,6 @@ class Contents(Archive):
         return "\n".join("  " + line for line in lines)
 
     def readme(self) -> bytes:
-        """The text of `README.txt`."""
         kinds, (steps, levels, nodes) = self.counts.kinds, self._greatest()
         title = f"Verdicts on {sum(kinds.values()) - kinds['refused']:,} machines"
         fields = {
@@ -236,8 +233,7 @@ class HoldoutContents(Archive):
 
 
 def _write_new(path: str, contents: Archive) -> Published:
-    """Writes an archive whole or not at all. Raises FileExistsError, OSError, also if its folder was moved
-    meanwhile, and what `Archive.write` does."""
+    """Writes an archive whole or not at all. Raises FileExistsError, OSError, what `Archive.write` does."""
     digest = hashlib.sha256()
 
     def fill(number: int) -> None:
@@ -277,8 +273,7 @@ class Published:
 def _confirm_all(
     verdicts: ArchivedFile, limits: Limits, threads: int, progress: Callable[[int], None]
 ) -> tuple[int, int]:
-    """Has the checker confirm all verdicts. Returns the number of lines with a claim, and without. Raises
-    UnconfirmedError."""
+    """The number of lines with a claim, which the checker confirms, and without. Raises UnconfirmedError."""
     confirmed, free = 0, 0
     # Each call makes its tapes, which takes a tenth of a second for large ones; so the batches are large.
     for lines, reply in map_in_order(check_call(limits), verdicts.batches(), threads, BatchPace(1)):
@@ -434,8 +429,7 @@ def _contents_of_holdouts(
 
 
 def _count_around(listed: ArchivedFile, lines: ArchivedFile) -> int:
-    """The number of lines of a list. Raises PublishError unless it has the machines of some verdict lines, in
-    their order; refused ones aren't compared."""
+    """The lines of a list. Raises PublishError unless it has the machines of `lines` in their order."""
     machines, count = enumerate(listed.lines(), 1), 0
     for number, line in enumerate(lines.lines(), 1):
         machine = line.partition(b" ")[0]
@@ -450,8 +444,7 @@ def _count_around(listed: ArchivedFile, lines: ArchivedFile) -> int:
 
 
 def _contents_of_shards(folder: str, listed: ArchivedFile | None) -> HoldoutContents:
-    """The archive of a finished folder of shards. Raises PublishError, FolderError, CheckError, RunError,
-    OSError."""
+    """The archive of a finished folder of shards. Raises PublishError, FolderError, CheckError, RunError."""
     if listed is not None:
         raise PublishError("%s has shards, which have their own list; leave --list out" % folder)
     plan, path = read_plan(folder), os.path.join(folder, SUMMARY)
@@ -486,7 +479,6 @@ def _contents_of_shards(folder: str, listed: ArchivedFile | None) -> HoldoutCont
 
 
 def _shards_again(plan: Plan) -> str:
-    """The commands that make the shards of a plan again."""
     options = " ".join(plan.options())
     commands = [
         "cover --skeleton %s skeleton.txt" % options,

@@ -55,8 +55,7 @@ class Recurrence:
 
     @property
     def quasihalts(self) -> int | None:
-        """The number of steps after which no other state is used for the last time; None if each state is used
-        for ever or never."""
+        """The steps after which no other state is used for the last time; None if none is."""
         return max((use.step + 1 for use in self.uses if use.step is not None), default=None)
 
     def __str__(self) -> str:
@@ -71,7 +70,6 @@ RecurrenceReply = Union[Recurrence, Answer]
 
 
 def _uses_of(text: str, count: int) -> tuple[LastUse, ...]:
-    """The last uses of so many words. Raises ValueError."""
     kinds = {"-": LastUse(UseKind.NEVER), "*": LastUse(UseKind.FOREVER)}
     words = text.split()
     if len(words) != count:
@@ -101,7 +99,6 @@ def parse_recurrence(line: str) -> RecurrenceReply:
 
 
 def _recurrence_of(line: str) -> Recurrence:
-    """The recurrence of a line. Raises ValueError."""
     found = _LINE.fullmatch(line)
     if found is None or not is_machine(found[1]):
         raise ValueError

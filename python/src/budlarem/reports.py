@@ -59,8 +59,7 @@ class Report:
 
 
 class Statistics(VerdictCounts):
-    """The counts of a list, the distributions of its numbers, and the `most` smallest undecided machines. Raises
-    ValueError with its place for a text that is no verdict line."""
+    """The counts of a list, the distributions of its numbers, and the `most` smallest undecided machines."""
 
     def __init__(self, verdicts: Iterable[str | Verdict], most: int) -> None:
         super().__init__()
@@ -92,7 +91,6 @@ def start_of(place: int) -> float:
 
 
 def _import_matplotlib() -> tuple[Any, Any, Any]:
-    """The parts of matplotlib that a report uses. Raises ReportError."""
     try:
         from matplotlib import rc_context
         from matplotlib.figure import Figure
@@ -104,7 +102,6 @@ def _import_matplotlib() -> tuple[Any, Any, Any]:
 
 
 def plot(counts: collections.Counter[int], name: str) -> str:
-    """A distribution as an SVG image."""
     rc_context, figure_of, locator_of = _import_matplotlib()
     with rc_context({"svg.hashsalt": name, "svg.fonttype": "none", "font.size": 9, "text.color": _INK}):
         figure = figure_of(figsize=(4.6, 2.4), layout="constrained")
@@ -161,8 +158,6 @@ class MachineDiagram:
 
 
 def trace_all(machines: Sequence[str], steps: int, cells: int, threads: int) -> list[MachineDiagram]:
-    """Traces machines for the report, on so many threads, in order."""
-
     def trace_machine(machine: str) -> MachineDiagram:
         rows, _ = sample_rows(machine, steps, cells, SIZE)
         return MachineDiagram(machine, measure_growth(machine, steps, cells), diagram(rows))

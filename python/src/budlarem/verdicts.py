@@ -227,8 +227,7 @@ def parse(line: str) -> Verdict:
 
 
 def verdicts_of(items: Iterable[str | Verdict], name: str) -> Iterator[Verdict]:
-    """The verdicts of verdicts and lines, which may have fields behind a tab. Raises ValueError, TypeError, with
-    the place in the list `name`."""
+    """The verdicts of verdicts and lines, maybe with fields behind a tab. Raises ValueError, TypeError."""
     for place, item in enumerate(items):
         if not isinstance(item, VERDICTS):
             try:

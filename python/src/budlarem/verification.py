@@ -38,15 +38,13 @@ class Unconfirmed(NamedTuple):
 
 @dataclasses.dataclass
 class CheckSummary:
-    """The count of each answer so far, the first unconfirmed line, and the number of recurrences that quasihalt. A
-    recurrence counts as `OK`."""
+    """The count of each answer, a recurrence as `OK`; the first unconfirmed line; the quasihalting ones."""
 
     counts: collections.Counter[Answer] = dataclasses.field(default_factory=collections.Counter)
     first: Unconfirmed | None = None
     quasihalts: int = 0
 
     def add(self, lines: bytes, replies: bytes) -> None:
-        """Counts the replies to some lines."""
         answers = _RECURRENCE.sub(b"ok", replies)
         if self.first is None:
             self.first = find_unconfirmed(lines, answers, sum(self.counts.values()))
@@ -83,8 +81,7 @@ class CheckCost(NamedTuple):
 
 
 def cost_of_file(file: BinaryReader, limits: Limits) -> CheckCost:
-    """The most that checking a file can cost under these limits, from the numbers in its lines. No claim is
-    checked. Raises OSError, ValueError for the file; LibraryError."""
+    """The most that checking a file can cost under these limits, from the numbers in its lines."""
     cost, before = CheckCost(0, 0, 0, 0), 0
     for lines in whole_lines(iter(lambda: file.read(_BLOCK), b"")):
         more = cost_of_check(limits.numbers(), lines)
@@ -150,12 +147,10 @@ def _wrong_part(verdict: Verdict, limits: Limits) -> str:
 
 
 def answers_of(claims: Sequence[Verdict], limits: Limits, threads: int) -> list[Answer]:
-    """The checker's answer to each claim."""
     return list(map(Answer, _replies_to(claims, check_call, limits, threads)))
 
 
 def recurrences_of(claims: Sequence[Verdict], limits: Limits, threads: int) -> list[RecurrenceReply]:
-    """The recurrence behind each pair, or its answer."""
     return list(map(parse_recurrence, _replies_to(claims, recurrence_call, limits, threads)))
 
 

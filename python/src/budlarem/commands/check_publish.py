@@ -15,10 +15,9 @@ from types import FrameType
 from .._text import escape_controls
 from ..engine import Call, check_call, recurrence_call
 from ..limits import GREATEST, Limits, limits_of
-from ..publishing import UnconfirmedError, publish
+from ..publishing import publish
 from ..reading.files import BytesFile
 from ..recurrence import Recurrence
-from ..runner.errors import RunError
 from ..runner.progress import TerminalLine, short_count
 from ..verdicts import Answer
 from ..verification import CheckSummary, answer_blocks, cost_of_file
@@ -50,22 +49,21 @@ there is one. FILE may be a gzip. The limits are the greatest by default; the ta
 
 
 def do_check(asked: argparse.Namespace) -> int:
-    """Writes the checker's answers."""
     limits = greatest_limits(asked)
-    if asked.cost:
-        return _print_cost(asked.file, limits)
-    return _write_replies(asked, check_call(limits), limits, str(Answer.OK))
+    if not asked.cost:
+        return _write_replies(asked, check_call(limits), limits, str(Answer.OK))
+    with contextlib.closing(BytesFile(source_of(asked.file))) as file:
+        print(escape_controls(cost_of_file(file, limits).sentence(file.name)))
+    return 0
 
 
 def do_recurrence(asked: argparse.Namespace) -> int:
-    """Writes the exact recurrences behind pairs."""
     limits = greatest_limits(asked)
     return _write_replies(asked, recurrence_call(limits, asked.entries), limits, Recurrence.kind)
 
 
 def _write_replies(asked: argparse.Namespace, call: Call, limits: Limits, confirmed: str) -> int:
-    """Writes the replies of a call to the lines of a file, and prints their counts; `confirmed` names those to
-    confirmed lines. Returns the status."""
+    """Writes a call's replies to a file; `confirmed` names those to confirmed lines. Returns the status."""
     progress, summary = TerminalLine(), CheckSummary()
     names = {answer: confirmed if answer is Answer.OK else str(answer) for answer in Answer}
     with contextlib.closing(BytesFile(source_of(asked.file))) as file:
@@ -84,15 +82,7 @@ def _write_replies(asked: argparse.Namespace, call: Call, limits: Limits, confir
     return 1
 
 
-def _print_cost(path: str | None, limits: Limits) -> int:
-    """Prints the most that checking a file can cost."""
-    with contextlib.closing(BytesFile(source_of(path))) as file:
-        print(escape_controls(cost_of_file(file, limits).sentence(file.name)))
-    return 0
-
-
 def add_check(commands: Subcommands) -> None:
-    """Adds `check` and `recurrence` to a parser."""
     columns = [("answer", "ok, bad, over, open or unread")]
     check = add_command(commands, "check", do_check, "check verdict lines", _CHECK, columns)
     columns = [("reply", "MACHINE recurs START PERIOD SHIFT USE ..; bad, over, open or unread")]
@@ -127,11 +117,9 @@ def _raise_signal(number: int, frame: FrameType | None) -> None:
 
 
 def do_publish(asked: argparse.Namespace) -> int:
-    """Writes an archive of a decided list."""
     handle_signals(_raise_signal)
-    progress = TerminalLine(is_beside=False)
     try:
-        try:
+        with TerminalLine(is_beside=False) as progress:
             archive = publish(
                 asked.out,
                 asked.verdicts,
@@ -141,22 +129,14 @@ def do_publish(asked: argparse.Namespace) -> int:
                 threads=len(os.sched_getaffinity(0)) if asked.threads is None else asked.threads,
                 progress=lambda lines: progress.show(lambda: "%s lines checked" % short_count(lines)),
             )
-        finally:
-            progress.clear()
         print(archive)
         return 0
-    except UnconfirmedError as error:
-        text, status = str(error), 1
-    except RunError as error:
-        text, status = str(error), 3
     except _Signal as end:
-        text, status = "%s: no archive is written" % signal.Signals(end.args[0]).name, 128 + end.args[0]
-    print("budlarem: %s" % escape_controls(text), file=sys.stderr)
-    return status
+        print("budlarem: %s: no archive is written" % signal.Signals(end.args[0]).name, file=sys.stderr)
+        return 128 + int(end.args[0])
 
 
 def add_publish(commands: Subcommands) -> None:
-    """Adds the command to a parser."""
     columns = [("sha256", "of the archive"), ("name", "of the archive, a line for `sha256sum --check`")]
     help = "an archive that others can check"
     parser = add_command(commands, "publish", do_publish, help, _PUBLISH, columns, "two spaces")

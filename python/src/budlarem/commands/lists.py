@@ -37,8 +37,7 @@ undecided machines.
 
 
 class ClaimReader(ListReader):
-    """Reads a list of claims. Prints its form, the translation of a table's words, and rewritten, refused and
-    skipped lines on standard error."""
+    """Reads a list of claims. Prints the translation of a table's words too."""
 
     def __init__(self, path: str | None, asked: argparse.Namespace) -> None:
         super().__init__(path, asked)
@@ -69,7 +68,6 @@ class ClaimReader(ListReader):
 
 
 def do_compare(asked: argparse.Namespace) -> int:
-    """Compares two files of verdict lines by machine, in any order."""
     if asked.first == "-" == asked.second:
         raise ValueError("A and B can't both be standard input")
     counts: collections.Counter[Agreement] = collections.Counter()
@@ -93,7 +91,6 @@ def require_other_file(out: str, given: str | BinaryIO) -> None:
 
 
 def do_report(asked: argparse.Namespace) -> int:
-    """Writes one HTML file on a list of verdict lines."""
     reader = ClaimReader(asked.file, asked)
     require_other_file(asked.out, reader.source)
     numbers = {name: getattr(asked, name) for name in ("diagrams", "steps", "cells", "threads")}
@@ -103,7 +100,6 @@ def do_report(asked: argparse.Namespace) -> int:
 
 
 def add_claims(commands: Subcommands) -> None:
-    """Adds `compare` and `report` to a parser."""
     columns = [
         ("agreement", "first-decides, second-decides, contradict, only-first or only-second"),
         ("verdicts", "of A and of B, with ` | ` between them; - for none"),
@@ -151,7 +147,6 @@ same there up to the names of states and symbols, and left and right."""
 
 
 def do_judge(asked: argparse.Namespace) -> int:
-    """Judges a list of claims."""
     if asked.theirs == "-" == asked.list:
         raise ValueError("THEIRS and LIST can't both be standard input")
     progress = TerminalLine()
@@ -201,7 +196,6 @@ def do_judge(asked: argparse.Namespace) -> int:
 
 
 def add_judge(commands: Subcommands) -> None:
-    """Adds the command to a parser."""
     columns = [
         ("judgement", "confirmed, contradicted, not-judged or unreadable; no-line or not-listed"),
         ("number", "of the line in THEIRS, for no-line in LIST"),

@@ -58,11 +58,9 @@ class Record:
         return cls(first, lines, *hashes, milliseconds, False, tuple(counts[kind] for kind in KINDS))
 
     def fits(self, given: bytes) -> bool:
-        """Whether this is the chunk's input."""
         return self.given == (len(given), hash_of(given))
 
     def has(self, kept: bytes) -> bool:
-        """Whether this is the chunk's output."""
         return self.kept == (len(kept), zlib.crc32(kept))
 
     def counts_by_kind(self) -> Counts:
@@ -70,8 +68,7 @@ class Record:
 
 
 class Journal:
-    """The journal of a pass. `key` names the pass and its run. Raises OSError, as FileNotFoundError for a
-    missing one that is read only."""
+    """The journal of a pass. `key` names the pass and its run. Raises FileNotFoundError if only read."""
 
     def __init__(self, folder: Directory, key: str, is_read_only: bool = False) -> None:
         self._path, self._key = folder.at(JOURNAL), key
@@ -87,7 +84,6 @@ class Journal:
         os.close(self._number)
 
     def end(self) -> int:
-        """The end of all output."""
         records = (self.read(index) for index in range(self.length))
         return max((record.place + record.kept[0] for record in records if record is not None), default=0)
 
@@ -151,8 +147,7 @@ class Journal:
             os.fsync(self._number)
 
     def find_gap(self, index: int, first: int) -> tuple[int, int] | None:
-        """The chunks and lines from a chunk without a record, before which there are `first` lines, to the
-        next one with a record; None if there is none."""
+        """The chunks and lines from one without a record to the next one with a record, if any."""
         start, end = self._empty
         if not start <= index < end:
             start, end = index, index + 1
@@ -273,8 +268,7 @@ class PassFolder:
         return kept if record.has(kept) else None
 
     def read_chunks(self) -> Iterator[tuple[int, bytes]]:
-        """The output of each chunk, with the number of lines before it. Raises RunError for one that doesn't
-        match its record."""
+        """The output of each chunk, with the number of lines before it. Raises RunError for a changed one."""
         ahead: collections.deque[Future[tuple[int, bytes]]] = collections.deque()
         with ThreadPoolExecutor(_READERS, "budlarem read") as readers:
             for index in range(self.chunks):
@@ -300,7 +294,6 @@ class PassFolder:
         return RunError(f"chunk {index + 1} in {self.path} {why}")
 
     def checksum(self) -> Checksum:
-        """The checksum of all output in the list's order, by the journal. Raises RunError."""
         total = Checksum()
         for record in map(self._record, range(self.chunks)):
             total = total.add(Checksum(*record.kept))
@@ -336,13 +329,11 @@ class PassFolder:
             place, size = place + count, size - count
 
     def has_name(self) -> bool:
-        """Whether the file of the chunks still has its name."""
         found = self._top.id_at(VERDICTS) if self.is_renamed else self._inside.id_at(KEPT)
         return found == id_of(os.fstat(self._file))
 
     def rename_to_verdicts(self, over: Pin | None) -> None:
-        """Renames the file of the chunks to `verdicts.txt`, and records that. Replaces only the file `over`.
-        Raises FileExistsError, OSError."""
+        """Renames the file of the chunks to `verdicts.txt`, and records that. Replaces only `over`."""
         if not self.is_renamed:
             self.journal.write_rename_mark(self.chunks)
             self._top.install(KEPT, VERDICTS, None if over is None else over.id, self._inside)
