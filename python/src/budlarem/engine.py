@@ -11,8 +11,8 @@ from ._fork import forbid_fork
 from ._library import NOT_CLEAN, SHORT, Reply, ReplyBuffer, load_library
 from ._text import LONGEST_GIVEN, LONGEST_SHOWN, LONGEST_VALUE
 from .limits import Limits, Plan, in_range, whole
-from .recurrence import RecurrenceReply, parse_recurrence
-from .verdicts import VERDICTS, Answer, Refused, Verdict, require_field_types, verdict_of
+from .verdicts import VERDICTS, Answer, RecurrenceReply, Refused, Verdict, parse_recurrence
+from .verdicts import require_field_types, verdict_of
 
 # The most bytes of a block that is checked with large tapes; and the cells from which on a call costs the
 # tapes, so that batches of claims are always large.

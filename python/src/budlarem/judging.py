@@ -17,9 +17,8 @@ from .normal_forms import canonical_form
 from .reading import Columns, Form, Reading, Readings, Skipped, read
 from .reading.files import Source
 from .reading.forms import RereadableList
-from .recurrence import Recurrence
 from .recurrence_claims import Exactness, Finding, NumbersJudge, find_start_offset
-from .verdicts import Answer, Halt, Refused, Undecided, Verdict
+from .verdicts import Answer, Halt, Recurrence, Refused, Undecided, Verdict
 from .verification import answers_of
 
 __all__ = ["Judged", "Judgement", "Judging", "judge"]

@@ -16,8 +16,7 @@ from ._text import Words
 from .claims import Claim
 from .engine import Configuration, decide, trace
 from .limits import Limits, Plan
-from .recurrence import Recurrence, RecurrenceReply
-from .verdicts import Answer, Cycler, Translated, Verdict
+from .verdicts import Answer, Cycler, Recurrence, RecurrenceReply, Translated, Verdict
 from .verification import FEW_CELLS, recurrences_of
 
 # The most claims that are looked at together, and the most rows of a trace in a search.

@@ -13,8 +13,8 @@ from ._library import cost_of_check
 from ._text import LONGEST_SHOWN
 from .engine import Call, answer_file, check_call, decide, recurrence_call
 from .limits import Limits, Plan
-from .recurrence import RecurrenceReply, parse_recurrence
-from .verdicts import Answer, Backward, Cycler, Halt, Translated, Verdict, parse
+from .verdicts import Answer, Backward, Cycler, Halt, RecurrenceReply, Translated, Verdict, parse
+from .verdicts import parse_recurrence
 
 # With so few cells a call costs little.
 FEW_CELLS = 65_536

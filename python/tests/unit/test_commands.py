@@ -14,8 +14,8 @@ from unittest import mock
 
 import budlarem
 import pytest
-from budlarem import Agreement, comparison, growth, pictures, reports
-from budlarem.growth import Growth, measure_growth
+from budlarem import Agreement, comparison, pictures, reports
+from budlarem.reports import Growth, measure_growth
 from support.program import run_command
 
 CHAMPION = "1RB1LB_1LA1RZ"
@@ -113,7 +113,7 @@ def test_no_machine() -> None:
 
 def test_growths() -> None:
     counts = [(5, 5, 5), (5, 9, 9), (10, 13, 16), (10, 32, 100), (10, 100, 1_000)]
-    found = [growth.classify_growth(visited) for visited in counts]
+    found = [reports.classify_growth(visited) for visited in counts]
     assert found == [Growth.STAYS, Growth.STAYS, Growth.LOGARITHM, Growth.ROOT, Growth.LINE]
 
 
@@ -126,8 +126,8 @@ def test_growth_of_runs() -> None:
 def test_the_cells_end_a_run() -> None:
     found = measure_growth("1RA1RA", 100_000, 1_001)
     assert (found.steps, found.visited) == (1_000, (11, 101, 1_001))
-    assert growth._last_step("1RA1RA", 100_000, 778) == 777
-    assert growth._last_step(CHAMPION, 100_000, 65_536) == 6
+    assert reports._last_step("1RA1RA", 100_000, 778) == 777
+    assert reports._last_step(CHAMPION, 100_000, 65_536) == 6
 
 
 def test_a_halt_comes_with_its_steps_and_cells() -> None:

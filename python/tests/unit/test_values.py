@@ -61,7 +61,7 @@ def test_refuse_a_depth_that_does_not_fit() -> None:
         Limits(cells=598)
 
 
-WRONG_TYPES = [(Limits, "steps", wrong, "whole number") for wrong in (1e6, "7", None, True, b"1")]
+WRONG_TYPES: list[Any] = [(Limits, "steps", wrong, "whole number") for wrong in (1e6, "7", None, True, b"1")]
 WRONG_TYPES += [(Plan, "cyclers", wrong, "True or False") for wrong in ("no", 1, None)]
 
 

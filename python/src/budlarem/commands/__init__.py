@@ -19,8 +19,7 @@ from .._version import VERSION
 from ..publishing import UnconfirmedError
 from ..reports import ReportError
 from ..runner.errors import CheckError, RunError
-from .check_publish import add_check, add_publish
-from .lists import add_claims, add_judge
+from .lists import add_check, add_claims, add_judge, add_publish
 from .machines import add_machines, add_runs
 from .run import add_command as add_run
 from .shards import add_shards

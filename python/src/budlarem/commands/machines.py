@@ -12,7 +12,7 @@ from ..normal_forms import distinct
 from ..numbers import option_number
 from ..pictures import picture
 from .shared import LIST_HELP, ListReader, Subcommands, add_command, add_file, add_form, add_limits
-from .shared import add_number, limits_of
+from .shared import add_number, limits_in
 
 _READ = "Writes the machine of each line of a list, as bb reads it.\n\n%s Status 1 if a line was refused."
 _DECIDE = """Decides the machine of each line of a list, and copies the other fields of the line.
@@ -37,7 +37,7 @@ def do_read(asked: argparse.Namespace) -> int:
 def do_decide(asked: argparse.Namespace) -> int:
     plan = Plan(not asked.no_cyclers, not asked.no_translated, not asked.no_backward)
     reader = ListReader(asked.file, asked)
-    for found in decide_readings(reader.readings(), limits_of(asked), plan, threads=asked.threads):
+    for found in decide_readings(reader.readings(), limits_in(asked), plan, threads=asked.threads):
         sys.stdout.write("%s\n" % found)
     return reader.status
 

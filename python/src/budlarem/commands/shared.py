@@ -178,7 +178,7 @@ def add_passes(parser: argparse.ArgumentParser, help: str) -> None:
     parser.add_argument("--pass", action="append", dest="passes", metavar=metavar, help=help)
 
 
-def limits_of(asked: argparse.Namespace) -> Limits:
+def limits_in(asked: argparse.Namespace) -> Limits:
     return Limits(asked.steps, asked.cells, asked.depth, asked.nodes)
 
 
