@@ -18,8 +18,6 @@ from .reading.tables import Layout
 from .reading.tokens import SPACES
 from .verdicts import Halt, Refused, Undecided, Verdict, parse, verdict_of, whole_number
 
-__all__ = ["Claim", "Claims", "WORDS", "Word", "claim_in"]
-
 
 class Word(Words):
     """The meaning of a word for a machine."""
@@ -83,18 +81,14 @@ class Claims(Iterable[Claim]):
 
     def __iter__(self) -> Iterator[Claim]:
         for number, line in self._lines:
-            if (claim := _claim_of(number, line, self._form, self._words)) is not None:
+            if (claim := claim_of(number, line, self._form, self._words)) is not None:
                 yield claim
             else:
                 self.skips[skip_kind(line)] += 1
 
 
-def claim_in(number: int, line: str) -> Claim | None:
-    """The claim of a line of a text; None for a skipped line."""
-    return _claim_of(number, line, ListForm(Form.TEXT), WORDS)
-
-
-def _claim_of(number: int, line: str, form: ListForm, words: dict[str, Word]) -> Claim | None:
+def claim_of(number: int, line: str, form: ListForm, words: dict[str, Word]) -> Claim | None:
+    """The claim of a line; None for a skipped line."""
     if form.form in (Form.VERDICTS, Form.TEXT):
         claim = _of_verdict_line(number, line)
         is_rule = form.form is Form.TEXT and not line.partition(" ")[0].strip("-")

@@ -4,6 +4,7 @@ from __future__ import annotations
 
 import collections
 import dataclasses
+import itertools
 from typing import Iterable, Iterator
 
 from ._text import Words
@@ -83,9 +84,6 @@ class _Side:
             del self.waiting[machine]
         return verdict
 
-    def remaining(self) -> list[MachineVerdict]:
-        return [verdict for verdicts in self.waiting.values() for verdict in verdicts]
-
 
 def compare(
     first: Iterable[str | Verdict], second: Iterable[str | Verdict], *, undefined_steps: bool = False
@@ -116,7 +114,8 @@ def compare(
                 continue
             pair = (verdict, other) if here == 0 else (other, verdict)
             yield Comparison(agreement(*pair, undefined_steps), verdict.machine, *pair)
-    yield from _compare_by_form(sides[0].remaining(), sides[1].remaining(), undefined_steps)
+    left, right = ([*itertools.chain.from_iterable(side.waiting.values())] for side in sides)
+    yield from _compare_by_form(left, right, undefined_steps)
 
 
 def _compare_by_form(

@@ -5,7 +5,7 @@ from __future__ import annotations
 import collections
 import functools
 import re
-from typing import Any, ClassVar, Sequence, TypeVar
+from typing import Any, ClassVar, Iterator, Sequence, TypeVar
 
 KINDS = ("halt", "cycler", "translated", "backward", "undecided steps", "undecided cells", "refused")
 UNDECIDED = ("undecided steps", "undecided cells")
@@ -76,7 +76,7 @@ class VerdictCounts:
             end = lines.index(verdict + b"\n") + len(verdict)
             line = lines[lines.rfind(b"\n", 0, end) + 1 : end]
             self._add_numbers(kind, numbers_of(kind, words), line.decode())
-        undecided = _undecided_lines(lines)
+        undecided = b"".join(lines[start:end] for start, _, end in undecided_spans(lines))
         for kind in UNDECIDED:
             self.kinds[kind] += undecided.count(b" %s\n" % kind.encode())
         return undecided
@@ -148,10 +148,14 @@ def _longer(name: str, digits: int) -> re.Pattern[bytes]:
     return re.compile((" %s -?([0-9]{%d,})" % (_WORDS[name], digits)).encode())
 
 
-def _undecided_lines(lines: bytes) -> bytes:
-    found, place = [], lines.find(b" undecided ")
+def find_all(word: bytes, lines: bytes) -> Iterator[int]:
+    place = lines.find(word)
     while place >= 0:
-        end = lines.index(b"\n", place) + 1
-        found.append(lines[lines.rfind(b"\n", 0, place) + 1 : end])
-        place = lines.find(b" undecided ", end)
-    return b"".join(found)
+        yield place
+        place = lines.find(word, place + 1)
+
+
+def undecided_spans(lines: bytes) -> Iterator[tuple[int, int, int]]:
+    """Start of each undecided line, end of its machine, and end of the line with its newline."""
+    for place in find_all(b" undecided ", lines):
+        yield lines.rfind(b"\n", 0, place) + 1, place, lines.index(b"\n", place) + 1

@@ -21,8 +21,6 @@ from .recurrence_claims import Exactness, Finding, NumbersJudge, find_start_offs
 from .verdicts import Answer, Halt, Recurrence, Refused, Undecided, Verdict
 from .verification import answers_of
 
-__all__ = ["Judged", "Judgement", "Judging", "judge"]
-
 # The most lines of a batch, and the most seconds that its first one waits.
 _TOGETHER, _SECONDS = 4_096, 1.0
 

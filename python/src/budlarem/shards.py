@@ -58,9 +58,6 @@ class Plan:
     limits: Limits
     recurrence: bool = False
 
-    def to_json(self) -> str:
-        return json.dumps(dataclasses.asdict(self), indent=1) + "\n"
-
     @classmethod
     def from_json(cls, text: str) -> Plan:
         """Reads a plan. Raises FolderError if it is none."""
@@ -154,7 +151,7 @@ def create(folder: str, plan: Plan) -> None:
         return
     machines = pipe_blocks([plan.list_command("--shards", str(plan.entries))])
     write_whole(os.path.join(folder, MACHINES), machines)
-    write_whole(path, [plan.to_json().encode()])
+    write_whole(path, [json.dumps(dataclasses.asdict(plan), indent=1).encode() + b"\n"])
 
 
 def read_plan(folder: str) -> Plan:

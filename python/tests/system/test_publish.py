@@ -49,7 +49,6 @@ class Place:
     def publish(
         self, *more: str, out: pathlib.Path | None = None, **how: Any
     ) -> subprocess.CompletedProcess[str]:
-        """Publishes list and verdicts, or what these words say."""
         command = self.words(*(more or self.given()), out=out)
         return subprocess.run(command, capture_output=True, text=True, **how)
 
@@ -82,7 +81,6 @@ class Ways:
         return subprocess.run(["sh", "-c", command], capture_output=True, text=True, **how)
 
     def is_whole(self) -> bool:
-        """Whether the first way notices nothing."""
         first, second = map(self.run, self.ways[0])
         return first.returncode == 0 and not first.stdout and second.returncode == 0
 
@@ -95,7 +93,6 @@ def require_silent(ways: Ways, command: str) -> None:
 
 
 def require_ways(ways: Ways, count: int) -> None:
-    """All five ways confirm an archive."""
     assert [len(way) for way in ways.ways] == [2, 1, 1, 1, 1]
     assert ways.is_whole()
     require_silent(ways, ways.ways[1][0])
@@ -155,7 +152,6 @@ def test_archive(bb: str, tmp_path: pathlib.Path, rng: random.Random, count: int
 
 
 def test_archive_by_coq(bb: str, tmp_path: pathlib.Path, checker: str) -> None:
-    """The fifth way, by the checker in Coq."""
     _, ways = archive_of(bb, tmp_path)
     (tmp_path / "programs" / "checker").symlink_to(checker)
     require_silent(ways, ways.ways[4][0])
@@ -250,7 +246,6 @@ def test_run(bb: str, tmp_path: pathlib.Path) -> None:
 
 @pytest.mark.slow
 def test_full_disk(bb: str, tmp_path: pathlib.Path) -> None:
-    """Files that may not grow, and a file system without room."""
     place = Place(bb, tmp_path / "full", 2_000, 6)
     for size in (1_000, place.list.stat().st_size + 5_000):
         done = place.publish(preexec_fn=lambda: resource.setrlimit(resource.RLIMIT_FSIZE, (size, size)))

@@ -46,7 +46,6 @@ def unpack(path: str) -> dict[str, bytes]:
 
 
 def commands_again(files: dict[str, bytes]) -> list[str]:
-    """The commands of the page that make the rest again."""
     page = files["README.txt"].decode().partition("How to make the rest again")[2]
     return [line.strip() for line in page.splitlines() if line.startswith("      ")]
 

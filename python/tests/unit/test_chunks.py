@@ -257,7 +257,6 @@ def pipe(given: bytes) -> Iterator[tuple[input.ListFile, int]]:
 
 
 def all_lines(listed: input.ListFile) -> bytes:
-    """All lines of a list, some taken at a time."""
     lines = listed.lines()
     return b"".join(iter(lambda: lines.take(7, 1_000), b""))
 
@@ -337,7 +336,6 @@ def test_what_is_no_list(case: RunCase) -> None:
 
 
 def commands_of_page(case: RunCase) -> list[list[str]]:
-    """The commands of the folder's page."""
     lines = (case.out / "README.txt").read_text(encoding="utf-8").splitlines()
     first = next(place for place, line in enumerate(lines) if line.startswith("    budlarem "))
     assert max(map(len, lines[3:first])) < 81
@@ -377,7 +375,6 @@ def test_names_that_begin_as_options_do(case: RunCase, monkeypatch: pytest.Monke
 
 
 def require_refused(case: RunCase, sentence: str) -> None:
-    """A folder that isn't published."""
     archive = case.top / "new.tar"
     with pytest.raises(PublishError, match=sentence):
         publish(archive, case.out)

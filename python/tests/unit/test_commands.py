@@ -80,11 +80,6 @@ def test_machines_that_are_the_same() -> None:
     ]
 
 
-def test_a_line_that_is_none() -> None:
-    with pytest.raises(ValueError, match=r"second\[1\]: no verdict line"):
-        list(budlarem.compare([], ["refused 1", "x"]))
-
-
 def test_states_are_in_the_order_of_their_use() -> None:
     form = budlarem.normal("1LC1RZ_1RB---_1RA1LA")
     assert (form.normal, form.states, form.mirrored) == ("1RB1LZ_1LA1RA_1LC---", "ACB", True)
@@ -99,16 +94,6 @@ def test_machines_that_stay() -> None:
 def test_duplicates() -> None:
     machines = [CHAMPION, "1LB1RB_1RA1LZ", "1RA1RA", CHAMPION]
     assert [first for _, first in budlarem.distinct(machines)] == [None, CHAMPION, None, CHAMPION]
-
-
-def test_no_machine() -> None:
-    with pytest.raises(budlarem.MachineError):
-        budlarem.normal("1RB")
-    with pytest.raises(budlarem.MachineError, match=r"^machines\[1\]: no machine, from column 4 on: '1RB'"):
-        list(budlarem.distinct([CHAMPION, "1RB"]))
-    wrong: Any = [CHAMPION, None]
-    with pytest.raises(TypeError, match=r"^machines\[1\] is of type NoneType"):
-        list(budlarem.distinct(wrong))
 
 
 def test_growths() -> None:
@@ -221,7 +206,6 @@ def test_what_is_missing_is_named() -> None:
 
 
 def run_with(*words: str, given: str = "") -> tuple[int, list[str], str]:
-    """The status of the command, its lines, and what it says."""
     status, output, error = run_command([sys.executable, "-m", "budlarem", *words], given.encode())
     return status, output.decode().splitlines(), error.decode()
 

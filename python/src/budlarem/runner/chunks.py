@@ -16,12 +16,12 @@ import threading
 import time
 import zlib
 from concurrent.futures import Future
-from typing import Any, Callable, Iterator, Sequence
+from typing import Any, Callable, Sequence
 
 from .._library import ReplyBuffer, load_library, validate_replies
 from .._text import LONGEST_OF_REPLY
 from .._version import COMMIT, VERSION
-from ..counts import KINDS
+from ..counts import KINDS, find_all
 from ..engine import Call, check_call, decide_call
 from ..limits import Limits, Plan
 from .errors import FatalLineError, ReplyError, UsageError
@@ -171,24 +171,12 @@ class Retention:
     def select(self, verdicts: bytes) -> bytes:
         if not self.only_holdouts:
             return verdicts
-        starts = {verdicts.rfind(b"\n", 0, place) + 1 for place in self._places(verdicts)}
-        return b"".join(verdicts[start : verdicts.index(b"\n", start) + 1] for start in sorted(starts))
-
-    def _places(self, verdicts: bytes) -> Iterator[int]:
-        """An index in each kept line."""
-        for word in _KEPT_WORDS:
-            yield from find_all(word, verdicts)
+        places = [place for word in _KEPT_WORDS for place in find_all(word, verdicts)]
         if self.halts_after is not None:
-            for found in re.finditer(b" halt ([0-9]{%d,}) " % len(str(self.halts_after)), verdicts):
-                if int(found.group(1)) > self.halts_after:
-                    yield found.start()
-
-
-def find_all(word: bytes, lines: bytes) -> Iterator[int]:
-    place = lines.find(word)
-    while place >= 0:
-        yield place
-        place = lines.find(word, place + 1)
+            halts = re.finditer(b" halt ([0-9]{%d,}) " % len(str(self.halts_after)), verdicts)
+            places += (halt.start() for halt in halts if int(halt[1]) > self.halts_after)
+        starts = {verdicts.rfind(b"\n", 0, place) + 1 for place in places}
+        return b"".join(verdicts[start : verdicts.index(b"\n", start) + 1] for start in sorted(starts))
 
 
 def parse_retention(words: Sequence[str] | None) -> Retention:

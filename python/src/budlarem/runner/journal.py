@@ -20,8 +20,8 @@ from concurrent.futures import Future, ThreadPoolExecutor
 from typing import Iterator, Sequence
 
 from .._files import Checksum, Directory, Pin, id_of, name_errors, write_all
-from ..counts import KINDS
-from .chunks import Counts, find_all, hash_of
+from ..counts import KINDS, undecided_spans
+from .chunks import Counts, hash_of
 from .errors import RunError
 from .input import StreamLines
 
@@ -349,17 +349,11 @@ class PassFolder:
             self._copy_chunks()
 
 
-def _spans(verdicts: bytes) -> Iterator[tuple[int, int, int]]:
-    """Start of each undecided line, end of its machine, and end of the line with its newline."""
-    for place in find_all(b" undecided ", verdicts):
-        yield verdicts.rfind(b"\n", 0, place) + 1, place, verdicts.find(b"\n", place) + 1
-
-
 def holdouts_of(folder: PassFolder) -> Iterator[bytes]:
     """The undecided machines of a pass in order, in blocks of lines. Raises RunError, OSError."""
     for _, verdicts in folder.read_chunks():
-        holdouts = b"".join(verdicts[start:place] + b"\n" for start, place, _ in _spans(verdicts))
-        if holdouts:
+        spans = undecided_spans(verdicts)
+        if holdouts := b"".join(verdicts[start:place] + b"\n" for start, place, _ in spans):
             yield holdouts
 
 
@@ -370,7 +364,7 @@ def merge_passes(passes: Sequence[PassFolder]) -> Iterator[bytes]:
     lines = StreamLines(merge_passes(passes[1:]) if len(passes) > 1 else iter(()))
     for _, verdicts in passes[0].read_chunks():
         parts, done = [b""], 0
-        for start, place, end in _spans(verdicts) if len(passes) > 1 else ():
+        for start, place, end in undecided_spans(verdicts) if len(passes) > 1 else ():
             parts.append(verdicts[done:start])
             if lines.peek().startswith(verdicts[start : place + 1]):
                 parts.append(lines.take(1, 1))
@@ -383,7 +377,7 @@ def list_line_number(before: Sequence[PassFolder], line: int) -> int:
     for folder in reversed(before):
         # The line is the undecided one with this index in the pass before.
         for first, verdicts in folder.read_chunks():
-            starts = [start for start, _, _ in _spans(verdicts)]
+            starts = [start for start, _, _ in undecided_spans(verdicts)]
             if line < len(starts):
                 line = first + verdicts.count(b"\n", 0, starts[line])
                 break
