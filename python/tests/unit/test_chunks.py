@@ -43,8 +43,7 @@ def test_chunks_are_the_same_however_the_bytes_come(
     assert take_all(blocks, lines, size) == chunks
     ends = texts if texts and texts[-1] else texts[:-1]
     assert b"".join(chunks) == b"".join(text[:1_024] + b"\n" for text in ends)
-    case.list.write_bytes(given)
-    with contextlib.closing(input.ListFile(str(case.list))) as listed:
+    with list_of(case, given) as listed:
         plain = listed.lines()
         of_file = list(iter(lambda: plain.take(lines, size), b""))
     assert b"".join(of_file) == b"".join(chunks)
@@ -62,12 +61,9 @@ def test_chunks_are_as_large_as_may_be() -> None:
 
 def test_gzip_and_empty_lists(case: RunCase) -> None:
     for given in (b"", b"\n", b"1RZ---", LIST):
-        path = case.top / "list"
         for written in (given, gzip.compress(given) + gzip.compress(b"")):
-            path.write_bytes(written)
-            listed = input.ListFile(str(path))
-            assert b"".join(listed.blocks) == given
-            listed.close()
+            with list_of(case, written) as listed:
+                assert b"".join(listed.blocks) == given
 
 
 def test_a_cut_gzip_file(case: RunCase) -> None:
@@ -77,13 +73,11 @@ def test_a_cut_gzip_file(case: RunCase) -> None:
 
 
 def test_a_list_that_changes(case: RunCase) -> None:
-    listed = input.ListFile(str(case.list))
-    case.callback(listed.close)
-    blocks = listed.blocks
-    next(blocks)
-    case.list.write_bytes(LIST + KINDS)
-    with pytest.raises(RunError, match="changed while it was read"):
-        list(blocks)
+    with list_of(case, LIST) as listed:
+        next(listed.blocks)
+        case.list.write_bytes(LIST + KINDS)
+        with pytest.raises(RunError, match="changed while it was read"):
+            list(listed.blocks)
 
 
 class JournalCase:
@@ -242,6 +236,7 @@ def test_a_chunk_lasts_some_seconds() -> None:
 
 MACHINE_LINE = b"1RB1LB_1LA1RZ\n"
 SMALL_PASS = ["--pass", "steps=30,cells=16,depth=3,nodes=5"]
+UNFINISHED = "has no verdicts.txt: that run isn't finished"
 
 
 @contextlib.contextmanager
@@ -261,25 +256,26 @@ def all_lines(listed: input.ListFile) -> bytes:
     return b"".join(iter(lambda: lines.take(7, 1_000), b""))
 
 
-def test_they_are_given_again(case: RunCase) -> None:
+@contextlib.contextmanager
+def list_of(case: RunCase, given: bytes) -> Iterator[input.ListFile]:
+    case.list.write_bytes(given)
+    with contextlib.closing(input.ListFile(str(case.list))) as listed:
+        yield listed
+
+
+def test_first_lines_are_given_again(case: RunCase) -> None:
     for count in (0, 1, 999, 1_000, 1_001, 200_000):
         given = MACHINE_LINE * count
         for data in (given, gzip.compress(given)):
-            case.list.write_bytes(data)
-            with contextlib.closing(input.ListFile(str(case.list))) as listed:
+            with list_of(case, data) as listed:
                 assert listed.first_lines(1_000) == [MACHINE_LINE[:-1]] * min(count, 1_000)
                 assert all_lines(listed) == given
-
-
-def test_a_last_line_without_a_newline(case: RunCase) -> None:
-    case.list.write_bytes(MACHINE_LINE + b"1RA1RA")
-    with contextlib.closing(input.ListFile(str(case.list))) as listed:
+    with list_of(case, MACHINE_LINE + b"1RA1RA") as listed:
         assert listed.first_lines(2) == [MACHINE_LINE[:-1], b"1RA1RA"]
 
 
 def test_a_list_that_has_no_newline_is_not_held_whole(case: RunCase) -> None:
-    case.list.write_bytes(gzip.compress(os.urandom(4_000_000).replace(b"\n", b"")))
-    with contextlib.closing(input.ListFile(str(case.list))) as listed:
+    with list_of(case, gzip.compress(os.urandom(4_000_000).replace(b"\n", b""))) as listed:
         assert [len(line) for line in listed.first_lines(1_000)] == [LONGEST_GIVEN]
         assert (listed.fraction(0) or 1.0) < 0.7
 
@@ -301,11 +297,9 @@ def test_no_pause() -> None:
 
 
 def test_more_than_half(case: RunCase) -> None:
-    case.list.write_bytes((b"`1RB1LB_1LA1RZ`\n" + MACHINE_LINE) * 3)
-    with contextlib.closing(input.ListFile(str(case.list))) as listed:
+    with list_of(case, (b"`1RB1LB_1LA1RZ`\n" + MACHINE_LINE) * 3) as listed:
         input.require_form(listed)
-    case.list.write_bytes((MACHINE_LINE + b"`1RB1LB_1LA1RZ`\n") * 3 + b"x\n")
-    with contextlib.closing(input.ListFile(str(case.list))) as listed:
+    with list_of(case, (MACHINE_LINE + b"`1RB1LB_1LA1RZ`\n") * 3 + b"x\n") as listed:
         with pytest.raises(errors.FolderError, match="4 of the first 7 lines .* line 2: .*budlarem read"):
             input.require_form(listed)
 
@@ -354,11 +348,11 @@ def test_it_names_all_files(case: RunCase) -> None:
 
 def test_its_commands(case: RunCase) -> None:
     case.list.write_bytes(MACHINE_LINE + b"0RB1LD_0RC1RD_0RD---_1LA0RB\n")
-    for more, names in (("--check", "run check publish"), ("--keep=halts=9", "run check publish")):
+    for more in ("--check", "--keep=halts=9"):
         case.out = case.top / more
         assert case.call(*SMALL_PASS, more)[0] == 0
         found = commands_of_page(case)
-        assert [words[0] for words in found] == names.split()
+        assert [words[0] for words in found] == ["run", "check", "publish"]
         for words in found[:2]:
             assert call_command(*words)[0] == 0, words
 
@@ -374,13 +368,6 @@ def test_names_that_begin_as_options_do(case: RunCase, monkeypatch: pytest.Monke
     assert (case.top / "--out.tar").exists()
 
 
-def require_refused(case: RunCase, sentence: str) -> None:
-    archive = case.top / "new.tar"
-    with pytest.raises(PublishError, match=sentence):
-        publish(archive, case.out)
-    assert not archive.exists()
-
-
 def test_a_folder(case: RunCase) -> None:
     case.list.write_bytes(MACHINE_LINE * 3)
     case.call(*SMALL_PASS, "--piece", "1")
@@ -389,14 +376,13 @@ def test_a_folder(case: RunCase) -> None:
     assert (made.confirmed, made.open) == (3, 0)
 
 
-def test_what_was_dropped(case: RunCase) -> None:
+def test_folders_that_are_not_published(case: RunCase) -> None:
     case.list.write_bytes(MACHINE_LINE + b"0RB1LD_0RC1RD_0RD---_1LA0RB\n")
-    case.call(*SMALL_PASS, "--keep", "left")
-    require_refused(case, "only the verdicts that --keep left kept")
-
-
-def test_verdicts_that_are_decided_again(case: RunCase) -> None:
-    case.list.write_bytes(MACHINE_LINE)
-    case.call(*SMALL_PASS)
-    (case.out / "verdicts.txt").unlink()
-    require_refused(case, "has no verdicts.txt: that run isn't finished")
+    for keep, sentence in (("left", "only the verdicts that --keep left kept"), ("all", UNFINISHED)):
+        case.out = case.top / keep
+        case.call(*SMALL_PASS, "--keep", keep)
+        if sentence == UNFINISHED:
+            (case.out / "verdicts.txt").unlink()
+        with pytest.raises(PublishError, match=sentence):
+            publish(case.top / "new.tar", case.out)
+        assert not (case.top / "new.tar").exists()

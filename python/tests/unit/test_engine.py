@@ -238,18 +238,14 @@ def small_machines() -> list[str]:
     return ["%s%s_%s%s" % table for table in tables]
 
 
-def require_places(machine: str, verdict: budlarem.Verdict, steps: int) -> None:
-    run = list(plain(machine, steps))
-    for step in {*range(0, len(run), 3), len(run) - 1}:
-        assert at(verdict, step) == Place(step, *run[step]), (str(verdict), step)
-
-
 def test_plain_runs() -> None:
     kinds = set()
     for verdict in budlarem.decide(small_machines(), Limits(steps=100, cells=64, depth=0, nodes=0)):
         if isinstance(verdict, (budlarem.Halt, Cycler, Translated)):
             kinds.add(verdict.kind)
-            require_places(verdict.machine, verdict, 25)
+            run = list(plain(verdict.machine, 25))
+            for step in {*range(0, len(run), 3), len(run) - 1}:
+                assert at(verdict, step) == Place(step, *run[step]), (str(verdict), step)
     assert kinds == {"halt", "cycler", "translated"}
 
 

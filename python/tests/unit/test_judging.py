@@ -115,16 +115,10 @@ TABLE = {
 
 @pytest.mark.parametrize("judgement", CLAIMS)
 def test_claims_and_words(judgement: str) -> None:
-    for line in CLAIMS[judgement]:
-        assert judgements([line]) == [judgement], line
-
-
-@pytest.mark.parametrize("judgement", TABLE)
-def test_words_of_a_table(judgement: str) -> None:
-    for machine, words in TABLE[judgement].items():
-        for word in words:
-            lines = ["verdict\tmachine", "%s\t%s" % (word, machine)]
-            assert judgements(lines) == [judgement], (word, machine)
+    table = ((machine, word) for machine, words in TABLE.get(judgement, {}).items() for word in words)
+    rows = [["verdict\tmachine", "%s\t%s" % (word, machine)] for machine, word in table]
+    for lines in [[line] for line in CLAIMS[judgement]] + rows:
+        assert judgements(lines) == [judgement], lines
 
 
 def test_numbers_beside_never_halting_are_named() -> None:

@@ -1,5 +1,6 @@
 """Reading lists as people have them, lines that never end, and numbers of options in each command."""
 
+import functools
 import gzip
 import importlib.util
 import io
@@ -294,55 +295,40 @@ ENDLESS = (
 )
 
 
-def command(*given: str) -> subprocess.CompletedProcess[str]:
+def run_endless(*given: str) -> subprocess.CompletedProcess[str]:
     """The command over a line that never ends, with at most 1 GB of memory for its data."""
-
-    def set_limit() -> None:
-        resource.setrlimit(resource.RLIMIT_DATA, (1 << 30, 1 << 30))
-
-    top = os.path.dirname(os.path.dirname(os.path.dirname(os.path.abspath(files.__file__))))
     command = [sys.executable, "-m", "budlarem", *given]
     with subprocess.Popen([sys.executable, "-c", ENDLESS], stdout=-1, stderr=subprocess.DEVNULL) as feeder:
         try:
-            how: dict[str, Any] = {"stdin": feeder.stdout, "env": {**os.environ, "PYTHONPATH": top}}
-            how.update(capture_output=True, text=True, timeout=60, preexec_fn=set_limit)
-            return subprocess.run(command, **how)
+            set_limit = functools.partial(resource.setrlimit, resource.RLIMIT_DATA, (1 << 30, 1 << 30))
+            how: dict[str, Any] = {"stdin": feeder.stdout, "timeout": 60, "preexec_fn": set_limit}
+            return subprocess.run(command, capture_output=True, text=True, **how)
         finally:
             feeder.kill()
 
 
-def test_commands(tmp_path: pathlib.Path) -> None:
-    every = [["read"], ["decide"], ["normal"], ["judge", "-"], ["compare", "/dev/null", "-"]]
-    every.append(["check", "--cells", "1000"])
+def test_commands_over_a_line_that_never_ends(tmp_path: pathlib.Path) -> None:
+    more = "line 301 has more than 268,435,456 bytes"
+    words = ["read", "decide", "normal", "judge -", "compare /dev/null -", "check --cells 1000"]
+    cases = {one: (2, "standard input: " + more) for one in words}
     if importlib.util.find_spec("matplotlib") is not None:
-        every.append(["report", "--out", str(tmp_path / "report.html")])
-    for given in every:
-        ended = command(*given)
-        assert ended.returncode == 2, ended.stderr
-        assert "standard input: line 301 has more than 268,435,456 bytes" in ended.stderr
+        cases["report --out %s" % (tmp_path / "report.html")] = (2, "standard input: " + more)
+    cases["run - --out %s" % (tmp_path / "out")] = (3, "a line of more than 268,435,456 bytes and no newline")
+    for given, (status, sentence) in cases.items():
+        ended = run_endless(*given.split(" "))
+        assert ended.returncode == status and sentence in ended.stderr, ended.stderr
         assert "Traceback" not in ended.stderr
 
 
-def test_a_run(tmp_path: pathlib.Path) -> None:
-    ended = command("run", "-", "--out", str(tmp_path / "out"))
-    assert ended.returncode == 3, ended.stderr
-    assert "a line of more than 268,435,456 bytes and no newline" in ended.stderr
-
-
-def test_zeros_alone() -> None:
+def test_lines_that_never_end() -> None:
     with mock.patch.object(files, "LONGEST_UNENDED", 1_000_000):
-        with pytest.raises(EndlessLineError):
-            list(files.Lines("/dev/zero"))
-
-
-def test_the_sentence() -> None:
-    with mock.patch.object(files, "LONGEST_UNENDED", 1_000_000):
-        lines = files.Lines(io.BytesIO(b"1RA1RA\n" + b"x" * 2_000_000))
-        with pytest.raises(EndlessLineError) as raised:
-            list(lines)
-    assert raised.value.number == 2
-    assert "line 2 has more than" in str(raised.value)
-    assert "no newline" in str(raised.value)
+        endless: dict[files.Source, int] = {"/dev/zero": 1, io.BytesIO(b"1RA1RA\n" + b"x" * 2_000_000): 2}
+        for source, number in endless.items():
+            with pytest.raises(
+                EndlessLineError, match="line %d has more than .* no newline" % number
+            ) as raised:
+                list(files.Lines(source))
+            assert raised.value.number == number
 
 
 def test_a_long_line_that_ends() -> None:

@@ -351,42 +351,10 @@ def test_a_link_to_the_folder_that_is_pointed_elsewhere(case: RunCase) -> None:
     assert list(elsewhere.iterdir()) == []
 
 
-class WriterCase:
-    """Chunks come in any order; none is lost, and the whole is in the list's order."""
-
-    def __init__(self, case: RunCase) -> None:
-        self.top_folder = folder.Folder(str(case.out))
-        case.callback(self.top_folder.close)
-        self.folder = self.top_folder.open_pass([SMALL], chunks.Retention(), chunks.identity())
-        case.callback(self.folder.close)
-        self.verdicts = case.verdicts
-
-    def chunk(self, index: int) -> passes.Chunk:
-        text = b"%d\n" % index * (index % 7 + 1)
-        none = dict.fromkeys(counts.KINDS, 0)
-        record = journal.Record.of(index, 1, b"", text, 0.0, none)
-        return passes.Chunk(index, index, b"given", 1, record, kept=text)
-
-    def whole(self, order: Sequence[int], most: int) -> bool:
-        """Writes chunks in an order; whether the file of the chunks is the whole then."""
-        kept_lines = [self.chunk(index).kept or b"" for index in range(len(order))]
-        writer = passes.Writer(self.folder, most)
-        for index in order:
-            writer.add(self.chunk(index))
-            writer.flush_late()
-        writer.close()
-        writer.add(self.chunk(len(order)))
-        written = writer.pop_written()
-        assert sorted(chunk.index for chunk in written) == list(range(len(order)))
-        for chunk in written:
-            assert chunk.record is not None
-            self.folder.journal.write(chunk.index, chunk.record)
-        self.folder.chunks = len(order)
-        self.top_folder.write_verdicts(self.folder)
-        whole = b"".join(kept_lines)
-        assert self.verdicts() == whole
-        assert self.folder.checksum() == _files.Checksum(len(whole), zlib.crc32(whole))
-        return not os.path.exists(self.folder.kept)
+def numbered_chunk(index: int) -> passes.Chunk:
+    text = b"%d\n" % index * (index % 7 + 1)
+    record = journal.Record.of(index, 1, b"", text, 0.0, dict.fromkeys(counts.KINDS, 0))
+    return passes.Chunk(index, index, b"given", 1, record, kept=text)
 
 
 ANY_ORDER = random.Random(3).sample(range(200), 200)
@@ -406,8 +374,27 @@ ORDERS: dict[str, tuple[list[int], int, bool, tuple[object, str, Any]]] = {
 def test_chunks_in_some_order(
     case: RunCase, order: list[int], most: int, is_in_order: bool, patched: tuple[object, str, Any]
 ) -> None:
-    with unittest.mock.patch.object(*patched):
-        assert WriterCase(case).whole(order, most) == is_in_order
+    """None is lost, and the whole is in the list's order."""
+    case.enter_context(unittest.mock.patch.object(*patched))
+    top = case.enter_context(contextlib.closing(folder.Folder(str(case.out))))
+    opened = top.open_pass([SMALL], chunks.Retention(), chunks.identity())
+    writer = passes.Writer(case.enter_context(contextlib.closing(opened)), most)
+    for index in order:
+        writer.add(numbered_chunk(index))
+        writer.flush_late()
+    writer.close()
+    writer.add(numbered_chunk(len(order)))
+    written = writer.pop_written()
+    assert sorted(chunk.index for chunk in written) == list(range(len(order)))
+    for chunk in written:
+        assert chunk.record is not None
+        opened.journal.write(chunk.index, chunk.record)
+    opened.chunks = len(order)
+    top.write_verdicts(opened)
+    whole = b"".join(numbered_chunk(index).kept or b"" for index in range(len(order)))
+    assert case.verdicts() == whole
+    assert opened.checksum() == _files.Checksum(len(whole), zlib.crc32(whole))
+    assert os.path.exists(opened.kept) != is_in_order
 
 
 def kept_lines(limits: Sequence[Limits], halts: int) -> bytes:
