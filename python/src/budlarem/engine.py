@@ -102,15 +102,12 @@ def decide(
     """The verdict of each machine, in order; `Refused` for a text that is no machine.
 
     `machines` is any iterable of texts without newlines. It is read some texts ahead, and never held as a
-    whole. `threads` is the number of cores used.
-
-    The calls run beside the caller's thread, which can be interrupted. The present call then ends by itself,
-    or with the process.
+    whole. `threads` is the number of cores used. The calls run beside the caller's thread, which can be
+    interrupted. The present call then ends by itself, or with the process.
 
     Raises TypeError for an item that is no text and ValueError for one with a newline, both with its place in
-    the list, after the verdicts before it. Raises MemoryError without memory for the tapes. Raises
-    LibraryError if the library isn't found. Raises RuntimeError in a process that was forked from one with
-    threads.
+    the list, after the verdicts before it. Raises MemoryError without memory for the tapes, LibraryError if the
+    library isn't found, RuntimeError in a process that was forked from one with threads.
 
     >>> [str(verdict) for verdict in decide(["1RB1LB_1LA1RZ", "1RA1RA"])]
     ['1RB1LB_1LA1RZ halt 6 4', '1RA1RA translated R 1 2 1 1']
@@ -322,9 +319,8 @@ def trace(machine: str, upto: int, cells: int = 65_536, start: int = 0, every: i
     """The configurations of a machine after `start` steps, `start + every` and so on, up to `upto` or to the
     last one that `cells` allow. A skipped step costs its simulation.
 
-    Raises LimitsError for a number out of its range, and TypeError for one that is no whole number. Raises
-    TypeError for a machine that is no text, and ValueError for one with a newline. At the first configuration
-    it raises MachineError, a ValueError, for a text that is no machine.
+    Raises LimitsError for a number out of its range, TypeError for another number or a machine that is no text,
+    ValueError for one with a newline; at the first configuration MachineError for a text that is no machine.
 
     >>> [str(now) for now in trace("1RB1LB_1LA1RZ", 6, start=4)]
     ['4 A -2 0111', '5 B -1 1111', '6 Z 0 1111']

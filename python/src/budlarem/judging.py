@@ -131,13 +131,13 @@ def judge(
 
     A verdict line claims its verdict. A record of a table claims the words and numbers of its columns, by the
     translation `words` (default: `WORDS`). A line of a text makes a claim if its other words are one verdict.
-    Nothing else is judged.
+    Nothing else is judged. Each machine is decided within `limits` by `plan`, and each claim that our verdict
+    doesn't settle is checked within `checker`.
 
-    Each machine is decided within `limits` by `plan`, and each claim that our verdict doesn't settle is
-    checked within `checker`. `undefined_steps`: they count a step for an undefined transition. By default
-    their halts show it: each halt of theirs at such a transition is true of the machine with `1RZ` there, and
-    there is one. `start_offset`: how much later than the exact start they give each start of a repetition. By
-    default it is the one difference of all starts, if there are two or more. `listed` is a list of machines; then `missing` and `foreign` of the result compare the two.
+    `undefined_steps`: they count a step for an undefined transition. By default their halts show it: each halt
+    of theirs at such a transition is true of the machine with `1RZ` there, and there is one. `start_offset`: how
+    much later than the exact start they give each start of a repetition; by default the one difference of all
+    starts, if there are two or more. `missing` and `foreign` of the result compare with the machines `listed`.
 
     Both lists are what `read` takes; `listed` may be its result. Their list is read twice; a long one that
     isn't a regular file is copied to the disk first. `progress` is called with a description of work other
@@ -155,21 +155,20 @@ def judge(
     words = WORDS if words is None else words
     translation = translation_in(source, words, progress)
     if undefined_steps is None:
-        claims = Claims(source.lines(), source.form, words)
-        counted = count_progress(claims, "looked at for steps at ---", progress)
+        counted = count_progress(Claims(source, words), "looked at for steps at ---", progress)
         undefined_steps = counts_undefined_steps(counted, limits, checker, threads)
     if start_offset is None:
         start_offset = 0
         if source.form.layout is not None and "start" in source.form.layout.columns:
-            claims = Claims(source.lines(), source.form, words)
-            counted = count_progress(claims, "looked at for their starts", progress)
+            counted = count_progress(Claims(source, words), "looked at for their starts", progress)
             start_offset = find_start_offset(counted, limits, plan, threads)
     readings = listed if listed is None or isinstance(listed, Readings) else read(listed)
     lists = None if readings is None else ListOverlap(readings, progress)
-    claims = Claims(source.once(), source.form, words)
+    claims = Claims(source, words, is_last=True)
+    claims.translation = translation
     decided = _decide_claims(claims, limits, plan, threads)
     numbers = NumbersJudge(limits, checker, start_offset, threads)
-    return Judging(decided, lists, numbers, undefined_steps, JudgedList(source, claims, translation))
+    return Judging(decided, lists, numbers, undefined_steps, claims)
 
 
 def translation_in(
@@ -181,24 +180,8 @@ def translation_in(
         raise ValueError("%s: say which" % layout.doubts[0])
     if layout is None or "verdict" not in layout.columns:
         return None
-    claims = Claims(source.lines(), source.form, words)
-    return translation_of(count_progress(claims, "looked at for their words", progress), layout, words)
-
-
-class JudgedList:
-    """The judged list: its form, the translation of a table's words, and what was skipped so far."""
-
-    def __init__(self, source: RereadableList, claims: Claims, translation: Translation | None) -> None:
-        self.form, self.translation = source.form, translation
-        self._source, self._claims = source, claims
-
-    @property
-    def skips(self) -> collections.Counter[Skipped]:
-        return self._claims.skips + collections.Counter({Skipped.EMPTY: self._source.counted.empty})
-
-    @property
-    def non_utf8_lines(self) -> int:
-        return self._source.counted.non_utf8_lines
+    counted = count_progress(Claims(source, words), "looked at for their words", progress)
+    return translation_of(counted, layout, words)
 
 
 def _decide_claims(
@@ -232,7 +215,7 @@ class Judging(Iterator[Judged]):
         lists: ListOverlap | None,
         numbers: NumbersJudge,
         undefined_steps: bool,
-        theirs: JudgedList,
+        theirs: Claims,
     ) -> None:
         self.undefined_steps, self.start_offset, self.theirs = undefined_steps, numbers.offset, theirs
         self._decided, self._lists, self._numbers = decided, lists, numbers

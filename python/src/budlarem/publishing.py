@@ -211,13 +211,13 @@ class Contents(Archive):
 
 @dataclasses.dataclass(frozen=True)
 class HoldoutContents(Archive):
-    """An archive of the lines that were kept. `fields` are those of `about.json`; `checked` and `again` are parts of
-    the page: the checks that were made, and how to make the rest again."""
+    """An archive of the lines that were kept. `fields` are those of `about.json`; `checked` says which checks were
+    made, `again` has the commands to make the rest again."""
 
     files: tuple[ArchivedFile, ...]
     fields: dict[str, Any]
     checked: str
-    again: str
+    again: list[str]
 
     def inputs(self) -> list[ArchivedFile]:
         return list(self.files)
@@ -226,7 +226,7 @@ class HoldoutContents(Archive):
         names = [README, *(given.name for given in self.files), ABOUT, SUMS]
         parts = {
             "checked": textwrap.indent(textwrap.fill(self.checked, _WIDE - 2), "  "),
-            "again": self.again,
+            "again": textwrap.indent("\n".join(self.again), "      "),
         }
         title = f"The holdouts of {sum(self.counts.kinds.values()):,} machines"
         return {README: self._readme("holdouts.txt", title, names, parts), ABOUT: self._about(self.fields)}
@@ -424,7 +424,7 @@ def _contents_of_holdouts(
         {"kept": str(run.keep), "list": listed.sha256},
         "The checker confirmed each verdict before it was dropped. It confirmed the kept lines again when this"
         " archive was made, and each is on a machine of the list, in its order.",
-        "\n".join("      " + line for line in again),
+        again,
     )
 
 
@@ -478,9 +478,9 @@ def _contents_of_shards(folder: str, listed: ArchivedFile | None) -> HoldoutCont
     )
 
 
-def _shards_again(plan: Plan) -> str:
+def _shards_again(plan: Plan) -> list[str]:
     options = " ".join(plan.options())
-    commands = [
+    return [
         "cover --skeleton %s skeleton.txt" % options,
         "tree_normal_form --below MACHINE --steps %d | bb decide %s > shard.txt" % (plan.list_steps, options),
         "sha256sum shard.txt       # prints the sha256 on MACHINE's line of skeleton.txt",
@@ -489,4 +489,3 @@ def _shards_again(plan: Plan) -> str:
         "cmp FOLDER/skeleton.txt skeleton.txt",
         "cmp FOLDER/holdouts.txt holdouts.txt",
     ]
-    return "\n".join("      " + line for line in commands)

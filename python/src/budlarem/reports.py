@@ -206,9 +206,7 @@ def measure_growth(machine: str, steps: int, cells: int = 65_536) -> GrowthSampl
 
     It stays if a tenth of the steps and all have the same cells. Otherwise the power of the steps from the first
     sample to the last decides: below 0.2 a logarithm, below 0.8 a root, else a line. If the cells end the run,
-    or the machine halts, the steps are those that were made.
-
-    Raises what `trace` does; LimitsError for fewer than 100 steps.
+    or the machine halts, the steps are those that were made. Raises LimitsError for fewer than 100 steps.
 
     >>> measure_growth("1RA1RA", steps=10_000).growth
     <Growth.LINE: 'line'>
@@ -325,12 +323,10 @@ def report(
     cells.
 
     An undecided machine is run again, up to `steps` and `cells`, on `threads` (default: all cores). The list is
-    read once and not held. The file at `path` is replaced atomically; a link there isn't followed. A notebook
-    shows the result.
+    read once and not held. The file at `path` is replaced atomically. A notebook shows the result.
 
-    Raises ReportError without matplotlib, before anything is read. Raises ValueError with its place for a
-    text that is no verdict line. Raises OSError if the file can't be written, `path` is a link or a folder,
-    or another file is made there meanwhile.
+    Raises ReportError without matplotlib, before anything is read; ValueError with its place for a text that is
+    no verdict line; OSError if the file can't be written, is a link or folder, or is made meanwhile.
     """
     in_range("diagrams", diagrams, 0, 1_000_000)
     in_range("steps", steps, 100, Limits.RANGES["steps"][1])

@@ -17,7 +17,7 @@ from .._text import escape_controls
 from ..claims import WORDS, Claims, read_words
 from ..comparison import Agreement, compare
 from ..engine import Call, check_call, recurrence_call
-from ..judging import JudgedList, Judgement, judge, translation_in
+from ..judging import Judgement, judge, translation_in
 from ..limits import GREATEST, Limits, limits_of
 from ..publishing import publish
 from ..reading.files import BytesFile
@@ -135,7 +135,7 @@ class ClaimReader(ListReader):
         except ValueError as error:
             raise ValueError("%s: %s" % (self.name, error)) from None
         self.print_words(source.form, translation, self._word_file)
-        claims = Claims(source.once(), source.form, self.words)
+        claims = Claims(source, self.words, is_last=True)
         for claim in claims:
             if claim.verdict is not None:
                 self.print_rewritten(claim.reading)
@@ -145,8 +145,7 @@ class ClaimReader(ListReader):
             else:
                 why = claim.trouble or "no verdict of %s" % claim.reading.machine
                 self.refuse(claim.reading.number, "refused: %s" % why)
-        theirs = JudgedList(source, claims, translation)
-        self.print_skips(theirs.skips, theirs.non_utf8_lines)
+        self.print_skips(claims.skips, claims.non_utf8_lines)
 
 
 def do_compare(asked: argparse.Namespace) -> int:
