@@ -22,8 +22,6 @@ The calls, documented by `help(budlarem.decide)` and so on:
     publish                                 an archive of a list that others can check
 """
 
-from __future__ import annotations
-
 import importlib
 
 # It sees the forks from here on.

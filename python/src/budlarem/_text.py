@@ -1,7 +1,5 @@
 """Text for messages: bounds of quoted lines, values and errors, and their escapes."""
 
-from __future__ import annotations
-
 import enum
 import unicodedata
 

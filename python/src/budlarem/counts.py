@@ -3,7 +3,6 @@
 from __future__ import annotations
 
 import collections
-import functools
 import re
 from typing import Any, ClassVar, Iterator, Sequence, TypeVar
 
@@ -124,9 +123,10 @@ class RecurrenceCounts(VerdictCounts):
         if found["recurs"] + found["open"] < lines.count(b"\n"):
             found.update({kind: lines.count(b"%s\n" % kind.encode()) for kind in ("bad", "over", "unread")})
         self.kinds.update(found)
-        for name in _WORDS:
+        for name, words in _WORDS.items():
             most, _ = self.greatest.get(name, (-1, ""))
-            for number in _longer(name, len(str(max(most, 0)))).finditer(lines):
+            pattern = " %s -?([0-9]{%d,})" % (words, len(str(max(most, 0))))
+            for number in re.finditer(pattern.encode(), lines):
                 if int(number[1]) > most:
                     most = int(number[1])
                     line = lines[lines.rfind(b"\n", 0, number.start()) + 1 : lines.index(b"\n", number.end())]
@@ -141,11 +141,6 @@ _WORDS = {
     "shift": "recurs [0-9]+ [0-9]+",
     "quasihalts": "quasihalts",
 }
-
-
-@functools.lru_cache(maxsize=None)
-def _longer(name: str, digits: int) -> re.Pattern[bytes]:
-    return re.compile((" %s -?([0-9]{%d,})" % (_WORDS[name], digits)).encode())
 
 
 def find_all(word: bytes, lines: bytes) -> Iterator[int]:

@@ -14,7 +14,7 @@ from .comparison import Agreement, agreement
 from .engine import decide
 from .limits import GREATEST, Limits, Plan
 from .normal_forms import canonical_form
-from .reading import Columns, Form, Reading, Readings, Skipped, read
+from .reading import Columns, Form, Reading, Readings, read
 from .reading.files import Source
 from .reading.forms import RereadableList
 from .recurrence_claims import Exactness, Finding, NumbersJudge, find_start_offset

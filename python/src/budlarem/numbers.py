@@ -1,7 +1,5 @@
 """Reads whole numbers, with or without groups of three digits."""
 
-from __future__ import annotations
-
 import re
 from typing import Iterator, Sequence
 

@@ -58,16 +58,6 @@ class Plan:
     limits: Limits
     recurrence: bool = False
 
-    @classmethod
-    def from_json(cls, text: str) -> Plan:
-        """Reads a plan. Raises FolderError if it is none."""
-        try:
-            fields: dict[str, Any] = json.loads(text)
-            fields["limits"] = Limits(**fields["limits"])
-            return cls(**fields)
-        except (KeyError, TypeError, ValueError) as error:
-            raise FolderError("plan.json is no plan of shards: %s" % error) from None
-
     def list_command(self, *words: str) -> list[str]:
         size = ["--states", str(self.states), "--symbols", str(self.symbols)]
         return [LISTER, *size, "--steps", str(self.list_steps), *words]
@@ -156,7 +146,13 @@ def create(folder: str, plan: Plan) -> None:
 
 def read_plan(folder: str) -> Plan:
     with open(os.path.join(folder, PLAN), encoding="utf-8") as file:
-        return Plan.from_json(file.read())
+        text = file.read()
+    try:
+        fields: dict[str, Any] = json.loads(text)
+        fields["limits"] = Limits(**fields["limits"])
+        return Plan(**fields)
+    except (KeyError, TypeError, ValueError) as error:
+        raise FolderError("plan.json is no plan of shards: %s" % error) from None
 
 
 def read_machines(folder: str) -> Iterator[tuple[str, bool]]:

@@ -54,15 +54,6 @@ class CheckSummary:
         self.quasihalts += replies.count(b" quasihalts ")
 
 
-def answer_blocks(
-    file: BinaryReader, call: Call, limits: Limits, threads: int, summary: CheckSummary
-) -> Iterator[bytes]:
-    """The replies of a call to the verdict lines of a file, in blocks, counted in `summary`."""
-    for lines, replies in answer_file(file, call, limits, threads=threads):
-        summary.add(lines, replies)
-        yield replies
-
-
 class CheckCost(NamedTuple):
     """The most that checking a file can cost: steps and nodes of all lines, the steps and nodes of the most
     expensive line together, and its number; 0 if no line costs anything."""

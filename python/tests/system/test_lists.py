@@ -125,21 +125,18 @@ def test_empty_lines(tmp_path: pathlib.Path) -> None:
     assert spent["read"] < 30 * 1.5
 
 
-def in_some_form(source: random.Random, machine: str) -> str:
-    text = source.choice(("_", "_", " ", "")).join(machine.split("_"))
-    if source.random() < 0.2:
-        text = text.replace("---", "...")
-    if source.random() < 0.2 and machine.count("_") < 7:
-        text = text.replace("Z", "H")
-    if source.random() < 0.2:
-        text = text.lower()
-    around = source.choice(AROUND)
-    return around % ((text,) * around.count("%s"))
-
-
-def lines_in_some_form(count: int) -> list[tuple[str, str]]:
+def lines_in_some_form(count: int) -> Iterator[tuple[str, str]]:
     source = random.Random(1)
-    return [(machine, in_some_form(source, machine)) for machine in mixed_machines(count, 1)]
+    for machine in mixed_machines(count, 1):
+        text = source.choice(("_", "_", " ", "")).join(machine.split("_"))
+        if source.random() < 0.2:
+            text = text.replace("---", "...")
+        if source.random() < 0.2 and machine.count("_") < 7:
+            text = text.replace("Z", "H")
+        if source.random() < 0.2:
+            text = text.lower()
+        around = source.choice(AROUND)
+        yield machine, around % ((text,) * around.count("%s"))
 
 
 @pytest.mark.parametrize("count", [2_000, pytest.param(20_000, marks=pytest.mark.slow)])

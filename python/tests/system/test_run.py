@@ -43,15 +43,18 @@ def test_kills(bb: str, tmp_path: pathlib.Path, rng: random.Random, count: int, 
     assert summary["lines"] == lines
 
 
+def endless_case(top: pathlib.Path) -> Case:
+    case = Case(top, b"1RZ---\n" * 30 + LONG_MACHINE * 3)
+    case.words = ["--pass", LONG_PASS, "--threads", "2"]
+    return case
+
+
 @pytest.mark.slow
 def test_interruption(tmp_path: pathlib.Path) -> None:
     """SIGINT ends 1,000,000,000,000 steps within a second; a second run is refused meanwhile."""
-    case = Case(tmp_path / "interruption", b"1RZ---\n" * 30 + LONG_MACHINE * 3)
-    case.words = ["--pass", LONG_PASS, "--threads", "2"]
+    case = endless_case(tmp_path / "interruption")
     with case.start() as process:
-        for _ in range(30):
-            wait_until(process, lambda: case.chunks() > 0)
-        assert wait_until(process, lambda: is_at_work(process.pid)), case.output()
+        assert wait_until(process, lambda: case.chunks() > 0 and is_at_work(process.pid)), case.output()
         second = Case(tmp_path / "second", b"")
         second.list, second.out, second.words = case.list, case.out, case.words
         second.require_error(2, "another run works in")
@@ -133,8 +136,7 @@ def test_folder_that_is_a_file(tmp_path: pathlib.Path) -> None:
 
 @pytest.mark.parametrize("number", [signal.SIGTERM, signal.SIGHUP])
 def test_signals(tmp_path: pathlib.Path, number: signal.Signals) -> None:
-    case = Case(tmp_path / "case", b"1RZ---\n" * 30 + LONG_MACHINE * 3)
-    case.words = ["--pass", LONG_PASS, "--threads", "2"]
+    case = endless_case(tmp_path / "case")
     with case.start() as process:
         wait_until(process, lambda: case.chunks() > 0 and is_at_work(process.pid))
         process.send_signal(number)

@@ -9,7 +9,6 @@ import pathlib
 import re
 import subprocess
 import sys
-from typing import Any
 from unittest import mock
 
 import budlarem

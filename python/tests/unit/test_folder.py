@@ -24,10 +24,6 @@ def contents(top: pathlib.Path) -> dict[str, bytes]:
     return {str(path): path.read_bytes() for path in top.rglob("*") if path.is_file()}
 
 
-def fill(number: int, text: bytes) -> None:
-    _files.write_blocks(number, [text])
-
-
 class DirectoryCase(contextlib.ExitStack):
     def __init__(self, top: pathlib.Path) -> None:
         super().__init__()
@@ -38,7 +34,8 @@ class DirectoryCase(contextlib.ExitStack):
 
     def write(self, name: str, text: bytes) -> None:
         over = self.directory.pin(name)
-        written = _files.write_atomically(self.directory, name, lambda number: fill(number, text), over)
+        fill = lambda number: _files.write_blocks(number, [text])  # noqa: E731
+        written = _files.write_atomically(self.directory, name, fill, over)
         for pin in (over, written):
             if pin is not None:
                 pin.close()
@@ -122,7 +119,7 @@ def test_a_target_whose_folder_is_moved(place: DirectoryCase) -> None:
     place.callback(target.close)
     os.rename(place.inside, place.top / "moved")
     with pytest.raises(OSError, match="moved, removed or replaced"):
-        target.write(lambda number: fill(number, b"page"))
+        target.write(lambda number: _files.write_blocks(number, [b"page"]))
     assert contents(place.top) == {}
 
 

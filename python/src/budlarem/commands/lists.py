@@ -16,7 +16,7 @@ from typing import BinaryIO, Iterator
 from .._text import escape_controls
 from ..claims import WORDS, Claims, read_words
 from ..comparison import Agreement, compare
-from ..engine import Call, check_call, recurrence_call
+from ..engine import Call, answer_file, check_call, recurrence_call
 from ..judging import Judgement, judge, translation_in
 from ..limits import GREATEST, Limits, limits_of
 from ..publishing import publish
@@ -26,10 +26,9 @@ from ..recurrence_claims import Exactness
 from ..reports import report
 from ..runner.progress import TerminalLine, short_count
 from ..verdicts import Answer, Recurrence, Verdict
-from ..verification import CheckSummary, answer_blocks, cost_of_file
-from .shared import ListReader, Subcommands, add_claims_form, add_command, add_file, add_greatest_limits
-from .shared import add_limits, add_number, add_passes, counts_text, greatest_limits, handle_signals
-from .shared import limits_in, source_of
+from ..verification import CheckSummary, cost_of_file
+from .shared import ListReader, Subcommands, add_claims_form, add_command, add_file, add_limits, add_number
+from .shared import add_passes, counts_text, greatest_limits, handle_signals, limits_in, source_of
 
 _CHECK = """Checks verdict lines of any origin, and writes an answer to each line, the bytes of bb check: ok,
 the claim holds; bad, it doesn't; over, it exceeds the limits, or its run needs more cells; open, it claims
@@ -74,7 +73,8 @@ def _write_replies(asked: argparse.Namespace, call: Call, limits: Limits, confir
     progress, summary = TerminalLine(), CheckSummary()
     names = {answer: confirmed if answer is Answer.OK else str(answer) for answer in Answer}
     with contextlib.closing(BytesFile(source_of(asked.file))) as file:
-        for replies in answer_blocks(file, call, limits, asked.threads, summary):
+        for lines, replies in answer_file(file, call, limits, threads=asked.threads):
+            summary.add(lines, replies)
             named = collections.Counter({names[answer]: count for answer, count in summary.counts.items()})
             progress.show(functools.partial(counts_text, named, [*names.values()]))
             sys.stdout.write(replies.decode())
@@ -97,7 +97,7 @@ def add_check(commands: Subcommands) -> None:
     recurrence = add_command(commands, "recurrence", do_recurrence, help, _RECURRENCE, columns)
     for parser, names in ((check, [*Limits.RANGES]), (recurrence, ["steps", "cells"])):
         add_file(parser)
-        add_greatest_limits(parser, names)
+        add_limits(parser, names, are_greatest=True)
         add_number(parser, "--threads", "cores used", 1)
     help = "print the most that the check can cost, and check nothing"
     check.add_argument("--cost", action="store_true", help=help)

@@ -1,7 +1,5 @@
 """The commands over machines: `read`, `decide`, `normal`, `trace`, `picture`."""
 
-from __future__ import annotations
-
 import argparse
 import sys
 

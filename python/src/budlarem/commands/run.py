@@ -5,8 +5,6 @@ Exit status: 0 if all lines are machines, 1 if a line was refused or the checker
 and SIGHUP.
 """
 
-from __future__ import annotations
-
 import argparse
 import contextlib
 import os

@@ -189,15 +189,12 @@ def add_number(
     parser.add_argument(name, type=option_number, default=default, metavar=metavar, help=help)
 
 
-def add_limits(parser: argparse.ArgumentParser, names: Iterable[str]) -> None:
+def add_limits(parser: argparse.ArgumentParser, names: Iterable[str], are_greatest: bool = False) -> None:
+    """Adds the options of limits, whose defaults are the program's or the greatest."""
+    ending = " (default: the greatest)" if are_greatest else ""
     for name in names:
-        add_number(parser, "--" + name, "{:,} to {:,}".format(*Limits.RANGES[name]), getattr(Limits(), name))
-
-
-def add_greatest_limits(parser: argparse.ArgumentParser, names: Iterable[str]) -> None:
-    """Adds the options of limits whose defaults are the greatest."""
-    for name in names:
-        add_number(parser, "--" + name, "{:,} to {:,} (default: the greatest)".format(*Limits.RANGES[name]))
+        help = "{:,} to {:,}".format(*Limits.RANGES[name]) + ending
+        add_number(parser, "--" + name, help, None if are_greatest else getattr(Limits(), name))
 
 
 def greatest_limits(asked: argparse.Namespace) -> Limits:
