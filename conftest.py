@@ -43,29 +43,22 @@ def proved_or_plain(request: pytest.FixtureRequest, name: str, path: str) -> pat
     """Build what is proved. Without the kit, and where nothing proved is built, build it by cargo."""
     if has_kit() or (TOP / path).exists():
         return build(name, path)
-    if name == "library":
-        library: pathlib.Path = request.getfixturevalue("plain_library")
-        return library
-    folder: pathlib.Path = request.getfixturevalue("plain")
-    return folder / name
+    made: pathlib.Path = request.getfixturevalue("plain_library" if name == "library" else "plain")
+    return made if name == "library" else made / name
 
 
-@pytest.fixture(scope="session")
-def bb(request: pytest.FixtureRequest) -> str:
-    """The path of the program."""
-    return str(proved_or_plain(request, "bb", "crates/bb/out/bb"))
+def program(name: str) -> Callable[..., str]:
+    """A fixture with the path of a program."""
+
+    @pytest.fixture(scope="session", name=name)
+    def path(request: pytest.FixtureRequest) -> str:
+        return str(proved_or_plain(request, name, "crates/%s/out/%s" % (name, name)))
+
+    return path
 
 
-@pytest.fixture(scope="session")
-def cover(request: pytest.FixtureRequest) -> str:
-    """The path of the program that checks whether a list is complete."""
-    return str(proved_or_plain(request, "cover", "crates/cover/out/cover"))
-
-
-@pytest.fixture(scope="session")
-def recurrence(request: pytest.FixtureRequest) -> str:
-    """The path of the program that finds exact repetitions."""
-    return str(proved_or_plain(request, "recurrence", "crates/recurrence/out/recurrence"))
+# The program, that which checks whether a list is complete, and that which finds exact repetitions.
+bb, cover, recurrence = map(program, ("bb", "cover", "recurrence"))
 
 
 @pytest.fixture(scope="session")

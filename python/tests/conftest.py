@@ -9,7 +9,7 @@ import budlarem
 import pytest
 from support import TOP
 from support.program import place_programs
-from support.runner import RunCase
+from support.runner import SMALL, RunCase
 
 # Files there need no disk, so that the tests take no time for it.
 MEMORY = "/dev/shm"
@@ -18,8 +18,7 @@ SOURCE = TOP / "python" / "src"
 
 @pytest.fixture(scope="session", autouse=True)
 def library_of_package(request: pytest.FixtureRequest) -> None:
-    """The package of this repository finds the built library, in processes that tests start too. One that is
-    installed has a library of its own."""
+    """The package of this repository finds the built library, in processes that tests start too."""
     if SOURCE in pathlib.Path(budlarem.__file__).parents:
         library = request.getfixturevalue("library")
         os.environ.update(BB_LIBRARY=str(library), PYTHONPATH=str(SOURCE))
@@ -37,7 +36,13 @@ def programs(
 
 @pytest.fixture
 def case() -> Iterator[RunCase]:
-    """A list and a folder, and runs over them."""
     with tempfile.TemporaryDirectory(dir=MEMORY if os.path.isdir(MEMORY) else None) as top:
         with RunCase(pathlib.Path(top)) as made:
             yield made
+
+
+@pytest.fixture
+def small(case: RunCase) -> RunCase:
+    """A case whose list is decided by one pass."""
+    case.run_over(limits=[SMALL])
+    return case

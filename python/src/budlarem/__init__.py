@@ -22,8 +22,6 @@ The calls, documented by `help(budlarem.decide)` and so on:
     publish                                 an archive of a list that others can check
 """
 
-from __future__ import annotations
-
 import importlib
 
 # It sees the forks from here on.
@@ -39,8 +37,7 @@ if TYPE_CHECKING:
 else:
 
     def __getattr__(name: str) -> object:
-        """A call, a type or a module of the package. All calls and types are imported at the first use of one, so
-        that the command can handle signals before. Raises AttributeError."""
+        """Imports all calls and types at the first use of one. Raises AttributeError."""
         if name == "__all__" or not name.startswith("_"):
             api = importlib.import_module("budlarem._api")
             if name == "__all__":

@@ -40,7 +40,6 @@ def _handler_of(command: str) -> Callable[[int, FrameType | None], NoReturn]:
 
 
 def main() -> NoReturn:
-    """Runs a command, and ends the process."""
     command = sys.argv[1] if len(sys.argv) > 1 else ""
     # SIGTERM and SIGHUP end a command without a message as they do other programs; ignored signals stay so.
     for number in _NAMES if command in _ENDS else (_signal.SIGINT,):

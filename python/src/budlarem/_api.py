@@ -15,10 +15,9 @@ from .publishing import Published, PublishError, UnconfirmedError, publish
 from .reading import Columns, EncodingError, EndlessLineError, Form, Skipped, Reading, Readings, Reason
 from .reading import Rewriting, read
 from .recurrence_claims import Exactness
-from .recurrence import LastUse, Recurrence, UseKind, parse_recurrence
 from .reports import Report, ReportError, report
-from .verdicts import Answer, Backward, Cycler, Extent, Halt, Refused, Translated, Undecided, Verdict
-from .verdicts import is_machine, parse
+from .verdicts import Answer, Backward, Cycler, Extent, Halt, LastUse, Recurrence, Refused, Translated
+from .verdicts import Undecided, UseKind, Verdict, is_machine, parse, parse_recurrence
 
 # fmt: off
 __all__ = [

@@ -29,7 +29,6 @@ class BatchPace:
         self._is_steady = is_steady
 
     def update(self, seconds: float) -> None:
-        """Records the time of a batch."""
         if self._is_steady:
             return
         if seconds < self.SHORT:
@@ -43,29 +42,20 @@ class WorkerPool(Generic[Given]):
 
     def __init__(self, work: Callable[[ReplyBuffer, Given], None], threads: int, pace: BatchPace) -> None:
         self._work, self._most, self._pace = work, threads, pace
-        self._tasks: queue.SimpleQueue[tuple[Given, Future[ReplyBuffer]] | None] = queue.SimpleQueue()
+        self._tasks: queue.SimpleQueue[tuple[Given, Future[Reply]] | None] = queue.SimpleQueue()
         self._threads: list[threading.Thread] = []
         self._is_closed = threading.Event()
-        # Buffers whose replies were taken.
-        self._buffers: list[ReplyBuffer] = []
 
-    def submit(self, given: Given) -> Future[ReplyBuffer]:
-        """Submits a call; the future gets the buffer with its reply, or its error."""
+    def submit(self, given: Given) -> Future[Reply]:
+        """Submits a call; the future gets its reply or error."""
         forbid_fork()
-        future: Future[ReplyBuffer] = Future()
+        future: Future[Reply] = Future()
         if len(self._threads) < self._most:
             thread = threading.Thread(target=self._run_worker, name="budlarem", daemon=True)
             thread.start()
             self._threads.append(thread)
         self._tasks.put((given, future))
         return future
-
-    def take_reply(self, future: Future[ReplyBuffer]) -> Reply:
-        """The reply of a future, copied by the caller's thread while others make calls."""
-        buffer = future.result()
-        reply = buffer.reply()
-        self._buffers.append(buffer)
-        return reply
 
     def close(self, wait: bool) -> None:
         """Ends the threads after their calls; `wait` waits for them."""
@@ -75,13 +65,8 @@ class WorkerPool(Generic[Given]):
         for thread in self._threads if wait else ():
             thread.join()
 
-    def _take_buffer(self) -> ReplyBuffer:
-        try:
-            return self._buffers.pop()
-        except IndexError:
-            return ReplyBuffer()
-
     def _run_worker(self) -> None:
+        buffer: ReplyBuffer | None = None
         while True:
             task = self._tasks.get()
             if task is None or self._is_closed.is_set():
@@ -89,14 +74,12 @@ class WorkerPool(Generic[Given]):
             given, future = task
             started = time.monotonic()
             try:
-                buffer = self._take_buffer()
+                buffer = buffer or ReplyBuffer()
                 self._work(buffer, given)
+                self._pace.update(time.monotonic() - started)
+                future.set_result(buffer.reply())
             except BaseException as error:
                 future.set_exception(error)
-            else:
-                self._pace.update(time.monotonic() - started)
-                future.set_result(buffer)
-                del buffer
             del task, given, future
 
 
@@ -114,7 +97,7 @@ def map_in_order(
     """Each batch and the reply to the call that `work` makes for it, in order. At most one more batch than
     threads is in flight. An error of the batches is raised after those before it."""
     pool = WorkerPool(work, threads, pace)
-    waiting: collections.deque[tuple[Given, Future[ReplyBuffer]]] = collections.deque()
+    waiting: collections.deque[tuple[Given, Future[Reply]]] = collections.deque()
     errors: list[Exception] = []
     is_whole = False
     try:
@@ -122,10 +105,8 @@ def map_in_order(
             waiting.append((batch, pool.submit(batch)))
             while len(waiting) > threads or (waiting and waiting[0][1].done()):
                 given, future = waiting.popleft()
-                yield given, pool.take_reply(future)
-        while waiting:
-            given, future = waiting.popleft()
-            yield given, pool.take_reply(future)
+                yield given, future.result()
+        yield from ((given, future.result()) for given, future in waiting)
         is_whole = True
     finally:
         pool.close(wait=is_whole)
@@ -214,8 +195,7 @@ def _iter_blocks(blocks: Blocks) -> Iterator[bytes]:
 
 
 def whole_lines(blocks: Iterable[bytes]) -> Iterator[bytes]:
-    """Blocks of bytes in whole lines; the last one gets a newline. Of a line without an end at most LONGEST_GIVEN
-    bytes are held."""
+    """Blocks in whole lines, the last one too. At most LONGEST_GIVEN bytes of a line are held."""
     rest = b""
     for block in blocks:
         if whole := block.rfind(b"\n") + 1:
@@ -228,8 +208,7 @@ def whole_lines(blocks: Iterable[bytes]) -> Iterator[bytes]:
 
 
 def batch_bytes(blocks: Blocks, pace: BatchPace) -> Iterator[bytes]:
-    """The bytes in batches of whole lines; a line longer than LONGEST_GIVEN may be cut. The last batch of a block
-    may have half as many bytes more."""
+    """The bytes in batches of whole lines. The last batch of a block may have half as many bytes more."""
     for lines in whole_lines(_iter_blocks(blocks)):
         start = 0
         while start < len(lines):

@@ -101,7 +101,6 @@ class Directory:
         return os.path.join(self.path, name)
 
     def names(self) -> list[str]:
-        """The names in it, sorted."""
         with _name_path(self.path):
             return sorted(os.listdir(self.handle))
 
@@ -128,7 +127,6 @@ class Directory:
                 return None
 
     def id_at(self, name: str) -> FileId | None:
-        """The file with a name; None if it is missing."""
         status = self.status(name)
         return None if status is None else id_of(status)
 
@@ -174,8 +172,7 @@ class Directory:
             return self.create_file(name)
 
     def create_part(self, name: str) -> tuple[int, str]:
-        """Creates a new file for the content of `name`: `name.part`, `name.2.part` and so on. Returns the open
-        file and its name."""
+        """Creates the first free file of `name.part`, `name.2.part` and so on. Returns it, and its name."""
         part, count = name + PART, 1
         while True:
             try:
@@ -202,8 +199,7 @@ class Directory:
             os.unlink(name, dir_fd=self.handle)
 
     def install(self, part: str, name: str, over: FileId | None, source: Directory | None = None) -> None:
-        """Gives the file `part`, of this directory or of `source`, the name `name` here, durably. Replaces only
-        the file `over`. Raises FileExistsError."""
+        """Durably names the file `part` of `source` (default: here) `name`. Replaces only the file `over`."""
         of = self if source is None else source
         found = self.id_at(name)
         with _name_path(self.at(name)):
@@ -238,8 +234,7 @@ class Directory:
 
 
 def write_atomically(directory: Directory, name: str, fill: Callable[[int], None], over: Pin | None) -> Pin:
-    """Writes a file whole or not at all: `fill` writes to the open file. Replaces only the file `over`. Returns
-    the new file. Raises FileExistsError, what `fill` does, OSError; nothing is left then."""
+    """Writes a file whole or not at all, by `fill`; replaces only the file `over`. Returns the new file."""
     number, part = directory.create_part(name)
     written = Pin(number)
     try:
@@ -256,8 +251,7 @@ def write_atomically(directory: Directory, name: str, fill: Callable[[int], None
 
 
 class FileTarget:
-    """The path of a file to be written, in the directory to which it leads now. Only the regular file that is
-    there now may be replaced. Raises KindError for anything else there, OSError."""
+    """The path of a file to be written. Only the regular file that is there now may be replaced."""
 
     def __init__(self, path: str) -> None:
         self._path = path
@@ -272,9 +266,7 @@ class FileTarget:
             self.close = stack.pop_all().close
 
     def write(self, fill: Callable[[int], None]) -> None:
-        """Writes the file whole or not at all: `fill` writes to the open file. Raises FileExistsError if
-        another file has its name by then, what `fill` does, OSError, also if its folder was moved; nothing is
-        left then."""
+        """Writes the file whole or not at all, by `fill`. Raises OSError, also if its folder was moved."""
 
         def fill_here(number: int) -> None:
             fill(number)
@@ -326,7 +318,6 @@ class Checksum:
         return cls(int(fields["bytes"]), int(fields["crc32"], 16))
 
     def fields(self) -> dict[str, Any]:
-        """The fields of a summary."""
         return {"bytes": self.size, "crc32": "%08x" % self.crc32}
 
     def add_bytes(self, data: bytes) -> Checksum:

@@ -1,7 +1,5 @@
 """Detects a fork of a process with threads. It is imported first, so that it sees all forks."""
 
-from __future__ import annotations
-
 import os
 import sys
 

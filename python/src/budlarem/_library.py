@@ -119,8 +119,7 @@ def validate_replies(lines: bytes, replies: bytes) -> ReplyCheck:
 
 
 class ListCost(NamedTuple):
-    """The most that checking some lines can cost: the steps and the nodes of all, the steps and nodes of the most
-    expensive line together, and its index from 0."""
+    """The most steps and nodes of all lines; those of the most expensive line together, and its index."""
 
     steps: int
     nodes: int
@@ -145,8 +144,7 @@ class Reply(NamedTuple):
 
 
 class ReplyBuffer:
-    """A buffer for replies; `status` is that of the last call. Untouched pages take no memory, so it may be much
-    larger than they are."""
+    """A buffer for replies; `status` is that of the last call. Untouched pages take no memory."""
 
     def __init__(self) -> None:
         self._make(mmap.PAGESIZE)
@@ -157,12 +155,10 @@ class ReplyBuffer:
         self._address: Any = (ctypes.c_char * size).from_buffer(self._bytes)
 
     def reply(self) -> Reply:
-        """The reply of the last call."""
         return Reply(self.status, self._length, self._bytes[: 0 if self.status == SHORT else self._length])
 
     def call(self, name: str, asked: Sequence[int], given: bytes, room: int) -> None:
-        """Makes a call with these numbers over these bytes, twice if the reply exceeds `room` bytes. Raises
-        LibraryError, MemoryError."""
+        """Makes a call, twice if the reply exceeds `room` bytes. Raises LibraryError, MemoryError."""
         self.call_once(name, asked, given, room)
         if self.status == SHORT:
             self.call_once(name, asked, given, self._length)

@@ -1,7 +1,5 @@
 """Text for messages: bounds of quoted lines, values and errors, and their escapes."""
 
-from __future__ import annotations
-
 import enum
 import unicodedata
 
@@ -64,8 +62,7 @@ def code_point(character: str) -> str:
 
 
 def quote(text: str) -> str:
-    r"""A text for a message: invisible characters by name, controls as `\x1b`, others as `U+200B`; a long text
-    cut."""
+    r"""A text for a message: invisible characters as `\x1b` or `U+200B`; a long text cut."""
     if not (text.isascii() and text.isprintable()):
         pairs = ((one, escape_controls(one)) for one in text)
         text = "".join(code_point(one) if one == other and is_hidden(one) else other for one, other in pairs)
@@ -73,5 +70,4 @@ def quote(text: str) -> str:
 
 
 def pluralize(count: int, word: str, words: str) -> str:
-    """A count with its noun."""
     return "%d %s" % (count, word if count == 1 else words)

@@ -12,13 +12,10 @@ from typing import Iterable, Iterator
 from ._text import Words, quote
 from .numbers import number_of, numbers_in
 from .reading import Form, ListForm, Reading, Skipped
-from .reading.files import Numbered
-from .reading.forms import reading_of, skip_kind
+from .reading.forms import RereadableList, reading_of, skip_kind
 from .reading.tables import Layout
 from .reading.tokens import SPACES
 from .verdicts import Halt, Refused, Undecided, Verdict, parse, verdict_of, whole_number
-
-__all__ = ["Claim", "Claims", "WORDS", "Word", "claim_in"]
 
 
 class Word(Words):
@@ -75,27 +72,34 @@ class Claim:
 
 
 class Claims(Iterable[Claim]):
-    """The claims of the lines of a list. `skips` counts the skipped lines by kind; `words` translates the
-    words of a table."""
+    """The claims of a list by its form, with the translation `words` of a table; what was skipped so far."""
 
-    def __init__(self, lines: Iterator[Numbered], form: ListForm, words: dict[str, Word]) -> None:
-        self._lines, self._form, self._words = lines, form, words
-        self.skips: collections.Counter[Skipped] = collections.Counter()
+    def __init__(self, source: RereadableList, words: dict[str, Word], is_last: bool = False) -> None:
+        self.form = source.form
+        self.translation: Translation | None = None
+        self._lines = source.once() if is_last else source.lines()
+        self._source, self._words = source, words
+        self._skips: collections.Counter[Skipped] = collections.Counter()
+
+    @property
+    def skips(self) -> collections.Counter[Skipped]:
+        """The number of skipped lines of each kind so far."""
+        return self._skips + collections.Counter({Skipped.EMPTY: self._source.counted.empty})
+
+    @property
+    def non_utf8_lines(self) -> int:
+        """The number of lines so far that aren't UTF-8."""
+        return self._source.counted.non_utf8_lines
 
     def __iter__(self) -> Iterator[Claim]:
         for number, line in self._lines:
-            if (claim := _claim_of(number, line, self._form, self._words)) is not None:
+            if (claim := claim_of(number, line, self.form, self._words)) is not None:
                 yield claim
             else:
-                self.skips[skip_kind(line)] += 1
+                self._skips[skip_kind(line)] += 1
 
 
-def claim_in(number: int, line: str) -> Claim | None:
-    """The claim of a line of a text; None for a skipped line."""
-    return _claim_of(number, line, ListForm(Form.TEXT), WORDS)
-
-
-def _claim_of(number: int, line: str, form: ListForm, words: dict[str, Word]) -> Claim | None:
+def claim_of(number: int, line: str, form: ListForm, words: dict[str, Word]) -> Claim | None:
     """The claim of a line; None for a skipped line."""
     if form.form in (Form.VERDICTS, Form.TEXT):
         claim = _of_verdict_line(number, line)

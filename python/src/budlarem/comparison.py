@@ -4,6 +4,7 @@ from __future__ import annotations
 
 import collections
 import dataclasses
+import itertools
 from typing import Iterable, Iterator
 
 from ._text import Words
@@ -38,8 +39,7 @@ class Comparison:
 
 
 def _halts_agree(first: Halt, second: Halt, undefined_steps: bool) -> bool:
-    """Whether two halts are equal; with `undefined_steps` also if one counts a step for an undefined
-    transition."""
+    """Whether two halts are equal, or by `undefined_steps` one counts a step for an undefined transition."""
     if (first.steps, first.score) == (second.steps, second.score):
         return True
     fewer, more = sorted((first, second), key=lambda halt: halt.steps)
@@ -69,27 +69,6 @@ def agreement(first: Verdict, second: Verdict, undefined_steps: bool = False) ->
     return Agreement.AGREE if agree else Agreement.CONTRADICT
 
 
-class _Side:
-    """A list of verdicts without its refusals, and its verdicts for which the other list has none yet."""
-
-    def __init__(self, items: Iterable[str | Verdict], name: str) -> None:
-        self.items = (one for one in verdicts_of(items, name) if not isinstance(one, Refused))
-        self.waiting: dict[str, list[MachineVerdict]] = {}
-
-    def take(self, machine: str) -> MachineVerdict | None:
-        """Removes and returns the first waiting verdict on a machine."""
-        if (found := self.waiting.get(machine)) is None:
-            return None
-        verdict = found.pop(0)
-        if not found:
-            del self.waiting[machine]
-        return verdict
-
-    def remaining(self) -> list[MachineVerdict]:
-        """The waiting verdicts."""
-        return [verdict for verdicts in self.waiting.values() for verdict in verdicts]
-
-
 def compare(
     first: Iterable[str | Verdict], second: Iterable[str | Verdict], *, undefined_steps: bool = False
 ) -> Iterator[Comparison]:
@@ -107,19 +86,25 @@ def compare(
     contradict 1RB1LB_1LA1RZ
     only-second 1RA1RA
     """
-    sides = (_Side(first, "first"), _Side(second, "second"))
+    lists = (verdicts_of(first, "first"), verdicts_of(second, "second"))
+    sides = [(one for one in items if not isinstance(one, Refused)) for items in lists]
+    # The verdicts of each list for which the other one has none yet.
+    waiting: list[dict[str, list[MachineVerdict]]] = [{}, {}]
     is_open = [True, True]
     while any(is_open):
         for here, side in enumerate(sides):
-            if (verdict := next(side.items, None)) is None:
+            if (verdict := next(side, None)) is None:
                 is_open[here] = False
                 continue
-            if (other := sides[1 - here].take(verdict.machine)) is None:
-                side.waiting.setdefault(verdict.machine, []).append(verdict)
+            if (others := waiting[1 - here].get(verdict.machine)) is None:
+                waiting[here].setdefault(verdict.machine, []).append(verdict)
                 continue
-            pair = (verdict, other) if here == 0 else (other, verdict)
+            pair = (verdict, others.pop(0)) if here == 0 else (others.pop(0), verdict)
+            if not others:
+                del waiting[1 - here][verdict.machine]
             yield Comparison(agreement(*pair, undefined_steps), verdict.machine, *pair)
-    yield from _compare_by_form(sides[0].remaining(), sides[1].remaining(), undefined_steps)
+    left, right = ([*itertools.chain.from_iterable(one.values())] for one in waiting)
+    yield from _compare_by_form(left, right, undefined_steps)
 
 
 def _compare_by_form(

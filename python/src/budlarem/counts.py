@@ -3,9 +3,8 @@
 from __future__ import annotations
 
 import collections
-import functools
 import re
-from typing import Any, ClassVar, Sequence, TypeVar
+from typing import Any, ClassVar, Iterator, Sequence, TypeVar
 
 KINDS = ("halt", "cycler", "translated", "backward", "undecided steps", "undecided cells", "refused")
 UNDECIDED = ("undecided steps", "undecided cells")
@@ -53,7 +52,6 @@ class VerdictCounts:
         return counts
 
     def fields(self) -> dict[str, Any]:
-        """The counts and the greatest numbers."""
         return {"counts": {kind: self.kinds[kind] for kind in self.names}, "greatest": self.greatest}
 
     def add(self, line: str) -> str:
@@ -67,8 +65,7 @@ class VerdictCounts:
         return machine
 
     def add_block(self, lines: bytes) -> bytes:
-        """Counts a block of whole verdict lines, with the numbers of halts and trees; equal verdicts are read
-        once. Returns the undecided lines."""
+        """Counts whole verdict lines, with the numbers of halts and trees. Returns the undecided lines."""
         for kind in _NUMBERS:
             self.kinds[kind] += lines.count(b" %s " % kind.encode())
         new = set(_COUNTED.findall(lines)) - self._known
@@ -78,7 +75,7 @@ class VerdictCounts:
             end = lines.index(verdict + b"\n") + len(verdict)
             line = lines[lines.rfind(b"\n", 0, end) + 1 : end]
             self._add_numbers(kind, numbers_of(kind, words), line.decode())
-        undecided = _undecided_lines(lines)
+        undecided = b"".join(lines[start:end] for start, _, end in undecided_spans(lines))
         for kind in UNDECIDED:
             self.kinds[kind] += undecided.count(b" %s\n" % kind.encode())
         return undecided
@@ -95,7 +92,6 @@ class VerdictCounts:
         return max((self.greatest[name][0] for name in names if name in self.greatest), default=0)
 
     def count_undecided(self) -> int:
-        """The number of undecided lines."""
         return sum(self.kinds[kind] for kind in UNDECIDED)
 
     def _add_numbers(self, kind: str, numbers: dict[str, int], line: str) -> None:
@@ -127,9 +123,10 @@ class RecurrenceCounts(VerdictCounts):
         if found["recurs"] + found["open"] < lines.count(b"\n"):
             found.update({kind: lines.count(b"%s\n" % kind.encode()) for kind in ("bad", "over", "unread")})
         self.kinds.update(found)
-        for name in _WORDS:
+        for name, words in _WORDS.items():
             most, _ = self.greatest.get(name, (-1, ""))
-            for number in _longer(name, len(str(max(most, 0)))).finditer(lines):
+            pattern = " %s -?([0-9]{%d,})" % (words, len(str(max(most, 0))))
+            for number in re.finditer(pattern.encode(), lines):
                 if int(number[1]) > most:
                     most = int(number[1])
                     line = lines[lines.rfind(b"\n", 0, number.start()) + 1 : lines.index(b"\n", number.end())]
@@ -146,17 +143,14 @@ _WORDS = {
 }
 
 
-@functools.lru_cache(maxsize=None)
-def _longer(name: str, digits: int) -> re.Pattern[bytes]:
-    """The pattern of a number of at least so many digits."""
-    return re.compile((" %s -?([0-9]{%d,})" % (_WORDS[name], digits)).encode())
-
-
-def _undecided_lines(lines: bytes) -> bytes:
-    """The undecided lines of a block."""
-    found, place = [], lines.find(b" undecided ")
+def find_all(word: bytes, lines: bytes) -> Iterator[int]:
+    place = lines.find(word)
     while place >= 0:
-        end = lines.index(b"\n", place) + 1
-        found.append(lines[lines.rfind(b"\n", 0, place) + 1 : end])
-        place = lines.find(b" undecided ", end)
-    return b"".join(found)
+        yield place
+        place = lines.find(word, place + 1)
+
+
+def undecided_spans(lines: bytes) -> Iterator[tuple[int, int, int]]:
+    """Start of each undecided line, end of its machine, and end of the line with its newline."""
+    for place in find_all(b" undecided ", lines):
+        yield lines.rfind(b"\n", 0, place) + 1, place, lines.index(b"\n", place) + 1

@@ -55,7 +55,6 @@ def decide_lines(
 def decide_readings(
     readings: Iterable[Reading], limits: Limits = Limits(), plan: Plan = Plan(), *, threads: int = 1
 ) -> Iterator[DecidedLine]:
-    """The verdict of each reading."""
     waiting: collections.deque[Reading] = collections.deque()
 
     def machines() -> Iterator[str]:

@@ -11,8 +11,8 @@ from ._fork import forbid_fork
 from ._library import NOT_CLEAN, SHORT, Reply, ReplyBuffer, load_library
 from ._text import LONGEST_GIVEN, LONGEST_SHOWN, LONGEST_VALUE
 from .limits import Limits, Plan, in_range, whole
-from .recurrence import RecurrenceReply, parse_recurrence
-from .verdicts import VERDICTS, Answer, Refused, Verdict, require_field_types, verdict_of
+from .verdicts import VERDICTS, Answer, RecurrenceReply, Refused, Verdict, parse_recurrence
+from .verdicts import require_field_types, verdict_of
 
 # The most bytes of a block that is checked with large tapes; and the cells from which on a call costs the
 # tapes, so that batches of claims are always large.
@@ -49,20 +49,17 @@ class MachineError(ValueError):
 
 
 def decide_call(limits: Limits, plan: Plan) -> Call:
-    """The call that decides lines."""
     arguments = (*limits.numbers(), *plan.switches())
     return lambda buffer, lines: buffer.call("bb_decide", arguments, lines, _FOLD * len(lines) + _BEYOND)
 
 
 def check_call(limits: Limits) -> Call:
-    """The call that checks verdict lines."""
     arguments = limits.numbers()
     return lambda buffer, lines: buffer.call("bb_check", arguments, lines, len(lines) // _FOR_EACH + _ANSWER)
 
 
 def recurrence_call(limits: Limits, entries: bool = False) -> Call:
-    """The call that finds the recurrences behind verdict lines; `entries` adds the last use of each entry. Of the
-    limits it has steps and cells."""
+    """The call that finds the recurrences behind verdict lines; `entries` adds the last use of each entry."""
     arguments = (limits.steps, limits.cells, entries)
 
     def call(buffer: ReplyBuffer, lines: bytes) -> None:
@@ -95,7 +92,6 @@ def _require_list(name: str, texts: Iterable[object]) -> None:
 def _reply_lines(
     batches: Iterator[Batch], call: Call, threads: int, pace: BatchPace
 ) -> Iterator[tuple[str, str]]:
-    """Each text and the library's line for it."""
     for batch, reply in map_in_order(lambda buffer, one: call(buffer, one.lines), batches, threads, pace):
         yield from zip(batch.texts, reply.text.decode().split("\n"))
 
@@ -106,15 +102,12 @@ def decide(
     """The verdict of each machine, in order; `Refused` for a text that is no machine.
 
     `machines` is any iterable of texts without newlines. It is read some texts ahead, and never held as a
-    whole. `threads` is the number of cores used.
-
-    The calls run beside the caller's thread, which can be interrupted. The present call then ends by itself,
-    or with the process.
+    whole. `threads` is the number of cores used. The calls run beside the caller's thread, which can be
+    interrupted. The present call then ends by itself, or with the process.
 
     Raises TypeError for an item that is no text and ValueError for one with a newline, both with its place in
-    the list, after the verdicts before it. Raises MemoryError without memory for the tapes. Raises
-    LibraryError if the library isn't found. Raises RuntimeError in a process that was forked from one with
-    threads.
+    the list, after the verdicts before it. Raises MemoryError without memory for the tapes, LibraryError if the
+    library isn't found, RuntimeError in a process that was forked from one with threads.
 
     >>> [str(verdict) for verdict in decide(["1RB1LB_1LA1RZ", "1RA1RA"])]
     ['1RB1LB_1LA1RZ halt 6 4', '1RA1RA translated R 1 2 1 1']
@@ -135,8 +128,7 @@ def decide(
 
 
 def column_of(text: str) -> int | None:
-    """The column at which the library refuses a text; None for a machine. Nothing is run. Raises LibraryError,
-    RuntimeError, MemoryError."""
+    """The column at which the library refuses a text; None for a machine. Nothing is run."""
     forbid_fork()
     buffer = ReplyBuffer()
     line = text.encode("utf-8", "surrogateescape")[:LONGEST_GIVEN]
@@ -284,8 +276,7 @@ class Trace(Iterator[Configuration]):
         return len("%d Z -%d -%d \n" % (self._upto, self._cells, self._cells)) + visited
 
     def _lines(self) -> list[bytes]:
-        """The next lines, as many as fit into the bytes that are asked for at once. Each call runs the machine
-        from its start. Raises MachineError."""
+        """The next lines, as many as fit. Each call runs the machine from its start. Raises MachineError."""
         rest = (self._upto - self._next) // self._every + 1 if self._next <= self._upto else 0
         count = rest
         while count > 1 and count * self._longest(count) > _TRACED_AT_WORST:
@@ -308,8 +299,7 @@ class Trace(Iterator[Configuration]):
         return lines
 
     def _call(self, count: int, rest: int, room: int) -> Reply:
-        """The reply for the next `count` lines; if they are all the `rest`, with the last step too. A long
-        call is made beside the caller's thread."""
+        """The reply for the next `count` lines; if they are all the `rest`, with the last step too."""
         last = self._upto if count == rest else self._next + self._every * (count - 1)
         arguments: Sequence[int] = (last, self._cells, self._next, self._every)
 
@@ -329,9 +319,8 @@ def trace(machine: str, upto: int, cells: int = 65_536, start: int = 0, every: i
     """The configurations of a machine after `start` steps, `start + every` and so on, up to `upto` or to the
     last one that `cells` allow. A skipped step costs its simulation.
 
-    Raises LimitsError for a number out of its range, and TypeError for one that is no whole number. Raises
-    TypeError for a machine that is no text, and ValueError for one with a newline. At the first configuration
-    it raises MachineError, a ValueError, for a text that is no machine.
+    Raises LimitsError for a number out of its range, TypeError for another number or a machine that is no text,
+    ValueError for one with a newline; at the first configuration MachineError for a text that is no machine.
 
     >>> [str(now) for now in trace("1RB1LB_1LA1RZ", 6, start=4)]
     ['4 A -2 0111', '5 B -1 1111', '6 Z 0 1111']

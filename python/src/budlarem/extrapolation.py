@@ -21,18 +21,7 @@ class Place:
         return "%d %s %d" % (self.step, self.state, self.position)
 
 
-def _confirm(verdict: Halt | Cycler | Translated, cells: int) -> None:
-    """Raises ValueError if the checker doesn't confirm a verdict, LimitsError if it names too many steps."""
-    last = verdict.steps if isinstance(verdict, Halt) else max(verdict.first, verdict.second)
-    (answer,) = check([verdict], Limits(steps=last, cells=cells, depth=0, nodes=0))
-    if answer is Answer.OVER:
-        raise ValueError("the run of %s needs more than %d cells; give more" % (verdict, cells))
-    if answer is not Answer.OK:
-        raise ValueError("the checker answers %s to %s" % (answer, verdict))
-
-
 def _configuration_at(machine: str, step: int, cells: int) -> Configuration:
-    """The configuration after so many steps, which the cells allow."""
     (now,) = trace(machine, step, cells, start=step)
     return now
 
@@ -74,7 +63,12 @@ def at(verdict: Verdict, step: int, cells: int = 65_536) -> Place:
         raise ValueError(f"{verdict} {why}")
     if isinstance(verdict, Halt) and step > verdict.steps:
         raise ValueError("the machine halts after %d steps, so it makes no %d" % (verdict.steps, step))
-    _confirm(verdict, cells)
+    last = verdict.steps if isinstance(verdict, Halt) else max(verdict.first, verdict.second)
+    (answer,) = check([verdict], Limits(steps=last, cells=cells, depth=0, nodes=0))
+    if answer is Answer.OVER:
+        raise ValueError("the run of %s needs more than %d cells; give more" % (verdict, cells))
+    if answer is not Answer.OK:
+        raise ValueError("the checker answers %s to %s" % (answer, verdict))
     if isinstance(verdict, Halt) or step < verdict.first:
         times, early = 0, step
     else:

@@ -14,15 +14,12 @@ from .comparison import Agreement, agreement
 from .engine import decide
 from .limits import GREATEST, Limits, Plan
 from .normal_forms import canonical_form
-from .reading import Columns, Form, Reading, Readings, Skipped, read
+from .reading import Columns, Form, Reading, Readings, read
 from .reading.files import Source
 from .reading.forms import RereadableList
-from .recurrence import Recurrence
 from .recurrence_claims import Exactness, Finding, NumbersJudge, find_start_offset
-from .verdicts import Answer, Halt, Refused, Undecided, Verdict
+from .verdicts import Answer, Halt, Recurrence, Refused, Undecided, Verdict
 from .verification import answers_of
-
-__all__ = ["Judged", "Judgement", "Judging", "judge"]
 
 # The most lines of a batch, and the most seconds that its first one waits.
 _TOGETHER, _SECONDS = 4_096, 1.0
@@ -94,7 +91,6 @@ class ListOverlap:
                 self._listed.setdefault(reading.machine, reading.number)
 
     def add(self, reading: Reading) -> None:
-        """Adds a line of theirs."""
         if reading.machine is not None:
             self._theirs.setdefault(reading.machine, []).append(reading.number)
 
@@ -135,13 +131,13 @@ def judge(
 
     A verdict line claims its verdict. A record of a table claims the words and numbers of its columns, by the
     translation `words` (default: `WORDS`). A line of a text makes a claim if its other words are one verdict.
-    Nothing else is judged.
+    Nothing else is judged. Each machine is decided within `limits` by `plan`, and each claim that our verdict
+    doesn't settle is checked within `checker`.
 
-    Each machine is decided within `limits` by `plan`, and each claim that our verdict doesn't settle is
-    checked within `checker`. `undefined_steps`: they count a step for an undefined transition. By default
-    their halts show it: each halt of theirs at such a transition is true of the machine with `1RZ` there, and
-    there is one. `start_offset`: how much later than the exact start they give each start of a repetition. By
-    default it is the one difference of all starts, if there are two or more. `listed` is a list of machines; then `missing` and `foreign` of the result compare the two.
+    `undefined_steps`: they count a step for an undefined transition. By default their halts show it: each halt
+    of theirs at such a transition is true of the machine with `1RZ` there, and there is one. `start_offset`: how
+    much later than the exact start they give each start of a repetition; by default the one difference of all
+    starts, if there are two or more. `missing` and `foreign` of the result compare with the machines `listed`.
 
     Both lists are what `read` takes; `listed` may be its result. Their list is read twice; a long one that
     isn't a regular file is copied to the disk first. `progress` is called with a description of work other
@@ -159,21 +155,20 @@ def judge(
     words = WORDS if words is None else words
     translation = translation_in(source, words, progress)
     if undefined_steps is None:
-        claims = Claims(source.lines(), source.form, words)
-        counted = count_progress(claims, "looked at for steps at ---", progress)
+        counted = count_progress(Claims(source, words), "looked at for steps at ---", progress)
         undefined_steps = counts_undefined_steps(counted, limits, checker, threads)
     if start_offset is None:
         start_offset = 0
         if source.form.layout is not None and "start" in source.form.layout.columns:
-            claims = Claims(source.lines(), source.form, words)
-            counted = count_progress(claims, "looked at for their starts", progress)
+            counted = count_progress(Claims(source, words), "looked at for their starts", progress)
             start_offset = find_start_offset(counted, limits, plan, threads)
     readings = listed if listed is None or isinstance(listed, Readings) else read(listed)
     lists = None if readings is None else ListOverlap(readings, progress)
-    claims = Claims(source.once(), source.form, words)
+    claims = Claims(source, words, is_last=True)
+    claims.translation = translation
     decided = _decide_claims(claims, limits, plan, threads)
     numbers = NumbersJudge(limits, checker, start_offset, threads)
-    return Judging(decided, lists, numbers, undefined_steps, JudgedList(source, claims, translation))
+    return Judging(decided, lists, numbers, undefined_steps, claims)
 
 
 def translation_in(
@@ -185,25 +180,8 @@ def translation_in(
         raise ValueError("%s: say which" % layout.doubts[0])
     if layout is None or "verdict" not in layout.columns:
         return None
-    claims = Claims(source.lines(), source.form, words)
-    return translation_of(count_progress(claims, "looked at for their words", progress), layout, words)
-
-
-class JudgedList:
-    """The judged list: its form, the translation of a table's words, and so far the number of skipped
-    lines of each kind, and of lines that aren't UTF-8."""
-
-    def __init__(self, source: RereadableList, claims: Claims, translation: Translation | None) -> None:
-        self.form, self.translation = source.form, translation
-        self._source, self._claims = source, claims
-
-    @property
-    def skips(self) -> collections.Counter[Skipped]:
-        return self._claims.skips + collections.Counter({Skipped.EMPTY: self._source.counted.empty})
-
-    @property
-    def non_utf8_lines(self) -> int:
-        return self._source.counted.non_utf8_lines
+    counted = count_progress(Claims(source, words), "looked at for their words", progress)
+    return translation_of(counted, layout, words)
 
 
 def _decide_claims(
@@ -237,7 +215,7 @@ class Judging(Iterator[Judged]):
         lists: ListOverlap | None,
         numbers: NumbersJudge,
         undefined_steps: bool,
-        theirs: JudgedList,
+        theirs: Claims,
     ) -> None:
         self.undefined_steps, self.start_offset, self.theirs = undefined_steps, numbers.offset, theirs
         self._decided, self._lists, self._numbers = decided, lists, numbers
@@ -278,7 +256,6 @@ class Judging(Iterator[Judged]):
         return found
 
     def _checked_claim(self, claim: Claim) -> Verdict:
-        """The verdict of a claim for the checker."""
         assert claim.verdict is not None
         if self.undefined_steps and isinstance(claim.verdict, Halt):
             return with_steps(claim.verdict)
@@ -363,7 +340,6 @@ def _disagreement(claim: Claim, ours: Verdict) -> str:
 
 
 def _words_of(claim: Claim) -> str:
-    """The word of a record, with its numbers."""
     steps = [] if claim.steps is None else ["after {:,} steps".format(claim.steps)]
     score = [] if claim.score is None else ["with a score of {:,}".format(claim.score)]
     return " ".join([str(claim.word), *steps, *score])
@@ -385,8 +361,7 @@ def halt_with_steps(halt: Halt) -> Halt:
 
 
 def counts_undefined_steps(claims: Iterable[Claim], limits: Limits, checker: Limits, threads: int) -> bool:
-    """Whether each halt of a list at an undefined transition is true of the machine with `1RZ` there, and
-    there is one. Claims over the checker's limits don't count."""
+    """Whether each halt at an undefined transition, one or more, is true of the machine with `1RZ` there."""
     verdicts = (claim.verdict or _complete_halt(claim, limits) for claim in claims)
     halts = (verdict for verdict in verdicts if isinstance(verdict, Halt) and "---" in verdict.machine)
     is_counted = False

@@ -1,7 +1,5 @@
 """The limits of a run and its deciders."""
 
-from __future__ import annotations
-
 import dataclasses
 import operator
 import re

@@ -157,8 +157,7 @@ class _Walk:
         return [(state, one) for state in self._states if state != "Z"]
 
     def _name_others(self) -> None:
-        """Names the states and symbols that weren't met: the one of least colour first, and then everything met
-        from there."""
+        """Names what wasn't met: the one of least colour first, and then everything met from there."""
         while True:
             states = [state for state in self._rows if state not in self._states]
             symbols = [symbol for symbol in map(str, range(self._count)) if symbol not in self._symbols]
@@ -169,8 +168,7 @@ class _Walk:
             self._go(self._name(min(others, key=colours.__getitem__)))
 
     def _colours(self, states: list[str], symbols: list[str]) -> dict[str, int]:
-        """A colour for each of these, equal for indistinguishable ones and independent of old names. Colours are
-        refined by those of the entries as long as that distinguishes more."""
+        """A colour for each, independent of names, refined by the entries while that distinguishes more."""
         colours = dict.fromkeys(states + symbols, 0)
         count = 1
         while True:

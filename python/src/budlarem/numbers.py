@@ -1,7 +1,5 @@
 """Reads whole numbers, with or without groups of three digits."""
 
-from __future__ import annotations
-
 import re
 from typing import Iterator, Sequence
 
@@ -59,8 +57,7 @@ def option_number(text: str) -> int:
 
 
 def numbers_in(words: Sequence[str], counts: Sequence[int]) -> list[int]:
-    """The numbers of these words, each of one word or of several groups. Raises ValueError unless there is one
-    way to read them as one of these counts of numbers."""
+    """The numbers of these words. Raises ValueError unless one way to read them gives so many numbers."""
     ways = [way for way in _ways(list(words), max(counts)) if len(way) in counts]
     if len(ways) != 1:
         text = quote(" ".join(words))

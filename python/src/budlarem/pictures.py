@@ -88,8 +88,7 @@ def sample_rows(machine: str, upto: int, cells: int, most: int) -> tuple[list[Co
 def visible_range(
     chosen: Sequence[Configuration], columns: int | None, first: int | None, last: int | None
 ) -> tuple[int, int, bool]:
-    """The first and last position shown, and whether these aren't the visited ones: the given ones, else all,
-    cut to `columns` about the middle."""
+    """The first and last position shown, and whether these aren't the visited ones."""
     low = min(row.low for row in chosen)
     high = max(row.low + len(row.cells) - 1 for row in chosen)
     left = low if first is None else first
@@ -158,7 +157,6 @@ def png(rows: Sequence[bytes], scale: int) -> bytes:
 def _draw(
     chosen: list[Configuration], every: int, is_cut: bool, scale: int, columns: int | None, *sides: int | None
 ) -> Picture:
-    """The picture of these rows between these sides. Raises PictureError."""
     if not chosen:
         raise PictureError("no step to show")
     first, last, is_part = visible_range(chosen, columns, *sides)

@@ -54,6 +54,8 @@ LINES, _BYTES = 100_000, 1 << 22
 _WIDE, _DIGITS = 79, 16
 _CHANGED = "%s changed while it was read; publish it when it no longer does"
 _HERE = pathlib.Path(__file__).parent
+# The page of an archive of all verdicts.
+_FULL_PAGE = "archive.txt"
 
 
 class PublishError(ValueError):
@@ -94,57 +96,53 @@ class ArchivedFile:
 
 @dataclasses.dataclass(frozen=True)
 class Archive:
-    """An archive. `counts` are of all lines, of which the checker confirmed `confirmed`. `passes` and `decider` are
-    the limits and the package by which the verdicts were decided, if known."""
+    """An archive of the files `inputs`. `counts` are of all lines, of which the checker confirmed `confirmed`.
+    `passes` and `decider` are the limits and the package by which they were decided, if known. `about` has more
+    fields of `about.json`; `page`, `title` and `parts` make `README.txt`."""
 
     counts: VerdictCounts
     confirmed: int
     passes: tuple[Limits, ...]
     decider: Identity | None
+    inputs: Sequence[ArchivedFile]
+    about: dict[str, Any]
+    page: str
+    title: str
+    parts: dict[str, str]
 
-    def inputs(self) -> list[ArchivedFile]:
-        """The files that are copied into it."""
-        raise NotImplementedError
-
-    def small(self) -> dict[str, bytes]:
-        """The other files, by name."""
-        raise NotImplementedError
-
-    def _counts(self) -> dict[str, int]:
-        kinds = {**self.counts.kinds, "undecided": self.counts.count_undecided()}
-        return {kind: kinds.get(kind, 0) for kind in KINDS}
-
-    def _about(self, fields: dict[str, Any]) -> bytes:
-        """The text of `about.json`, with fields behind the counts."""
-        every: dict[str, Any] = {
+    def _small(self) -> dict[str, bytes]:
+        """The files that aren't copied into it, by name."""
+        own, kinds = identity(), {**self.counts.kinds, "undecided": self.counts.count_undecided()}
+        counts = {kind: kinds.get(kind, 0) for kind in KINDS}
+        about = {
             "format": FORMAT,
             "lines": sum(self.counts.kinds.values()),
-            "counts": self._counts(),
-            **fields,
+            "counts": counts,
+            **self.about,
             "passes": [words_of(limits) for limits in self.passes],
             "decided_by": None if self.decider is None else dataclasses.asdict(self.decider),
-            "checked_by": dataclasses.asdict(identity()),
-            "sha256": {given.name: given.sha256 for given in self.inputs()},
+            "checked_by": dataclasses.asdict(own),
+            "sha256": {given.name: given.sha256 for given in self.inputs},
         }
-        return (json.dumps(every, indent=2) + "\n").encode()
-
-    def _readme(self, page: str, title: str, names: Iterable[str], fields: dict[str, str]) -> bytes:
-        """The text of `README.txt` by a page of this package."""
-        own, counts = identity(), [f"{count:,} {kind}" for kind, count in self._counts().items() if count]
-        every = {
-            "title": title,
-            "underline": "=" * len(title),
-            "counts": textwrap.fill("%s." % ", ".join(counts), _WIDE),
-            "version": own.version,
-            "commit": own.commit,
-            "files": "\n".join("  %-13s %s" % (name, _FILES[name]) for name in names),
-            **fields,
-        }
-        return string.Template((_HERE / page).read_text(encoding="utf-8")).substitute(every).encode()
+        small = {ABOUT: (json.dumps(about, indent=2) + "\n").encode()}
+        if self.page == _FULL_PAGE:
+            small[RECHECK] = (_HERE / RECHECK).read_bytes()
+        names = [README, *(given.name for given in self.inputs), *small, SUMS]
+        texts = [f"{count:,} {kind}" for kind, count in counts.items() if count]
+        page = string.Template((_HERE / self.page).read_text(encoding="utf-8")).substitute(
+            title=self.title,
+            underline="=" * len(self.title),
+            counts=textwrap.fill("%s." % ", ".join(texts), _WIDE),
+            version=own.version,
+            commit=own.commit,
+            files="\n".join("  %-13s %s" % (name, _FILES[name]) for name in names),
+            **self.parts,
+        )
+        return {README: page.encode(), **small}
 
     def write(self, file: BinaryIO) -> None:
         """Writes the archive. Raises PublishError if a file has changed, RunError, OSError."""
-        small, inputs = self.small(), {given.name: given for given in self.inputs()}
+        small, inputs = self._small(), {given.name: given for given in self.inputs}
         sums = {name: hashlib.sha256(data).hexdigest() for name, data in small.items()}
         sums.update({name: given.sha256 for name, given in inputs.items()})
         names = [name for name in _FILES if name in sums]
@@ -164,85 +162,55 @@ class Archive:
                     raise PublishError(_CHANGED % name)
 
 
-@dataclasses.dataclass(frozen=True)
-class Contents(Archive):
-    """An archive of all verdicts; `machines` is the list, if given."""
-
-    machines: ArchivedFile | None
-    verdicts: ArchivedFile
-
-    def inputs(self) -> list[ArchivedFile]:
-        return [given for given in (self.machines, self.verdicts) if given is not None]
-
-    def _greatest(self) -> tuple[int, int, int]:
-        """The greatest steps, levels and nodes of claims."""
-        most = self.counts.most
-        steps = most("halt steps", "cycler second", "translated second")
-        return steps, most("backward levels"), most("backward nodes")
-
-    def small(self) -> dict[str, bytes]:
-        about = self._about({"greatest": dict(zip(("steps", "levels", "nodes"), self._greatest()))})
-        return {README: self.readme(), ABOUT: about, RECHECK: (_HERE / RECHECK).read_bytes()}
-
-    def _check_statement(self) -> str:
-        total = sum(self.counts.kinds.values())
-        first = "When this archive was made, Budlarem's checker confirmed each line that claims something"
-        sentences = [f"{first}: {self.confirmed:,} of {total:,}."]
-        sentences.append("The checker is proved to confirm no false claim, whatever its origin.")
-        if self.machines is not None:
-            sentences.append("Each line of list.txt has its verdict on the same line of verdicts.txt.")
-        if self.passes:
-            sentences.append("Undecided machines were tried with these limits, one pass after another:")
-        elif self.counts.count_undecided():
-            sentences.append("The limits with which undecided machines were tried aren't known.")
-        lines = [line for text in sentences for line in textwrap.wrap(text, _WIDE - 2)]
-        lines += ["    " + words_of(limits) for limits in self.passes]
-        return "\n".join("  " + line for line in lines)
-
-    def readme(self) -> bytes:
-        """The text of `README.txt`."""
-        kinds, (steps, levels, nodes) = self.counts.kinds, self._greatest()
-        title = f"Verdicts on {sum(kinds.values()) - kinds['refused']:,} machines"
-        fields = {
-            "checked": self._check_statement(),
-            "bb_limits": f"--steps {steps} --cells {GREATEST.cells} --depth {levels} --nodes {nodes}",
-            "recheck_limits": f"--steps {steps} --nodes {nodes}",
-        }
-        inputs = [given.name for given in self.inputs()]
-        return self._readme("archive.txt", title, [README, *inputs, ABOUT, RECHECK, SUMS], fields)
+def _full_archive(
+    counts: VerdictCounts,
+    confirmed: int,
+    passes: Iterable[Limits],
+    decider: Identity | None,
+    *files: ArchivedFile,
+) -> Archive:
+    """The archive of all verdicts, behind the list, if given."""
+    limits, total, most = tuple(passes), sum(counts.kinds.values()), counts.most
+    steps = most("halt steps", "cycler second", "translated second")
+    levels, nodes = most("backward levels"), most("backward nodes")
+    first = "When this archive was made, Budlarem's checker confirmed each line that claims something"
+    sentences = [f"{first}: {confirmed:,} of {total:,}."]
+    sentences.append("The checker is proved to confirm no false claim, whatever its origin.")
+    if len(files) > 1:
+        sentences.append("Each line of list.txt has its verdict on the same line of verdicts.txt.")
+    if limits:
+        sentences.append("Undecided machines were tried with these limits, one pass after another:")
+    elif counts.count_undecided():
+        sentences.append("The limits with which undecided machines were tried aren't known.")
+    lines = [line for text in sentences for line in textwrap.wrap(text, _WIDE - 2)]
+    parts = {
+        "checked": textwrap.indent("\n".join([*lines, *("    " + words_of(one) for one in limits)]), "  "),
+        "bb_limits": f"--steps {steps} --cells {GREATEST.cells} --depth {levels} --nodes {nodes}",
+        "recheck_limits": f"--steps {steps} --nodes {nodes}",
+    }
+    about = {"greatest": {"steps": steps, "levels": levels, "nodes": nodes}}
+    title = f"Verdicts on {total - counts.kinds['refused']:,} machines"
+    return Archive(counts, confirmed, limits, decider, files, about, _FULL_PAGE, title, parts)
 
 
-@dataclasses.dataclass(frozen=True)
-class HoldoutContents(Archive):
-    """An archive of the lines that were kept. `fields` are those of `about.json`; `checked` and `again` are parts of
-    the page: the checks that were made, and how to make the rest again."""
-
-    files: tuple[ArchivedFile, ...]
-    fields: dict[str, Any]
-    checked: str
-    again: str
-
-    def inputs(self) -> list[ArchivedFile]:
-        return list(self.files)
-
-    def small(self) -> dict[str, bytes]:
-        names = [README, *(given.name for given in self.files), ABOUT, SUMS]
-        parts = {
-            "checked": textwrap.indent(textwrap.fill(self.checked, _WIDE - 2), "  "),
-            "again": self.again,
-        }
-        title = f"The holdouts of {sum(self.counts.kinds.values()):,} machines"
-        return {README: self._readme("holdouts.txt", title, names, parts), ABOUT: self._about(self.fields)}
+def _holdout_parts(
+    counts: VerdictCounts, checked: str, again: Sequence[str]
+) -> tuple[str, str, dict[str, str]]:
+    """Template, title and parts of the page for lines that were kept; `again` makes the rest again."""
+    parts = {
+        "checked": textwrap.indent(textwrap.fill(checked, _WIDE - 2), "  "),
+        "again": textwrap.indent("\n".join(again), "      "),
+    }
+    return "holdouts.txt", f"The holdouts of {sum(counts.kinds.values()):,} machines", parts
 
 
-def _write_new(path: str, contents: Archive) -> Published:
-    """Writes an archive whole or not at all. Raises FileExistsError, OSError, also if its folder was moved
-    meanwhile, and what `Archive.write` does."""
+def _write_new(path: str, archive: Archive) -> Published:
+    """Writes an archive whole or not at all. Raises FileExistsError, OSError, what `Archive.write` does."""
     digest = hashlib.sha256()
 
     def fill(number: int) -> None:
         with open(number, "w+b", closefd=False) as file:
-            contents.write(file)
+            archive.write(file)
             file.flush()
             file.seek(0)
             for block in iter(lambda: file.read(_BYTES), b""):
@@ -252,8 +220,8 @@ def _write_new(path: str, contents: Archive) -> Published:
         if target.over is not None:
             raise FileExistsError(errno.EEXIST, "is there", path)
         target.write(fill)
-    confirmed = contents.confirmed
-    return Published(path, digest.hexdigest(), confirmed, sum(contents.counts.kinds.values()) - confirmed)
+    confirmed = archive.confirmed
+    return Published(path, digest.hexdigest(), confirmed, sum(archive.counts.kinds.values()) - confirmed)
 
 
 class UnconfirmedError(PublishError):
@@ -277,8 +245,7 @@ class Published:
 def _confirm_all(
     verdicts: ArchivedFile, limits: Limits, threads: int, progress: Callable[[int], None]
 ) -> tuple[int, int]:
-    """Has the checker confirm all verdicts. Returns the number of lines with a claim, and without. Raises
-    UnconfirmedError."""
+    """The number of lines with a claim, which the checker confirms, and without. Raises UnconfirmedError."""
     confirmed, free = 0, 0
     # Each call makes its tapes, which takes a tenth of a second for large ones; so the batches are large.
     for lines, reply in map_in_order(check_call(limits), verdicts.batches(), threads, BatchPace(1)):
@@ -364,7 +331,7 @@ def publish(
         raise PublishError("%s has the limits by which it was decided" % given)
     listed = None if machines is None else ArchivedFile(os.fspath(machines), LIST)
 
-    def contents_of(verdicts: str, passes: Iterable[Limits], decider: Identity | None = None) -> Contents:
+    def archive_of(verdicts: str, passes: Iterable[Limits], decider: Identity | None = None) -> Archive:
         lines = ArchivedFile(verdicts, VERDICTS)
         confirmed, free = _confirm_all(lines, limits, threads, progress)
         if confirmed + free == 0:
@@ -372,23 +339,23 @@ def publish(
         counts = VerdictCounts() if listed is None else _count_beside(listed, lines)
         for line in lines.lines() if listed is None else ():
             counts.add(line.decode())
-        return Contents(counts, confirmed, tuple(passes), decider, listed, lines)
+        return _full_archive(counts, confirmed, passes, decider, *filter(None, (listed, lines)))
 
     try:
         if not os.path.isdir(given):
-            return _write_new(out, contents_of(given, passes))
+            return _write_new(out, archive_of(given, passes))
         if os.path.exists(os.path.join(given, PLAN)):
-            return _write_new(out, _contents_of_shards(given, listed))
+            return _write_new(out, _archive_of_shards(given, listed))
         with contextlib.closing(FinishedRun(given)) as run:
             run.require_journals()
             if run.keep.only_holdouts:
                 lines = ArchivedFile(run.verdicts, HOLDOUTS)
                 _confirm_all(lines, limits, threads, progress)
-                return _write_new(out, _contents_of_holdouts(run, lines, listed))
+                return _write_new(out, _archive_of_holdouts(run, lines, listed))
             decided = (one.limits for one in run.passes)
-            contents = contents_of(run.verdicts, decided, run.identity)
-            run.require_verdicts(contents.verdicts.checksum, contents.counts.kinds)
-            return _write_new(out, contents)
+            archive = archive_of(run.verdicts, decided, run.identity)
+            run.require_verdicts(archive.inputs[-1].checksum, archive.counts.kinds)
+            return _write_new(out, archive)
     except FolderError as error:
         raise PublishError(str(error)) from None
     except CheckError as error:
@@ -397,9 +364,7 @@ def publish(
         raise PublishError("%s was made by another process meanwhile, and stays as it is" % out) from None
 
 
-def _contents_of_holdouts(
-    run: FinishedRun, lines: ArchivedFile, listed: ArchivedFile | None
-) -> HoldoutContents:
+def _archive_of_holdouts(run: FinishedRun, lines: ArchivedFile, listed: ArchivedFile | None) -> Archive:
     """The archive of a run that kept its holdouts. Raises PublishError, FolderError, OSError."""
     folder = os.path.dirname(run.verdicts)
     if listed is None:
@@ -420,22 +385,17 @@ def _contents_of_holdouts(
         "cmp FOLDER/verdicts.txt holdouts.txt",
         "budlarem publish ARCHIVE.tar --verdicts FOLDER --list LIST",
     ]
-    return HoldoutContents(
-        counts,
-        run.lines - counts.count_undecided() - counts.kinds["refused"],
-        passes,
-        run.identity,
-        (lines,),
-        {"kept": str(run.keep), "list": listed.sha256},
-        "The checker confirmed each verdict before it was dropped. It confirmed the kept lines again when this"
-        " archive was made, and each is on a machine of the list, in its order.",
-        "\n".join("      " + line for line in again),
+    checked = (
+        "The checker confirmed each verdict before it was dropped. It confirmed the kept lines again when"
     )
+    checked += " this archive was made, and each is on a machine of the list, in its order."
+    confirmed = run.lines - counts.count_undecided() - counts.kinds["refused"]
+    about, page = {"kept": str(run.keep), "list": listed.sha256}, _holdout_parts(counts, checked, again)
+    return Archive(counts, confirmed, passes, run.identity, [lines], about, *page)
 
 
 def _count_around(listed: ArchivedFile, lines: ArchivedFile) -> int:
-    """The number of lines of a list. Raises PublishError unless it has the machines of some verdict lines, in
-    their order; refused ones aren't compared."""
+    """The lines of a list. Raises PublishError unless it has the machines of `lines` in their order."""
     machines, count = enumerate(listed.lines(), 1), 0
     for number, line in enumerate(lines.lines(), 1):
         machine = line.partition(b" ")[0]
@@ -449,9 +409,8 @@ def _count_around(listed: ArchivedFile, lines: ArchivedFile) -> int:
     return count + sum(1 for _ in machines)
 
 
-def _contents_of_shards(folder: str, listed: ArchivedFile | None) -> HoldoutContents:
-    """The archive of a finished folder of shards. Raises PublishError, FolderError, CheckError, RunError,
-    OSError."""
+def _archive_of_shards(folder: str, listed: ArchivedFile | None) -> Archive:
+    """The archive of a finished folder of shards. Raises PublishError, FolderError, CheckError, RunError."""
     if listed is not None:
         raise PublishError("%s has shards, which have their own list; leave --list out" % folder)
     plan, path = read_plan(folder), os.path.join(folder, SUMMARY)
@@ -472,23 +431,19 @@ def _contents_of_shards(folder: str, listed: ArchivedFile | None) -> HoldoutCont
     found = cover_skeleton(files[0].path, plan).rstrip("\n")
     if found != cover:
         raise PublishError("%s has %r, and cover prints %r" % (path, cover, found))
-    return HoldoutContents(
-        counts,
-        sum(counts.kinds.values()) - counts.count_undecided(),
-        (plan.limits,),
-        None,
-        files,
-        {"greatest": counts.greatest, "plan": dataclasses.asdict(plan), "cover": cover},
-        "cover --below confirmed every claim of each shard, and that the shard is the whole walk below its machine."
-        " cover --skeleton confirmed the skeleton when this archive was made: it %s" % found,
-        _shards_again(plan),
+    checked = (
+        "cover --below confirmed every claim of each shard, and that the shard is the whole walk below its"
     )
+    checked += " machine. cover --skeleton confirmed the skeleton when this archive was made: it %s" % found
+    confirmed = sum(counts.kinds.values()) - counts.count_undecided()
+    about = {"greatest": counts.greatest, "plan": dataclasses.asdict(plan), "cover": cover}
+    page = _holdout_parts(counts, checked, _shards_again(plan))
+    return Archive(counts, confirmed, (plan.limits,), None, files, about, *page)
 
 
-def _shards_again(plan: Plan) -> str:
-    """The commands that make the shards of a plan again."""
+def _shards_again(plan: Plan) -> list[str]:
     options = " ".join(plan.options())
-    commands = [
+    return [
         "cover --skeleton %s skeleton.txt" % options,
         "tree_normal_form --below MACHINE --steps %d | bb decide %s > shard.txt" % (plan.list_steps, options),
         "sha256sum shard.txt       # prints the sha256 on MACHINE's line of skeleton.txt",
@@ -497,4 +452,3 @@ def _shards_again(plan: Plan) -> str:
         "cmp FOLDER/skeleton.txt skeleton.txt",
         "cmp FOLDER/holdouts.txt holdouts.txt",
     ]
-    return "\n".join("      " + line for line in commands)

@@ -16,8 +16,7 @@ from ._text import Words
 from .claims import Claim
 from .engine import Configuration, decide, trace
 from .limits import Limits, Plan
-from .recurrence import Recurrence, RecurrenceReply
-from .verdicts import Answer, Cycler, Translated, Verdict
+from .verdicts import Answer, Cycler, Recurrence, RecurrenceReply, Translated, Verdict
 from .verification import FEW_CELLS, recurrences_of
 
 # The most claims that are looked at together, and the most rows of a trace in a search.
@@ -35,8 +34,7 @@ class Exactness(Words):
 
 @dataclasses.dataclass(frozen=True)
 class Finding:
-    """What is found of the numbers of a claim: whether they hold (None if that isn't known), the exact ones if
-    known, and the reason."""
+    """Whether the numbers of a claim hold (None if unknown), the reason, and the exact ones if known."""
 
     exactness: Exactness | None
     reason: str
@@ -66,7 +64,6 @@ class NumbersJudge:
     threads: int
 
     def findings(self, claims: Sequence[tuple[Claim, Verdict]]) -> list[Finding]:
-        """What is found of each claim, beside our verdict on its machine."""
         made = [ours if isinstance(ours, _PAIRS) else self._pair_of(claim) for claim, ours in claims]
         is_ours = [pair is ours for pair, (_, ours) in zip(made, claims)]
         replies: dict[int, RecurrenceReply] = {}
@@ -155,8 +152,7 @@ def _first_record(machine: str, before: int, until: int, out: int, limits: Limit
 
 
 def _rows(machine: str, start: int, upto: int, every: int, limits: Limits) -> list[Configuration]:
-    """The configurations from a step to another. Raises _Over if they exceed the limits, _Refuted if the machine
-    halts before."""
+    """The configurations from a step to another. Raises _Over, _Refuted if the machine halts before."""
     if upto > limits.steps:
         raise _Over
     for cells in (min(FEW_CELLS, limits.cells), limits.cells):
@@ -170,8 +166,7 @@ def _rows(machine: str, start: int, upto: int, every: int, limits: Limits) -> li
 
 
 def find_start_offset(claims: Iterable[Claim], limits: Limits, plan: Plan, threads: int) -> int:
-    """The difference between each start of a list and the exact one, if it is the same for two or more; otherwise
-    0. Starts of machines without a pair don't count."""
+    """How much later each of two or more starts is than the exact one; 0 unless it is the same for all."""
     given = (claim for claim in claims if claim.start is not None and claim.reading.machine is not None)
     offsets: list[int] = []
     while batch := list(itertools.islice(given, _TOGETHER)):

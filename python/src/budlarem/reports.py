@@ -1,4 +1,4 @@
-"""A report on a list of verdicts, as one HTML file."""
+"""A report on a list of verdicts, as one HTML file, and the growth of the cells that runs visit."""
 
 from __future__ import annotations
 
@@ -18,9 +18,9 @@ import string
 from typing import Any, Iterable, Iterator, Sequence
 
 from ._files import FileTarget, write_blocks
+from ._text import Words
 from .counts import KINDS, VerdictCounts
-from .engine import Configuration
-from .growth import Growth, GrowthSamples, measure_growth
+from .engine import Configuration, trace
 from .limits import Limits, in_range
 from .pictures import mean_colours, png, png_of_colours, row_colours, sample_rows
 from .verdicts import Verdict, size_of, verdicts_of
@@ -59,8 +59,7 @@ class Report:
 
 
 class Statistics(VerdictCounts):
-    """The counts of a list, the distributions of its numbers, and the `most` smallest undecided machines. Raises
-    ValueError with its place for a text that is no verdict line."""
+    """The counts of a list, the distributions of its numbers, and the `most` smallest undecided machines."""
 
     def __init__(self, verdicts: Iterable[str | Verdict], most: int) -> None:
         super().__init__()
@@ -92,7 +91,6 @@ def start_of(place: int) -> float:
 
 
 def _import_matplotlib() -> tuple[Any, Any, Any]:
-    """The parts of matplotlib that a report uses. Raises ReportError."""
     try:
         from matplotlib import rc_context
         from matplotlib.figure import Figure
@@ -104,7 +102,6 @@ def _import_matplotlib() -> tuple[Any, Any, Any]:
 
 
 def plot(counts: collections.Counter[int], name: str) -> str:
-    """A distribution as an SVG image."""
     rc_context, figure_of, locator_of = _import_matplotlib()
     with rc_context({"svg.hashsalt": name, "svg.fonttype": "none", "font.size": 9, "text.color": _INK}):
         figure = figure_of(figsize=(4.6, 2.4), layout="constrained")
@@ -151,6 +148,86 @@ def diagram(rows: Sequence[Configuration]) -> bytes:
     return png_of_colours(wide, len(rows), (mean_colours(line, across, False) for line in lines))
 
 
+# The powers of the steps between which a growth is called a root.
+_ROOT = (0.2, 0.8)
+
+
+class Growth(Words):
+    """The growth of the cells that a run visits; `HALTS` if it ended."""
+
+    STAYS = "stays"
+    LOGARITHM = "logarithm"
+    ROOT = "root"
+    LINE = "line"
+    HALTS = "halts"
+
+
+@dataclasses.dataclass(frozen=True)
+class GrowthSamples:
+    """The cells that a run has visited after a hundredth of `steps`, a tenth, and all, and their growth. `steps`
+    are fewer than asked for if the cells ended the run, or the machine halted."""
+
+    steps: int
+    visited: tuple[int, int, int]
+    growth: Growth
+
+
+def classify_growth(visited: tuple[int, int, int]) -> Growth:
+    """The growth of these counts, each at ten times the steps of the one before."""
+    first, second, third = visited
+    if second == third:
+        return Growth.STAYS
+    power = math.log10(third / first) / 2
+    if power < _ROOT[0]:
+        return Growth.LOGARITHM
+    return Growth.ROOT if power < _ROOT[1] else Growth.LINE
+
+
+def _visited_by_hundredths(machine: str, steps: int, cells: int) -> tuple[bool | None, list[int]]:
+    """Whether the cells ended the run, None if nothing did; the cells visited after each hundredth."""
+    apart = max(steps // 100, 1)
+    rows = trace(machine, steps, cells, apart + steps % apart, apart)
+    found = list(rows)
+    went_on = len(found) == steps // apart and found[-1].state != "Z"
+    return (None if went_on else rows.cut), [len(now.cells) for now in found]
+
+
+def _last_step(machine: str, steps: int, cells: int) -> int:
+    last, apart = 0, max(steps // 100, 1)
+    while True:
+        last = max((now.step for now in trace(machine, steps, cells, last, apart)), default=last)
+        if apart == 1:
+            return last
+        apart = max(apart // 100, 1)
+
+
+def measure_growth(machine: str, steps: int, cells: int = 65_536) -> GrowthSamples:
+    """The growth of the cells that a machine visits, sampled after `steps` / 100, / 10, and all.
+
+    It stays if a tenth of the steps and all have the same cells. Otherwise the power of the steps from the first
+    sample to the last decides: below 0.2 a logarithm, below 0.8 a root, else a line. If the cells end the run,
+    or the machine halts, the steps are those that were made. Raises LimitsError for fewer than 100 steps.
+
+    >>> measure_growth("1RA1RA", steps=10_000).growth
+    <Growth.LINE: 'line'>
+    """
+    in_range("steps", steps, 100, Limits.RANGES["steps"][1])
+    is_cut, counts = _visited_by_hundredths(machine, steps, cells)
+    if is_cut is not None:
+        steps = _last_step(machine, steps, cells)
+    if is_cut is False:
+        rows = (next(trace(machine, at, cells, at)) for at in (steps // 100, steps // 10, steps))
+        first, second, last = (len(now.cells) for now in rows)
+        return GrowthSamples(steps, (first, second, last), Growth.HALTS)
+    if is_cut:
+        counts = _visited_by_hundredths(machine, steps, cells)[1]
+    if len(counts) < 100:
+        last = counts[-1] if counts else 0
+        return GrowthSamples(steps, (last, last, last), Growth.LINE)
+    visited = (counts[len(counts) // 100 - 1], counts[len(counts) // 10 - 1], counts[-1])
+    return GrowthSamples(steps, visited, classify_growth(visited))
+
+
 @dataclasses.dataclass(frozen=True)
 class MachineDiagram:
     """An undecided machine of the report."""
@@ -161,8 +238,6 @@ class MachineDiagram:
 
 
 def trace_all(machines: Sequence[str], steps: int, cells: int, threads: int) -> list[MachineDiagram]:
-    """Traces machines for the report, on so many threads, in order."""
-
     def trace_machine(machine: str) -> MachineDiagram:
         rows, _ = sample_rows(machine, steps, cells, SIZE)
         return MachineDiagram(machine, measure_growth(machine, steps, cells), diagram(rows))
@@ -248,12 +323,10 @@ def report(
     cells.
 
     An undecided machine is run again, up to `steps` and `cells`, on `threads` (default: all cores). The list is
-    read once and not held. The file at `path` is replaced atomically; a link there isn't followed. A notebook
-    shows the result.
+    read once and not held. The file at `path` is replaced atomically. A notebook shows the result.
 
-    Raises ReportError without matplotlib, before anything is read. Raises ValueError with its place for a
-    text that is no verdict line. Raises OSError if the file can't be written, `path` is a link or a folder,
-    or another file is made there meanwhile.
+    Raises ReportError without matplotlib, before anything is read; ValueError with its place for a text that is
+    no verdict line; OSError if the file can't be written, is a link or folder, or is made meanwhile.
     """
     in_range("diagrams", diagrams, 0, 1_000_000)
     in_range("steps", steps, 100, Limits.RANGES["steps"][1])

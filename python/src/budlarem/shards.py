@@ -58,26 +58,11 @@ class Plan:
     limits: Limits
     recurrence: bool = False
 
-    def to_json(self) -> str:
-        return json.dumps(dataclasses.asdict(self), indent=1) + "\n"
-
-    @classmethod
-    def from_json(cls, text: str) -> Plan:
-        """Reads a plan. Raises FolderError if it is none."""
-        try:
-            fields: dict[str, Any] = json.loads(text)
-            fields["limits"] = Limits(**fields["limits"])
-            return cls(**fields)
-        except (KeyError, TypeError, ValueError) as error:
-            raise FolderError("plan.json is no plan of shards: %s" % error) from None
-
     def list_command(self, *words: str) -> list[str]:
-        """The command that lists its machines."""
         size = ["--states", str(self.states), "--symbols", str(self.symbols)]
         return [LISTER, *size, "--steps", str(self.list_steps), *words]
 
     def shards_options(self) -> list[str]:
-        """The options of `budlarem shards` that make this plan."""
         size = ["--states", str(self.states), "--symbols", str(self.symbols), "--entries", str(self.entries)]
         size += ["--recurrence"] if self.recurrence else []
         return [*size, "--list-steps", str(self.list_steps), *self.options()]
@@ -147,8 +132,7 @@ class Shard(NamedTuple):
 
 
 def create(folder: str, plan: Plan) -> None:
-    """Creates a folder for a plan, or returns if it has that plan. Raises FolderError if it has another one,
-    RunError if the machines can't be listed, OSError."""
+    """Creates a folder for a plan, unless it has it. Raises FolderError if it has another, RunError."""
     os.makedirs(os.path.join(folder, "shards"), exist_ok=True)
     path = os.path.join(folder, PLAN)
     with contextlib.suppress(FileNotFoundError):
@@ -157,13 +141,18 @@ def create(folder: str, plan: Plan) -> None:
         return
     machines = pipe_blocks([plan.list_command("--shards", str(plan.entries))])
     write_whole(os.path.join(folder, MACHINES), machines)
-    write_whole(path, [plan.to_json().encode()])
+    write_whole(path, [json.dumps(dataclasses.asdict(plan), indent=1).encode() + b"\n"])
 
 
 def read_plan(folder: str) -> Plan:
-    """The plan of a folder. Raises FolderError, OSError."""
     with open(os.path.join(folder, PLAN), encoding="utf-8") as file:
-        return Plan.from_json(file.read())
+        text = file.read()
+    try:
+        fields: dict[str, Any] = json.loads(text)
+        fields["limits"] = Limits(**fields["limits"])
+        return Plan(**fields)
+    except (KeyError, TypeError, ValueError) as error:
+        raise FolderError("plan.json is no plan of shards: %s" % error) from None
 
 
 def read_machines(folder: str) -> Iterator[tuple[str, bool]]:
@@ -216,8 +205,7 @@ def pending(folder: str) -> list[str]:
 
 
 def run_shard(folder: str, machine: str) -> str:
-    """Lists, decides and checks one shard; returns its line, which is stored too. A finished shard isn't run
-    again. Raises CheckError if `cover` refuses its list, RunError if a program fails, OSError."""
+    """Lists, decides and checks a shard, unless it is finished. Raises CheckError, RunError."""
     plan, line = read_plan(folder), shard_line(folder, machine)
     if line is not None:
         return line
@@ -238,9 +226,7 @@ def run_shard(folder: str, machine: str) -> str:
 
 
 def join(folder: str) -> str:
-    """Writes skeleton, holdouts and summary of the finished shards; returns the line that `cover` prints of the
-    skeleton. Raises FolderError if a shard isn't finished or was changed, CheckError if `cover` refuses the
-    skeleton, RunError, OSError."""
+    """Writes skeleton, holdouts, summary; returns the line of `cover`. Raises FolderError, CheckError."""
     plan, left = read_plan(folder), pending(folder)
     if left:
         raise FolderError("%d shards aren't finished; the first is %s" % (len(left), left[0]))
@@ -262,8 +248,7 @@ def join(folder: str) -> str:
 
 
 def cover_skeleton(path: str, plan: Plan) -> str:
-    """The line that `cover` prints of a skeleton. Raises CheckError if it refuses the skeleton, RunError,
-    OSError."""
+    """The line that `cover` prints of a skeleton. Raises CheckError if it refuses the skeleton, RunError."""
     with open(path, "rb") as file:
         blocks = iter(lambda: file.read(_BLOCK), b"")
         found = _cover(["--skeleton", *plan.options()], blocks, lambda _: None)
@@ -285,7 +270,6 @@ def digests(plan: Plan) -> dict[str, str]:
 
 
 def sha256_of(path: str) -> str:
-    """The sha256 of a file. Raises OSError."""
     sha256 = hashlib.sha256()
     with open(path, "rb") as file:
         for block in iter(lambda: file.read(_BLOCK), b""):
@@ -301,7 +285,6 @@ class Total(VerdictReader):
         self.shards, self.seconds = 0, 0.0
 
     def add(self, shard: Shard) -> None:
-        """Adds a shard."""
         self.shards, self.seconds = self.shards + 1, self.seconds + shard.seconds
         self.counts.merge(shard.counts)
         if self.recurrences is not None:
@@ -323,7 +306,6 @@ def _holdouts(folder: str, total: Total) -> Iterator[bytes]:
 
 
 def _skeleton(folder: str, plan: Plan) -> Iterator[bytes]:
-    """The lines of a skeleton."""
     decided = "".join(machine + "\n" for machine, is_shard in read_machines(folder) if not is_shard)
     command = [_find(DECIDER), "decide", *plan.options()]
     done = subprocess.run(command, input=decided.encode("ascii"), stdout=subprocess.PIPE)
@@ -348,8 +330,7 @@ def _require_success(program: str, status: int) -> None:
 
 
 def pipe_blocks(commands: Sequence[Sequence[str]]) -> Iterator[bytes]:
-    """The output of programs in a pipe, in blocks. Raises RunError if one fails or can't be found; none is
-    started then."""
+    """The output of programs in a pipe, in blocks. Raises RunError if one fails or can't be found."""
     paths = [_find(command[0]) for command in commands]
     running: list[subprocess.Popen[bytes]] = []
     given: int | IO[bytes] | None = subprocess.DEVNULL

@@ -13,8 +13,8 @@ from ._library import cost_of_check
 from ._text import LONGEST_SHOWN
 from .engine import Call, answer_file, check_call, decide, recurrence_call
 from .limits import Limits, Plan
-from .recurrence import RecurrenceReply, parse_recurrence
-from .verdicts import Answer, Backward, Cycler, Halt, Translated, Verdict, parse
+from .verdicts import Answer, Backward, Cycler, Halt, RecurrenceReply, Translated, Verdict, parse
+from .verdicts import parse_recurrence
 
 # With so few cells a call costs little.
 FEW_CELLS = 65_536
@@ -38,15 +38,13 @@ class Unconfirmed(NamedTuple):
 
 @dataclasses.dataclass
 class CheckSummary:
-    """The count of each answer so far, the first unconfirmed line, and the number of recurrences that quasihalt. A
-    recurrence counts as `OK`."""
+    """The count of each answer, a recurrence as `OK`; the first unconfirmed line; the quasihalting ones."""
 
     counts: collections.Counter[Answer] = dataclasses.field(default_factory=collections.Counter)
     first: Unconfirmed | None = None
     quasihalts: int = 0
 
     def add(self, lines: bytes, replies: bytes) -> None:
-        """Counts the replies to some lines."""
         answers = _RECURRENCE.sub(b"ok", replies)
         if self.first is None:
             self.first = find_unconfirmed(lines, answers, sum(self.counts.values()))
@@ -54,15 +52,6 @@ class CheckSummary:
             # No answer ends as another.
             self.counts[answer] += answers.count(b"%s\n" % str(answer).encode())
         self.quasihalts += replies.count(b" quasihalts ")
-
-
-def answer_blocks(
-    file: BinaryReader, call: Call, limits: Limits, threads: int, summary: CheckSummary
-) -> Iterator[bytes]:
-    """The replies of a call to the verdict lines of a file, in blocks, counted in `summary`."""
-    for lines, replies in answer_file(file, call, limits, threads=threads):
-        summary.add(lines, replies)
-        yield replies
 
 
 class CheckCost(NamedTuple):
@@ -83,8 +72,7 @@ class CheckCost(NamedTuple):
 
 
 def cost_of_file(file: BinaryReader, limits: Limits) -> CheckCost:
-    """The most that checking a file can cost under these limits, from the numbers in its lines. No claim is
-    checked. Raises OSError, ValueError for the file; LibraryError."""
+    """The most that checking a file can cost under these limits, from the numbers in its lines."""
     cost, before = CheckCost(0, 0, 0, 0), 0
     for lines in whole_lines(iter(lambda: file.read(_BLOCK), b"")):
         more = cost_of_check(limits.numbers(), lines)
@@ -150,12 +138,10 @@ def _wrong_part(verdict: Verdict, limits: Limits) -> str:
 
 
 def answers_of(claims: Sequence[Verdict], limits: Limits, threads: int) -> list[Answer]:
-    """The checker's answer to each claim."""
     return list(map(Answer, _replies_to(claims, check_call, limits, threads)))
 
 
 def recurrences_of(claims: Sequence[Verdict], limits: Limits, threads: int) -> list[RecurrenceReply]:
-    """The recurrence behind each pair, or its answer."""
     return list(map(parse_recurrence, _replies_to(claims, recurrence_call, limits, threads)))
 
 

@@ -73,13 +73,11 @@ def require_end(case: Case, status: int, right: bytes) -> None:
 
 
 def require_sentence(case: Case, process: Process, text: str) -> None:
-    """Waits until the run prints something."""
     assert wait_until(process, lambda: text in case.output()), case.output()
 
 
 @pytest.mark.parametrize("lines", [1_000, pytest.param(10_000, marks=pytest.mark.slow)])
 def test_killed_worker(bb: str, tmp_path: pathlib.Path, lines: int) -> None:
-    """One of two workers is killed in the middle of a line."""
     given = quick_list(bb, lines, 1)
     with cluster(2, tmp_path) as found:
         case = case_of(found, "killed", given + LONG_MACHINE + given, (QUICK_PASS, LONG_PASS))
@@ -192,7 +190,6 @@ def test_wrong_worker(few: Given, tmp_path: pathlib.Path, what: str) -> None:
 
 @pytest.mark.slow
 def test_runner(bb: str, tmp_path: pathlib.Path, rng: random.Random) -> None:
-    """The runner is killed at random moments, and interrupted."""
     with cluster(2, tmp_path) as found:
         case = case_of(found, "runner", random_list(20_000, 1))
         right = expected_verdicts(bb, case.list.read_bytes(), PASSES)

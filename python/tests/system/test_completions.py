@@ -40,8 +40,6 @@ def help_of(command: Sequence[str]) -> str:
 
 
 class Shell:
-    """A shell that is asked what may stand at the end of a command line."""
-
     def __init__(self, name: str, files: pathlib.Path, cwd: pathlib.Path) -> None:
         self.name, self.files, self.cwd = name, files, cwd
 

@@ -85,8 +85,7 @@ def test_printed(tmp_path: pathlib.Path) -> None:
 
 
 def test_translation(tmp_path: pathlib.Path) -> None:
-    """The translation of a table's words comes first, with counts, and a file changes it; numbers with groups
-    are one number to all three commands that read claims."""
+    """The words' translation comes first, and a file changes it; numbers with groups are numbers."""
     table = ["machine,halts,steps,score", '%s,Yes,"47,176,870","4,098"' % CHAMPION]
     table += ["1RA1RA,no,,", "1RA1RA,?,,"]
     path, plain, word_file = tmp_path / "table.csv", tmp_path / "plain.txt", tmp_path / "words.txt"
@@ -126,22 +125,18 @@ def test_empty_lines(tmp_path: pathlib.Path) -> None:
     assert spent["read"] < 30 * 1.5
 
 
-def in_some_form(source: random.Random, machine: str) -> str:
-    text = source.choice(("_", "_", " ", "")).join(machine.split("_"))
-    if source.random() < 0.2:
-        text = text.replace("---", "...")
-    if source.random() < 0.2 and machine.count("_") < 7:
-        text = text.replace("Z", "H")
-    if source.random() < 0.2:
-        text = text.lower()
-    around = source.choice(AROUND)
-    return around % ((text,) * around.count("%s"))
-
-
-def lines_in_some_form(count: int) -> list[tuple[str, str]]:
-    """Random machines, and lines that have them in random forms."""
+def lines_in_some_form(count: int) -> Iterator[tuple[str, str]]:
     source = random.Random(1)
-    return [(machine, in_some_form(source, machine)) for machine in mixed_machines(count, 1)]
+    for machine in mixed_machines(count, 1):
+        text = source.choice(("_", "_", " ", "")).join(machine.split("_"))
+        if source.random() < 0.2:
+            text = text.replace("---", "...")
+        if source.random() < 0.2 and machine.count("_") < 7:
+            text = text.replace("Z", "H")
+        if source.random() < 0.2:
+            text = text.lower()
+        around = source.choice(AROUND)
+        yield machine, around % ((text,) * around.count("%s"))
 
 
 @pytest.mark.parametrize("count", [2_000, pytest.param(20_000, marks=pytest.mark.slow)])
@@ -217,8 +212,7 @@ def verdicts_of(count: int) -> Sequence[Verdict]:
 
 @pytest.mark.parametrize("count", [2_000, pytest.param(10_000, marks=pytest.mark.slow)])
 def test_forged_claims(bb: str, rng: random.Random, count: int) -> None:
-    """True claims are confirmed, and none is called contradicted; each forged one that the program refutes is
-    named, and none is confirmed that it doesn't confirm."""
+    """True claims are confirmed, and of forged ones just those that the program confirms."""
     claims, limits = list(map(str, verdicts_of(count))), Limits(*LIMITS)
     judged = budlarem.judge(claims, limits=limits, threads=2)
     assert {one.judgement for one in judged} == {Judgement.CONFIRMED}
@@ -233,7 +227,6 @@ def test_forged_claims(bb: str, rng: random.Random, count: int) -> None:
 
 @pytest.mark.parametrize("line", ["17,%s,%s", "17;%s;%s", "17\t%s\t%s", "| 17 | %s | %s |"])
 def test_words(line: str, rng: random.Random) -> None:
-    """True words of a table are confirmed, swapped ones contradicted, with each separator."""
     never = ["nonhalt", "infinite", "cycler", "Translated Cyclers", "bouncers", "FAR"]
     words = never, ["halt", "halts", "halting"]
     for is_swapped, right in ((False, Judgement.CONFIRMED), (True, Judgement.CONTRADICTED)):
@@ -247,7 +240,6 @@ def test_words(line: str, rng: random.Random) -> None:
 
 
 def test_table() -> None:
-    """The document lists the words that count."""
     text = DOCUMENT.read_text(encoding="utf-8")
     table = text.partition("| It says | Words |\n")[2].partition("\n\n")[0]
     words = {word for row in table.splitlines()[1:] for word in row.split("|")[2].replace(",", " ").split()}
@@ -319,7 +311,6 @@ def examples() -> Iterator[tuple[str, str]]:
 
 
 def test_examples() -> None:
-    """The document's commands write what it shows."""
     shown = list(examples())
     assert len(shown) >= 4
     script = 'budlarem() { "%s" -m budlarem "$@"; }\n' % sys.executable

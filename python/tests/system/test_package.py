@@ -55,7 +55,6 @@ def list_of(count: int) -> list[str]:
 
 @pytest.mark.parametrize("row", ROWS)
 def test_rows_of_limits(bb: str, row: Row) -> None:
-    """Each plan at each row of limits."""
     for switches in itertools.product((0, 1), repeat=3):
         off = [word for word, is_off in zip(SIMULATION, switches) if is_off]
         require_deciding(bb, row, off, list_of(300), 1)
@@ -69,7 +68,6 @@ def require_parse(lines: Sequence[str], answers: Sequence[str]) -> None:
 
 
 def parse_line(line: str) -> object:
-    """The line of what a line is parsed to; None where it isn't."""
     try:
         return str(budlarem.parse(line))
     except ValueError:
@@ -158,7 +156,6 @@ def test_comparisons_and_normal_forms(rng: random.Random) -> None:
 @pytest.mark.parametrize("count", [500_000, pytest.param(10_000_000, marks=pytest.mark.slow)])
 @pytest.mark.parametrize("how", ["decide", "bytes"])
 def test_memory(how: str, count: int) -> None:
-    """The most memory that a long list takes is that of a short one."""
     commands = ([sys.executable, "-c", MEMORY, str(lines), how] for lines in (100_000, count))
     few, many = (int(run_command(command).output) for command in commands)
     print("%s: %d KB for 100,000 lines, %d KB for %d" % (how, few, many, count))

@@ -16,7 +16,6 @@ WHITE, BLACK, GREY, RED = (255, 255, 255), (20, 20, 20), (225, 225, 225), (220, 
 
 
 def rows_of(picture: budlarem.Picture) -> list[list[tuple[int, ...]]]:
-    """The rows of a picture, each pixel as its colour."""
     image = Image.open(io.BytesIO(picture.png)).convert("RGB")
     pixels = list(image.getdata())
     return [pixels[begin : begin + image.width] for begin in range(0, len(pixels), image.width)]
@@ -72,25 +71,22 @@ def test_scaled_down(upto: int, rows: int, across: int) -> None:
     assert (cut.across, cut.is_part, len(rows_of(cut)[0])) == (1, True, 100)
 
 
-@pytest.mark.parametrize("option", ["every", "rows", "columns", "scale"])
-def test_sizes_below_one(option: str) -> None:
-    asked: Any = {option: 0}
-    with pytest.raises(budlarem.LimitsError, match=option):
-        budlarem.picture(GOES_RIGHT, 3, **asked)
+WRONG: list[tuple[dict[str, int], type[Exception], str]] = [
+    *(({option: 0}, budlarem.LimitsError, option) for option in ("every", "rows", "columns", "scale")),
+    ({"left": 5, "right": 4}, budlarem.PictureError, "no position"),
+    ({"scale": 100_000}, budlarem.PictureError, "160,000,000,000 pixels.*lower scale to 2500"),
+    ({"scale": 2_501}, budlarem.PictureError, "lower scale to 2500"),
+    ({"columns": 100_000_001, "left": 0, "right": 10**8}, budlarem.PictureError, "lower rows or columns"),
+]
 
 
-def test_what_cannot_be_drawn() -> None:
+@pytest.mark.parametrize("asked, error, text", WRONG)
+def test_what_cannot_be_drawn(asked: Any, error: type[Exception], text: str) -> None:
     """What is too large is refused by a line that says what would do."""
-    with pytest.raises(budlarem.PictureError, match="no position"):
-        budlarem.picture(GOES_RIGHT, 3, left=5, right=4)
+    with pytest.raises(error, match=text):
+        budlarem.picture(GOES_RIGHT, 0 if "columns" in asked else 3, **asked)
     with pytest.raises(budlarem.MachineError):
         budlarem.picture("1RA", 3)
-    with pytest.raises(budlarem.PictureError, match="160,000,000,000 pixels.*lower scale to 2500"):
-        budlarem.picture(GOES_RIGHT, 3, scale=100_000)
-    with pytest.raises(budlarem.PictureError, match="lower scale to 2500"):
-        budlarem.picture(GOES_RIGHT, 3, scale=2_501)
-    with pytest.raises(budlarem.PictureError, match="lower rows or columns"):
-        budlarem.picture(GOES_RIGHT, 0, columns=100_000_001, left=0, right=100_000_000)
 
 
 def test_first_command_of_readme(bb: str) -> None:

@@ -79,7 +79,6 @@ def memory_for(steps: int, path: pathlib.Path) -> int:
 
 
 def test_memory(tmp_path: pathlib.Path) -> None:
-    """It keeps nothing for a step."""
     few, many = (memory_for(steps, tmp_path / "claim.txt") for steps in (2, 2_000_000))
     assert 0 < few and 0 < many < few + 1_024, (few, many)
 
@@ -100,8 +99,7 @@ def test_verdicts_on_four_states(bb: str, list_machines: ListMachines, every: st
 
 
 def is_right(line: bytes, printed: bytes, answer: bytes) -> bool:
-    """Whether recheck.py answers a line as the program does. It has no bound on levels: a tree never has more
-    of them than nodes."""
+    """Whether an answer is the program's; a tree never has more levels than nodes, which have the bound."""
     if printed == b"over" and b" backward " in line and int(line.split(b" ")[2]) > NODES:
         return answer in (b"too long", b"false")
     return answer.decode() == WORDS[printed.decode()]

@@ -43,15 +43,18 @@ def test_kills(bb: str, tmp_path: pathlib.Path, rng: random.Random, count: int, 
     assert summary["lines"] == lines
 
 
+def endless_case(top: pathlib.Path) -> Case:
+    case = Case(top, b"1RZ---\n" * 30 + LONG_MACHINE * 3)
+    case.words = ["--pass", LONG_PASS, "--threads", "2"]
+    return case
+
+
 @pytest.mark.slow
 def test_interruption(tmp_path: pathlib.Path) -> None:
     """SIGINT ends 1,000,000,000,000 steps within a second; a second run is refused meanwhile."""
-    case = Case(tmp_path / "interruption", b"1RZ---\n" * 30 + LONG_MACHINE * 3)
-    case.words = ["--pass", LONG_PASS, "--threads", "2"]
+    case = endless_case(tmp_path / "interruption")
     with case.start() as process:
-        for _ in range(30):
-            wait_until(process, lambda: case.chunks() > 0)
-        assert wait_until(process, lambda: is_at_work(process.pid)), case.output()
+        assert wait_until(process, lambda: case.chunks() > 0 and is_at_work(process.pid)), case.output()
         second = Case(tmp_path / "second", b"")
         second.list, second.out, second.words = case.list, case.out, case.words
         second.require_error(2, "another run works in")
@@ -68,7 +71,6 @@ def require_after_fault(case: Case, status: int, sentence: str, right: bytes) ->
 
 @pytest.mark.slow
 def test_full_disk(bb: str, tmp_path: pathlib.Path) -> None:
-    """A file that may not grow, and a file system without room."""
     given = random_list(6_000, 5)
     right = expected_verdicts(bb, given, PASSES)
     case = Case(tmp_path / "sizes", given)
@@ -88,8 +90,7 @@ def test_full_disk(bb: str, tmp_path: pathlib.Path) -> None:
 @pytest.mark.slow
 @pytest.mark.parametrize("grows", [True, False])
 def test_list_that_changes(bb: str, tmp_path: pathlib.Path, grows: bool) -> None:
-    """The list grows while it is read, or other machines stand in its later half; then it is as it was. The
-    process is stopped meanwhile, so that it can't be at the end."""
+    """The list grows or changes while it is read, and the run is stopped meanwhile; then it is as before."""
     given = random_list(60_000, 6)
     right = expected_verdicts(bb, given, [QUICK_PASS])
     case = Case(tmp_path / "changing", given, [QUICK_PASS])
@@ -135,9 +136,7 @@ def test_folder_that_is_a_file(tmp_path: pathlib.Path) -> None:
 
 @pytest.mark.parametrize("number", [signal.SIGTERM, signal.SIGHUP])
 def test_signals(tmp_path: pathlib.Path, number: signal.Signals) -> None:
-    """SIGTERM and SIGHUP end a run with a line."""
-    case = Case(tmp_path / "case", b"1RZ---\n" * 30 + LONG_MACHINE * 3)
-    case.words = ["--pass", LONG_PASS, "--threads", "2"]
+    case = endless_case(tmp_path / "case")
     with case.start() as process:
         wait_until(process, lambda: case.chunks() > 0 and is_at_work(process.pid))
         process.send_signal(number)
@@ -151,8 +150,7 @@ def test_signals(tmp_path: pathlib.Path, number: signal.Signals) -> None:
 
 @pytest.mark.slow
 def test_slow_input(bb: str, tmp_path: pathlib.Path) -> None:
-    """Standard input that is empty for a while, and says so (O_NONBLOCK); a compressed list by a pipe, whose
-    first bytes come one by one."""
+    """Standard input that is empty for a while, also non-blocking, and a compressed one byte by byte."""
     given = random_list(400, 10)
     right = expected_verdicts(bb, given, PASSES)
     packed = gzip.compress(given)
@@ -239,8 +237,7 @@ def limit_resources(*limits: tuple[int, int]) -> Callable[[], None]:
 
 @pytest.mark.slow
 def test_no_memory(tmp_path: pathlib.Path) -> None:
-    """No memory, and no threads, also while a long machine is under way: the run ends at once, with status 3
-    and a sentence, or the limit is enough and it is at work."""
+    """Without memory or threads the run ends at once with status 3 and a sentence, or is at work."""
     sizes = (56, 80, 120, 160, 200, 280, 400)
     faults = [("%d MB" % size, (resource.RLIMIT_AS, size << 20)) for size in sizes]
     faults += [("%d threads" % count, (resource.RLIMIT_NPROC, count)) for count in range(1, 9)]

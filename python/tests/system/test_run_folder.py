@@ -44,7 +44,6 @@ def stop_run(case: Case) -> Iterator[Process]:
 
 
 def slow_case(tmp_path: pathlib.Path, name: str, seed: int, passes: int = 1) -> Case:
-    """A case whose run takes a second or more."""
     case = Case(tmp_path / name, random_list(LINES, seed), TWO_PASSES[:passes])
     case.words += SLOWLY
     return case
@@ -138,7 +137,6 @@ LINKED = (
 
 @pytest.mark.parametrize("files", MINE.values(), ids=MINE)
 def test_files_of_somebody_else(tmp_path: pathlib.Path, files: dict[str, str]) -> None:
-    """A folder of somebody else stays as it is."""
     case = Case(tmp_path / "foreign", MACHINE, [QUICK_PASS])
     for name, text in files.items():
         path = case.out / name
@@ -185,8 +183,7 @@ def require_link(case: Case, name: str) -> None:
 
 
 def test_begun(bb: str, tmp_path: pathlib.Path) -> None:
-    """In a folder that a run began links and pipes are refused; a part of somebody else stays, and the run
-    goes on."""
+    """Links and pipes in a run's folder are refused; parts of somebody else stay, and the run goes on."""
     case = Case(tmp_path / "begun", random_list(300, 51), [QUICK_PASS])
     case.run()
     for name in ("README.txt", "verdicts.txt", "summary.json", "run.json", "pass-1/journal", "pass-1"):

@@ -70,7 +70,6 @@ def test_array_jobs(whole: Whole, out: pathlib.Path) -> None:
 
 
 def test_summary_and_holdouts(bb: str, list_machines: ListMachines, out: pathlib.Path) -> None:
-    """They are those of the list in one piece."""
     limits = ["--steps", "50"]
     run("shards", out, *PLAN, "--list-steps", "50", *limits)
     lines = replies([bb, "decide", *limits], list_machines(3, *limits))

@@ -32,7 +32,6 @@ _SENTENCES["recurrence"] = ""
 
 
 def commands(tmp_path: pathlib.Path) -> dict[str, list[str]]:
-    """Commands that take hours, by name."""
     listed, verdicts = tmp_path / "list.txt", tmp_path / "verdicts.txt"
     pairs = tmp_path / "pairs.txt"
     for path, line in ((listed, LONG_MACHINE), (verdicts, ENDLESS), (pairs, ENDLESS_PAIR)):
@@ -55,8 +54,7 @@ def imports_in(text: str) -> int:
 def result_after_signal(
     more: list[str], number: int, imports: int, seconds: float, log: pathlib.Path
 ) -> tuple[int, str]:
-    """The status of a command that is sent a signal after so many imports, from the first one of the package
-    on, or after the last one, and then so many seconds; and what it says."""
+    """What a command prints, and its status, after a signal so many imports, or then seconds, after its start."""
     command = [sys.executable, "-X", "importtime", "-m", "budlarem", *more]
     with open(log, "wb") as file:
         process = subprocess.Popen(command, stdout=file, stderr=file, preexec_fn=restore_signals)
@@ -86,7 +84,6 @@ def result_after_signal(
     ],
 )
 def test_signals(tmp_path: pathlib.Path, name: str, number: signal.Signals, step: int) -> None:
-    """Signals among the imports, and some moments later."""
     moments = [(imports, 0.0) for imports in range(1, 160, step)]
     moments += [(1_000, 0.01 * hundredths) for hundredths in range(0, 20, max(step // 2, 1))]
     for imports, seconds in moments:
@@ -96,7 +93,6 @@ def test_signals(tmp_path: pathlib.Path, name: str, number: signal.Signals, step
 
 
 def result_of(more: list[str], library: pathlib.Path | None = None) -> tuple[int, bytes]:
-    """The status of a command over a library, and what it says and writes."""
     variables = dict(os.environ) if library is None else {**os.environ, "BB_LIBRARY": str(library)}
     how = subprocess.run([sys.executable, "-m", "budlarem", *more], env=variables, capture_output=True)
     return how.returncode, how.stdout + how.stderr

@@ -52,8 +52,7 @@ PYTEST += ["hypothesis", "sortedcontainers"]
 def run(
     command: list[str], path: str = "", cwd: pathlib.Path = PACKAGE, given: str | None = None
 ) -> tuple[int, str]:
-    """The status of a command and all that it writes, in an environment with this PYTHONPATH, in which
-    nothing else says where the package or the library is."""
+    """The status and output of a command to which no variable says where the package or the library is."""
     hidden = ("PYTHONPATH", "BB_LIBRARY", "PYTHONHOME", "VIRTUAL_ENV")
     variables = {name: value for name, value in os.environ.items() if name not in hidden}
     variables.update({"PYTHONPATH": path} if path else {})
@@ -120,8 +119,7 @@ def test_library_asks_for_no_newer_glibc(wheel_library: pathlib.Path) -> None:
 @pytest.mark.slow
 @pytest.mark.needs("pip3", modules=("setuptools", "wheel"))
 def test_wheel(bb: str, wheel_library: pathlib.Path, tmp_path: pathlib.Path) -> None:
-    """The wheel: twice the same bytes; by the oldest and the newest Python its first run, its unit tests, its
-    commands, and what it says where its library was cut."""
+    """Two builds are the same bytes; it works by the oldest and newest Python, and notices a cut library."""
     wheels = []
     for name in ("first", "again"):
         words = ["--library", str(wheel_library), "--out", str(tmp_path / name)]

@@ -35,7 +35,6 @@ pytestmark = pytest.mark.usefixtures("bb", "cover", "library", "lister")
 
 
 def start(out: pathlib.Path, *words: str) -> subprocess.Popen[bytes]:
-    """Starts the script, in a group of processes of its own."""
     how: dict[str, Any] = {"stdout": subprocess.PIPE, "stderr": subprocess.PIPE, "start_new_session": True}
     return subprocess.Popen([SCRIPT, "--out", str(out), *words], preexec_fn=restore_signals, **how)
 

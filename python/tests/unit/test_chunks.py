@@ -1,20 +1,24 @@
-"""The parts of the runner: cutting a list, the journal, the look at replies, and the pace."""
+"""The parts of the runner: its input and page, chunks, the journal, the validation of replies, and the pace."""
 
 import contextlib
 import dataclasses
 import gzip
 import itertools
 import os
+import pathlib
+import shlex
 import unittest.mock
 from typing import Any, Iterator
 
 import hypothesis
 import pytest
-from budlarem import _files
-from budlarem.runner import chunks, input, journal, passes
+from budlarem import PublishError, _files, publish
+from budlarem._text import LONGEST_GIVEN
+from budlarem.runner import chunks, errors, input, journal, passes
 from budlarem.runner.errors import ReplyError, RunError
 from hypothesis import strategies as st
-from support.runner import KINDS, LIST, MIDDLE, PASSES, SMALL, RunCase, counts_of, expected_verdicts
+from support.runner import KINDS, LIST, MIDDLE, PASSES, SMALL, RunCase, call_command, counts_of
+from support.runner import expected_verdicts
 
 
 def take_all(blocks: Iterator[bytes], lines: int, size: int) -> list[bytes]:
@@ -39,8 +43,7 @@ def test_chunks_are_the_same_however_the_bytes_come(
     assert take_all(blocks, lines, size) == chunks
     ends = texts if texts and texts[-1] else texts[:-1]
     assert b"".join(chunks) == b"".join(text[:1_024] + b"\n" for text in ends)
-    case.list.write_bytes(given)
-    with contextlib.closing(input.ListFile(str(case.list))) as listed:
+    with list_of(case, given) as listed:
         plain = listed.lines()
         of_file = list(iter(lambda: plain.take(lines, size), b""))
     assert b"".join(of_file) == b"".join(chunks)
@@ -58,12 +61,9 @@ def test_chunks_are_as_large_as_may_be() -> None:
 
 def test_gzip_and_empty_lists(case: RunCase) -> None:
     for given in (b"", b"\n", b"1RZ---", LIST):
-        path = case.top / "list"
         for written in (given, gzip.compress(given) + gzip.compress(b"")):
-            path.write_bytes(written)
-            listed = input.ListFile(str(path))
-            assert b"".join(listed.blocks) == given
-            listed.close()
+            with list_of(case, written) as listed:
+                assert b"".join(listed.blocks) == given
 
 
 def test_a_cut_gzip_file(case: RunCase) -> None:
@@ -73,13 +73,11 @@ def test_a_cut_gzip_file(case: RunCase) -> None:
 
 
 def test_a_list_that_changes(case: RunCase) -> None:
-    listed = input.ListFile(str(case.list))
-    case.callback(listed.close)
-    blocks = listed.blocks
-    next(blocks)
-    case.list.write_bytes(LIST + KINDS)
-    with pytest.raises(RunError, match="changed while it was read"):
-        list(blocks)
+    with list_of(case, LIST) as listed:
+        next(listed.blocks)
+        case.list.write_bytes(LIST + KINDS)
+        with pytest.raises(RunError, match="changed while it was read"):
+            list(listed.blocks)
 
 
 class JournalCase:
@@ -234,3 +232,157 @@ def test_a_chunk_lasts_some_seconds() -> None:
         assert sizes[0] == 1
         assert all(after <= 8 * before for before, after in zip(sizes, sizes[1:]))
         assert sizes[-1] in (1, 20_000) or 0.7 <= sizes[-1] * cost / lasting <= 1.3, sizes
+
+
+MACHINE_LINE = b"1RB1LB_1LA1RZ\n"
+SMALL_PASS = ["--pass", "steps=30,cells=16,depth=3,nodes=5"]
+UNFINISHED = "has no verdicts.txt: that run isn't finished"
+
+
+@contextlib.contextmanager
+def pipe(given: bytes) -> Iterator[tuple[input.ListFile, int]]:
+    """A list that comes by a pipe, in which these bytes are, and the pipe's other end."""
+    reading, writing = os.pipe()
+    os.write(writing, given)
+    try:
+        with contextlib.closing(input.ListFile("/dev/fd/%d" % reading)) as listed:
+            yield listed, writing
+    finally:
+        os.close(reading)
+
+
+def all_lines(listed: input.ListFile) -> bytes:
+    lines = listed.lines()
+    return b"".join(iter(lambda: lines.take(7, 1_000), b""))
+
+
+@contextlib.contextmanager
+def list_of(case: RunCase, given: bytes) -> Iterator[input.ListFile]:
+    case.list.write_bytes(given)
+    with contextlib.closing(input.ListFile(str(case.list))) as listed:
+        yield listed
+
+
+def test_first_lines_are_given_again(case: RunCase) -> None:
+    for count in (0, 1, 999, 1_000, 1_001, 200_000):
+        given = MACHINE_LINE * count
+        for data in (given, gzip.compress(given)):
+            with list_of(case, data) as listed:
+                assert listed.first_lines(1_000) == [MACHINE_LINE[:-1]] * min(count, 1_000)
+                assert all_lines(listed) == given
+    with list_of(case, MACHINE_LINE + b"1RA1RA") as listed:
+        assert listed.first_lines(2) == [MACHINE_LINE[:-1], b"1RA1RA"]
+
+
+def test_a_list_that_has_no_newline_is_not_held_whole(case: RunCase) -> None:
+    with list_of(case, gzip.compress(os.urandom(4_000_000).replace(b"\n", b""))) as listed:
+        assert [len(line) for line in listed.first_lines(1_000)] == [LONGEST_GIVEN]
+        assert (listed.fraction(0) or 1.0) < 0.7
+
+
+def test_a_pause() -> None:
+    given = b"# a head\n" + MACHINE_LINE
+    with unittest.mock.patch.object(input, "_PAUSE", 0.01), pipe(given) as (listed, writing):
+        assert listed.first_lines(1_000) == []
+        os.write(writing, MACHINE_LINE)
+        os.close(writing)
+        assert all_lines(listed) == given + MACHINE_LINE
+
+
+def test_no_pause() -> None:
+    with pipe(MACHINE_LINE * 2) as (listed, writing):
+        os.close(writing)
+        assert listed.first_lines(1_000) == [MACHINE_LINE[:-1]] * 2
+        assert all_lines(listed) == MACHINE_LINE * 2
+
+
+def test_more_than_half(case: RunCase) -> None:
+    with list_of(case, (b"`1RB1LB_1LA1RZ`\n" + MACHINE_LINE) * 3) as listed:
+        input.require_form(listed)
+    with list_of(case, (MACHINE_LINE + b"`1RB1LB_1LA1RZ`\n") * 3 + b"x\n") as listed:
+        with pytest.raises(errors.FolderError, match="4 of the first 7 lines .* line 2: .*budlarem read"):
+            input.require_form(listed)
+
+
+def test_nothing_is_begun(case: RunCase) -> None:
+    case.list.write_bytes(b"1RB1LB_1LA1RZ halt 6 4\n")
+    status, said = case.call(*SMALL_PASS)
+    assert (status, case.out.exists()) == (2, False)
+    assert "budlarem read" in said
+
+
+def test_a_run_s_own_file_is_named_before_its_form(case: RunCase) -> None:
+    case.list.write_bytes(MACHINE_LINE)
+    assert case.call(*SMALL_PASS)[0] == 0
+    status, said = call_command("run", str(case.out / "verdicts.txt"), "--out", str(case.out), *SMALL_PASS)
+    assert status == 2
+    assert "which a run in that folder writes" in said
+
+
+def test_what_is_no_list(case: RunCase) -> None:
+    case.list.unlink()
+    status, said = case.call(*SMALL_PASS)
+    assert status == 3 and "the list %s can't be read: No such file" % case.list in said
+    case.list.mkdir()
+    status, said = case.call(*SMALL_PASS)
+    assert (status, case.out.exists()) == (3, False)
+    assert "can't be read: it is a folder" in said
+
+
+def commands_of_page(case: RunCase) -> list[list[str]]:
+    lines = (case.out / "README.txt").read_text(encoding="utf-8").splitlines()
+    first = next(place for place, line in enumerate(lines) if line.startswith("    budlarem "))
+    assert max(map(len, lines[3:first])) < 81
+    return [shlex.split(line)[1:] for line in lines if line.startswith("    budlarem ")]
+
+
+def test_it_names_all_files(case: RunCase) -> None:
+    case.list.write_bytes(MACHINE_LINE)
+    case.call(*SMALL_PASS)
+    page = (case.out / "README.txt").read_text(encoding="utf-8")
+    for path in case.out.iterdir():
+        assert "  %s" % path.name in page
+    for path in (case.out / "pass-1").iterdir():
+        assert "`%s`" % path.name in page
+
+
+def test_its_commands(case: RunCase) -> None:
+    case.list.write_bytes(MACHINE_LINE + b"0RB1LD_0RC1RD_0RD---_1LA0RB\n")
+    for more in ("--check", "--keep=halts=9"):
+        case.out = case.top / more
+        assert case.call(*SMALL_PASS, more)[0] == 0
+        found = commands_of_page(case)
+        assert [words[0] for words in found] == ["run", "check", "publish"]
+        for words in found[:2]:
+            assert call_command(*words)[0] == 0, words
+
+
+def test_names_that_begin_as_options_do(case: RunCase, monkeypatch: pytest.MonkeyPatch) -> None:
+    """Each command of the page can be given as it stands there, where the run was begun."""
+    monkeypatch.chdir(case.top)
+    pathlib.Path("-list").write_bytes(MACHINE_LINE)
+    case.out = case.top / "--out"
+    assert call_command("run", "--out=--out", *SMALL_PASS, "--", "-list")[0] == 0
+    for words in commands_of_page(case):
+        assert call_command(*words)[0] == 0, words
+    assert (case.top / "--out.tar").exists()
+
+
+def test_a_folder(case: RunCase) -> None:
+    case.list.write_bytes(MACHINE_LINE * 3)
+    case.call(*SMALL_PASS, "--piece", "1")
+    assert os.listdir(case.out / "pass-1") == ["journal"]
+    made = publish(case.top / "new.tar", case.out, case.list)
+    assert (made.confirmed, made.open) == (3, 0)
+
+
+def test_folders_that_are_not_published(case: RunCase) -> None:
+    case.list.write_bytes(MACHINE_LINE + b"0RB1LD_0RC1RD_0RD---_1LA0RB\n")
+    for keep, sentence in (("left", "only the verdicts that --keep left kept"), ("all", UNFINISHED)):
+        case.out = case.top / keep
+        case.call(*SMALL_PASS, "--keep", keep)
+        if sentence == UNFINISHED:
+            (case.out / "verdicts.txt").unlink()
+        with pytest.raises(PublishError, match=sentence):
+            publish(case.top / "new.tar", case.out)
+        assert not (case.top / "new.tar").exists()

@@ -9,13 +9,12 @@ import pathlib
 import re
 import subprocess
 import sys
-from typing import Any
 from unittest import mock
 
 import budlarem
 import pytest
-from budlarem import Agreement, comparison, growth, pictures, reports
-from budlarem.growth import Growth, measure_growth
+from budlarem import Agreement, comparison, pictures, reports
+from budlarem.reports import Growth, measure_growth
 from support.program import run_command
 
 CHAMPION = "1RB1LB_1LA1RZ"
@@ -80,11 +79,6 @@ def test_machines_that_are_the_same() -> None:
     ]
 
 
-def test_a_line_that_is_none() -> None:
-    with pytest.raises(ValueError, match=r"second\[1\]: no verdict line"):
-        list(budlarem.compare([], ["refused 1", "x"]))
-
-
 def test_states_are_in_the_order_of_their_use() -> None:
     form = budlarem.normal("1LC1RZ_1RB---_1RA1LA")
     assert (form.normal, form.states, form.mirrored) == ("1RB1LZ_1LA1RA_1LC---", "ACB", True)
@@ -101,19 +95,9 @@ def test_duplicates() -> None:
     assert [first for _, first in budlarem.distinct(machines)] == [None, CHAMPION, None, CHAMPION]
 
 
-def test_no_machine() -> None:
-    with pytest.raises(budlarem.MachineError):
-        budlarem.normal("1RB")
-    with pytest.raises(budlarem.MachineError, match=r"^machines\[1\]: no machine, from column 4 on: '1RB'"):
-        list(budlarem.distinct([CHAMPION, "1RB"]))
-    wrong: Any = [CHAMPION, None]
-    with pytest.raises(TypeError, match=r"^machines\[1\] is of type NoneType"):
-        list(budlarem.distinct(wrong))
-
-
 def test_growths() -> None:
     counts = [(5, 5, 5), (5, 9, 9), (10, 13, 16), (10, 32, 100), (10, 100, 1_000)]
-    found = [growth.classify_growth(visited) for visited in counts]
+    found = [reports.classify_growth(visited) for visited in counts]
     assert found == [Growth.STAYS, Growth.STAYS, Growth.LOGARITHM, Growth.ROOT, Growth.LINE]
 
 
@@ -126,8 +110,8 @@ def test_growth_of_runs() -> None:
 def test_the_cells_end_a_run() -> None:
     found = measure_growth("1RA1RA", 100_000, 1_001)
     assert (found.steps, found.visited) == (1_000, (11, 101, 1_001))
-    assert growth._last_step("1RA1RA", 100_000, 778) == 777
-    assert growth._last_step(CHAMPION, 100_000, 65_536) == 6
+    assert reports._last_step("1RA1RA", 100_000, 778) == 777
+    assert reports._last_step(CHAMPION, 100_000, 65_536) == 6
 
 
 def test_a_halt_comes_with_its_steps_and_cells() -> None:
@@ -221,7 +205,6 @@ def test_what_is_missing_is_named() -> None:
 
 
 def run_with(*words: str, given: str = "") -> tuple[int, list[str], str]:
-    """The status of the command, its lines, and what it says."""
     status, output, error = run_command([sys.executable, "-m", "budlarem", *words], given.encode())
     return status, output.decode().splitlines(), error.decode()
 

@@ -59,7 +59,6 @@ class DoubleClient:
         return future
 
     def answer(self, place: int = 0) -> None:
-        """Ends a task well."""
         given = self.given.pop(place)
         given.future.set_result(given.task(given.lines, given.limits))
 
@@ -71,7 +70,6 @@ class DoubleClient:
         self.given = []
 
     def kill(self, place: int = 0) -> None:
-        """Ends a task as dask does when it ended its workers."""
         self.given.pop(place).future.set_exception(KilledWorker("it was tried on 4 workers"))
 
 

@@ -1,4 +1,4 @@
-"""Deciding, checking and tracing, through the library."""
+"""Deciding, checking and tracing through the library; and places by verdicts, beside plain runs."""
 
 import io
 import itertools
@@ -6,13 +6,16 @@ import os
 import re
 import sys
 import threading
-from typing import Any, Iterator, cast
+from typing import Any, Callable, Iterator, cast
 
 import budlarem
 import pytest
-from budlarem import Answer, Limits, Plan
+from budlarem import Answer, Cycler, Extent, Limits, LimitsError, MachineError, Place, Plan, Translated, at
+from budlarem import parse
 from budlarem._library import CLEAN, ReplyBuffer
+from support.machines import LETTERS
 from support.program import as_lines, run_command
+from support.simulation import simulate
 
 CHAMPION = "1RB1LB_1LA1RZ"
 MACHINES = [CHAMPION, "0RB---_0LA---", "1RA1RA", "1rB1LB", ""]
@@ -64,18 +67,6 @@ def test_an_item_that_is_no_text() -> None:
         assert [str(next(found)), str(next(found))] == [LINES[0], LINES[2]]
         with pytest.raises(TypeError, match=said):
             next(found)
-
-
-def test_an_item_with_a_newline() -> None:
-    for wrong in ("1RA1RA\n", "x" * 5_000 + "\n"):
-        with pytest.raises(ValueError, match=r"machines\[1\] has a newline"):
-            decide_lines([CHAMPION, wrong])
-
-
-def test_no_list() -> None:
-    for wrong in (CHAMPION, b"1RA1RA", None, 7):
-        with pytest.raises(TypeError):
-            decide_lines(wrong)
 
 
 def test_wrong_limits_and_threads_at_once() -> None:
@@ -133,12 +124,6 @@ WRONG: dict[str, Any] = {
 }
 
 
-@pytest.mark.parametrize("text", WRONG)
-def test_an_item_of_another_type(text: str) -> None:
-    with pytest.raises(TypeError, match=r"^lines\[1\]" + re.escape(text)):
-        list(budlarem.check([LINES[0], WRONG[text]]))
-
-
 def test_blocks_of_any_kind() -> None:
     given, expected = as_lines(MACHINES), as_lines(LINES)
     cut = [given[k : k + 3] for k in range(0, len(given), 3)]
@@ -182,13 +167,6 @@ def test_lists_of_many_batches() -> None:
         assert found == expected
 
 
-def test_what_are_no_bytes() -> None:
-    for wrong in ("1RZ---", ["1RZ---"], [1], 7, None):
-        given: Any = wrong
-        with pytest.raises(TypeError):
-            list(budlarem.decide_bytes(given))
-
-
 def test_every_step_and_some() -> None:
     whole = [str(now) for now in budlarem.trace(CHAMPION, 100)]
     assert len(whole) == 7
@@ -204,18 +182,6 @@ def test_whether_it_was_cut() -> None:
         assert list(trace) and trace.cut == cut, (upto, cells)
         with pytest.raises(StopIteration):
             next(trace)
-
-
-def test_no_machine() -> None:
-    with pytest.raises(budlarem.MachineError) as raised:
-        next(budlarem.trace("1RB1LC_1LA1RZ", 3))
-    assert raised.value.column == 14
-
-
-def test_wrong_numbers() -> None:
-    for upto, cells, start, every in ((-1, 1, 0, 1), (1, 0, 0, 1), (1, 1, -1, 1), (1, 1, 0, 0)):
-        with pytest.raises(budlarem.LimitsError):
-            budlarem.trace(CHAMPION, upto, cells, start, every)
 
 
 def run_with(code: str, **variables: str) -> str:
@@ -253,3 +219,115 @@ thread.join()
 def test_a_fork_with_threads_is_refused() -> None:
     first, second = run_with(FORKS).splitlines()
     assert first == "1" and "spawn" in second
+
+
+# Two translated cyclers with a shift above 1, to the left and to the right, and a cycler.
+FAR = ["1RB0LA_0RC---_1RD0LD_1LA1RB", "1LB0RA_0LC---_1LD0RD_1RA1LB", "1LB1RB_1RA1LA"]
+
+
+def plain(machine: str, steps: int) -> Iterator[tuple[str, int]]:
+    """The states and positions of a machine, up to so many steps or its halt."""
+    for now in simulate(machine, steps):
+        yield "Z" if now.state is None else LETTERS[now.state], now.head
+
+
+def small_machines() -> list[str]:
+    """Some machines of two states: each entry of A at 0 and of B at 1 goes on, the others are any."""
+    entries = ["---", "0LA", "1LB", "1RA", "1RZ"]
+    tables = itertools.product(["1RB", "0LA"], entries, entries, ["1LA", "0RA"])
+    return ["%s%s_%s%s" % table for table in tables]
+
+
+def test_plain_runs() -> None:
+    kinds = set()
+    for verdict in budlarem.decide(small_machines(), Limits(steps=100, cells=64, depth=0, nodes=0)):
+        if isinstance(verdict, (budlarem.Halt, Cycler, Translated)):
+            kinds.add(verdict.kind)
+            run = list(plain(verdict.machine, 25))
+            for step in {*range(0, len(run), 3), len(run) - 1}:
+                assert at(verdict, step) == Place(step, *run[step]), (str(verdict), step)
+    assert kinds == {"halt", "cycler", "translated"}
+
+
+def test_great_shifts() -> None:
+    for verdict in budlarem.decide(FAR):
+        assert isinstance(verdict, (Cycler, Translated))
+        period = verdict.second - verdict.first
+        run = list(plain(verdict.machine, verdict.first + 5 * period))
+        for step in (*range(0, len(run), 7), verdict.first, verdict.second, len(run) - 1):
+            assert at(verdict, step) == Place(step, *run[step])
+
+
+def test_without_an_extent() -> None:
+    for machine in FAR[:2]:
+        (verdict,) = budlarem.decide([machine])
+        assert isinstance(verdict, Translated)
+        bare = Translated(machine, verdict.side, verdict.first, verdict.second)
+        for step in (verdict.second + 1, 10**15):
+            assert at(bare, step) == at(verdict, step)
+
+
+def test_steps_that_no_run_reaches() -> None:
+    assert str(at(parse("1RA1RA translated R 1 2 1 1"), 10**30)) == "%d A %d" % (10**30, 10**30)
+    assert at(parse("1LA1LA translated L 1 2 1 1"), 10**15) == Place(10**15, "A", -(10**15))
+    assert at(parse("0RB---_0LA--- cycler 2 4"), 10**15) == Place(10**15, "A", 0)
+
+
+BAD = [CHAMPION + " halt 6 5", CHAMPION + " cycler 2 4", "0RB---_0LA--- cycler 4 2"]
+NO_PLACE = ["1RA1RA backward 0 0", "1RA1RA undecided steps", "refused 1"]
+BAD += ["1RA1RA translated " + words for words in ("R 1 2 2 1", "L 1 2 1 1", "R 2 2 1 1")]
+
+
+def test_too_few_cells() -> None:
+    assert at(HALT, 6) == Place(6, "Z", 0)
+    verdict = Translated("1RA1RA", "R", 9, 10, Extent(1, 1))
+    assert at(verdict, 20, cells=11) == Place(20, "A", 20)
+    with pytest.raises(ValueError, match="needs more than 10 cells"):
+        at(verdict, 20, cells=10)
+
+
+HALT = parse(CHAMPION + " halt 6 4")
+CALLS: dict[Callable[..., Any], list[tuple[tuple[Any, ...], type[Exception], str]]] = {
+    budlarem.decide: [
+        *(
+            (([CHAMPION, one],), ValueError, r"machines\[1\] has a newline")
+            for one in ("1RA1RA\n", "x" * 5_000 + "\n")
+        ),
+        *(((wrong,), TypeError, "") for wrong in (CHAMPION, b"1RA1RA", None, 7)),
+    ],
+    budlarem.decide_bytes: [((wrong,), TypeError, "") for wrong in ("1RZ---", ["1RZ---"], [1], 7, None)],
+    budlarem.check: [
+        (([LINES[0], one],), TypeError, r"^lines\[1\]" + re.escape(text)) for text, one in WRONG.items()
+    ],
+    budlarem.trace: [
+        (("1RB1LC_1LA1RZ", 3), MachineError, "from column 14 on"),
+        *(
+            ((CHAMPION, *row), LimitsError, "")
+            for row in ((-1, 1, 0, 1), (1, 0, 0, 1), (1, 1, -1, 1), (1, 1, 0, 0))
+        ),
+    ],
+    budlarem.normal: [(("1RB",), MachineError, "")],
+    budlarem.distinct: [
+        (([CHAMPION, "1RB"],), MachineError, r"^machines\[1\]: no machine, from column 4 on: '1RB'"),
+        (([CHAMPION, None],), TypeError, r"^machines\[1\] is of type NoneType"),
+    ],
+    budlarem.compare: [(([], ["refused 1", "x"]), ValueError, r"second\[1\]: no verdict line")],
+    at: [
+        ((HALT, 7), ValueError, "halts after 6 steps, so it makes no 7"),
+        ((HALT, -1), ValueError, "step is -1"),
+        *(((parse(line), 0), ValueError, "doesn't say where") for line in NO_PLACE),
+        *(((parse(line), 3), ValueError, "the checker answers bad") for line in BAD),
+        *(((wrong, 0), TypeError, "verdict is of type") for wrong in (CHAMPION + " halt 6 4", None, 7)),
+        *(((HALT, wrong), TypeError, "step is") for wrong in ("1", 1.0, None, True)),
+        ((HALT, 0, 0), LimitsError, ""),
+        ((parse("1RA1RA cycler 1 18446744073709551615"), 0), LimitsError, ""),
+    ],
+}
+
+
+@pytest.mark.parametrize("call", CALLS)
+def test_wrong_calls(call: Callable[..., Any]) -> None:
+    """The call or its result raises the error."""
+    for given, error, text in CALLS[call]:
+        with pytest.raises(error, match=text):
+            list(call(*given))

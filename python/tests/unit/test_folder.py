@@ -21,12 +21,7 @@ from support.runner import LIST, PASSES, SMALL, RunCase, act, expected_verdicts
 
 
 def contents(top: pathlib.Path) -> dict[str, bytes]:
-    """The bytes of all files below a folder."""
     return {str(path): path.read_bytes() for path in top.rglob("*") if path.is_file()}
-
-
-def fill(number: int, text: bytes) -> None:
-    _files.write_blocks(number, [text])
 
 
 class DirectoryCase(contextlib.ExitStack):
@@ -38,9 +33,9 @@ class DirectoryCase(contextlib.ExitStack):
         self.callback(self.directory.close)
 
     def write(self, name: str, text: bytes) -> None:
-        """Writes a file whole, over the one that is there."""
         over = self.directory.pin(name)
-        written = _files.write_atomically(self.directory, name, lambda number: fill(number, text), over)
+        fill = lambda number: _files.write_blocks(number, [text])  # noqa: E731
+        written = _files.write_atomically(self.directory, name, fill, over)
         for pin in (over, written):
             if pin is not None:
                 pin.close()
@@ -124,7 +119,7 @@ def test_a_target_whose_folder_is_moved(place: DirectoryCase) -> None:
     place.callback(target.close)
     os.rename(place.inside, place.top / "moved")
     with pytest.raises(OSError, match="moved, removed or replaced"):
-        target.write(lambda number: fill(number, b"page"))
+        target.write(lambda number: _files.write_blocks(number, [b"page"]))
     assert contents(place.top) == {}
 
 
@@ -160,7 +155,7 @@ def test_a_file_where_folders_have_no_locks(case: RunCase) -> None:
 
 
 class Crash(BaseException):
-    """What ends a run at a call of the system."""
+    """As a process that is killed."""
 
 
 CALLS = ("link", "rename", "unlink", "mkdir", "fsync", "fdatasync", "ftruncate")
@@ -238,12 +233,11 @@ def test_what_a_killed_run_left_is_removed(case: RunCase) -> None:
     assert case.verdicts() == expected_verdicts(LIST)
 
 
-def test_a_copy_of_the_chunks_that_was_begun(case: RunCase) -> None:
-    case.run_over(limits=[SMALL])
+def test_a_copy_of_the_chunks_that_was_begun(small: RunCase) -> None:
     for name in ("pieces.part", "pieces.2.part"):
-        (case.out / "pass-1" / name).write_bytes(expected_verdicts(LIST)[:100])
-    case.run_over(limits=[SMALL])
-    assert os.listdir(case.out / "pass-1") == ["journal"]
+        (small.out / "pass-1" / name).write_bytes(expected_verdicts(LIST)[:100])
+    small.run_over(limits=[SMALL])
+    assert os.listdir(small.out / "pass-1") == ["journal"]
 
 
 def test_chunks_and_passes_that_are_replaced_meanwhile(case: RunCase) -> None:
@@ -285,18 +279,17 @@ def test_a_summary_has_the_checksum_of_the_verdicts(case: RunCase) -> None:
             found.require_journals()
 
 
-def test_a_summary_of_an_earlier_version(case: RunCase) -> None:
+def test_a_summary_of_an_earlier_version(small: RunCase) -> None:
     """It has no checksum; its counts are held against the verdicts."""
-    case.run_over(limits=[SMALL])
-    path = case.out / "summary.json"
+    path = small.out / "summary.json"
     text = path.read_text()
     begin, end = text.index('  "verdicts"'), text.index('  "passes"')
     path.write_text(text[:begin] + text[end:])
-    publish(case.top / "whole.tar", case.out)
-    lines = case.verdicts().splitlines(keepends=True)
-    (case.out / "verdicts.txt").write_bytes(b"".join(lines[:-1]))
+    publish(small.top / "whole.tar", small.out)
+    lines = small.verdicts().splitlines(keepends=True)
+    (small.out / "verdicts.txt").write_bytes(b"".join(lines[:-1]))
     with pytest.raises(budlarem.PublishError, match="doesn't match verdicts.txt: it counts"):
-        publish(case.top / "cut.tar", case.out)
+        publish(small.top / "cut.tar", small.out)
 
 
 def test_journals_that_do_not_go_with_a_summary(case: RunCase) -> None:

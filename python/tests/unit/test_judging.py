@@ -10,11 +10,11 @@ from unittest import mock
 
 import budlarem
 import pytest
-from budlarem import WORDS, Columns, Halt, Judgement, Limits, Claim, Word
-from budlarem.claims import read_words, claim_in
+from budlarem import WORDS, Claim, Columns, Form, Halt, Judgement, Limits, Word, claims
+from budlarem.claims import read_words
 from budlarem.normal_forms import canonical_form
 from budlarem.numbers import number_of, numbers_in
-from budlarem.reading import forms
+from budlarem.reading import ListForm, forms
 from budlarem.reading.files import Source
 
 CHAMPION = "1RB1LB_1LA1RZ"
@@ -24,7 +24,7 @@ SMALL = Limits(1_000, 1_000, 30, 1_000)
 
 
 def claim_of(line: str) -> Claim:
-    found = claim_in(1, line)
+    found = claims.claim_of(1, line, ListForm(Form.TEXT), WORDS)
     assert found is not None
     return found
 
@@ -115,16 +115,10 @@ TABLE = {
 
 @pytest.mark.parametrize("judgement", CLAIMS)
 def test_claims_and_words(judgement: str) -> None:
-    for line in CLAIMS[judgement]:
-        assert judgements([line]) == [judgement], line
-
-
-@pytest.mark.parametrize("judgement", TABLE)
-def test_words_of_a_table(judgement: str) -> None:
-    for machine, words in TABLE[judgement].items():
-        for word in words:
-            lines = ["verdict\tmachine", "%s\t%s" % (word, machine)]
-            assert judgements(lines) == [judgement], (word, machine)
+    table = ((machine, word) for machine, words in TABLE.get(judgement, {}).items() for word in words)
+    rows = [["verdict\tmachine", "%s\t%s" % (word, machine)] for machine, word in table]
+    for lines in [[line] for line in CLAIMS[judgement]] + rows:
+        assert judgements(lines) == [judgement], lines
 
 
 def test_numbers_beside_never_halting_are_named() -> None:

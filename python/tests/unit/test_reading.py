@@ -1,19 +1,29 @@
-"""Reading lists as people have them."""
+"""Reading lists as people have them, lines that never end, and numbers of options in each command."""
 
+import functools
 import gzip
+import importlib.util
 import io
 import itertools
 import json
 import os
 import pathlib
+import resource
+import subprocess
+import sys
 from typing import Any, Iterator
+from unittest import mock
 
 import budlarem
 import hypothesis
 import pytest
-from budlarem import Columns, EncodingError, Form, Skipped, Reading, Rewriting
+from budlarem import Columns, EncodingError, Form, Reading, Rewriting, Skipped
 from budlarem._text import LONGEST_LINE
-from budlarem.reading.files import find_encoding
+from budlarem.commands import build_parser
+from budlarem.limits import limits_of
+from budlarem.numbers import whole_number
+from budlarem.reading import files
+from budlarem.reading.files import EndlessLineError, find_encoding
 from budlarem.reading.readings import ADVICE
 from hypothesis import strategies as st
 from support import TOP
@@ -224,3 +234,104 @@ def test_a_machine_comes_back(entries: list[str], between: str, changes: set[str
     bare = line.strip()
     is_other = "_" not in line and budlarem.is_machine(bare)
     assert one(line).machine in (bare if is_other else "_".join(groups), None)
+
+
+MILLION = ("1000000", "1,000,000", "1_000_000", "1e6", "1E+6", "10^6", "+1000000", "1.0e6")
+# Every command that has options of numbers, with the words that it needs.
+NEEDED = ["read", "decide", "normal", "check", "judge list", "compare a b", "report --out page.html"]
+NEEDED += ["run list --out folder", "publish out.tar --verdicts verdicts.txt", "trace --upto 1 1RB1LB_1LA1RZ"]
+NEEDED += ["picture --upto 1 --out picture.png 1RB1LB_1LA1RZ"]
+COMMANDS = {words.split()[0]: words.split() for words in NEEDED}
+
+
+def numbers_of(command: str) -> list[str]:
+    """The options of a command whose value is a number."""
+    choices = next(action.choices for action in build_parser()._actions if isinstance(action.choices, dict))
+    actions = [action for action in choices[command]._actions if action.metavar in ("N", "P", "LINES")]
+    return [action.option_strings[0] for action in actions if action.option_strings]
+
+
+def test_every_option_of_every_command() -> None:
+    tried = 0
+    for command, given in COMMANDS.items():
+        for option in numbers_of(command):
+            for text in MILLION:
+                asked = build_parser().parse_args([*given, option, text])
+                assert getattr(asked, option[2:].replace("-", "_")) == 1_000_000
+                tried += 1
+    assert tried > 100
+
+
+def test_positions() -> None:
+    asked = build_parser().parse_args([*COMMANDS["picture"], "--left=-1,000", "--right", "1e3"])
+    assert (asked.left, asked.right) == (-1_000, 1_000)
+
+
+def test_what_is_no_number() -> None:
+    for text in ("1,00", "1_0", "1,000_000", "1e-3", "1.5", "many", "", "0x10", "\u0661"):
+        with pytest.raises(ValueError):
+            whole_number(text)
+
+
+def test_the_sentence_says_what_would_do() -> None:
+    with mock.patch("sys.stderr", io.StringIO()) as printed, pytest.raises(SystemExit):
+        build_parser().parse_args(["decide", "--steps", "1,00"])
+    assert "--steps: 1,00 is no whole number; 1000000, 1,000,000" in printed.getvalue()
+
+
+def test_a_pass() -> None:
+    for text in MILLION:
+        limits = limits_of("steps=%s,cells=1,024,depth=40" % text)
+        assert (limits.steps, limits.cells, limits.depth) == (1_000_000, 1_024, 40)
+    for text in ("steps=1,00", "steps=1,,cells=5", "steps=-1", "steps=5,steps=6", "steps"):
+        with pytest.raises(ValueError):
+            limits_of(text)
+
+
+# Writes a line that never ends, after some that do.
+ENDLESS = (
+    "import sys\nwrite = sys.stdout.buffer.write\nwrite(b'1RA1RA\\n' * 300)\n"
+    "while True: write(b'1RA1RA,' * 9999)"
+)
+
+
+def run_endless(*given: str) -> subprocess.CompletedProcess[str]:
+    """The command over a line that never ends, with at most 1 GB of memory for its data."""
+    command = [sys.executable, "-m", "budlarem", *given]
+    with subprocess.Popen([sys.executable, "-c", ENDLESS], stdout=-1, stderr=subprocess.DEVNULL) as feeder:
+        try:
+            set_limit = functools.partial(resource.setrlimit, resource.RLIMIT_DATA, (1 << 30, 1 << 30))
+            how: dict[str, Any] = {"stdin": feeder.stdout, "timeout": 60, "preexec_fn": set_limit}
+            return subprocess.run(command, capture_output=True, text=True, **how)
+        finally:
+            feeder.kill()
+
+
+def test_commands_over_a_line_that_never_ends(tmp_path: pathlib.Path) -> None:
+    more = "line 301 has more than 268,435,456 bytes"
+    words = ["read", "decide", "normal", "judge -", "compare /dev/null -", "check --cells 1000"]
+    cases = {one: (2, "standard input: " + more) for one in words}
+    if importlib.util.find_spec("matplotlib") is not None:
+        cases["report --out %s" % (tmp_path / "report.html")] = (2, "standard input: " + more)
+    cases["run - --out %s" % (tmp_path / "out")] = (3, "a line of more than 268,435,456 bytes and no newline")
+    for given, (status, sentence) in cases.items():
+        ended = run_endless(*given.split(" "))
+        assert ended.returncode == status and sentence in ended.stderr, ended.stderr
+        assert "Traceback" not in ended.stderr
+
+
+def test_lines_that_never_end() -> None:
+    with mock.patch.object(files, "LONGEST_UNENDED", 1_000_000):
+        endless: dict[files.Source, int] = {"/dev/zero": 1, io.BytesIO(b"1RA1RA\n" + b"x" * 2_000_000): 2}
+        for source, number in endless.items():
+            with pytest.raises(
+                EndlessLineError, match="line %d has more than .* no newline" % number
+            ) as raised:
+                list(files.Lines(source))
+            assert raised.value.number == number
+
+
+def test_a_long_line_that_ends() -> None:
+    with mock.patch.object(files, "LONGEST_UNENDED", 3_000_000):
+        lines = files.Lines(io.BytesIO((b"x" * 2_000_000 + b"\n") * 3))
+        assert [number for number, _ in lines] == [1, 2, 3]

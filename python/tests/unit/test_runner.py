@@ -27,14 +27,12 @@ from support.runner import PoolBackend, act, answer_with, counts_of, expected_ve
 def require_verdicts(
     case: RunCase, executor: Any = None, limits: Sequence[Limits] = PASSES, **how: Any
 ) -> passes.Outcome:
-    """A run has the verdicts of its list."""
     outcome = case.run_over(executor, limits, **how)
     assert case.verdicts() == expected_verdicts(case.list.read_bytes(), limits)
     return outcome
 
 
 def require_error(case: RunCase, error: type[Exception], text: str, executor: Any = None, **how: Any) -> None:
-    """A run ends with an error and a sentence."""
     with pytest.raises(error, match=text):
         case.run_over(executor, **how)
 
@@ -45,8 +43,7 @@ def test_lists_and_passes(case: RunCase) -> None:
         case.list.write_bytes(given)
         case.out = case.top / str(place)
         outcome = require_verdicts(case, limits=limits)
-        lines = case.verdicts().count(b"\n")
-        assert (outcome.lines, sum(outcome.counts.values())) == (lines, lines)
+        assert outcome.lines == sum(outcome.counts.values()) == case.verdicts().count(b"\n")
 
 
 def test_the_summary(case: RunCase) -> None:
@@ -73,13 +70,11 @@ def test_lines_keep_their_numbers(case: RunCase) -> None:
     assert journal.list_line_number([], 7) == 8
 
 
-def test_whole_passes_are_added(case: RunCase) -> None:
-    case.run_over(limits=[SMALL])
-    before = case.records([SMALL])
-    executor = Answering()
-    require_verdicts(case, executor)
-    assert case.records([SMALL]) == before
-    assert executor.count == len(case.records(PASSES))
+def test_whole_passes_are_added(small: RunCase) -> None:
+    before, executor = small.records([SMALL]), Answering()
+    require_verdicts(small, executor)
+    assert small.records([SMALL]) == before
+    assert executor.count == len(small.records(PASSES))
 
 
 def test_what_stands_is_not_decided_again(case: RunCase) -> None:
@@ -94,11 +89,10 @@ def test_what_stands_is_not_decided_again(case: RunCase) -> None:
         assert executor.count == count
 
 
-def test_the_same_list_compressed(case: RunCase) -> None:
-    case.run_over(limits=[SMALL])
-    path = case.top / "list.txt.gz"
+def test_the_same_list_compressed(small: RunCase) -> None:
+    path = small.top / "list.txt.gz"
     path.write_bytes(gzip.compress(LIST))
-    require_verdicts(case, path=str(path))
+    require_verdicts(small, path=str(path))
 
 
 def test_another_list(case: RunCase) -> None:
@@ -156,14 +150,12 @@ def test_two_runs_in_a_folder(case: RunCase) -> None:
 def test_a_list_that_would_be_overwritten(case: RunCase) -> None:
     case.run_over()
     for path in ("verdicts.txt", "summary.json", "run.json", "pass-2/journal"):
-        other = case.top / "another_name"
+        other, before = case.top / "another_name", (case.out / path).read_bytes()
         os.link(case.out / path, other)
         for name in (case.out / path, other):
-            before = name.read_bytes()
-            listed = input.ListFile(str(name))
-            with pytest.raises(FolderError, match="the list is .*%s" % path):
-                folder.Folder(str(case.out), listed.id)
-            listed.close()
+            with contextlib.closing(input.ListFile(str(name))) as listed:
+                with pytest.raises(FolderError, match="the list is .*%s" % path):
+                    folder.Folder(str(case.out), listed.id)
             assert name.read_bytes() == before
         other.unlink()
 
@@ -205,11 +197,10 @@ def test_chunks_that_are_missing_in_the_middle(case: RunCase) -> None:
         require_verdicts(case, most=most)
 
 
-def test_a_changed_chunk_while_passes_are_merged(case: RunCase) -> None:
-    case.run_over(limits=[SMALL])
-    with pytest.raises(RunError, match="was cut or changed"):
-        case.run_over(act(lambda: os.truncate(case.out / "verdicts.txt", 100)))
-    require_verdicts(case)
+def test_a_changed_chunk_while_passes_are_merged(small: RunCase) -> None:
+    cut = act(lambda: os.truncate(small.out / "verdicts.txt", 100))
+    require_error(small, RunError, "was cut or changed", cut)
+    require_verdicts(small)
 
 
 def test_a_folder_of_an_older_version(case: RunCase) -> None:
@@ -218,22 +209,21 @@ def test_a_folder_of_an_older_version(case: RunCase) -> None:
     require_error(case, FolderError, "another version of this package wrote")
 
 
-def test_one_pass_is_written_once(case: RunCase) -> None:
+def test_one_pass_is_written_once(small: RunCase) -> None:
     """The file of the chunks becomes the verdicts, and a later run reads the chunks there."""
-    case.run_over(limits=[SMALL])
-    chunks, verdicts = case.out / "pass-1" / "pieces", case.out / "verdicts.txt"
-    first, journal = verdicts.stat(), (case.out / "pass-1" / "journal").read_bytes()
+    chunks, verdicts = small.out / "pass-1" / "pieces", small.out / "verdicts.txt"
+    first, journal = verdicts.stat(), (small.out / "pass-1" / "journal").read_bytes()
     assert (chunks.exists(), first.st_nlink) == (False, 1)
-    assert case.open_last_pass([SMALL]).journal.rename_mark() == len(case.records([SMALL]))
-    case.run_over(limits=[SMALL])
-    assert (case.out / "pass-1" / "journal").read_bytes() == journal
-    assert "decided again" not in case.progress.kept.getvalue()
+    assert small.open_last_pass([SMALL]).journal.rename_mark() == len(small.records([SMALL]))
+    small.run_over(limits=[SMALL])
+    assert (small.out / "pass-1" / "journal").read_bytes() == journal
+    assert "decided again" not in small.progress.kept.getvalue()
     executor = Answering()
     for _ in range(2):
-        require_verdicts(case, executor, limits=[SMALL], check=True)
+        require_verdicts(small, executor, limits=[SMALL], check=True)
         assert (chunks.exists(), verdicts.stat().st_ino) == (False, first.st_ino)
-    assert executor.count == len(case.records([SMALL]))
-    assert sorted(case.out.rglob("*.part")) == []
+    assert executor.count == len(small.records([SMALL]))
+    assert sorted(small.out.rglob("*.part")) == []
 
 
 def test_verdicts_share_no_bytes_with_a_later_run(case: RunCase) -> None:
@@ -253,61 +243,55 @@ def test_verdicts_share_no_bytes_with_a_later_run(case: RunCase) -> None:
         assert kept_lines.read_bytes() == expected_verdicts(LIST, [SMALL])
 
 
-def test_another_run_over_the_passes_of_one(case: RunCase) -> None:
+def test_another_run_over_the_passes_of_one(small: RunCase) -> None:
     """The verdicts were moved away, and all other files at the top removed."""
-    case.run_over(limits=[SMALL])
-    os.rename(case.out / "verdicts.txt", case.top / "kept")
-    for path in case.out.iterdir():
+    os.rename(small.out / "verdicts.txt", small.top / "kept")
+    for path in small.out.iterdir():
         if path.is_file():
             path.unlink()
-    case.list.write_bytes(KINDS * 20)
-    require_verdicts(case, limits=[MIDDLE])
-    assert (case.top / "kept").read_bytes() == expected_verdicts(LIST, [SMALL])
+    small.list.write_bytes(KINDS * 20)
+    require_verdicts(small, limits=[MIDDLE])
+    assert (small.top / "kept").read_bytes() == expected_verdicts(LIST, [SMALL])
 
 
-def test_a_pass_is_added_to_verdicts_that_were_renamed(case: RunCase) -> None:
-    case.run_over(limits=[SMALL])
-    kept_lines = case.top / "kept"
-    os.link(case.out / "verdicts.txt", kept_lines)
+def test_a_pass_is_added_to_verdicts_that_were_renamed(small: RunCase) -> None:
+    os.link(small.out / "verdicts.txt", small.top / "kept")
     executor = Answering()
-    require_verdicts(case, executor, limits=PASSES)
-    for path in (kept_lines, case.out / "pass-1" / "pieces"):
-        assert path.read_bytes() == expected_verdicts(LIST, [SMALL])
-    assert executor.count == len(case.records(PASSES))
-    assert case.open_last_pass([SMALL]).journal.rename_mark() is None
-    case.run_over(executor, limits=PASSES)
-    assert (executor.count, case.verdicts()) == (len(case.records(PASSES)), expected_verdicts(LIST))
-
-
-def test_verdicts_that_are_moved_away_while_a_pass_is_added(case: RunCase) -> None:
-    case.run_over(limits=[SMALL])
-    require_verdicts(case, act(lambda: os.rename(case.out / "verdicts.txt", case.top / "kept"), 0))
+    require_verdicts(small, executor)
     for name in ("kept", "out/pass-1/pieces"):
-        assert (case.top / name).read_bytes() == expected_verdicts(LIST, [SMALL])
+        assert (small.top / name).read_bytes() == expected_verdicts(LIST, [SMALL])
+    assert executor.count == len(small.records(PASSES))
+    assert small.open_last_pass([SMALL]).journal.rename_mark() is None
+    require_verdicts(small, executor)
+    assert executor.count == len(small.records(PASSES))
 
 
-def test_verdicts_that_were_changed_in_place(case: RunCase) -> None:
-    case.run_over(limits=[SMALL])
-    with open(case.out / "verdicts.txt", "r+b") as file:
+def test_verdicts_that_are_moved_away_while_a_pass_is_added(small: RunCase) -> None:
+    require_verdicts(small, act(lambda: os.rename(small.out / "verdicts.txt", small.top / "kept"), 0))
+    for name in ("kept", "out/pass-1/pieces"):
+        assert (small.top / name).read_bytes() == expected_verdicts(LIST, [SMALL])
+
+
+def test_verdicts_that_were_changed_in_place(small: RunCase) -> None:
+    with open(small.out / "verdicts.txt", "r+b") as file:
         file.write(b"x" * 100)
-    require_verdicts(case, limits=[SMALL])
-    assert "is decided again: it was cut or changed" in case.progress.kept.getvalue()
-    require_verdicts(case, limits=[SMALL])
+    for _ in range(2):
+        require_verdicts(small, limits=[SMALL])
+        assert "is decided again: it was cut or changed" in small.progress.kept.getvalue()
 
 
-def test_a_folder_whose_verdicts_are_a_second_name(case: RunCase) -> None:
+def test_a_folder_whose_verdicts_are_a_second_name(small: RunCase) -> None:
     """So an earlier version of this package left it."""
-    case.run_over(limits=[SMALL])
-    verdicts, kept_lines = case.out / "verdicts.txt", case.top / "kept"
-    chunks = case.out / "pass-1" / "pieces"
+    verdicts, kept_lines = small.out / "verdicts.txt", small.top / "kept"
+    chunks = small.out / "pass-1" / "pieces"
     for change in (b"", b"x" * 100):
         os.link(verdicts, chunks)
         os.link(verdicts, kept_lines)
         with open(kept_lines, "r+b") as file:
             file.write(change)
         before = kept_lines.read_bytes()
-        case.run_over(limits=[SMALL])
-        assert (case.verdicts(), kept_lines.read_bytes()) == (expected_verdicts(LIST, [SMALL]), before)
+        require_verdicts(small, limits=[SMALL])
+        assert kept_lines.read_bytes() == before
         for path in (chunks, kept_lines):
             path.unlink(missing_ok=True)
 
@@ -367,42 +351,10 @@ def test_a_link_to_the_folder_that_is_pointed_elsewhere(case: RunCase) -> None:
     assert list(elsewhere.iterdir()) == []
 
 
-class WriterCase:
-    """Chunks come in any order; none is lost, and the whole is in the list's order."""
-
-    def __init__(self, case: RunCase) -> None:
-        self.top_folder = folder.Folder(str(case.out))
-        case.callback(self.top_folder.close)
-        self.folder = self.top_folder.open_pass([SMALL], chunks.Retention(), chunks.identity())
-        case.callback(self.folder.close)
-        self.verdicts = case.verdicts
-
-    def chunk(self, index: int) -> passes.Chunk:
-        text = b"%d\n" % index * (index % 7 + 1)
-        none = dict.fromkeys(counts.KINDS, 0)
-        record = journal.Record.of(index, 1, b"", text, 0.0, none)
-        return passes.Chunk(index, index, b"given", 1, record, kept=text)
-
-    def whole(self, order: Sequence[int], most: int) -> bool:
-        """Writes chunks in an order; whether the file of the chunks is the whole then."""
-        kept_lines = [self.chunk(index).kept or b"" for index in range(len(order))]
-        writer = passes.Writer(self.folder, most)
-        for index in order:
-            writer.add(self.chunk(index))
-            writer.flush_late()
-        writer.close()
-        writer.add(self.chunk(len(order)))
-        written = writer.pop_written()
-        assert sorted(chunk.index for chunk in written) == list(range(len(order)))
-        for chunk in written:
-            assert chunk.record is not None
-            self.folder.journal.write(chunk.index, chunk.record)
-        self.folder.chunks = len(order)
-        self.top_folder.write_verdicts(self.folder)
-        whole = b"".join(kept_lines)
-        assert self.verdicts() == whole
-        assert self.folder.checksum() == _files.Checksum(len(whole), zlib.crc32(whole))
-        return not os.path.exists(self.folder.kept)
+def numbered_chunk(index: int) -> passes.Chunk:
+    text = b"%d\n" % index * (index % 7 + 1)
+    record = journal.Record.of(index, 1, b"", text, 0.0, dict.fromkeys(counts.KINDS, 0))
+    return passes.Chunk(index, index, b"given", 1, record, kept=text)
 
 
 ANY_ORDER = random.Random(3).sample(range(200), 200)
@@ -422,8 +374,27 @@ ORDERS: dict[str, tuple[list[int], int, bool, tuple[object, str, Any]]] = {
 def test_chunks_in_some_order(
     case: RunCase, order: list[int], most: int, is_in_order: bool, patched: tuple[object, str, Any]
 ) -> None:
-    with unittest.mock.patch.object(*patched):
-        assert WriterCase(case).whole(order, most) == is_in_order
+    """None is lost, and the whole is in the list's order."""
+    case.enter_context(unittest.mock.patch.object(*patched))
+    top = case.enter_context(contextlib.closing(folder.Folder(str(case.out))))
+    opened = top.open_pass([SMALL], chunks.Retention(), chunks.identity())
+    writer = passes.Writer(case.enter_context(contextlib.closing(opened)), most)
+    for index in order:
+        writer.add(numbered_chunk(index))
+        writer.flush_late()
+    writer.close()
+    writer.add(numbered_chunk(len(order)))
+    written = writer.pop_written()
+    assert sorted(chunk.index for chunk in written) == list(range(len(order)))
+    for chunk in written:
+        assert chunk.record is not None
+        opened.journal.write(chunk.index, chunk.record)
+    opened.chunks = len(order)
+    top.write_verdicts(opened)
+    whole = b"".join(numbered_chunk(index).kept or b"" for index in range(len(order)))
+    assert case.verdicts() == whole
+    assert opened.checksum() == _files.Checksum(len(whole), zlib.crc32(whole))
+    assert os.path.exists(opened.kept) != is_in_order
 
 
 def kept_lines(limits: Sequence[Limits], halts: int) -> bytes:
@@ -442,8 +413,8 @@ def test_what_is_kept(case: RunCase) -> None:
             assert outcome.counts == counts_of(expected_verdicts(LIST, limits))
         summary = json.loads((case.out / "summary.json").read_text())
         assert (summary["lines"], summary["kept"]) == (370, str(keep))
-        with pytest.raises(FolderError, match="dropped before they were checked"):
-            case.run_over(limits=limits, keep=keep, check=True)
+        dropped = "dropped before they were checked"
+        require_error(case, FolderError, dropped, limits=limits, keep=keep, check=True)
         require_error(case, FolderError, "started with --keep left", limits=limits)
 
 
@@ -460,8 +431,11 @@ def test_keep_passes_are_added(case: RunCase) -> None:
 def test_a_line_of_a_later_pass_is_named(case: RunCase) -> None:
     keep = chunks.Retention(True)
     case.run_over(limits=[SMALL], keep=keep)
-    with pytest.raises(RunError, match="pass 2, line [0-9]+ of the holdouts of pass 1: "):
-        case.run_over(answer_with(b" undecided steps", b" unknown steps"), keep=keep)
+    wrong, place = (
+        answer_with(b" undecided steps", b" unknown steps"),
+        "line [0-9]+ of the holdouts of pass 1",
+    )
+    require_error(case, RunError, "pass 2, %s: " % place, wrong, keep=keep)
 
 
 def test_words() -> None:
@@ -506,14 +480,14 @@ def test_wrong_answers_each_time(case: RunCase) -> None:
 
 
 def test_the_line_is_named(case: RunCase) -> None:
-    with pytest.raises(RunError, match="pass 1, line [0-9]*9: '0RB1LD_0RC1RD_0RD---_1LA0RB unknown steps'"):
-        case.run_over(answer_with(b"_0RD---_1LA0RB undecided", b"_0RD---_1LA0RB unknown"))
+    wrong = answer_with(b"_0RD---_1LA0RB undecided", b"_0RD---_1LA0RB unknown")
+    line = "line [0-9]*9: '0RB1LD_0RC1RD_0RD---_1LA0RB unknown steps'"
+    require_error(case, RunError, "pass 1, " + line, wrong)
     require_verdicts(case)
 
 
 def test_late_answers_in_another_order(case: RunCase) -> None:
-    given = b"".join(KINDS.splitlines(keepends=True)[:8])
-    case.list.write_bytes(given)
+    case.list.write_bytes(b"".join(KINDS.splitlines(keepends=True)[:8]))
     require_verdicts(case, Late(4), most=1, limits=[SMALL])
     assert len(case.records([SMALL])) == 8
 
@@ -526,8 +500,7 @@ def test_one_answer_for_two_chunks(case: RunCase) -> None:
             futures.append(super().submit(function, *given, **named))
             return futures[0]
 
-    with pytest.raises(RunError, match="pass 1, lines? .* tried 3 times|one future"):
-        case.run_over(Same(lambda reply, before: reply))
+    require_error(case, RunError, "pass 1, lines? .* tried 3 times|one future", Same())
     require_verdicts(case)
 
 
@@ -543,12 +516,14 @@ def test_an_executor_that_takes_or_answers_nothing(case: RunCase) -> None:
     require_verdicts(case)
 
 
+BAD_LINE = "^line (5|15|25): the checker answers bad: "
+
+
 def test_a_verdict_that_the_checker_refuses(case: RunCase) -> None:
     executor = answer_with(b"_1RZ0LA undecided steps", b"_1RZ0LA cycler 5 9")
     for limits in ([SMALL], PASSES):
         case.out = case.top / str(len(limits))
-        with pytest.raises(CheckError, match="^line (5|15|25): the checker answers bad: 1RB1LC_1RC1RB"):
-            case.run_over(executor, limits=limits, check=True)
+        require_error(case, CheckError, BAD_LINE + "1RB1LC_1RC1RB", executor, limits=limits, check=True)
     require_verdicts(case)
 
 
@@ -566,14 +541,13 @@ def test_a_lying_worker_is_found_here(case: RunCase) -> None:
         case.out = case.top / str(is_begun)
         if is_begun:
             case.run_over(Answering(lie), limits=[SMALL])
-        with pytest.raises(CheckError, match="^line (5|15|25): the checker answers bad: "):
-            case.run_over(Answering(lie), limits=[SMALL], check=True, here=True)
+        require_error(case, CheckError, BAD_LINE, Answering(lie), limits=[SMALL], check=True, here=True)
     case.out = case.top / "command"
     backend = PoolBackend(Answering(lie), 2)
     with unittest.mock.patch("budlarem.commands.run._make_backend", return_value=backend):
         status, said = case.call("--pass", "steps=30,cells=16,depth=3,nodes=5", "--check-here")
     assert status == 1
-    assert re.search("^budlarem: line (5|15|25): the checker answers bad: 1RB1LC_1RC1RB", said, re.M)
+    assert re.search(BAD_LINE.replace("^", "^budlarem: ") + "1RB1LC_1RC1RB", said, re.M)
     require_verdicts(case, Answering(), limits=[SMALL], check=True, here=True)
 
 

@@ -1,15 +1,19 @@
-"""Limits, plans, verdicts and their lines."""
+"""Limits, plans, verdicts, recurrences and their lines."""
 
 import dataclasses
 import pickle
 import pydoc
 import re
-from typing import Any
+from typing import Any, Callable
 
 import budlarem
+import hypothesis
 import pytest
-from budlarem import Limits, LimitsError, Plan, _api
+from budlarem import Answer, LastUse, Limits, LimitsError, Plan, Recurrence, UseKind, _api, parse
+from budlarem import parse_recurrence
 from budlarem._text import escape_controls
+from hypothesis import strategies as st
+from support.machines import join_groups
 
 CHAMPION = "1RB1LB_1LA1RZ"
 HALTS = ["halt 6 4", "halt 18446744073709551615 0"]
@@ -23,6 +27,14 @@ NO_PAIRS += ["undecided", "undecided nodes"]
 UNREAD = [CHAMPION + " " + words for words in NO_HALTS] + ["1RA1RA " + words for words in NO_PAIRS]
 UNREAD += ["", CHAMPION, "1RB1LC_1LA1RZ halt 6 4", "1RB1LB halt 6 4"]
 UNREAD += ["refused", "refused 0", "refused 01", "refused 776", "refused 1 1"]
+PAIR, REPLY = "0RB---_0LA--- cycler 4 16", "0RB---_0LA--- recurs 0 2 0 * *"
+REPLIES = [REPLY, "1RB---_1LB0RB recurs 4 1 -1 0 * quasihalts 1"]
+REPLIES += [REPLIES[1] + " entries 0 - * 3", REPLY + " entries * - * -"]
+CHANGES = [(" -1", " -0"), (" -1", " +1"), (" 4", " 04"), (" 1 -", " 0 -"), ("ts 1", "ts 2"), (" 0 ", " 00 ")]
+NO_REPLIES = ["", "ok", "Bad", REPLY + " ", REPLY[:-2], REPLY + " *", REPLY + " quasihalts 1"]
+NO_REPLIES += [REPLIES[1].replace(*pair) for pair in [*CHANGES, (" quasihalts 1", ""), ("1RB", "1RC")]]
+NO_REPLIES += [REPLIES[2][:-2], REPLIES[2] + " -", REPLY.replace(" 0 2", " %d 2" % 2**64)]
+Parse = Callable[[str], object]
 
 
 def test_are_the_programs_where_nothing_is_said() -> None:
@@ -49,16 +61,14 @@ def test_refuse_a_depth_that_does_not_fit() -> None:
         Limits(cells=598)
 
 
-@pytest.mark.parametrize("wrong", [1e6, "7", None, True, b"1"])
-def test_limits_are_whole_numbers(wrong: Any) -> None:
-    with pytest.raises(TypeError, match="^steps is .*whole number"):
-        Limits(steps=wrong)
+WRONG_TYPES: list[Any] = [(Limits, "steps", wrong, "whole number") for wrong in (1e6, "7", None, True, b"1")]
+WRONG_TYPES += [(Plan, "cyclers", wrong, "True or False") for wrong in ("no", 1, None)]
 
 
-@pytest.mark.parametrize("wrong", ["no", 1, None])
-def test_switches_are_true_or_false(wrong: Any) -> None:
-    with pytest.raises(TypeError, match="^cyclers .*True or False"):
-        Plan(cyclers=wrong)
+@pytest.mark.parametrize("kind, name, wrong, text", WRONG_TYPES)
+def test_limits_and_switches_of_another_type(kind: Any, name: str, wrong: Any, text: str) -> None:
+    with pytest.raises(TypeError, match="^%s is .*%s" % (name, text)):
+        kind(**{name: wrong})
 
 
 def test_stay_as_they_are() -> None:
@@ -71,34 +81,43 @@ def test_errors_go_from_process_to_process() -> None:
     assert str(pickle.loads(pickle.dumps(error))) == str(error)
 
 
-@pytest.mark.parametrize("line", LINES)
-def test_lines_are_read_and_written(line: str) -> None:
-    verdict = budlarem.parse(line)
-    assert str(verdict) == line
-    assert budlarem.parse(str(verdict)) == verdict
-    assert pickle.loads(pickle.dumps(verdict)) == verdict
+READ: list[tuple[Parse, str]] = [(parse, line) for line in LINES]
+READ += [(parse_recurrence, line) for line in (*REPLIES, "bad", "over", "open", "unread")]
 
 
-@pytest.mark.parametrize("line", UNREAD)
-def test_other_lines_are_refused(line: str) -> None:
-    with pytest.raises(ValueError, match="no verdict line"):
-        budlarem.parse(line)
+@pytest.mark.parametrize("parse_line, line", READ)
+def test_lines_are_read_and_written(parse_line: Parse, line: str) -> None:
+    found = parse_line(line)
+    assert str(found) == line and parse_line(str(found)) == found
+    assert pickle.loads(pickle.dumps(found)) == found
+
+
+REFUSED: list[tuple[Parse, str, str]] = [(parse, line, "no verdict line") for line in UNREAD]
+REFUSED += [(parse_recurrence, line, "no reply of recurrence") for line in NO_REPLIES]
+
+
+@pytest.mark.parametrize("parse_line, line, text", REFUSED)
+def test_other_lines_are_refused(parse_line: Parse, line: str, text: str) -> None:
+    with pytest.raises(ValueError, match=text):
+        parse_line(line)
 
 
 @pytest.mark.parametrize("wrong", [b"refused 1", None, 1, []])
 def test_only_texts_are_read(wrong: Any) -> None:
     with pytest.raises(TypeError):
-        budlarem.parse(wrong)
+        parse(wrong)
+    with pytest.raises(TypeError, match="a reply is a str, not %s" % type(wrong).__name__):
+        parse_recurrence(wrong)
     with pytest.raises(TypeError, match="^text is of type .*, not str$"):
         budlarem.is_machine(wrong)
 
 
 def test_parts_have_names() -> None:
-    moved = budlarem.parse("1RA1RA translated R 1 2 3 4")
+    moved = parse("1RA1RA translated R 1 2 3 4")
     assert isinstance(moved, budlarem.Translated) and moved.extent
     assert (moved.machine, moved.side, moved.first, moved.second) == ("1RA1RA", "R", 1, 2)
     assert (moved.extent.shift, moved.extent.length) == (3, 4)
-    without = budlarem.parse("1RA1RA translated R 1 2")
+    without = parse("1RA1RA translated R 1 2")
     assert isinstance(without, budlarem.Translated)
     assert without.extent is None
 
@@ -138,3 +157,52 @@ def test_no_control_is_left() -> None:
     escaped = escape_controls(controls)
     assert escaped.isprintable(), escaped
     assert escaped.encode().decode("unicode_escape") == controls
+
+
+uses = st.one_of(
+    st.sampled_from([LastUse(UseKind.NEVER), LastUse(UseKind.FOREVER)]),
+    st.builds(lambda step: LastUse(UseKind.LAST, step), st.integers(0, 2**64 - 1)),
+)
+
+
+@st.composite
+def recurrences(draw: Any) -> Recurrence:
+    states, symbols = draw(st.integers(1, 25)), draw(st.integers(2, 10))
+    machine = join_groups(["---"] * (states * symbols), symbols)
+    start, period = draw(st.integers(0, 2**64 - 1)), draw(st.integers(1, 2**64 - 1))
+    shift = draw(st.integers(-(2**63), 2**63 - 1))
+    some = draw(st.lists(uses, min_size=states, max_size=states))
+    entries = draw(st.none() | st.lists(uses, min_size=states * symbols, max_size=states * symbols))
+    return Recurrence(machine, start, period, shift, tuple(some), entries and tuple(entries))
+
+
+@hypothesis.settings(deadline=None)
+@hypothesis.given(recurrences())
+def test_recurrences_are_written_and_read(found: Recurrence) -> None:
+    assert parse_recurrence(str(found)) == found
+    steps = [use.step for use in found.uses if use.step is not None]
+    assert found.quasihalts == (max(steps) + 1 if steps else None)
+    assert (" quasihalts " in str(found)) == bool(steps)
+
+
+@hypothesis.settings(deadline=None)
+@hypothesis.given(st.sampled_from(REPLIES), st.data())
+def test_changed_lines_are_read_as_they_are_or_not(line: str, data: st.DataObject) -> None:
+    at = data.draw(st.integers(0, len(line) - 1))
+    changed = line[:at] + data.draw(st.sampled_from("0123456789*- sqeLRAB\n")) + line[at + 1 :]
+    try:
+        assert str(parse_recurrence(changed)) == changed
+    except ValueError as error:
+        assert "no reply of recurrence" in str(error)
+
+
+def test_replies_of_the_library() -> None:
+    given = [PAIR, "1RA1RA cycler 1 2", "1RB1LB_1LA1RZ halt 6 4", "x", "1RB---_1LB0RB translated L 7 8 1 1"]
+    found = list(budlarem.recurrences([*given, budlarem.Cycler("0RB---_0LA---", 4, 1_000_002)]))
+    assert list(map(str, found)) == [REPLY, "bad", "open", "unread", REPLIES[1], "over"]
+    for threads in (1, 3):
+        replies = budlarem.recurrences(given * 5_000, Limits(100, 64, 0, 0), entries=True, threads=threads)
+        assert [str(one) for one in replies][4:1_000:5] == [REPLIES[2]] * 200
+    assert next(budlarem.recurrences([given[4]], Limits(7, 64, 0, 0))) is Answer.OVER
+    with pytest.raises(TypeError, match=r"lines\[1\] is of type int"):
+        list(budlarem.recurrences([PAIR, 7]))  # type: ignore[list-item]

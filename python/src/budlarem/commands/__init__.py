@@ -16,9 +16,10 @@ from typing import NoReturn
 
 from .._text import escape_controls
 from .._version import VERSION
+from ..publishing import UnconfirmedError
 from ..reports import ReportError
-from .check_publish import add_check, add_publish
-from .lists import add_claims, add_judge
+from ..runner.errors import CheckError, RunError
+from .lists import add_check, add_claims, add_judge, add_publish
 from .machines import add_machines, add_runs
 from .run import add_command as add_run
 from .shards import add_shards
@@ -28,7 +29,6 @@ _OUTPUT_ERRORS = (errno.ENOSPC, errno.EFBIG, errno.EDQUOT, errno.EIO)
 
 
 def build_parser() -> argparse.ArgumentParser:
-    """The parser of the command line."""
     parser = argparse.ArgumentParser(prog="budlarem", description="Works on lists of machines and verdicts.")
     parser.add_argument("--version", action="version", version="budlarem " + VERSION)
     commands = parser.add_subparsers(required=True, metavar="COMMAND")
@@ -36,14 +36,8 @@ def build_parser() -> argparse.ArgumentParser:
         add(commands)
     asked = commands.add_parser("help", help="print the help of a command, as its --help")
     asked.add_argument("command", nargs="?", metavar="COMMAND", choices=list(commands.choices))
-    asked.set_defaults(do=lambda given: do_help(parser, given.command))
+    asked.set_defaults(do=lambda given: parser.parse_args([*filter(None, [given.command]), "--help"]))
     return parser
-
-
-def do_help(parser: argparse.ArgumentParser, command: str | None) -> int:
-    """Prints the help of a command, or of all."""
-    parser.parse_args(["--help"] if command is None else [command, "--help"])
-    return 0
 
 
 def main(arguments: list[str] | None = None) -> int:
@@ -57,22 +51,19 @@ def main(arguments: list[str] | None = None) -> int:
         return status
     except BrokenPipeError:
         raise
+    except (CheckError, UnconfirmedError) as error:
+        text, status = str(error), 1
     except (ValueError, TypeError) as error:
-        _print_error(str(error))
-        return 2
+        text, status = str(error), 2
     except MemoryError as error:
-        _print_error("out of memory: %s" % error)
+        text, status = "out of memory: %s" % error, 3
     except OSError as error:
         is_output = error.filename is None and error.errno in _OUTPUT_ERRORS
-        _print_error("%s%s" % ("standard output: " if is_output else "", error))
-    except ReportError as error:
-        _print_error(str(error))
-    return 3
-
-
-def _print_error(text: str) -> None:
-    """Prints an error message, its control characters escaped."""
+        text, status = "%s%s" % ("standard output: " if is_output else "", error), 3
+    except (ReportError, RunError) as error:
+        text, status = str(error), 3
     print("budlarem: %s" % escape_controls(text), file=sys.stderr)
+    return status
 
 
 def run_and_exit() -> NoReturn:

@@ -1,7 +1,5 @@
 """The commands over machines: `read`, `decide`, `normal`, `trace`, `picture`."""
 
-from __future__ import annotations
-
 import argparse
 import sys
 
@@ -12,7 +10,7 @@ from ..normal_forms import distinct
 from ..numbers import option_number
 from ..pictures import picture
 from .shared import LIST_HELP, ListReader, Subcommands, add_command, add_file, add_form, add_limits
-from .shared import add_number, limits_of
+from .shared import add_number, limits_in
 
 _READ = "Writes the machine of each line of a list, as bb reads it.\n\n%s Status 1 if a line was refused."
 _DECIDE = """Decides the machine of each line of a list, and copies the other fields of the line.
@@ -25,7 +23,6 @@ mirrored so that the first move is to the right.
 
 
 def do_read(asked: argparse.Namespace) -> int:
-    """Writes the machines of a list."""
     reader = ListReader(asked.file, asked)
     for machine in reader.machines():
         sys.stdout.write("%s\n" % machine)
@@ -36,16 +33,14 @@ def do_read(asked: argparse.Namespace) -> int:
 
 
 def do_decide(asked: argparse.Namespace) -> int:
-    """Decides the machine of each line."""
     plan = Plan(not asked.no_cyclers, not asked.no_translated, not asked.no_backward)
     reader = ListReader(asked.file, asked)
-    for found in decide_readings(reader.readings(), limits_of(asked), plan, threads=asked.threads):
+    for found in decide_readings(reader.readings(), limits_in(asked), plan, threads=asked.threads):
         sys.stdout.write("%s\n" % found)
     return reader.status
 
 
 def do_normal(asked: argparse.Namespace) -> int:
-    """Writes the normal form of each machine."""
     reader = ListReader(asked.file, asked)
     for form, before in distinct(reader.machines(), steps=asked.steps, cells=asked.cells):
         if before is None or not asked.distinct:
@@ -54,7 +49,6 @@ def do_normal(asked: argparse.Namespace) -> int:
 
 
 def add_machines(commands: Subcommands) -> None:
-    """Adds `read`, `decide` and `normal` to a parser."""
     columns = [("machine", "as bb reads it")]
     read = add_command(commands, "read", do_read, "machines of a list", _READ % LIST_HELP, columns)
     columns = [("verdict", "the line of bb decide"), ("fields", "the text before the machine, if any")]
@@ -86,7 +80,6 @@ down: a pixel has the mean colour of its cells, and the head isn't shown."""
 
 
 def do_trace(asked: argparse.Namespace) -> int:
-    """Writes the configurations of a run."""
     rows = trace(asked.machine, asked.upto, asked.cells)
     try:
         for now in rows:
@@ -98,7 +91,6 @@ def do_trace(asked: argparse.Namespace) -> int:
 
 
 def do_picture(asked: argparse.Namespace) -> int:
-    """Writes a space-time picture of a run, as a PNG file."""
     positions = {"columns": asked.columns, "left": asked.left, "right": asked.right}
     more = {"cells": asked.cells, "every": asked.every, "scale": asked.scale}
     made = picture(asked.machine, asked.upto, **positions, **more)
@@ -113,7 +105,6 @@ def do_picture(asked: argparse.Namespace) -> int:
 
 
 def add_runs(commands: Subcommands) -> None:
-    """Adds `trace` and `picture` to a parser."""
     columns = [("step", "from 0 on"), ("state", "A to Y, or Z after a step into it")]
     columns += [("position", "of the head, 0 at the start"), ("cells", "visited so far, a digit each")]
     steps = add_command(commands, "trace", do_trace, "the steps of a run", _TRACE, columns, "a space")

@@ -5,8 +5,6 @@ Exit status: 0 if all lines are machines, 1 if a line was refused or the checker
 and SIGHUP.
 """
 
-from __future__ import annotations
-
 import argparse
 import contextlib
 import os
@@ -42,7 +40,6 @@ TLS = {
 
 
 def add_command(commands: Subcommands) -> None:
-    """Adds the command to a parser."""
     parser = commands.add_parser("run", help="decide a list of any length in chunks", description=_HELP)
     parser.set_defaults(do=do_run)
     parser.add_argument("list", metavar="LIST", help="a file, plain or gzip; - is standard input")
@@ -95,8 +92,7 @@ def _make_backend(asked: argparse.Namespace, progress: Progress) -> Backend:
 
 
 def fill_closed(is_input_read: bool) -> None:
-    """Opens /dev/null in place of a closed standard stream, so that no file opened later takes its number.
-    Raises OSError if standard input is closed and to be read."""
+    """Opens /dev/null in place of closed standard streams. Raises OSError if standard input is to be read."""
     for number in range(3):
         try:
             os.fstat(number)
@@ -114,7 +110,6 @@ def fill_closed(is_input_read: bool) -> None:
 
 
 def do_run(asked: argparse.Namespace) -> int:
-    """Decides a list; returns the exit status."""
     fill_closed(asked.list == "-")
     progress = Progress()
     passes = [limits_of(word) for word in asked.passes] if asked.passes else [Limits()]

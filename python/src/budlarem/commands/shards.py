@@ -17,7 +17,7 @@ from typing import Callable
 
 from .._text import escape_controls
 from ..limits import Limits
-from ..runner.errors import CheckError, FolderError, RunError, UsageError
+from ..runner.errors import FolderError, UsageError
 from ..runner.progress import TerminalLine
 from ..shards import Plan, create, join, pending, read_machines, read_plan, run_shard
 from .shared import Subcommands, add_command, add_number, end_at_signals
@@ -42,42 +42,28 @@ MACHINE below N U G SHA256. A finished shard isn't run again."""
 
 
 def do_shards(asked: argparse.Namespace) -> int:
-    """Runs the unfinished shards of a list, and joins them."""
     plan = _plan_of(asked)
     _require_one_use(asked)
     resumes = "`budlarem shards %s` resumes\n" % escape_controls(asked.folder)
     end_at_signals(lambda what: "budlarem: %s; %s" % (what, resumes))
-    try:
-        if plan is not None:
-            create(asked.folder, plan)
-        else:
-            read_plan(asked.folder)
-        if asked.pending:
-            sys.stdout.writelines(machine + "\n" for machine in pending(asked.folder))
-        elif not asked.plan:
-            _run_all(asked)
-            sys.stdout.write(join(asked.folder))
-        return 0
-    except (CheckError, FolderError, RunError) as error:
-        return _print_error(error)
+    if plan is not None:
+        create(asked.folder, plan)
+    else:
+        read_plan(asked.folder)
+    if asked.pending:
+        sys.stdout.writelines(machine + "\n" for machine in pending(asked.folder))
+    elif not asked.plan:
+        _run_all(asked)
+        sys.stdout.write(join(asked.folder))
+    return 0
 
 
 def do_shard(asked: argparse.Namespace) -> int:
-    """Runs one shard."""
-    try:
-        if (asked.machine, True) not in read_machines(asked.folder):
-            sentence = "%s is no shard of %s; `budlarem shards %s --pending` prints the unfinished ones"
-            raise FolderError(sentence % (asked.machine, asked.folder, asked.folder))
-        sys.stdout.write(run_shard(asked.folder, asked.machine))
-        return 0
-    except (CheckError, FolderError, RunError) as error:
-        return _print_error(error)
-
-
-def _print_error(error: Exception) -> int:
-    """Prints an error; returns its status."""
-    print("budlarem: %s" % escape_controls(str(error)), file=sys.stderr)
-    return 1 if isinstance(error, CheckError) else 2 if isinstance(error, FolderError) else 3
+    if (asked.machine, True) not in read_machines(asked.folder):
+        sentence = "%s is no shard of %s; `budlarem shards %s --pending` prints the unfinished ones"
+        raise FolderError(sentence % (asked.machine, asked.folder, asked.folder))
+    sys.stdout.write(run_shard(asked.folder, asked.machine))
+    return 0
 
 
 def _plan_of(asked: argparse.Namespace) -> Plan | None:
@@ -117,8 +103,7 @@ def _require_one_use(asked: argparse.Namespace) -> None:
 
 
 def _run_all(asked: argparse.Namespace) -> None:
-    """Runs the unfinished shards on the cores, or by the workers of a dask cluster. After the first error no
-    other is started."""
+    """Runs the unfinished shards, on the cores or by dask. After the first error no other is started."""
     machines = pending(asked.folder)
     if not machines:
         return
@@ -133,7 +118,6 @@ def _run_all(asked: argparse.Namespace) -> None:
 
 
 def _wait_for(executor: Executor, job: Callable[[str], str], machines: list[str]) -> None:
-    """Waits for all shards. Raises the first error."""
     progress = TerminalLine()
     futures: list[Future[str]] = [executor.submit(job, machine) for machine in machines]
     try:
@@ -151,7 +135,6 @@ def _wait_for(executor: Executor, job: Callable[[str], str], machines: list[str]
 
 
 def add_shards(commands: Subcommands) -> None:
-    """Adds the commands to a parser."""
     shards = add_command(commands, "shards", do_shards, "decide and check a whole size in shards", _SHARDS)
     shards.add_argument("folder", metavar="FOLDER", help="the folder of the plan and the results")
     add_number(shards, "--states", "states of the machines, 1 to 25; makes the plan")

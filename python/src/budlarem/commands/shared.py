@@ -66,7 +66,6 @@ def end_at_signals(line_of: Callable[[str], str]) -> None:
 
 
 def counts_text(counts: Mapping[Kind, int], kinds: Iterable[Kind]) -> str:
-    """The count of each kind so far, for a terminal."""
     return ", ".join("%s %s" % (short_count(counts[kind]), kind) for kind in kinds if counts[kind])
 
 
@@ -76,8 +75,7 @@ def source_of(path: str | None) -> str | BinaryIO:
 
 
 class ListReader:
-    """Reads a list, in the form and with the columns of the options, if any. Prints its form, its rewritten and
-    refused lines, and the number of skipped lines on standard error."""
+    """Reads a list by the options. Prints its form, and rewritten, refused and skipped lines."""
 
     def __init__(
         self, path: str | None, asked: argparse.Namespace | None, progress: TerminalLine | None = None
@@ -94,7 +92,6 @@ class ListReader:
         return _PrintedReadings(self)
 
     def machines(self) -> Iterator[str]:
-        """The machines alone."""
         return (reading.machine for reading in self.readings() if reading.machine is not None)
 
     def print_line(self, text: str, number: int | None = None) -> None:
@@ -105,7 +102,6 @@ class ListReader:
         print("%s%s: %s" % (self.name, place, escape_controls(text)), file=sys.stderr)
 
     def print_form(self, form: ListForm) -> None:
-        """Prints the form of the list if it was detected."""
         if form.is_found:
             is_given = self.form is not None or self.columns != Columns()
             self.print_line(str(form) if is_given else "%s; --form overrides it" % form)
@@ -127,19 +123,16 @@ class ListReader:
             self.print_line("%s with bytes that are no UTF-8; iconv converts a list" % total)
 
     def print_rewritten(self, reading: Reading) -> None:
-        """Prints what was rewritten in a line, if anything."""
         if reading.rewritten:
             self.rewritten += 1
             self.print_line(str(reading), reading.number)
 
     def refuse(self, number: int, text: str) -> None:
-        """Prints why a line was refused."""
         self.refused += 1
         self.print_line(text, number)
 
     @property
     def status(self) -> int:
-        """1 if a line was refused, else 0."""
         return 1 if self.refused else 0
 
 
@@ -163,8 +156,7 @@ class _PrintedReadings(Readings):
 
 
 def add_form(parser: argparse.ArgumentParser, roles: Iterable[str] = ("machine",)) -> None:
-    """Adds the options for the form of a list and the columns of a table. `--steps` is a limit of most
-    commands, so that column has `--steps-column`."""
+    """Adds the options for the form of a list and the columns of a table."""
     forms = [str(form) for form in Form]
     parser.add_argument("--form", choices=forms, help="the list's form (default: by its first lines)")
     for role in roles:
@@ -186,27 +178,23 @@ def add_passes(parser: argparse.ArgumentParser, help: str) -> None:
     parser.add_argument("--pass", action="append", dest="passes", metavar=metavar, help=help)
 
 
-def limits_of(asked: argparse.Namespace) -> Limits:
+def limits_in(asked: argparse.Namespace) -> Limits:
     return Limits(asked.steps, asked.cells, asked.depth, asked.nodes)
 
 
 def add_number(
     parser: argparse.ArgumentParser, name: str, help: str, default: int | None = None, metavar: str = "N"
 ) -> None:
-    """Adds an option of a whole number."""
     help += "" if default is None else " (default: {:,})".format(default)
     parser.add_argument(name, type=option_number, default=default, metavar=metavar, help=help)
 
 
-def add_limits(parser: argparse.ArgumentParser, names: Iterable[str]) -> None:
+def add_limits(parser: argparse.ArgumentParser, names: Iterable[str], are_greatest: bool = False) -> None:
+    """Adds the options of limits, whose defaults are the program's or the greatest."""
+    ending = " (default: the greatest)" if are_greatest else ""
     for name in names:
-        add_number(parser, "--" + name, "{:,} to {:,}".format(*Limits.RANGES[name]), getattr(Limits(), name))
-
-
-def add_greatest_limits(parser: argparse.ArgumentParser, names: Iterable[str]) -> None:
-    """Adds the options of limits whose defaults are the greatest."""
-    for name in names:
-        add_number(parser, "--" + name, "{:,} to {:,} (default: the greatest)".format(*Limits.RANGES[name]))
+        help = "{:,} to {:,}".format(*Limits.RANGES[name]) + ending
+        add_number(parser, "--" + name, help, None if are_greatest else getattr(Limits(), name))
 
 
 def greatest_limits(asked: argparse.Namespace) -> Limits:
@@ -232,8 +220,7 @@ def add_command(
     columns: Iterable[tuple[str, str]] = (),
     separator: str = "a tab",
 ) -> argparse.ArgumentParser:
-    """Adds a command: its function, a line of help, a description, and the columns of its output with their
-    separator. The help page fits a terminal of 80 characters."""
+    """Adds a command and its help page, for a terminal of 80 characters; `columns` are of its output."""
     texts, rows = [textwrap.fill(" ".join(part.split()), WIDTH) for part in text.split("\n\n")], list(columns)
     if rows:
         width = max(len(column) for column, _ in rows) + 4

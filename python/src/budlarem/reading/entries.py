@@ -39,8 +39,7 @@ Group = list[tuple[int, str]]
 
 
 def read_words(words: Sequence[Word]) -> Outcome:
-    """The machine of groups with `_` between them in one word, or in several words; or of one word without `_`
-    that one division into groups makes a machine."""
+    """The machine of groups in several words, or in one with `_` between them or one possible division."""
     if len(words) == 1 and "_" in words[0].text and is_machine(words[0].text):
         return Found(words[0].text)
     groups, begin = list(words), words[0].begin
@@ -70,7 +69,6 @@ def read_entries(words: Sequence[Word]) -> Outcome:
 
 
 def read_arrays(groups: Sequence[Sequence[Word]]) -> Outcome:
-    """The machine of arrays of entries."""
     letters = _letters([word for group in groups for word in group])
     entries = [[(word.begin, word.text) for word in group] for group in groups]
     return _machine(entries, letters | {Rewriting.ARRAYS})

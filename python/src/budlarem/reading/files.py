@@ -71,8 +71,7 @@ Source = Union[str, "os.PathLike[str]", BinaryIO, Iterable[str], Iterable[bytes]
 
 
 class BlockReader(io.RawIOBase):
-    """Bytes as a file that can be buffered: `more` returns the next ones, about as many as asked for, and none
-    at the end. `held` are read before them."""
+    """A file over `more`, which returns about as many bytes as asked for. `held` are read before them."""
 
     def __init__(self, more: Callable[[int], bytes]) -> None:
         self._more, self.held = more, b""
@@ -117,7 +116,6 @@ class Lines(Iterable[Numbered]):
         return self._lines
 
     def _of_items(self, items: Iterator[Any]) -> Iterator[Numbered]:
-        """The lines of an iterable. Raises TypeError, ValueError."""
         for place, item in enumerate(items):
             if isinstance(item, bytes):
                 item = item.decode("utf-8", "surrogateescape")
@@ -132,7 +130,6 @@ class Lines(Iterable[Numbered]):
                 yield place + 1, line
 
     def _of_file(self, file: BytesFile) -> Iterator[Numbered]:
-        """The lines of a file; bytes that aren't UTF-8 stay. Raises OSError, EncodingError."""
         with contextlib.closing(file):
             for number, line in self._split_lines(file):
                 text = line.decode("utf-8", "surrogateescape")

@@ -76,8 +76,7 @@ def _is_alone(number: int, bare: str) -> bool:
 def form_of(
     lines: Iterable[Numbered], ahead: list[Numbered], form: Form | None, columns: Columns
 ) -> ListForm:
-    """The form of a list: the given one, a table if a column is given, or that of its first lines. Raises
-    ValueError if the layout of a table isn't known."""
+    """The form of a list, given or by its first lines. Raises ValueError for an unknown layout of a table."""
     given = form
     if form is None and columns != Columns():
         form = Form.TABLE
@@ -144,7 +143,6 @@ class Readings(Iterator[Reading]):
 
 
 def skip_kind(line: str) -> Skipped:
-    """The kind of a skipped line."""
     return skip_reason(line.lstrip("\ufeff").strip(SPACES)) or Skipped.HEADER
 
 
@@ -153,8 +151,7 @@ _MOST_BUFFERED = 8_000_000
 
 
 class RereadableList:
-    """The non-empty lines of a list, to be read more than once. `form` is the list's; `counted` are the lines of
-    the last reading, with the counts so far."""
+    """The non-empty lines of a list, to be read more than once. `counted` are those of the last reading."""
 
     def __init__(self, source: Source, form: Form | None = None, columns: Columns = Columns()) -> None:
         self._source: Any = source

@@ -32,7 +32,6 @@ def read_line(number: int, line: str, form: Form = Form.TEXT) -> Reading | None:
     """The reading of a line without its newline, in any form but a table's; None for a skipped line."""
 
     def is_rule(text: str) -> bool:
-        """Whether a row of dashes is a rule in this form."""
         return form is not Form.MACHINES and not text.strip("-")
 
     if is_machine(line) and form is not Form.VERDICTS and not is_rule(line):

@@ -9,33 +9,23 @@ from ..engine import column_of
 
 
 class Rewriting(Words):
-    """A spelling that was rewritten for `bb`, in the order of printing."""
+    """A spelling that was rewritten for `bb`, in the order of printing; `sentence` describes it."""
 
-    SMALL_LETTERS = "small-letters"
-    HALTING_STATE = "halting-state"
-    UNDEFINED_ENTRIES = "undefined-entries"
-    SPACES = "spaces"
-    UNDERSCORES = "underscores"
-    ESCAPES = "escapes"
-    ENTRIES = "entries"
-    ARRAYS = "arrays"
+    sentence: str
 
-    @property
-    def sentence(self) -> str:
-        """A description of the rewriting."""
-        return _SENTENCES[self.value]
+    def __new__(cls, value: str, sentence: str) -> Rewriting:
+        made = object.__new__(cls)
+        made._value_, made.sentence = value, sentence
+        return made
 
-
-_SENTENCES = {
-    "small-letters": "small letters read as capital ones",
-    "halting-state": "H read as Z, the halting state",
-    "undefined-entries": "... read as ---, an undefined entry",
-    "spaces": "spaces between groups read as _",
-    "underscores": "_ put between the groups",
-    "escapes": "\\_ read as _",
-    "entries": "spaces between entries left out",
-    "arrays": "arrays of entries read as groups",
-}
+    SMALL_LETTERS = "small-letters", "small letters read as capital ones"
+    HALTING_STATE = "halting-state", "H read as Z, the halting state"
+    UNDEFINED_ENTRIES = "undefined-entries", "... read as ---, an undefined entry"
+    SPACES = "spaces", "spaces between groups read as _"
+    UNDERSCORES = "underscores", "_ put between the groups"
+    ESCAPES = "escapes", "\\_ read as _"
+    ENTRIES = "entries", "spaces between entries left out"
+    ARRAYS = "arrays", "arrays of entries read as groups"
 
 
 class Form(Words):

@@ -116,8 +116,7 @@ def find_layout(lines: Sequence[Numbered], columns: Columns) -> Layout:
 
 
 def _fits(records: Sequence[Numbered], separator: str, columns: Columns) -> bool:
-    """Whether a separator gives the first records the named columns, and machines in that of machines, except in
-    the header. Records of another number of cells are refused one by one."""
+    """Whether a separator gives the first records the named columns, and machines in that of machines."""
     rows = []
     for _, bare in records:
         with contextlib.suppress(csv.Error):
@@ -134,7 +133,6 @@ def _fits(records: Sequence[Numbered], separator: str, columns: Columns) -> bool
 
 
 def _with_header(header: Numbered, separator: str, columns: Columns) -> Layout:
-    """The layout of a table by its header. Raises ValueError."""
     number, bare = header
     names = cells_of(bare.lstrip("#").strip(SPACES), separator)
     found: dict[str, int] = {}
@@ -170,7 +168,6 @@ def _cells(count: int) -> str:
 
 
 def _machine_in(number: int, cell: str) -> Reading:
-    """The reading of a cell of the column of machines."""
     if is_machine(cell):
         return Reading(number, cell, cell)
     nothing = Reading(number, cell, None, reason=Reason("column", "no machine in this cell", 1))

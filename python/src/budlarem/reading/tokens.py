@@ -67,7 +67,6 @@ class Parts(NamedTuple):
 
 
 def parts_of(line: str) -> Parts:
-    """The candidates of a line."""
     arrays = _arrays_of(line)
     for text in arrays:
         line = line[: text.begin] + "|" * (text.end - text.begin) + line[text.end :]
@@ -149,7 +148,6 @@ def _join_words(line: str, words: list[Word], rows: list[Word]) -> list[Text]:
 
 
 def _runs(line: str, words: list[Word]) -> Iterator[list[Word]]:
-    """Groups of words with only spaces between them."""
     held: list[Word] = []
     for word in words:
         if held and line[held[-1].end : word.begin].strip(_TOGETHER):

@@ -16,12 +16,12 @@ import threading
 import time
 import zlib
 from concurrent.futures import Future
-from typing import Any, Callable, Iterator, Sequence
+from typing import Any, Callable, Sequence
 
 from .._library import ReplyBuffer, load_library, validate_replies
 from .._text import LONGEST_OF_REPLY
 from .._version import COMMIT, VERSION
-from ..counts import KINDS
+from ..counts import KINDS, find_all
 from ..engine import Call, check_call, decide_call
 from ..limits import Limits, Plan
 from .errors import FatalLineError, ReplyError, UsageError
@@ -57,7 +57,6 @@ class Identity:
 
 @functools.lru_cache(maxsize=None)
 def identity() -> Identity:
-    """The identity of this process. Raises LibraryError, OSError."""
     with open(load_library()._name, "rb") as file:
         return Identity(VERSION, COMMIT, hashlib.sha256(file.read()).hexdigest())
 
@@ -73,12 +72,10 @@ def digest_of(data: bytes) -> str:
 
 
 def describe_task(what: str, limits: Numbers) -> str:
-    """The description of a task in its reply."""
     return "%s steps=%d,cells=%d,depth=%d,nodes=%d" % (what, *limits)
 
 
 def reply_of(task: str, lines: bytes, written: bytes, seconds: float) -> ChunkReply:
-    """The reply to some lines with this output."""
     digests, ours = (digest_of(lines), task, digest_of(written)), identity()
     return (written, seconds, ours.version, ours.commit, ours.library, *digests)
 
@@ -119,8 +116,7 @@ def _split(lines: bytes, count: int, what: str) -> list[bytes]:
 
 
 def validate_verdicts(given: bytes, verdicts: bytes) -> Counts:
-    """Validates the verdict lines of a chunk: each names the machine of its line, or refuses it. Returns the
-    count of each kind. Raises ReplyError."""
+    """The count of each kind. Raises ReplyError unless each verdict names or refuses its line's machine."""
     found = validate_replies(given, verdicts)
     if not found.fits:
         lines = given.split(b"\n")[:-1]
@@ -131,8 +127,7 @@ def validate_verdicts(given: bytes, verdicts: bytes) -> Counts:
 
 
 def validate_answers(verdicts: bytes, answers: bytes) -> None:
-    """Validates the checker's answers to the verdict lines of a chunk. Raises ReplyError; its `line` is set
-    for an answer that doesn't confirm a verdict."""
+    """Raises ReplyError for invalid answers; its `line` is set for one that doesn't confirm a verdict."""
     lines = _split(answers, verdicts.count(b"\n"), "answers")
     place = next((place for place, line in enumerate(lines) if line not in (b"ok", b"open")), None)
     if place is None:
@@ -143,8 +138,7 @@ def validate_answers(verdicts: bytes, answers: bytes) -> None:
 
 
 def open_reply(reply: object, ours: Identity, task: str, lines: bytes) -> tuple[bytes, float]:
-    """The output and seconds of a reply. Raises ReplyError unless package, library, task and input are the
-    expected ones and the digests match."""
+    """The output and seconds of a reply. Raises ReplyError unless its origin, task and digests are right."""
     if not (isinstance(reply, tuple) and len(reply) >= 5 and isinstance(reply[0], bytes)):
         raise ReplyError("the reply has type %s" % type(reply).__name__)
     theirs = Identity(*(str(part) for part in reply[2:5]))
@@ -164,8 +158,7 @@ def open_reply(reply: object, ours: Identity, task: str, lines: bytes) -> tuple[
 
 @dataclasses.dataclass(frozen=True)
 class Retention:
-    """Which verdict lines are kept: all, or those of holdouts and refusals, and of halts after more than
-    `halts_after` steps where that is a number."""
+    """Keeps all verdict lines, or holdouts, refusals, and halts after more than `halts_after` steps."""
 
     only_holdouts: bool = False
     halts_after: int | None = None
@@ -176,28 +169,14 @@ class Retention:
         return _LEFT if self.halts_after is None else "%s,%s%d" % (_LEFT, _HALTS, self.halts_after)
 
     def select(self, verdicts: bytes) -> bytes:
-        """The kept verdict lines."""
         if not self.only_holdouts:
             return verdicts
-        starts = {verdicts.rfind(b"\n", 0, place) + 1 for place in self._places(verdicts)}
-        return b"".join(verdicts[start : verdicts.index(b"\n", start) + 1] for start in sorted(starts))
-
-    def _places(self, verdicts: bytes) -> Iterator[int]:
-        """An index in each kept line."""
-        for word in _KEPT_WORDS:
-            yield from find_all(word, verdicts)
+        places = [place for word in _KEPT_WORDS for place in find_all(word, verdicts)]
         if self.halts_after is not None:
-            for found in re.finditer(b" halt ([0-9]{%d,}) " % len(str(self.halts_after)), verdicts):
-                if int(found.group(1)) > self.halts_after:
-                    yield found.start()
-
-
-def find_all(word: bytes, lines: bytes) -> Iterator[int]:
-    """The indices of a word in some lines."""
-    place = lines.find(word)
-    while place >= 0:
-        yield place
-        place = lines.find(word, place + 1)
+            halts = re.finditer(b" halt ([0-9]{%d,}) " % len(str(self.halts_after)), verdicts)
+            places += (halt.start() for halt in halts if int(halt[1]) > self.halts_after)
+        starts = {verdicts.rfind(b"\n", 0, place) + 1 for place in places}
+        return b"".join(verdicts[start : verdicts.index(b"\n", start) + 1] for start in sorted(starts))
 
 
 def parse_retention(words: Sequence[str] | None) -> Retention:
@@ -225,8 +204,7 @@ class Job:
 
 
 def bisect_job(job: Job) -> list[Job]:
-    """Two jobs for the halves of a job's lines, which end the job once both are done. A job of one line fails
-    here with FatalLineError, and has no halves."""
+    """Jobs for the halves of a job, which end it once both are done. A single line is a FatalLineError."""
     lines = [line + b"\n" for line in job.lines.split(b"\n")[:-1]]
     if len(lines) < 2:
         job.future.set_exception(FatalLineError(job.first))
@@ -253,8 +231,7 @@ def bisect_job(job: Job) -> list[Job]:
 
 
 def merge_replies(parts: list[bytes], replies: list[Any]) -> Any:
-    """The reply to lines whose parts had these replies. An invalid reply, or one of another library or task
-    than the first, is returned as it is; `open_reply` refuses it."""
+    """The reply to lines whose parts had these replies; an invalid one is returned as it is."""
 
     def origin_of(reply: Any) -> tuple[Any, ...]:
         return (*reply[2:5], reply[6])

@@ -39,7 +39,6 @@ _LARGE = "Large object of size"
 
 
 def import_distributed() -> Any:
-    """The package `distributed`. Raises RunError."""
     try:
         return importlib.import_module("distributed")
     except ImportError as error:
@@ -91,8 +90,7 @@ class DaskBackend(ExecutorBackend):
             self._report("the scheduler at %s has no page" % self._address)
 
     def _connect(self) -> Exception | None:
-        """Makes a new client; returns the error, if any. A failed client leaves its thread behind, so all use
-        the thread of the first one."""
+        """Makes a new client, on the thread of the first one; returns the error, if any."""
         loop = None if self._client is None else self._client.loop
         try:
             self._client = self._dask.Client(
@@ -119,7 +117,6 @@ class DaskBackend(ExecutorBackend):
         return self._client.scheduler_comm if self._client.status == "running" else None
 
     def _submit(self, job: Job) -> None:
-        """Submits a job, now or once there is a scheduler."""
         submission = Submission(self._connection(), "budlarem-" + uuid.uuid4().hex)
         with self._lock:
             job.turn += 1

@@ -81,7 +81,6 @@ def _require_kind(directory: Directory, name: str, kind: int) -> None:
 
 
 def require_regular(directory: Directory, names: Sequence[str]) -> None:
-    """Raises FolderError for a name that leads to something else than a regular file."""
     for name in names:
         _require_kind(directory, name, stat.S_IFREG)
 
@@ -95,8 +94,7 @@ def _open_pass(top: Directory, name: str) -> Iterator[Directory]:
 
 
 def require_own(top: Directory, known_passes: int | None) -> None:
-    """Raises FolderError for anything foreign in a folder. `known_passes` is the number of its passes; None
-    without a configuration, when each file has to show that it is a run's."""
+    """Raises FolderError for foreign files; without `known_passes` each has to show that it is a run's."""
     names = top.names()
     passes = [name for name in names if PASS.fullmatch(name)]
     checked = (README, VERDICTS, SUMMARY, LOCK) if passes else (LOCK,)
@@ -118,7 +116,6 @@ def _foreign_error(directory: Directory, name: str) -> FolderError:
 
 
 def require_own_pass(top: Directory, name: str) -> None:
-    """Raises FolderError for anything foreign in the folder of a pass."""
     with _open_pass(top, name) as inside:
         names = inside.names()
         if _OLD_CHUNK in names:
@@ -152,14 +149,12 @@ def require_other_list(top: Directory, listed: FileId | None) -> None:
 
 
 def require_separate_list(path: str, list_id: FileId | None) -> None:
-    """Raises FolderError if the list is one of the run's files here."""
     if os.path.isdir(path):
         with contextlib.closing(Directory.open(path)) as top:
             require_other_list(top, list_id)
 
 
 def pass_name(number: int) -> str:
-    """The name of the folder of a pass."""
     return "%s%d" % (_PASS_PREFIX, number)
 
 
@@ -180,8 +175,7 @@ def as_argument(path: str) -> str:
 
 @dataclasses.dataclass
 class RunConfig:
-    """The configuration of a run. `list_bytes` is known for an uncompressed file, `list_lines` once the first
-    pass has seen the end."""
+    """The configuration of a run. `list_lines` is known once the first pass has seen the end."""
 
     passes: list[Limits]
     keep: Retention
@@ -191,7 +185,6 @@ class RunConfig:
     list_lines: int | None = None
 
     def text(self) -> str:
-        """The text of `run.json`."""
         fields = {
             "passes": [words_of(limits) for limits in self.passes],
             "keep": str(self.keep),
@@ -238,8 +231,7 @@ class RunConfig:
 
     @classmethod
     def read(cls, text: str) -> RunConfig | None:
-        """The configuration of a text; None if it is truncated. Raises FolderError unless `text` could have
-        returned it."""
+        """The configuration of a text; None if it is truncated. Raises FolderError for any other change."""
         if _is_truncated(text):
             return None
         fields: Any = None
@@ -296,8 +288,7 @@ class Folder:
             raise
 
     def _lock(self) -> None:
-        """Locks the directory, or a file in it where the file system locks none. Raises FolderError if another
-        process has the lock, OSError."""
+        """Locks the directory, or a file in it where the file system locks none. Raises FolderError."""
         try:
             try:
                 fcntl.flock(self._top.handle, fcntl.LOCK_EX | fcntl.LOCK_NB)
@@ -316,8 +307,7 @@ class Folder:
             raise RunError("%s was removed or replaced while the run worked" % self._top.at(LOCK))
 
     def read_config(self) -> RunConfig | None:
-        """Its configuration; None if missing or truncated. Raises FolderError if it was changed, is no file,
-        or another version of this package wrote it."""
+        """Its configuration; None if missing or truncated. Raises FolderError if it was changed."""
         require_regular(self._top, (RUN,))
         try:
             number = self._top.open_file(RUN, os.O_RDONLY)
@@ -336,7 +326,6 @@ class Folder:
                 require_own_pass(self._top, name)
 
     def write(self, name: str, text: str) -> None:
-        """Writes one of its files atomically."""
         remove_leftovers(self._top)
         data = text.encode("utf-8", "surrogateescape")
         self._write_file(name, lambda number: write_blocks(number, [data]))
@@ -359,7 +348,6 @@ class Folder:
             raise RunError(f"{self._top.at(name)} {why}; take it away") from None
 
     def write_verdicts(self, only: PassFolder) -> None:
-        """Writes the verdicts of a run of one pass. Raises RunError, OSError."""
         if only.is_in_order() and only.has_name():
             with self._error_for_others(VERDICTS):
                 only.rename_to_verdicts(self._pins.get(VERDICTS))
@@ -381,7 +369,6 @@ class Folder:
         return total
 
     def open_pass(self, passes: Sequence[Limits], keep: Retention, identity: Identity) -> PassFolder:
-        """The folder of the last of these passes."""
         number, key = len(passes), key_of(passes, keep, identity.library)
         inside = self._top.subdirectory(pass_name(number))
         self._top.sync()

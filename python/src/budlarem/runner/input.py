@@ -136,7 +136,6 @@ class ListFile:
 
     @property
     def id(self) -> tuple[int, int]:
-        """The numbers of its device and inode."""
         return self._status.st_dev, self._status.st_ino
 
     def fraction(self, taken: int) -> float | None:
@@ -147,8 +146,7 @@ class ListFile:
         return min(read / self.size, 1.0)
 
     def first_lines(self, most: int) -> list[bytes]:
-        """Its first lines, each cut to LONGEST_GIVEN bytes; `lines` and `blocks` return them again. None
-        if it pauses before so many came. Raises what `blocks` does."""
+        """Its first lines, which `lines` and `blocks` return again. None if it pauses before so many came."""
         held: list[bytes] = []
         count, size, is_paused = 0, 0, False
         while count < most and size < most * LONGEST_GIVEN and not is_paused:
@@ -162,8 +160,7 @@ class ListFile:
         return [line[:LONGEST_GIVEN] for line in (lines if lines and lines[-1] else lines[:-1])[:most]]
 
     def lines(self) -> StreamLines:
-        """Its lines, of any length in a plain file. Taking them raises RunError if it can't be read or has
-        changed."""
+        """Its lines, of any length in a plain file. Taking them raises RunError."""
         self._may_be_endless = self.is_compressed or not self.is_regular
         return StreamLines(self.blocks)
 
@@ -216,7 +213,6 @@ def require_form(source: ListFile) -> None:
 
 
 def refusal_reason(number: int, line: str) -> str:
-    """Why `bb` refuses a line, in words."""
     if (reading := read_line(number, line)) is None:
         return "it has no machine"
     if reading.reason is not None:

@@ -20,8 +20,8 @@ from concurrent.futures import Future, ThreadPoolExecutor
 from typing import Iterator, Sequence
 
 from .._files import Checksum, Directory, Pin, id_of, name_errors, write_all
-from ..counts import KINDS
-from .chunks import Counts, find_all, hash_of
+from ..counts import KINDS, undecided_spans
+from .chunks import Counts, hash_of
 from .errors import RunError
 from .input import StreamLines
 
@@ -58,11 +58,9 @@ class Record:
         return cls(first, lines, *hashes, milliseconds, False, tuple(counts[kind] for kind in KINDS))
 
     def fits(self, given: bytes) -> bool:
-        """Whether this is the chunk's input."""
         return self.given == (len(given), hash_of(given))
 
     def has(self, kept: bytes) -> bool:
-        """Whether this is the chunk's output."""
         return self.kept == (len(kept), zlib.crc32(kept))
 
     def counts_by_kind(self) -> Counts:
@@ -70,8 +68,7 @@ class Record:
 
 
 class Journal:
-    """The journal of a pass. `key` names the pass and its run. Raises OSError, as FileNotFoundError for a
-    missing one that is read only."""
+    """The journal of a pass. `key` names the pass and its run. Raises FileNotFoundError if only read."""
 
     def __init__(self, folder: Directory, key: str, is_read_only: bool = False) -> None:
         self._path, self._key = folder.at(JOURNAL), key
@@ -87,7 +84,6 @@ class Journal:
         os.close(self._number)
 
     def end(self) -> int:
-        """The end of all output."""
         records = (self.read(index) for index in range(self.length))
         return max((record.place + record.kept[0] for record in records if record is not None), default=0)
 
@@ -151,8 +147,7 @@ class Journal:
             os.fsync(self._number)
 
     def find_gap(self, index: int, first: int) -> tuple[int, int] | None:
-        """The chunks and lines from a chunk without a record, before which there are `first` lines, to the
-        next one with a record; None if there is none."""
+        """The chunks and lines from one without a record to the next one with a record, if any."""
         start, end = self._empty
         if not start <= index < end:
             start, end = index, index + 1
@@ -273,8 +268,7 @@ class PassFolder:
         return kept if record.has(kept) else None
 
     def read_chunks(self) -> Iterator[tuple[int, bytes]]:
-        """The output of each chunk, with the number of lines before it. Raises RunError for one that doesn't
-        match its record."""
+        """The output of each chunk, with the number of lines before it. Raises RunError for a changed one."""
         ahead: collections.deque[Future[tuple[int, bytes]]] = collections.deque()
         with ThreadPoolExecutor(_READERS, "budlarem read") as readers:
             for index in range(self.chunks):
@@ -300,7 +294,6 @@ class PassFolder:
         return RunError(f"chunk {index + 1} in {self.path} {why}")
 
     def checksum(self) -> Checksum:
-        """The checksum of all output in the list's order, by the journal. Raises RunError."""
         total = Checksum()
         for record in map(self._record, range(self.chunks)):
             total = total.add(Checksum(*record.kept))
@@ -336,13 +329,11 @@ class PassFolder:
             place, size = place + count, size - count
 
     def has_name(self) -> bool:
-        """Whether the file of the chunks still has its name."""
         found = self._top.id_at(VERDICTS) if self.is_renamed else self._inside.id_at(KEPT)
         return found == id_of(os.fstat(self._file))
 
     def rename_to_verdicts(self, over: Pin | None) -> None:
-        """Renames the file of the chunks to `verdicts.txt`, and records that. Replaces only the file `over`.
-        Raises FileExistsError, OSError."""
+        """Renames the file of the chunks to `verdicts.txt`, and records that. Replaces only `over`."""
         if not self.is_renamed:
             self.journal.write_rename_mark(self.chunks)
             self._top.install(KEPT, VERDICTS, None if over is None else over.id, self._inside)
@@ -358,17 +349,11 @@ class PassFolder:
             self._copy_chunks()
 
 
-def _spans(verdicts: bytes) -> Iterator[tuple[int, int, int]]:
-    """Start of each undecided line, end of its machine, and end of the line with its newline."""
-    for place in find_all(b" undecided ", verdicts):
-        yield verdicts.rfind(b"\n", 0, place) + 1, place, verdicts.find(b"\n", place) + 1
-
-
 def holdouts_of(folder: PassFolder) -> Iterator[bytes]:
     """The undecided machines of a pass in order, in blocks of lines. Raises RunError, OSError."""
     for _, verdicts in folder.read_chunks():
-        holdouts = b"".join(verdicts[start:place] + b"\n" for start, place, _ in _spans(verdicts))
-        if holdouts:
+        spans = undecided_spans(verdicts)
+        if holdouts := b"".join(verdicts[start:place] + b"\n" for start, place, _ in spans):
             yield holdouts
 
 
@@ -379,7 +364,7 @@ def merge_passes(passes: Sequence[PassFolder]) -> Iterator[bytes]:
     lines = StreamLines(merge_passes(passes[1:]) if len(passes) > 1 else iter(()))
     for _, verdicts in passes[0].read_chunks():
         parts, done = [b""], 0
-        for start, place, end in _spans(verdicts) if len(passes) > 1 else ():
+        for start, place, end in undecided_spans(verdicts) if len(passes) > 1 else ():
             parts.append(verdicts[done:start])
             if lines.peek().startswith(verdicts[start : place + 1]):
                 parts.append(lines.take(1, 1))
@@ -392,7 +377,7 @@ def list_line_number(before: Sequence[PassFolder], line: int) -> int:
     for folder in reversed(before):
         # The line is the undecided one with this index in the pass before.
         for first, verdicts in folder.read_chunks():
-            starts = [start for start, _, _ in _spans(verdicts)]
+            starts = [start for start, _, _ in undecided_spans(verdicts)]
             if line < len(starts):
                 line = first + verdicts.count(b"\n", 0, starts[line])
                 break

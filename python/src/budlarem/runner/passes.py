@@ -51,7 +51,6 @@ class ChunkPace:
         self._lines, self._seconds = 0.0, 0.0
 
     def update(self, lines: int, seconds: float, width: int) -> None:
-        """Records the time of a chunk."""
         self._lines = self.MEMORY * self._lines + lines
         self._seconds = self.MEMORY * self._seconds + seconds
         self._largest = max(self._largest, lines)
@@ -187,7 +186,6 @@ class Writer:
                 self._changed.wait_for(lambda: not self._writing)
 
     def pop_written(self) -> list[Chunk]:
-        """The chunks written since the last call."""
         return [self._written.popleft() for _ in range(len(self._written))]
 
     def _pop_ready(self) -> list[Chunk]:
@@ -230,8 +228,7 @@ class Writer:
 
 @dataclasses.dataclass
 class PassResult:
-    """The result of a pass. `milliseconds` sums the times of its chunks; `checksum` covers their output in the
-    list's order."""
+    """The result of a pass. `checksum` covers the output of its chunks in the list's order."""
 
     limits: Limits
     lines: int = 0
@@ -249,7 +246,6 @@ class PassResult:
         self.counts.update(record.counts_by_kind())
 
     def fields(self) -> dict[str, Any]:
-        """The fields of a summary."""
         return {
             "limits": dataclasses.asdict(self.limits),
             "lines": self.lines,
@@ -332,8 +328,7 @@ class PassRun:
         """Starts no more work."""
 
     def _is_stored(self, chunk: Chunk) -> bool:
-        """Whether the output of a chunk is stored and valid; reads it if it has to be checked. Raises
-        FolderError if it can't be checked any more."""
+        """Whether a chunk's output is stored and valid. Raises FolderError if it can't be checked now."""
         record = chunk.record
         if record is None:
             return False
@@ -401,8 +396,7 @@ class PassRun:
             self._next = now + min(max(_SOONEST, _SHARE * took), _LATEST)
 
     def _sync(self) -> None:
-        """Syncs the written chunks, and then their journal entries. Raises RunError if the list has changed:
-        its chunks aren't recorded then."""
+        """Syncs the written chunks, then their journal entries. Raises RunError if the list has changed."""
         chunks = self._writer.pop_written()
         changed = [chunk for chunk in chunks if not chunk.is_resumed or self._is_newly_checked(chunk)]
         if changed:
@@ -433,7 +427,6 @@ class Outcome:
 
     @classmethod
     def of(cls, results: Sequence[PassResult]) -> Outcome:
-        """The outcome of all passes."""
         counts: collections.Counter[str] = collections.Counter()
         for result in results:
             for kind in UNDECIDED:
@@ -448,8 +441,7 @@ class Outcome:
 
 
 def run(folder: Folder, source: ListFile, passes: Sequence[Limits], options: RunOptions) -> Outcome:
-    """Decides a list, and writes verdicts and summary into a folder. Raises FolderError, CheckError, RunError,
-    OSError, and MovedError if the folder was moved before a pass or at the end."""
+    """Decides a list, and writes verdicts and summary into a folder. Raises what `Backend.run_pass` does."""
     try:
         return _run_passes(folder, source, passes, options)
     except OSError:
@@ -494,7 +486,6 @@ def _run_passes(folder: Folder, source: ListFile, passes: Sequence[Limits], opti
 
 
 def _estimate_total(source: ListFile, lines: StreamLines, known: int | None) -> float | None:
-    """The estimated number of all lines, if that isn't known."""
     if known is not None:
         return known
     fraction = source.fraction(lines.bytes_taken)
@@ -548,8 +539,7 @@ def summary_of(
     started: tuple[float, float],
     checksum: Checksum,
 ) -> dict[str, Any]:
-    """The fields of the summary. `started` is a time of the wall clock and of the monotonic clock, by which the
-    seconds are counted; `checksum` covers the verdicts."""
+    """The fields of the summary. `started` is a time of the wall clock and of the monotonic clock."""
     seconds = time.monotonic() - started[1]
     utc = datetime.timezone.utc
     times = [datetime.datetime.fromtimestamp(started[0] + after, utc) for after in (0, seconds)]

@@ -61,7 +61,6 @@ class Progress:
         self._next = self._started + (_OFTEN if self._is_terminal else _SELDOM)
 
     def add_resumed(self, lines: int) -> None:
-        """Counts a chunk of an earlier run."""
         self._resumed += lines
         if not self._decided:
             self._started = time.monotonic()
@@ -80,7 +79,6 @@ class Progress:
         return left * (time.monotonic() - self._started) / self._decided
 
     def text(self) -> str:
-        """The line."""
         seconds = max(time.monotonic() - self._started, 1e-3)
         done = self._resumed + self._decided
         parts = ["pass %d of %d" % (self._pass, self._passes), "%d chunks" % self._chunks]
@@ -154,8 +152,13 @@ class TerminalLine:
             self._write(text()[:79])
             self._next = time.monotonic() + _OFTEN
 
+    def __enter__(self) -> TerminalLine:
+        return self
+
+    def __exit__(self, *error: object) -> None:
+        self.clear()
+
     def clear(self) -> None:
-        """Erases the text."""
         if self._width:
             self._write("")
 
