@@ -1,11 +1,4 @@
-/**
- * Rows of a trace with packed cells.
- *
- * @typedef {{steps: Float64Array, heads: Int32Array, lows: Int32Array, widths: Int32Array,
- *   offsets: Int32Array, states: string, cells: Uint8Array, bits: number}} PackedRows For each row, the step,
- *   the head, the lowest visited position, the number of visited cells, and the offset of its first cell in
- *   `cells`; a cell has 1 bit if the machine has two symbols, else 4
- */
+/** Rows of a trace with packed cells. */
 import { numberAt } from "./replies.mjs";
 
 const SPACE = 32;

@@ -1,9 +1,4 @@
-/**
- * Parses the engine's replies from their bytes, without making strings.
- *
- * @typedef {{starts: Uint32Array, kinds: Uint8Array}} Lines the offset of each line and the end of the last
- *   one, and the number of each line's kind
- */
+/** Parses the engine's replies from their bytes, without making strings. */
 import { newlineBits, wordsOf } from "../lib/memory.mjs";
 import { ANSWERS, KINDS } from "../reader/machine.mjs";
 

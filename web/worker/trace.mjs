@@ -1,13 +1,4 @@
-/**
- * Rows, pictures and growth of a machine's run, from its cached trace.
- *
- * @typedef {{step: number, state: string, head: number, low: number, cells: Uint8Array}} Row
- * @typedef {import("../lib/bb.mjs").Engine} Engine
- * @typedef {import("./row-cache.mjs").RowRequest} RowRequest
- * @typedef {import("./row-cache.mjs").AheadRequest} AheadRequest
- * @typedef {import("../page/diagram/viewport.mjs").View} View
- * @typedef {{machine: string, cells: number}} Run
- */
+/** Rows, pictures and growth of a machine's run, from its cached trace. */
 import { ZOOM, fitViews, zoomView } from "../page/diagram/viewport.mjs";
 import { unpackRow } from "./packed-rows.mjs";
 import { paintRows } from "./pixels.mjs";
@@ -43,7 +34,7 @@ export const traceAhead = (/** @type {Engine} */ engine, /** @type {AheadRequest
   cacheFor(engine, request).trace(request, request.space);
 
 /** Caches another worker's rows if they belong to the current run. */
-export function storeRows(/** @type {Run & {cached: import("./row-cache.mjs").CachedRows}} */ message) {
+export function storeRows(/** @type {Run & {cached: CachedRows}} */ message) {
   isCached(message) && cache?.store(message.cached);
 }
 
@@ -72,7 +63,7 @@ export function measureGrowth(engine, request) {
  * The picture of a view.
  * @param {Engine} engine
  * @param {Run & {upto: number, view: View | null, width: number, height: number, palette: number[][],
- *   fit: import("../page/diagram/viewport.mjs").Fit}} request a null view means the best fit
+ *   fit: Fit}} request a null view means the best fit
  */
 export function makePicture(engine, request) {
   const { upto, width, height, fit, palette } = request;

@@ -1,14 +1,4 @@
-/**
- * Steps and positions in the diagram's canvas, and their descriptions.
- *
- * @typedef {import("./viewport.mjs").View} View
- * @typedef {import("./viewport.mjs").Point} Point
- * @typedef {import("./diagram.mjs").Picture} Picture
- * @typedef {{x: number, y: number, width: number, height: number}} Area of the canvas without its axes
- * @typedef {{step: number, position: number}} Place
- * @typedef {{view: View, area: Area, picture: Picture | null}} Scene the current view, and the last picture,
- *   which may show another view
- */
+/** Steps and positions in the diagram's canvas, and their descriptions. */
 import { formatCount, formatNumber, stateText } from "../../reader/machine.mjs";
 import { symbolAt } from "../../worker/packed-rows.mjs";
 import { FRAMED, cellsPerPixel, isSameView, stepsPerPixel } from "./viewport.mjs";

@@ -13,14 +13,14 @@ const CLICK_PIXELS = 4;
 
 export class Gestures {
   /**
-   * @param {import("./diagram.mjs").Diagram} diagram
+   * @param {Diagram} diagram
    * @param {(words: string, byKeys: boolean) => void} tell shows a description of the pointed cell
    */
   constructor(diagram, tell) {
     this.diagram = diagram;
     this.report = tell;
     // In the window; the mouse is a finger.
-    this.fingers = /** @type {Map<number, import("./viewport.mjs").Point>} */ (new Map());
+    this.fingers = /** @type {Map<number, Point>} */ (new Map());
     this.moved = 0;
     /** The view, the middle between the fingers in the canvas, and their distance. */
     this.start = this.startGesture();

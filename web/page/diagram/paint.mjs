@@ -1,10 +1,6 @@
 /**
  * Paints a diagram: picture, heads, axes and marks.
- *
- * @typedef {import("./diagram.mjs").Picture} Picture
- * @typedef {{step: number, from: number | null, to: number | null, label: string, isMinor?: boolean}} Band cells
- *   of a row
- * @typedef {{bands: Band[], arrow: boolean, colour?: string}} Mark `colour`: by default that of marks
+ * 
  * @typedef {{x: number, y: number, wide: number, high: number}} Box
  */
 import { formatNumber } from "../../reader/machine.mjs";
@@ -35,7 +31,7 @@ export function createSheet(/** @type {Picture} */ { image, columns, rows: { ste
 
 /** Paints a view in an area of a canvas. */
 export class Painter {
-  /** @param {HTMLCanvasElement} canvas @param {import("./geometry.mjs").Scene} scene */
+  /** @param {HTMLCanvasElement} canvas @param {Scene} scene */
   constructor(canvas, { view, area }) {
     this.ratio = window.devicePixelRatio || 1;
     canvas.width = Math.round(canvas.clientWidth * this.ratio);
@@ -141,7 +137,7 @@ export class Painter {
   }
 
   /** Outlines the pointer of the keys. */
-  paintPlace(/** @type {import("./geometry.mjs").Place} */ { step, position }) {
+  paintPlace(/** @type {Place} */ { step, position }) {
     const [wide, high] = [this.view.wide, this.view.high].map((pixels) => Math.max(5, pixels));
     const box = { x: this.xOf(position), y: this.yOf(step), wide, high };
     this.outline(box, colourOf("--panel"), 4, -2);

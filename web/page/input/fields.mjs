@@ -4,8 +4,6 @@ import { formatNumber } from "../../reader/machine.mjs";
 import { LONGEST_SHOWN } from "../../reader/tokens.mjs";
 import { byId, create } from "../dom.mjs";
 
-/** @typedef {import("../../lib/limits.mjs").Limit} Limit */
-
 const SWITCHES = ["cyclers", "translated", "backward"];
 const LABELS = /** @type {Record<string, string>} */ ({
   steps: "steps of one simulation",

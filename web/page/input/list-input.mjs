@@ -8,7 +8,6 @@ import { decompress, requireUtf8 } from "./files.mjs";
 
 /**
  * @typedef {"decide" | "check"} Mode
- * @typedef {import("../../reader/list-reader.mjs").Form} Form
  * @typedef {{text: string, gone: string, plan: Record<string, any>, mode: string, clean: boolean,
  *   form: string, isExample: boolean, hash: string}} StoredInput `gone`: the name of a list too long to be
  *   stored; `isExample`: the settings are an example's; `hash`: the fragment of the address

@@ -85,7 +85,7 @@ export class ChunkReader {
 
 /**
  * The machines of rows to decide again, in chunks with the index of their first row.
- * @param {import("./results.mjs").Results} results @param {Uint32Array} rows @param {number} workers
+ * @param {Results} results @param {Uint32Array} rows @param {number} workers
  */
 export function* holdoutChunks(results, rows, workers) {
   const size = Math.min(MOST_LINES, Math.ceil(rows.length / (CHUNKS_PER_WORKER * workers)));

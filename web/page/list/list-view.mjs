@@ -8,10 +8,7 @@ import { RowTable } from "./row-table.mjs";
 const FIRST_VERDICT = "first verdict";
 
 export class ListView {
-  /**
-   * @param {import("../machine/machine-view.mjs").MachineView} view
-   * @param {import("./list-run.mjs").ListRun} work
-   */
+  /** @param {MachineView} view @param {ListRun} work */
   constructor(view, work) {
     this.view = view;
     view.replaceRow = (by, plan) => this.replaceOpenRow(by, plan);
@@ -24,7 +21,7 @@ export class ListView {
     byId("kinds").append(...this.kindButtons);
     this.order = /** @type {HTMLSelectElement} */ (byId("order"));
     this.wasOpened = false;
-    this.openLine = /** @type {import("./results.mjs").LinePlace | null} */ (null);
+    this.openLine = /** @type {LinePlace | null} */ (null);
     this.openText = "";
     // Counts displays, so that outdated sorts are dropped.
     this.turn = 0;
@@ -62,7 +59,7 @@ export class ListView {
 
   /**
    * Replaces the open row after a new decision; returns whether it could. Checked claims stay.
-   * @param {import("../../worker/worker.mjs").Part} by @param {Record<string, any>} plan
+   * @param {Part} by @param {Record<string, any>} plan
    */
   replaceOpenRow(by, plan) {
     const { openLine, work: { results } } = this;

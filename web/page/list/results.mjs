@@ -1,9 +1,4 @@
-/**
- * The results of a list, in the order of its lines; chunks may finish in another order.
- *
- * @typedef {import("../../worker/worker.mjs").Part} Part
- * @typedef {{part: Part, line: number}} LinePlace
- */
+/** The results of a list, in the order of its lines; chunks may finish in another order. */
 import { ANSWERS, KINDS, UNREAD_LINE, parseVerdictLine } from "../../reader/machine.mjs";
 import { concatBytes, lineAt } from "../../reader/list-reader.mjs";
 import { BYTES_KEPT, LONGEST_SHOWN } from "../../reader/tokens.mjs";

@@ -2,7 +2,6 @@
  * Facts about a machine: other forms, consequences of its verdict for other machines, starts and later steps,
  * and the growth of its cells.
  *
- * @typedef {import("../../reader/machine.mjs").Verdict} Verdict
  * @typedef {{machine: string, cells: number, steps: number, verdict: Verdict, isConfirmed: boolean}} About
  * @typedef {{growth: string, steps: number, visited: number[]}} Growth
  */
@@ -41,7 +40,7 @@ export const mirrorImage = (/** @type {string} */ text) =>
   text.replace(/[LR]/g, (move) => (move === "L" ? "R" : "L"));
 
 /** The states in the order of their first use. */
-function firstUses(/** @type {import("../../reader/machine.mjs").Machine} */ { symbols, rules }) {
+function firstUses(/** @type {Machine} */ { symbols, rules }) {
   const cells = new Uint8Array(2 * NORMAL_STEPS + 1);
   const found = new Set([0]);
   let [state, at] = [0, NORMAL_STEPS];

@@ -29,7 +29,6 @@ const DOUBTS = /** @type {Record<string, string>} */ ({
 });
 
 /**
- * @typedef {import("../../reader/machine.mjs").Verdict} Verdict
  * @typedef {{machine: string, verdict: Verdict, answer: string, plan: Record<string, any>,
  *   isWaiting?: boolean}} About `answer`: the checker's; `isWaiting`: for the second pass
  */
@@ -42,12 +41,12 @@ export class MachineView {
     this.client = new WorkerClient();
     /**
      * Replaces the open machine's row after a new decision; returns whether it could.
-     * @type {(by: import("../../worker/worker.mjs").Part, plan: Record<string, any>) => boolean}
+     * @type {(by: Part, plan: Record<string, any>) => boolean}
      */
     this.replaceRow = () => false;
     this.about = /** @type {About | null} */ (null);
     /** The exact start of the open machine, and the step a period later. */
-    this.exact = /** @type {import("../diagram/viewport.mjs").Pair | null} */ (null);
+    this.exact = /** @type {Pair | null} */ (null);
     this.blankTimer = 0;
     this.closeTimer = 0;
     new Gestures(this.diagram, (words, byKeys) => {
@@ -72,8 +71,7 @@ export class MachineView {
 
   /**
    * Shows a machine with its verdict.
-   * @param {About} about @param {boolean} moves whether a narrow page scrolls to it
-   * @param {import("../input/input-notes.mjs").InputLine} given
+   * @param {About} about @param {boolean} moves whether a narrow page scrolls to it @param {InputLine} given
    */
   open(about, moves, given) {
     const { machine, verdict } = about;
@@ -216,7 +214,7 @@ function sentenceOf(/** @type {About} */ { verdict, answer, isWaiting }) {
 }
 
 /** A table with a row for each state and a column for each symbol. */
-function createTable(/** @type {import("../../reader/machine.mjs").Machine} */ machine) {
+function createTable(/** @type {Machine} */ machine) {
   const symbols = Array.from({ length: machine.symbols }, (_, k) => create("th", { scope: "col" }, String(k)));
   const head = create("tr", {}, create("td", { "aria-label": "state and symbol" }), ...symbols);
   const rows = Array.from({ length: machine.states }, (_, state) => {
@@ -229,7 +227,7 @@ function createTable(/** @type {import("../../reader/machine.mjs").Machine} */ m
   return create("table", {}, head, ...rows);
 }
 
-function createLegend(/** @type {import("../../reader/machine.mjs").Machine} */ { symbols }) {
+function createLegend(/** @type {Machine} */ { symbols }) {
   const names = Array.from({ length: symbols }, (_, symbol) => [`s${symbol}`, String(symbol)]);
   return [...names, ["head", "head"], ["unvisited", "not visited yet"]].map(([colour, name]) => {
     const swatch = create("i", { "aria-hidden": true });

@@ -3,13 +3,6 @@ import { formatCount, formatNumber, stateLetter } from "../../reader/machine.mjs
 import { byId, create } from "../dom.mjs";
 import { WorkerClient } from "../worker-client.mjs";
 
-/**
- * @typedef {import("../../reader/machine.mjs").Recurrence} Recurrence
- * @typedef {import("../../worker/trace.mjs").Row} Row
- * @typedef {import("../diagram/paint.mjs").Mark} Mark
- * @typedef {import("../diagram/viewport.mjs").Pair} Pair
- */
-
 // The most marked last uses, the latest ones.
 const MOST_MARKED = 8;
 const client = new WorkerClient();
