@@ -15,6 +15,8 @@ import sys
 import threading
 from typing import IO, Any, Callable, Iterable, Iterator, Mapping, NamedTuple, Sequence, TypeVar
 
+from . import TOP
+
 Limits = TypeVar("Limits")
 LIMITS = ("steps", "cells", "depth", "nodes")
 SWITCHES = ("cyclers", "translated", "backward")
@@ -103,8 +105,9 @@ def place_programs(folder: pathlib.Path, *paths: str) -> pathlib.Path:
     return folder
 
 
-def on_terminal(command: Sequence[str], given: bytes, output: int | IO[bytes]) -> tuple[int, str]:
-    """The status of a command whose standard error is a terminal, and what that shows."""
+@contextlib.contextmanager
+def open_terminal() -> Iterator[tuple[int, list[bytes]]]:
+    """Open a terminal; the pieces that it shows come meanwhile, and are whole after the block."""
     reader, terminal = pty.openpty()
     shown: list[bytes] = []
 
@@ -115,10 +118,18 @@ def on_terminal(command: Sequence[str], given: bytes, output: int | IO[bytes]) -
 
     listening = threading.Thread(target=collect)
     listening.start()
-    ended = subprocess.run(command, input=given, stdout=output, stderr=terminal)
-    os.close(terminal)
-    listening.join()
-    os.close(reader)
+    try:
+        yield terminal, shown
+    finally:
+        os.close(terminal)
+        listening.join()
+        os.close(reader)
+
+
+def on_terminal(command: Sequence[str], given: bytes, output: int | IO[bytes]) -> tuple[int, str]:
+    """The status of a command whose standard error is a terminal, and what that shows."""
+    with open_terminal() as (terminal, shown):
+        ended = subprocess.run(command, input=given, stdout=output, stderr=terminal)
     return ended.returncode, b"".join(shown).decode().replace("\r\n", "\n")
 
 
@@ -153,6 +164,13 @@ def decide_machines(program: str, machines: Sequence[str], *words: str) -> list[
     verdicts = [line.partition(" ")[2] for line in replies([program, "decide", *words], machines)]
     assert len(verdicts) == len(machines) > 0
     return verdicts
+
+
+def build_peer(folder: pathlib.Path, name: str, *words: str) -> str:
+    """Build a plain Rust program of the benchmarks, and return its path. It takes rustc 1.65 or later."""
+    source, built = TOP / "benchmarks" / name / "main.rs", str(folder / name)
+    subprocess.run(["rustc", "-O", "-C", "codegen-units=1", *words, "-o", built, str(source)], check=True)
+    return built
 
 
 def kind_of(line: str) -> str:

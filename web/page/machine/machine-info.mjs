@@ -6,7 +6,7 @@
  * @typedef {{growth: string, steps: number, visited: number[]}} Growth
  */
 import { formatCount, entryText, parseMachine, formatNumber } from "../../reader/machine.mjs";
-import { create, byId } from "../dom.mjs";
+import { byId, create, createFacts } from "../dom.mjs";
 import { WorkerClient } from "../worker-client.mjs";
 
 const NORMAL_STEPS = 10_000;
@@ -99,19 +99,14 @@ export function showMachineInfo(/** @type {About} */ about) {
   const normal = normalForm(machine);
   const mirror = mirrorImage(machine);
   const code = (/** @type {string} */ text) => create("code", {}, text);
-  /** @type {[string, string, Node | string][]} */
-  const facts = [
+  byId("facts").replaceChildren(...createFacts("fact-", [
     ["normal", "Normal form", normal === machine ? "It is in normal form." : code(normal)],
     ["mirror", "Mirror image", code(mirror)],
     ["growth", "Cells visited", "…"],
     ["completions", "Undefined entries", isConfirmed ? "…" : "The verdict isn’t confirmed by the checker."],
     ["starts", "Every start", isConfirmed ? startsText(verdict) : "–"],
     ["later", "Step 10¹⁵", isConfirmed ? "…" : "–"],
-  ];
-  const parts = facts.flatMap(([id, name, words]) => {
-    return [create("dt", {}, name), create("dd", { id: `fact-${id}` }, words)];
-  });
-  byId("facts").replaceChildren(...parts);
+  ]));
   requestGrowth(about);
   isConfirmed && requestLaterRow(about);
 }

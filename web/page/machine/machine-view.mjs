@@ -6,7 +6,7 @@ import { Diagram } from "../diagram/diagram.mjs";
 import { Gestures } from "../diagram/gestures.mjs";
 import { ZOOM } from "../diagram/viewport.mjs";
 import {
-  announce, byId, copyPicture, copyText, create, onClick, saveFile, setInactive, showText,
+  announce, byId, copyPicture, copyText, create, createTable, onClick, saveFile, setInactive, showText,
 } from "../dom.mjs";
 import { enlargePlan, linkOf } from "../input/fields.mjs";
 import { showInputNotes } from "../input/input-notes.mjs";
@@ -135,7 +135,7 @@ export class MachineView {
     const machine = parseMachine(text);
     const cells = Number(plan.cells);
     const steps = Number(plan.steps);
-    byId("machine-table").replaceChildren(createTable(machine));
+    byId("machine-table").replaceChildren(createEntries(machine));
     byId("legend").replaceChildren(...createLegend(machine));
     byId("diagram").setAttribute("aria-label", `Space-time diagram of ${text}. ${verdictText(verdict)}`);
     /** @type {HTMLAnchorElement} */ (byId("elsewhere")).href = ELSEWHERE + text;
@@ -214,17 +214,15 @@ function sentenceOf(/** @type {About} */ { verdict, answer, isWaiting }) {
 }
 
 /** A table with a row for each state and a column for each symbol. */
-function createTable(/** @type {Machine} */ machine) {
-  const symbols = Array.from({ length: machine.symbols }, (_, k) => create("th", { scope: "col" }, String(k)));
-  const head = create("tr", {}, create("td", { "aria-label": "state and symbol" }), ...symbols);
-  const rows = Array.from({ length: machine.states }, (_, state) => {
-    const entries = machine.rules.slice(state * machine.symbols, (state + 1) * machine.symbols);
-    const cells = entries.map(({ symbol, entry }) =>
+function createEntries(/** @type {Machine} */ { states, symbols, rules }) {
+  const names = Array.from({ length: symbols }, (_, k) => create("th", { scope: "col" }, String(k)));
+  const rows = Array.from({ length: states }, (_, state) => {
+    const cells = rules.slice(state * symbols, (state + 1) * symbols).map(({ symbol, entry }) =>
       create("td", { "data-entry": `${stateLetter(state)}${symbol}` }, entryText(entry)),
     );
-    return create("tr", {}, create("th", { scope: "row" }, stateLetter(state)), ...cells);
+    return /** @type {[string, ...Node[]]} */ ([stateLetter(state), ...cells]);
   });
-  return create("table", {}, head, ...rows);
+  return createTable([create("td", { "aria-label": "state and symbol" }), ...names], rows);
 }
 
 function createLegend(/** @type {Machine} */ { symbols }) {
