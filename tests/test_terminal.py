@@ -56,7 +56,9 @@ HINTS = {
     "claim, CR": ("check", MACHINE + b" halt 6 4\r\n", RETURN),
     "second line, CR": ("decide", MACHINE + b"\n1RA1RA\r\n", ""),
 }
+# Words in place of a number, and the number that the hint names; '' for no hint.
 SEPARATED = {"1,000,000": "1000000", "1_000": "1000", "1'000": "1000", "1e6": "1000000"}
+SEPARATED.update(dict.fromkeys((",1", "1x", "e6", "1e99"), ""))
 
 
 def run_on_terminal(command: Sequence[str], given: bytes, output: str = os.devnull) -> tuple[int, str]:
@@ -102,13 +104,8 @@ def test_first_bytes_of_an_input_give_a_hint(bb: str, command: str, given: bytes
 @pytest.mark.parametrize("word, number", SEPARATED.items())
 def test_number_with_separators_gives_a_hint(bb: str, word: str, number: str) -> None:
     status, shown = run_on_terminal([bb, "decide", "--steps", word], b"")
-    assert status == 2 and shown.endswith("%s: write the number as %s\n" % (word, number))
-
-
-@pytest.mark.parametrize("word", [",1", "1x", "e6", "1e99"])
-def test_other_words_give_no_hint(bb: str, word: str) -> None:
-    status, shown = run_on_terminal([bb, "decide", "--steps", word], b"")
-    assert status == 2 and "write the number" not in shown
+    hint = "%s: write the number as %s\n" % (word, number)
+    assert status == 2 and (shown.endswith(hint) if number else "write the number" not in shown)
 
 
 def parse(form: str, text: str) -> list[str]:

@@ -32,14 +32,6 @@ def output_of(*command: object) -> str:
     return done.stdout.strip()
 
 
-def version_of_header() -> str:
-    """Return the version that include/bb.h names."""
-    found = re.search(r'#define BB_VERSION "([0-9.]+)"', (TOP / "include" / "bb.h").read_text("utf-8"))
-    if found is None:
-        sys.exit("%s: include/bb.h has no version" % _NAME)
-    return found[1]
-
-
 class Version(NamedTuple):
     """The header's version, what names the commit behind it, and the commit with `, changed` where it is."""
 
@@ -51,7 +43,10 @@ class Version(NamedTuple):
 def commit_version(paths: Sequence[str], files: Iterable[pathlib.Path]) -> Version:
     """Return the version of a package: where something below `paths` differs from the commit, the suffix ends
     in `.changed` and a digest of `files`, in their order."""
-    number, commit = version_of_header(), output_of("git", "rev-parse", "HEAD")
+    header = re.search(r'#define BB_VERSION "([0-9.]+)"', (TOP / "include" / "bb.h").read_text("utf-8"))
+    if header is None:
+        sys.exit("%s: include/bb.h has no version" % _NAME)
+    number, commit = header[1], output_of("git", "rev-parse", "HEAD")
     suffix = "g" + commit[:12]
     if not output_of("git", "status", "--porcelain", "--", *paths):
         return Version(number, suffix, commit)

@@ -3,6 +3,8 @@
 /** The engine of `lib/bb.mjs`, and the name of a limit. */
 type Engine = import("./lib/bb.mjs").Engine;
 type Limit = import("./lib/bb.mjs").Limit;
+/** Limits and switches by name. */
+type Plan = Record<string, any>;
 /** Objects of the page. */
 type Diagram = import("./page/diagram/diagram.mjs").Diagram;
 type ListRun = import("./page/list/list-run.mjs").ListRun;
@@ -76,7 +78,7 @@ interface ListRequest {
   mode: "decide" | "check";
   clean: boolean;
   form: Form;
-  plan: Record<string, any>;
+  plan: Plan;
 }
 /** The offset of each line and the end of the last one, and the number of each line's kind. */
 type Lines = { starts: Uint32Array; kinds: Uint8Array };
@@ -137,7 +139,7 @@ interface PoolTask {
 }
 interface RunInfo {
   mode: "decide" | "check";
-  plan: Record<string, any>;
+  plan: Plan;
   /** The form of its lines, null if they aren't rewritten. */
   form: Form | null;
   /** Whether it begins as UTF-8. */

@@ -9,7 +9,7 @@ from typing import Iterator, Sequence
 
 import pytest
 from support import ListMachines
-from support.machines import spoil
+from support.machines import DIGITS, LETTERS
 from support.program import as_lines, kind_of, options, replies, run_command
 from support.recurrences import GREATEST, GREATEST_REPLY, Numbers, Step, numbers_of, numbers_of_pair
 from support.recurrences import repeats, steps_of
@@ -108,13 +108,15 @@ def test_wrong_numbers_are_refused(coq_recurrence: str, pairs: dict[str, Numbers
 def spoil_line(line: str, source: random.Random) -> str:
     """Change a character, or leave out, double or add a word."""
     fields = line.split(" ")
-    at = source.randrange(2, len(fields))
-    words = source.choice(
-        [[], [fields[at]] * 2, [source.choice(["*", "-", "0", "7", "-0", "00", "+1"]), fields[at]]]
-    )
-    longer = line + source.choice([" ", " *", " -", " quasihalts 1", " entries", "\r"])
-    changed = " ".join([*fields[:at], *words, *fields[at + 1 :]])
-    return source.choice([spoil(source, line), spoil(source, line), longer, *[changed] * 3])
+    at, place = source.randrange(2, len(fields)), source.randrange(len(line))
+    added = source.choice(["*", "-", "0", "7", "-0", "00", "+1"])
+    words = source.choice([[], [fields[at]] * 2, [added, fields[at]]])
+    others = [
+        line[:place] + source.choice(DIGITS + LETTERS + "*- _\r\0\xff") + line[place + 1 :],
+        line[:place],
+    ]
+    others.append(line + source.choice([" ", " *", " -", " quasihalts 1", " entries", "\r"]))
+    return source.choice([*others, *[" ".join([*fields[:at], *words, *fields[at + 1 :]])] * 3])
 
 
 def test_spoilt_lines_are_refused(coq_recurrence: str, pairs: dict[str, Numbers], rng: random.Random) -> None:

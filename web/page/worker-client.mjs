@@ -8,7 +8,7 @@ const PATIENCE_MILLISECONDS = 400;
 
 const embeddedText = (/** @type {string} */ id) => byId(id).textContent ?? "";
 
-/** @typedef {{name: string, call: string, plan: Record<string, any>, lines: string}} Example */
+/** @typedef {{name: string, call: string, plan: Plan, lines: string}} Example */
 export const examples = /** @type {Example[]} */ (JSON.parse(embeddedText("examples-data")));
 const workerUrl = URL.createObjectURL(new Blob([embeddedText("worker")], { type: "text/javascript" }));
 /** @type {Promise<WebAssembly.Module | null>} the compiled module; null if unsupported */

@@ -10,9 +10,7 @@ from support.traces import format_number, trace
 LEFT, CYCLE = "1RB---_1LB0RB", "0RB---_0LA---"
 # A machine that quasihalts, and one of three symbols that repeats later than it is found to.
 QUASIHALTS, LATER = "1RB0LB_1LA0RC_1LC1LA", "1RB0LA---_1LB2LA0RB"
-TABLE = """
-return [...document.querySelectorAll("#uses tr")].map((row) => [...row.children].map((one) => one.textContent));
-"""
+TABLE = "return $$('#uses tr').map((row) => [...row.children].map((one) => one.textContent))"
 WORDS = {"*": "for ever", "-": "never"}
 
 

@@ -103,7 +103,7 @@ function originOf({ bytes, numbers, places }, chunk, { from, line, count }, kind
 }
 
 /** The verdict on one machine and the checker's answer. */
-function decideOne(/** @type {{machine: string, plan: Record<string, any>}} */ { machine, plan }) {
+function decideOne(/** @type {{machine: string, plan: Plan}} */ { machine, plan }) {
   const part = answerBatch(new TextEncoder().encode(machine), { mode: "decide", plan });
   return { line: new TextDecoder().decode(part.bytes).trimEnd(), answer: ANSWERS[part.answers[0]], part };
 }
@@ -111,7 +111,7 @@ function decideOne(/** @type {{machine: string, plan: Record<string, any>}} */ {
 /**
  * The reply on the recurrence behind a verdict line, and the rows of its start, of the step a period later, and of
  * the last use of each state.
- * @param {Engine} host @param {{line: string, plan: Record<string, any>}} request
+ * @param {Engine} host @param {{line: string, plan: Plan}} request
  */
 function findRecurrence(host, { line, plan: { steps, cells } }) {
   const [reply] = host.recurrence([line], { steps, cells, entries: true });

@@ -90,7 +90,7 @@ export class ListRun {
     this.startClock();
   }
 
-  /** @param {Uint32Array} rows @param {Record<string, any>} plan @param {number} number of the plan */
+  /** @param {Uint32Array} rows @param {Plan} plan @param {number} number of the plan */
   decideRows(rows, plan, number) {
     const { results } = this;
     if (rows.length === 0) {

@@ -59,7 +59,7 @@ export class ListView {
 
   /**
    * Replaces the open row after a new decision; returns whether it could. Checked claims stay.
-   * @param {Part} by @param {Record<string, any>} plan
+   * @param {Part} by @param {Plan} plan
    */
   replaceOpenRow(by, plan) {
     const { openLine, work: { results } } = this;

@@ -14,7 +14,7 @@ export const [FIRST_PASS, LARGER] = [1, 2];
 const MOST_PLANS = 255;
 
 export class Results {
-  /** @param {Record<string, any>} plan the limits of the list */
+  /** @param {Plan} plan the limits of the list */
   constructor(plan) {
     // Limits by their numbers.
     this.plans = [plan, plan];
@@ -55,7 +55,7 @@ export class Results {
   }
 
   /** The number of a plan, new or known. */
-  planNumber(/** @type {Record<string, any>} */ plan) {
+  planNumber(/** @type {Plan} */ plan) {
     const { plans } = this;
     const isSame = (/** @type {any} */ one) => one.steps === plan.steps && one.cells === plan.cells;
     const at = plans.findIndex((one, k) => k >= LARGER && isSame(one));

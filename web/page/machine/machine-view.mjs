@@ -29,7 +29,7 @@ const DOUBTS = /** @type {Record<string, string>} */ ({
 });
 
 /**
- * @typedef {{machine: string, verdict: Verdict, answer: string, plan: Record<string, any>,
+ * @typedef {{machine: string, verdict: Verdict, answer: string, plan: Plan,
  *   isWaiting?: boolean}} About `answer`: the checker's; `isWaiting`: for the second pass
  */
 
@@ -41,7 +41,7 @@ export class MachineView {
     this.client = new WorkerClient();
     /**
      * Replaces the open machine's row after a new decision; returns whether it could.
-     * @type {(by: Part, plan: Record<string, any>) => boolean}
+     * @type {(by: Part, plan: Plan) => boolean}
      */
     this.replaceRow = () => false;
     this.about = /** @type {About | null} */ (null);

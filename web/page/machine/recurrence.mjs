@@ -18,7 +18,7 @@ export function clearRecurrence() {
 
 /**
  * Finds and shows the recurrence behind a confirmed pair, and passes on its mark and the pair of its start.
- * @param {string} line @param {Record<string, any>} plan @param {(mark: Mark, pair: Pair) => void} onFound
+ * @param {string} line @param {Plan} plan @param {(mark: Mark, pair: Pair) => void} onFound
  */
 export function showRecurrence(line, plan, onFound) {
   current = line;
