@@ -82,7 +82,10 @@ export function makePicture(engine, request) {
   const isWhole = k < 0 || (end >= whole.step && whole.width > rows.widths[k]);
   const span = spanOf(isWhole ? whole : { low: rows.lows[k], width: rows.widths[k] });
   const isEnd = k < 0 || rows.steps[k] + every <= end || whole.step < Math.min(end, fit.last);
-  const ahead = own.aheadRequests(wanted, nextViews(view, home, height, upto));
+  // The rows of the views one zoom away.
+  const [near, far] = [ZOOM, 1 / ZOOM].map((factor) => zoomView(view, home, factor, { x: 0, y: 0 }));
+  const beyond = Math.max(0, rowCount(far, height) * far.every - rowCount(view, height) * view.every);
+  const ahead = own.aheadRequests(wanted, { closer: near.every, farther: far.every, beyond, most: upto });
   return { rows, cut: cut && isEnd, every, columns, image, ...span, view, home, ahead };
 }
 
@@ -92,13 +95,3 @@ const spanOf = (/** @type {{low: number, width: number}} */ { low, width }) => {
 };
 
 const rowCount = (/** @type {View} */ { high }, /** @type {number} */ height) => Math.ceil(height / high);
-
-/**
- * The rows of the views one zoom away.
- * @param {View} view @param {View} home @param {number} height @param {number} most the last step
- */
-function nextViews(view, home, height, most) {
-  const [near, far] = [ZOOM, 1 / ZOOM].map((factor) => zoomView(view, home, factor, { x: 0, y: 0 }));
-  const beyond = rowCount(far, height) * far.every - rowCount(view, height) * view.every;
-  return { closer: near.every, farther: far.every, beyond: Math.max(0, beyond), most };
-}

@@ -66,21 +66,16 @@ export function zoomCentre(/** @type {Scene} */ scene, /** @type {(Place | null)
   return wanted ? pointOf(scene, wanted) : centre;
 }
 
-/** The cells and steps of one move of the pointer by keys. */
-function pointerStride(/** @type {View} */ view, /** @type {boolean} */ far) {
-  const pixels = far ? FAR_PIXELS : POINTER_PIXELS;
-  if (view.wide >= FRAMED && view.high >= FRAMED && !far) return { cells: 1, steps: 1 };
-  const cells = Math.max(1, Math.round(pixels / view.wide)) * view.across;
-  return { cells, steps: Math.max(1, Math.round(pixels / view.high)) * view.every };
-}
-
 /**
  * The pointer's next place, at a row.
  * @param {Scene} scene @param {Place} from @param {{right: number, down: number, far: boolean}} move
  * @param {number} upto the last step
  */
 export function nextPlace({ view, picture }, from, { right, down, far }, upto) {
-  const { cells, steps } = pointerStride(view, far);
+  const isSingle = view.wide >= FRAMED && view.high >= FRAMED && !far;
+  const pixels = far ? FAR_PIXELS : POINTER_PIXELS;
+  const times = (/** @type {number} */ size) => Math.max(1, Math.round(pixels / size));
+  const [cells, steps] = isSingle ? [1, 1] : [times(view.wide) * view.across, times(view.high) * view.every];
   const every = picture?.every ?? 1;
   const isOlder = picture !== null && !isSameView(picture.view, view);
   const stride = isOlder ? steps : Math.max(steps, every);

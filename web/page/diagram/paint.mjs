@@ -157,7 +157,9 @@ export class Painter {
     const taken = visible.map(({ box }) => ({ middle: box.y + box.high / 2, high: box.high, of: box }));
     let free = this.area.y + LABEL_PIXELS / 2;
     for (const { box, label, colour, isMinor } of visible) {
-      this.paintBand(box, colour);
+      // With a halo.
+      this.outline(box, colourOf("--panel"), 1, -2.5);
+      this.outline(box, colourOf(colour), 2, -1);
       if (!isMinor) {
         const wanted = Math.max(box.y + box.high / 2, free);
         const middle = Math.min(wanted, this.bottom - LABEL_PIXELS / 2);
@@ -183,12 +185,6 @@ export class Painter {
     const end = to === null ? this.right - 1 : this.xOf(to + 1);
     const y = Math.floor(this.yOf(step));
     return { x, y, wide: Math.max(LEAST_BAND, end - x), high: Math.max(LEAST_BAND, this.view.high) };
-  }
-
-  /** Outlines a band, with a halo. */
-  paintBand(/** @type {Box} */ box, /** @type {string} */ colour) {
-    this.outline(box, colourOf("--panel"), 1, -2.5);
-    this.outline(box, colourOf(colour), 2, -1);
   }
 
   /** @param {Box} box a band @param {string} label @param {number} middle its height @param {string} colour */
