@@ -131,16 +131,11 @@ export class Gestures {
     const far = Math.hypot(now.x - before.x, now.y - before.y);
     if (this.moved === 0 && far < CLICK_PIXELS) return;
     this.moved += far;
-    if (this.canMove) {
-      this.fingers.set(event.pointerId, now);
-      this.applyGesture();
-    }
-  }
-
-  /** Moves and zooms the picture around the point between the fingers. */
-  applyGesture() {
+    if (!this.canMove) return;
+    this.fingers.set(event.pointerId, now);
     const { diagram, start } = this;
     if (start !== null) {
+      // Moves and zooms the picture around the point between the fingers.
       const { middle, apart } = this.span();
       const factor = start.apart > 0 && apart > 0 ? (apart / start.apart) ** 2 : 1;
       diagram.moveAndZoom(start.view, factor, start.middle, middle);

@@ -2,12 +2,6 @@
 
 /** @typedef {{levels: TreeNode[][], count: number, ended: boolean}} Tree `ended`: it has all levels */
 
-/** @returns {TreeNode[]} the nodes of undefined entries and of those into Z */
-function haltingNodes(/** @type {Machine} */ { rules }) {
-  const halting = rules.filter(({ entry }) => entry === null || entry.next === -1);
-  return halting.map(({ state, symbol }) => ({ state, known: new Map([[0, symbol]]) }));
-}
-
 /** @returns {TreeNode[]} one for each entry into the node's state that wrote the cell behind the head */
 function predecessors(/** @type {Machine} */ { rules }, /** @type {TreeNode} */ node) {
   return rules.flatMap(({ state, symbol, entry }) => {
@@ -23,7 +17,8 @@ function predecessors(/** @type {Machine} */ { rules }, /** @type {TreeNode} */ 
 export function buildTree(/** @type {Machine} */ machine, /** @type {number} */ most) {
   const levels = [];
   let count = 0;
-  let level = haltingNodes(machine);
+  const halting = machine.rules.filter(({ entry }) => entry === null || entry.next === -1);
+  let level = halting.map(({ state, symbol }) => ({ state, known: new Map([[0, symbol]]) }));
   while (level.length > 0 && count + level.length <= most) {
     levels.push(level);
     count += level.length;
