@@ -118,8 +118,7 @@ def undecided_machines(program: str, options: Sequence[str], lines: str) -> str:
 
 
 def searches(program: str, source: random.Random) -> list[Case]:
-    """Return what measures a search. The champion doesn't halt within 40,000,000 steps, nor does a search end
-    in them. Of all machines a search makes fewer steps than the simulation, since it ends at its pair."""
+    """Return what measures a search: runs on which it finds nothing, so that all their steps are made."""
     long, cycles = ["--steps", "40000000"], ["--no-translated", "--no-backward"]
     records = ["--no-cyclers", "--no-backward"]
     four = draw(halting_once, source, LIST, 4)

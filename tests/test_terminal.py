@@ -164,10 +164,7 @@ def test_progress_over_a_file(progress: Progress) -> None:
 
 
 def feed(command: Sequence[str], batch: bytes, is_enough: Callable[[bytes], object]) -> tuple[bytes, int]:
-    """Feed a command by a pipe, batch after batch, until what its terminal shows is enough.
-
-    Returns what was shown, and how many batches there were. Standard output is the null device.
-    """
+    """Feed a command batches by a pipe until its terminal shows enough; return this and their number."""
     batches, end = 0, time.monotonic() + PATIENCE
     with open_terminal() as (terminal, shown):
         how: dict[str, Any] = {"stdin": subprocess.PIPE, "stdout": subprocess.DEVNULL, "stderr": terminal}

@@ -67,9 +67,6 @@ def list_files(*words: str) -> list[str]:
 
 
 def restore_signals() -> None:
-    """Let this process end by SIGINT and SIGHUP, which processes started by `&` or `nohup` ignore.
-
-    It is the `preexec_fn` of processes that a test interrupts.
-    """
+    """As `preexec_fn`: let a process end by SIGINT and SIGHUP, also below `&` or `nohup`."""
     for number in (signal.SIGINT, signal.SIGHUP):
         signal.signal(number, signal.SIG_DFL)

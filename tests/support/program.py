@@ -139,8 +139,7 @@ def as_lines(lines: Iterable[str]) -> bytes:
 
 
 def replies(command: Sequence[str], lines: Iterable[str]) -> list[str]:
-    """The lines that a command of the program answers to these. It must end with status 0, or with 1 as where
-    an answer isn't clean, and say nothing on standard error."""
+    """The program's replies to these lines; it must end with status 0 or 1, without an error message."""
     status, output, error = run_command(command, as_lines(lines))
     assert status in (0, 1) and not error, "%s: status %d, %r" % (" ".join(command[1:]), status, error)
     return output.decode().splitlines()
@@ -196,9 +195,7 @@ def least_time(command: Sequence[str], given: bytes) -> float:
 
 
 def begins_modulo_64(built: str) -> list[int]:
-    """Where the function of the watched run begins in a program or library, modulo 64. On a processor that is
-    slow at branches that cross a multiple of 32 bytes, that makes a tenth of the time of short runs. It takes
-    `nm`; FileNotFoundError where there is none."""
+    """Where the single-pass run begins modulo 64, by `nm`: it may make a tenth of the time of short runs."""
     symbols = run_command(["nm", built]).output.decode("utf-8", "replace").splitlines()
     begins = [symbol.split()[0] for symbol in symbols if "single_pass::continue_single_pass::" in symbol]
     return [int(begin, 16) % 64 for begin in begins]
