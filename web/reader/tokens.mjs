@@ -1,9 +1,4 @@
-/**
- * Splits a line into candidates for machines: words of entries, rows of dashes or dots, addresses. Also the
- * limits on line lengths, and names of invisible characters.
- * 
- * @typedef {{texts: EntryText[], rows: Word[]}} Tokens
- */
+/** Splits a line into words of entries, rows of dashes or dots, and addresses. Also limits on lengths. */
 
 /** Longer lines go to the engine unread, and are refused. The longest machine has 774 characters. */
 export const LONGEST_LINE = 16_384;
@@ -52,7 +47,7 @@ export function textOf(/** @type {Word[]} */ words) {
 export const hasOnlyEntries = (/** @type {EntryText} */ { words }) =>
   words.length > 1 && words.every(({ text }) => text.length === 3);
 
-/** @returns {Tokens} */
+/** @returns {{texts: EntryText[], rows: Word[]}} */
 export function tokenize(/** @type {string} */ given) {
   const texts = findArrays(given);
   const line = texts.reduce(

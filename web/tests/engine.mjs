@@ -1,7 +1,7 @@
 /**
  * Runs the engine's calls for `support.node`. A line of standard input is a job as JSON; the reply is a line.
  * Bytes pass through files.
- * 
+ *
  * @typedef {{call: string, given: string, out: string, plan: any, memory?: number, times?: number}} Job
  */
 import { readFileSync, writeFileSync } from "node:fs";

@@ -1,7 +1,7 @@
 /**
  * Cached rows of a machine's run. Each trace starts at step 0, so rows are kept, and those of closer,
  * neighbouring and farther views are traced ahead. Most views then need no trace.
- * 
+ *
  * @typedef {{closer: number, farther: number, beyond: number, most: number}} NextViews the row intervals of a
  *   closer and a farther view, the farther view's steps above and below this one, and the last step
  */
@@ -124,11 +124,8 @@ export class RowCache {
     return { request: { from, every, upto: hasEnded ? Infinity : upto }, rows, cut: !clean };
   }
 
-  /**
-   * Requests for closer, neighbouring and farther views that aren't cached.
-   * @param {RowRequest} view @param {NextViews} next @returns {AheadRequest[]}
-   */
-  aheadRequests(view, { closer, farther, beyond, most }) {
+  /** Requests for closer, neighbouring and farther views that aren't cached. @returns {AheadRequest[]} */
+  aheadRequests(/** @type {RowRequest} */ view, /** @type {NextViews} */ { closer, farther, beyond, most }) {
     const request = this.fitRequest(view);
     const { from, upto, every } = request;
     const half = Math.ceil((upto - from) / every / 2) * every;

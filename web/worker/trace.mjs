@@ -38,11 +38,8 @@ export function storeRows(/** @type {Run & {cached: CachedRows}} */ message) {
   isCached(message) && cache?.store(message.cached);
 }
 
-/**
- * The growth of the visited cells, by their numbers after a hundredth, a tenth and all of the steps.
- * @param {Engine} engine @param {Run & {upto: number}} request
- */
-export function measureGrowth(engine, request) {
+/** The growth of the visited cells, by their numbers after a hundredth, a tenth and all of the steps. */
+export function measureGrowth(/** @type {Engine} */ engine, /** @type {Run & {upto: number}} */ request) {
   const { upto } = request;
   const own = cacheFor(engine, request);
   const { step: last, halts, width } = own.lastRow(upto);

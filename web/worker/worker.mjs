@@ -109,8 +109,7 @@ function decideOne(/** @type {{machine: string, plan: Plan}} */ { machine, plan 
 }
 
 /**
- * The reply on the recurrence behind a verdict line, and the rows of its start, of the step a period later, and of
- * the last use of each state.
+ * The reply on the recurrence behind a verdict line, and the rows of its marked steps.
  * @param {Engine} host @param {{line: string, plan: Plan}} request
  */
 function findRecurrence(host, { line, plan: { steps, cells } }) {

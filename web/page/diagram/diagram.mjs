@@ -1,6 +1,6 @@
 /**
  * The space-time diagram: a row is a step, a column a position.
- * 
+ *
  * @typedef {{machine: string, cells: number, upto: number} & Omit<Fit, "opens">} DiagramRun
  */
 import { byId, readPalette } from "../dom.mjs";

@@ -92,11 +92,8 @@ export function moveView(/** @type {View} */ view, /** @type {number} */ right, 
   return { ...view, left: view.left + columns * view.across, top: view.top + rows * view.every };
 }
 
-/**
- * The view moved so that it contains visited cells.
- * @param {Scene} scene @param {number} upto the last step
- */
-export function clampView({ view, area, picture }, upto) {
+/** The view moved so that it contains visited cells, and none after the last step. */
+export function clampView(/** @type {Scene} */ { view, area, picture }, /** @type {number} */ upto) {
   const { low, high } = picture ?? { low: 0, high: 0 };
   const width = area.width * cellsPerPixel(view);
   const overlap = OVERLAP * view.across;

@@ -12,11 +12,8 @@ const MOST_NOTCHES = 3;
 const CLICK_PIXELS = 4;
 
 export class Gestures {
-  /**
-   * @param {Diagram} diagram
-   * @param {(words: string, byKeys: boolean) => void} tell shows a description of the pointed cell
-   */
-  constructor(diagram, tell) {
+  /** `tell` shows a description of the pointed cell. */
+  constructor(/** @type {Diagram} */ diagram, /** @type {(words: string, byKeys: boolean) => void} */ tell) {
     this.diagram = diagram;
     this.report = tell;
     // In the window; the mouse is a finger.

@@ -1,6 +1,6 @@
 /**
  * Paints a diagram: picture, heads, axes and marks.
- * 
+ *
  * @typedef {{x: number, y: number, wide: number, high: number}} Box
  */
 import { formatNumber } from "../../reader/machine.mjs";
@@ -83,10 +83,7 @@ export class Painter {
     }
   }
 
-  /**
-   * Frames the heads, with their states in large cells. A halo in the symbol's text colour makes the frame
-   * visible on every symbol.
-   */
+  /** Frames the heads, with a halo that is visible on every symbol, and with states in large cells. */
   paintHeads(/** @type {Picture} */ { rows }) {
     const { pen, view: { wide, high } } = this;
     if (wide < FRAMED || high < FRAMED) return;
@@ -144,10 +141,7 @@ export class Painter {
     this.outline(box, colourOf("--accent"), 2, -2);
   }
 
-  /**
-   * Outlines bands, with labels below each other, and an arrow from the first to the second on request. A minor
-   * band has its label only beside rows without another one.
-   */
+  /** Outlines bands with labels, and draws arrows. A minor band's label must not be near another one. */
   paintMarks(/** @type {Mark[]} */ marks) {
     const bands = marks.flatMap((mark) => {
       return mark.bands.map((band) => ({ ...band, box: this.boxOf(band), colour: mark.colour ?? "--mark" }));

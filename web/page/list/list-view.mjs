@@ -57,11 +57,8 @@ export class ListView {
     }
   }
 
-  /**
-   * Replaces the open row after a new decision; returns whether it could. Checked claims stay.
-   * @param {Part} by @param {Plan} plan
-   */
-  replaceOpenRow(by, plan) {
+  /** Replaces the open row after a new decision; returns whether it could. Checked claims stay. */
+  replaceOpenRow(/** @type {Part} */ by, /** @type {Plan} */ plan) {
     const { openLine, work: { results } } = this;
     const row = openLine?.part.lines === null ? results.rowOf(openLine) : -1;
     if (row >= 0) {
@@ -116,11 +113,8 @@ export class ListView {
     if (isSorted) this.showSorted(rows.slice(), order === "down");
   }
 
-  /**
-   * Sorts rows by steps in a worker, and shows them unless others are shown meanwhile.
-   * @param {Uint32Array} rows @param {boolean} down
-   */
-  async showSorted(rows, down) {
+  /** Sorts rows by steps in a worker, and shows them unless others are shown meanwhile. */
+  async showSorted(/** @type {Uint32Array} */ rows, /** @type {boolean} */ down) {
     const { turn, work: { results } } = this;
     const isLast = () => turn === this.turn && results === this.work.results;
     const steps = await results.stepsOf(rows, isLast);

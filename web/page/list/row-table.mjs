@@ -1,6 +1,6 @@
 /**
  * The table of lines. Only visible rows are in the document, so that millions of lines scroll.
- * 
+ *
  * @typedef {{element: HTMLElement, of: Part, line: number, bytes: Uint8Array, isChosen: boolean}} DrawnRow
  *   `of`, `line` and `bytes`: its part, its line there, and the part's bytes when it was drawn
  */

@@ -1,6 +1,5 @@
 /**
- * Facts about a machine: other forms, consequences of its verdict for other machines, starts and later steps,
- * and the growth of its cells.
+ * Facts about a machine: other forms, consequences of its verdict, and the growth of its cells.
  *
  * @typedef {{machine: string, cells: number, steps: number, verdict: Verdict, isConfirmed: boolean}} About
  * @typedef {{growth: string, steps: number, visited: number[]}} Growth

@@ -69,11 +69,8 @@ export class MachineView {
     });
   }
 
-  /**
-   * Shows a machine with its verdict.
-   * @param {About} about @param {boolean} moves whether a narrow page scrolls to it @param {InputLine} given
-   */
-  open(about, moves, given) {
+  /** Shows a machine with its verdict. If it `moves`, a narrow page scrolls to it. */
+  open(/** @type {About} */ about, /** @type {boolean} */ moves, /** @type {InputLine} */ given) {
     const { machine, verdict } = about;
     const isMachine = verdict.kind !== "refused";
     this.about = about;
