@@ -21,9 +21,10 @@ import sys
 import tempfile
 from typing import Callable, NamedTuple, Sequence
 
-from measuring import TOP, Cost, Table, has, list_machines, make, parser, program_of, run, take_turns
+from measuring import Cost, Table, has, list_machines, make, parser, program_of, run, take_turns
 from support.machines import CHAMPION, halting_once, uniform
-from support.program import MAX_CELLS, SIMULATION, as_lines, begins_modulo_64, kind_of, replies, run_command
+from support.program import MAX_CELLS, SIMULATION, as_lines, begins_modulo_64, build_peer, kind_of, replies
+from support.program import run_command
 
 CHAMPION_LIST = CHAMPION + "\n"
 LIMITS = ["--steps", "1000", "--cells", "200", "--depth", "60"]
@@ -117,8 +118,7 @@ def undecided_machines(program: str, options: Sequence[str], lines: str) -> str:
 
 
 def searches(program: str, source: random.Random) -> list[Case]:
-    """Return what measures a search. The champion doesn't halt within 40,000,000 steps, nor does a search end
-    in them. Of all machines a search makes fewer steps than the simulation, since it ends at its pair."""
+    """Return what measures a search: runs on which it finds nothing, so that all their steps are made."""
     long, cycles = ["--steps", "40000000"], ["--no-translated", "--no-backward"]
     records = ["--no-cyclers", "--no-backward"]
     four = draw(halting_once, source, LIST, 4)
@@ -164,7 +164,7 @@ class Bench:
 
     def __init__(self, table: Table, program: str, folder: pathlib.Path) -> None:
         self.table, self.program, self.list = table, program, folder / "list"
-        self.peer, self.limit = (build_plain(name, folder) for name in ("peer", "limit"))
+        self.peer, self.limit = (build_peer(folder, name) for name in ("peer", "limit"))
 
     def costs(
         self, lines: str, commands: Sequence[Sequence[str]], is_same: bool, runs: int = 0
@@ -177,27 +177,11 @@ class Bench:
         ways = {name: functools.partial(run, pair) for name, pair in zip(outputs, pairs)}
         return list(take_turns(runs or self.table.runs, ways, outputs).values())
 
-    def clocks(self, lines: str, commands: Sequence[Sequence[str]]) -> list[float]:
-        """Return the least times by the clock; all must write the same."""
-        return [min(costs).clock for costs in self.costs(lines, commands, True)]
-
-    def deciding(self, lines: str, commands: Sequence[Sequence[str]]) -> list[float]:
-        """Return the least processor times, of nearly twice as many runs; all must write the same."""
-        costs = self.costs(lines, commands, True, 2 * self.table.runs - 1)
-        return [min(cost.processor for cost in row) for row in costs]
-
     def processors(self, lines: str, commands: Sequence[Sequence[str]]) -> list[list[float]]:
         """Return the processor time of each run; all must end with status 0."""
         costs = self.costs(lines, commands, False)
         assert all(cost.status == 0 for row in costs for cost in row), "a line is refused, or not confirmed"
         return [[cost.processor for cost in row] for row in costs]
-
-
-def build_plain(name: str, folder: pathlib.Path) -> str:
-    """Build a plain Rust program, and return its path."""
-    source, built = TOP / "benchmarks" / name / "main.rs", str(folder / name)
-    subprocess.run(["rustc", "-O", "-C", "codegen-units=1", "-o", built, str(source)], check=True)
-    return built
 
 
 def measure_peer(bench: Bench, seed: int) -> None:
@@ -206,7 +190,7 @@ def measure_peer(bench: Bench, seed: int) -> None:
     table.head("Beside plain Rust, by the clock", ["Program", "Peer", "Ratio", "Limit", "Ratio"])
     for case in cases_in_turn(seed):
         commands = [[each, "decide", *case.options] for each in (program, peer, limit)]
-        ours, *theirs = bench.clocks(case.lines, commands)
+        ours, *theirs = (min(row).clock for row in bench.costs(case.lines, commands, True))
         table.times(case.name, ours, theirs)
     decided = cases_in_one_run(program, random.Random(seed))
     columns = ["Program", "Peer in one run", "Ratio", "Peer in turn", "Ratio", "Limit", "Ratio"]
@@ -214,7 +198,8 @@ def measure_peer(bench: Bench, seed: int) -> None:
     for case in decided:
         words = ["decide", *case.options]
         commands = [[program, *words], [peer, *words, "--one-run"], [peer, *words], [limit, *words]]
-        ours, *theirs = bench.deciding(case.lines, commands)
+        costs = bench.costs(case.lines, commands, True, 2 * table.runs - 1)
+        ours, *theirs = (min(cost.processor for cost in row) for row in costs)
         table.times(case.name, ours, theirs)
     table.head("Places and instructions")
     if has("where the single-pass run begins", "nm"):

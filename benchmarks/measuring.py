@@ -92,8 +92,7 @@ def run(*commands: Command) -> Cost:
 
 
 def take_turns(runs: int, ways: Ways, outputs: Mapping[str, pathlib.Path]) -> dict[str, list[Cost]]:
-    """Return what each run of each way cost; they take turns. Those that have one file as their output must
-    write the same and end with the same status."""
+    """Take turns; return the cost of each run. Ways with one output file must write and end alike."""
     costs: dict[str, list[Cost]] = {name: [] for name in ways}
     right: dict[pathlib.Path, tuple[int, bytes]] = {}
     for name, way in [pair for _ in range(runs) for pair in ways.items()]:

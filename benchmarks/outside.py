@@ -37,8 +37,8 @@ TRACED_LINES, SHORT_LINES, REPORTED, LISTS = 1_000, 1_000_000, 1_000, 1_000
 FOUR_STATES = "858,909 machines of four states"
 # Has the page write down how long it takes from the choice of a file until all of it is answered and shown.
 TAKEN = """
-const results = document.getElementById("results"), now = () => performance.now();
-document.getElementById("file").addEventListener("change", () => { window.began = now(); }, true);
+const results = $("results"), now = () => performance.now();
+$("file").addEventListener("change", () => { window.began = now(); }, true);
 new MutationObserver(() => {
   if (results.dataset.state === "done") requestAnimationFrame(() => { window.taken = now() - window.began; });
 }).observe(results, { attributes: true });
@@ -46,11 +46,11 @@ new MutationObserver(() => {
 # Has the page answer its list so many times, one after another, by no other script.
 AGAIN = """
 const [times, done] = arguments;
-const { dataset } = document.getElementById("results");
+const { dataset } = $("results");
 (async () => {
   for (let count = 0; count < times; count += 1) {
     dataset.state = "asked";
-    document.getElementById("run").click();
+    $("run").click();
     while (dataset.state !== "done") await new Promise((next) => setTimeout(next));
   }
   done();

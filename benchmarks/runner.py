@@ -82,8 +82,7 @@ class Bench:
         return {name: functools.partial(self.decide, limits, *words, name[14:]) for name in PARALLEL}
 
     def least(self, limits: Sequence[int], ways: Ways, others: Ways = {}) -> dict[str, float]:
-        """Print and return the least time of each way by the clock, and under names that end in `; processor`
-        of processors; `others` don't write the verdicts."""
+        """Print and return the least times, of processors as `NAME; processor`; `others` write nothing."""
         written = dict.fromkeys(ways, self.verdicts)
         found: dict[str, float] = {}
         self.table.head("%s over %s" % (words_of(limits), self.case.list.parent.name))

@@ -272,9 +272,7 @@ def end_text(job: Job, undecided: Sequence[str]) -> str:
 
 
 def files_of(job: Job, stem: str, most: int) -> dict[str, str]:
-    """The files of a list by their names, the one with its theorem last. They are called after it, if the
-    list has more than so many lines: `List_1`, `List_2` and so on.
-    """
+    """The files of a list by name, `List_1`, `List_2` and so on; the last one has its theorem."""
     parts = list(cut(job, most))
     undecided = [machine for part in parts for machine in part.undecided]
     title = "A list of verdict lines, as one theorem."

@@ -73,25 +73,15 @@ class Edit(NamedTuple):
         return text
 
 
-def read_edit(path: pathlib.Path) -> Edit:
-    text = path.read_text(encoding="utf-8")
-    file = re.search(r"^file: src/(.*)$", text, re.M)
-    assert file
-    pairs = list(zip(re.findall(r"^old: (.*)$", text, re.M), re.findall(r"^new: ?(.*)$", text, re.M)))
-    return Edit(path.parents[1].name, path.stem, file[1], pairs)
-
-
-def read_edits(name: str) -> List[Edit]:
+def read_edits(name: str) -> Iterator[Edit]:
     """Read the edits of a crate, or the one of this name in it."""
     crate, _, edit = name.partition("/")
-    folder = TOP / "crates" / crate / "must-fail"
-    return [read_edit(path) for path in sorted(folder.glob((edit or "*") + ".edit"))]
-
-
-def read_invisible() -> List[str]:
-    """Read the names of the edits that change nothing visible."""
-    lines = (TOP / "plain" / "unseen.txt").read_text(encoding="utf-8").splitlines()
-    return [line.partition(":")[0] for line in lines if not line.startswith("#")]
+    for path in sorted((TOP / "crates" / crate / "must-fail").glob((edit or "*") + ".edit")):
+        text = path.read_text(encoding="utf-8")
+        file = re.search(r"^file: src/(.*)$", text, re.M)
+        assert file
+        pairs = zip(re.findall(r"^old: (.*)$", text, re.M), re.findall(r"^new: ?(.*)$", text, re.M))
+        yield Edit(crate, path.stem, file[1], list(pairs))
 
 
 def run(probe: Probe, programs: pathlib.Path, cwd: pathlib.Path) -> Result:
@@ -203,30 +193,19 @@ class Workspace:
         """Return which command differs, or the compiler where it refuses the edit."""
         if self.cargo(*BUILT) != 0:
             return "the compiler"
-        for probe, expected in self.expected:
-            if self.run(probe) != expected:
-                return probe.name
-        return None
+        return next((probe.name for probe, right in self.expected if self.run(probe) != right), None)
 
     def tests(self) -> Optional[str]:
-        """Return what the library's test and the tests of the crates say."""
-        seen = self.library()
-        if seen:
-            return seen
-        for name in TESTED:
-            if self.cargo("test", "-p", name) != 0:
-                return "the tests of the crates"
-        return None
-
-    def library(self) -> Optional[str]:
-        """Return what the library's test in C says."""
+        """Return what the library's test in C and the tests of the crates say."""
         self.cargo("build", "-p", "bb_c")
         made, archive = self.folder / "calls", self.folder / "target" / "debug" / "libbb_c.a"
         source = TOP / "tests" / "library" / "calls.c"
         compiler: List[object] = ["cc", "-pthread", "-I", TOP / "include", source, archive, "-lm", "-o", made]
         subprocess.run(list(map(str, compiler)), check=True)
-        status = subprocess.run(["timeout", "300", str(made)], capture_output=True).returncode
-        return "the library's test" if status else None
+        if subprocess.run(["timeout", "300", str(made)], capture_output=True).returncode:
+            return "the library's test"
+        is_seen = any(self.cargo("test", "-p", name) for name in TESTED)
+        return "the tests of the crates" if is_seen else None
 
 
 def expected_results(programs: pathlib.Path, lists: pathlib.Path) -> List[Tuple[Probe, Result]]:
@@ -296,7 +275,8 @@ def main() -> int:
             if edit.crate == name
         )
         print(name, dict(counts))
-    invisible = read_invisible()
+    lines = (TOP / "plain" / "unseen.txt").read_text(encoding="utf-8").splitlines()
+    invisible = [line.partition(":")[0] for line in lines if not line.startswith("#")]
     names = ["%s/%s" % (edit.crate, edit.name) for edit, by in found if by is None]
     missed = [name for name in names if name not in invisible]
     print("missed:", ", ".join(missed) or "none")

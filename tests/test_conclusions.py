@@ -1,9 +1,7 @@
 """Conclusions from verdicts: about mirrored, renamed and completed machines, later steps and other starts.
 
-The machines are those of two states and two symbols: every seventh, or all. A renaming keeps A and 0, so
-machines are padded to three states and symbols first. What only looks alike is tried too, and must differ
-for some machine: a renaming that moves A or 0, a completion that fills the `---` on which the machine halts,
-h - 1 steps where a tree has h levels, and the tree of a completion.
+The machines are those of two states and two symbols, padded to three for renamings. Conclusions that only
+look alike must fail for some machine.
 """
 
 from __future__ import annotations
@@ -118,8 +116,7 @@ def test_renaming_a_or_0_changes_some_verdict(bb: str, machines: list[str], chan
 
 
 def completions(text: str) -> Iterator[tuple[str, tuple[int, ...]]]:
-    """Yield the machines that a machine of two symbols becomes where some `---` are filled, and the entries
-    that are: state and symbol in one number."""
+    """Yield a machine of two symbols with some `---` filled, and their places, as 2 * state + symbol."""
     old = [entry for group in table_of(text) for entry in group]
     choices = [entries_of(len(old) // 2, 2) if entry == "---" else [entry] for entry in old]
     for new in itertools.product(*choices):
@@ -194,10 +191,8 @@ def test_pairs_predict_later_steps(bb: str, machines: list[str]) -> None:
 
 
 def latest_halt(text: str, levels: int) -> int:
-    """Return the most steps that any start of a machine of two symbols makes to a halt, -1 where none halts.
-
-    It tries all tapes as far as `levels` steps reach, with 0 and with 1 beyond, for some steps more.
-    """
+    """Return the most steps from any start of a machine of two symbols to a halt; -1 where none halts."""
+    # All tapes are tried as far as `levels` steps reach, with 0 and with 1 beyond, for some steps more.
     latest, most = -1, levels + BEYOND
     near = range(-levels, levels + 1)
     tapes = itertools.product((0, 1), repeat=len(near))

@@ -1,13 +1,12 @@
 """Random machines: the checker confirms each verdict, larger limits lose none, and a plain program agrees."""
 
-import pathlib
 import random
 import subprocess
 
 import pytest
 from support import TOP, require
 from support.machines import machine, random_machines
-from support.program import PLANS, ROWS, SIMULATION, as_lines, kind_of, options, run_command
+from support.program import PLANS, ROWS, SIMULATION, as_lines, build_peer, kind_of, options, run_command
 from support.simulation import decide_confirmed
 
 KINDS = {"halt", "cycler", "translated", "backward", "undecided"}
@@ -33,25 +32,18 @@ def test_verdicts_are_confirmed_and_larger_limits_keep(bb: str, rng: random.Rand
     assert any(kind_of(line) != "undecided" for lines in runs for line in lines)
 
 
-def build_plain_rust(folder: pathlib.Path, name: str, cfg: str) -> str:
-    """Build a plain Rust program of the benchmarks in one of its forms. It takes rustc 1.65 or later."""
-    require("rustc")
-    built, source = str(folder / name), str(TOP / "benchmarks" / name / "main.rs")
-    command = ["rustc", "-O", "-C", "codegen-units=1", "--cfg", cfg, "-o", built, source]
-    subprocess.run(command, check=True)
-    return built
-
-
 @pytest.fixture(scope="session")
 def peer(tmp_path_factory: pytest.TempPathFactory) -> str:
     """The plain Rust program that simulates, then searches, each by itself."""
-    return build_plain_rust(tmp_path_factory.mktemp("peer"), "peer", "wide")
+    require("rustc")
+    return build_peer(tmp_path_factory.mktemp("peer"), "peer", "--cfg", "wide")
 
 
 @pytest.fixture(scope="session", params=["narrow", "flat"])
 def limit(request: pytest.FixtureRequest, tmp_path_factory: pytest.TempPathFactory) -> str:
     """The plain Rust program for speed alone; with `flat` its runs leave the tape of one word at once."""
-    return build_plain_rust(tmp_path_factory.mktemp("limit"), "limit", request.param)
+    require("rustc")
+    return build_peer(tmp_path_factory.mktemp("limit"), "limit", "--cfg", request.param)
 
 
 def draw_machine(source: random.Random) -> str:

@@ -4,7 +4,6 @@ import pathlib
 import re
 import subprocess
 import sys
-from typing import List
 
 import pytest
 from support import TOP, require
@@ -70,10 +69,6 @@ def test_unknown_words_stop_it(source: Source, text: str, place: str) -> None:
     assert str(stopped.value).endswith("part.rt:%s has no rule" % place)
 
 
-def crate_names(folder: pathlib.Path) -> List[str]:
-    return sorted(path.parent.name for path in folder.glob("*/Cargo.toml"))
-
-
 @pytest.mark.slow
 def test_no_warnings_by_rustc_and_clippy(plain: pathlib.Path, tmp_path: pathlib.Path) -> None:
     """All crates but the shims, with their tests; `erase.py` lists the lints that are off."""
@@ -81,7 +76,7 @@ def test_no_warnings_by_rustc_and_clippy(plain: pathlib.Path, tmp_path: pathlib.
     workspace = plain.parents[1]
     command = ["cargo", "clippy", "--quiet", "--workspace", "--all-targets", "--target-dir", str(tmp_path)]
     done = subprocess.run([*command, "--", "-D", "warnings"], cwd=workspace, capture_output=True, text=True)
-    assert "bb_decide" in crate_names(workspace)
+    assert (workspace / "bb_decide" / "Cargo.toml").exists()
     assert (done.returncode, done.stdout, done.stderr) == (0, "", "")
 
 

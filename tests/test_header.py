@@ -1,8 +1,7 @@
 """The header of the library: the order of parameters and counts, and the room that its macros give.
 
-A program in C is made from the header: it gives `bb_trace` each parameter by its name, in the header's order,
-and prints each count of `bb_look` by the header's name for it. The numbers differ so much that an exchange of
-two shows, in the header or in the library.
+A program in C passes `bb_trace` its parameters, and prints the counts of `bb_look`, by the header's names.
+The numbers differ so much that an exchange of two shows.
 """
 
 import itertools

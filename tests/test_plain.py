@@ -81,24 +81,18 @@ PLANS = [" ".join(words) for count in (1, 2, 3) for words in itertools.combinati
 # What the build by cargo may take, beside the proved one.
 BAR = 1.25
 Programs = tuple[str, str]
+Builds = Callable[[str], Programs]
 
 
 @pytest.fixture(scope="module")
-def programs(plain: pathlib.Path) -> Programs:
-    """The paths of the proved program and of the one that cargo builds."""
-    return str(build("bb", "crates/bb/out/bb")), str(plain / "bb")
+def builds(plain: pathlib.Path) -> Builds:
+    """A function that returns the paths of a proved program and of the one that cargo builds."""
+    return lambda name: (str(build(name, "crates/%s/out/%s" % (name, name))), str(plain / name))
 
 
 @pytest.fixture(scope="module")
-def covers(plain: pathlib.Path) -> Programs:
-    """The same for `cover`."""
-    return str(build("cover", "crates/cover/out/cover")), str(plain / "cover")
-
-
-@pytest.fixture(scope="module")
-def recurrences(plain: pathlib.Path) -> Programs:
-    """The same for `recurrence`."""
-    return str(build("recurrence", "crates/recurrence/out/recurrence")), str(plain / "recurrence")
+def programs(builds: Builds) -> Programs:
+    return builds("bb")
 
 
 def without_text_of_clap(text: bytes) -> bytes:
@@ -123,15 +117,13 @@ def folder(tmp_path: pathlib.Path, four_states: list[str]) -> pathlib.Path:
     return tmp_path
 
 
-def test_all_machines_of_four_states(
-    programs: Programs, covers: Programs, recurrences: Programs, four_states: list[str]
-) -> None:
+def test_all_machines_of_four_states(programs: Programs, builds: Builds, four_states: list[str]) -> None:
     lines = as_lines(four_states)
     decided = require_same(programs, lambda bb: run_command([bb, "decide", *FOUR], lines))
     require_same(programs, lambda bb: run_command([bb, "check", *FOUR], decided.output))
-    checked = require_same(covers, lambda cover: run_command([cover, *FOUR], decided.output))
+    checked = require_same(builds("cover"), lambda cover: run_command([cover, *FOUR], decided.output))
     assert checked.status == 0
-    require_same(recurrences, lambda path: run_command([path, "--entries"], decided.output))
+    require_same(builds("recurrence"), lambda path: run_command([path, "--entries"], decided.output))
     print("%d machines decided, checked, covered and searched by both" % len(four_states))
 
 
@@ -155,7 +147,7 @@ def test_traces(programs: Programs, rng: random.Random) -> None:
         require_same(programs, lambda bb: run_command([bb, "trace", *words]))
 
 
-def test_lines_with_an_error(programs: Programs, covers: Programs, rng: random.Random) -> None:
+def test_lines_with_an_error(programs: Programs, builds: Builds, rng: random.Random) -> None:
     machines = list(random_machines(10_000, rng))
     spoilt = as_lines(spoil(rng, machine) for machine in machines)
     done = require_same(programs, lambda bb: run_command([bb, "decide", *FOUR], spoilt))
@@ -163,7 +155,7 @@ def test_lines_with_an_error(programs: Programs, covers: Programs, rng: random.R
     decided = run_command([programs[0], "decide", *FOUR], as_lines(machines)).output.decode().splitlines()
     claims = as_lines(spoil(rng, line) for line in decided)
     require_same(programs, lambda bb: run_command([bb, "check", *FOUR], claims))
-    require_same(covers, lambda cover: run_command([cover, *FOUR], claims))
+    require_same(builds("cover"), lambda cover: run_command([cover, *FOUR], claims))
 
 
 def test_claims(programs: Programs, rng: random.Random, four_states: list[str]) -> None:
@@ -189,17 +181,12 @@ def test_streams_and_memory(programs: Programs, folder: pathlib.Path, command: s
 
 @pytest.mark.parametrize("command", EDGES_OF_LISTS, ids=str.strip)
 def test_streams_and_memory_of_lists(
-    programs: Programs,
-    covers: Programs,
-    recurrences: Programs,
-    folder: pathlib.Path,
-    list_machines: ListMachines,
-    command: str,
+    builds: Builds, folder: pathlib.Path, list_machines: ListMachines, command: str
 ) -> None:
-    decided = run_command([programs[0], "decide"], as_lines(list_machines(2)))
+    decided = run_command([builds("bb")[0], "decide"], as_lines(list_machines(2)))
     (folder / "verdicts.txt").write_bytes(decided.output)
-    for builds in (covers, recurrences):
-        test_streams_and_memory(builds, folder, command)
+    for name in ("cover", "recurrence"):
+        test_streams_and_memory(builds(name), folder, command)
 
 
 @pytest.mark.parametrize("words", [[b"\xff"], ["decide", b"\xff"], ["decide", "a" * 5000], ["decide", ""]])

@@ -1,8 +1,7 @@
 """The programs with one allocation refused at a time: each ends as ever, or with status 3 and its cause.
 
-The k-th call of malloc, calloc or realloc answers null, up to the first k that no call reaches. The last
-calls make the tapes and the path, before a byte is read: where one of them is refused, nothing is written and
-memory is the cause. Those before them read the words. Opening FILE allocates nothing, so no read fails.
+The k-th allocation is refused, up to the first k that isn't reached. The last ones make the tapes and the
+path, before a byte is read: if one of them is refused, nothing is written and memory is the cause.
 """
 
 import os

@@ -4,7 +4,6 @@ import functools
 import hashlib
 import random
 import re
-import subprocess
 from typing import Callable, NamedTuple
 
 import pytest
@@ -183,19 +182,3 @@ def test_text_that_is_no_machine(bb: str, cover: str, text: str) -> None:
     column = run_command([bb, "decide"], as_lines([text])).output.decode().split(" ")[1]
     error = "cover: the text of --below is no machine: refused at column " + column
     assert run_command([cover, "--below", text]) == (2, b"", error.encode())
-
-
-@pytest.mark.parametrize(
-    "words, error",
-    [
-        (["--below", "1RB"], "--below is 1RB, but must be a machine without Z"),
-        (["--below", "1RB1LB_1LA1RZ"], "--below is 1RB1LB_1LA1RZ, but must be a machine without Z"),
-        (["--below", "------", "--states", "2"], "--states isn't the size of --below's machine"),
-        (["--below", "------", "--part", "1/2"], "--part doesn't go with --below or --shards"),
-        (["--states", "2", "--every", "2", "--shards", "1"], "--every doesn't go with --below or --shards"),
-        (["--states", "2", "--shards", "0"], "--shards is 0, but must be a whole number from 1 to 256"),
-    ],
-)
-def test_refused_words_of_the_lister(lister: str, words: list[str], error: str) -> None:
-    done = subprocess.run([lister, *words], capture_output=True, text=True)
-    assert (done.returncode, done.stdout) == (2, "") and error in done.stderr

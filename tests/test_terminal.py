@@ -5,16 +5,14 @@ from __future__ import annotations
 import gzip
 import os
 import pathlib
-import pty
 import re
-import select
 import subprocess
 import threading
 import time
-from typing import Callable, Iterator, Sequence
+from typing import Any, Callable, Iterator, Sequence
 
 import pytest
-from support.program import kind_of, on_terminal
+from support.program import kind_of, on_terminal, open_terminal
 
 LIST = b"1RB1LB_1LA1RZ\n0RB---_0LA---\n1RA1RA\n1rB1LB\n1RB---_1LA---\n"
 UNDECIDED = b"1RB0LA_0RC---_1RD0LD_1LA1RZ\n1RB1LC_1RC1RB_1RD0LE_1LA1LD_1RZ0LA\n"
@@ -58,7 +56,9 @@ HINTS = {
     "claim, CR": ("check", MACHINE + b" halt 6 4\r\n", RETURN),
     "second line, CR": ("decide", MACHINE + b"\n1RA1RA\r\n", ""),
 }
+# Words in place of a number, and the number that the hint names; '' for no hint.
 SEPARATED = {"1,000,000": "1000000", "1_000": "1000", "1'000": "1000", "1e6": "1000000"}
+SEPARATED.update(dict.fromkeys((",1", "1x", "e6", "1e99"), ""))
 
 
 def run_on_terminal(command: Sequence[str], given: bytes, output: str = os.devnull) -> tuple[int, str]:
@@ -104,13 +104,8 @@ def test_first_bytes_of_an_input_give_a_hint(bb: str, command: str, given: bytes
 @pytest.mark.parametrize("word, number", SEPARATED.items())
 def test_number_with_separators_gives_a_hint(bb: str, word: str, number: str) -> None:
     status, shown = run_on_terminal([bb, "decide", "--steps", word], b"")
-    assert status == 2 and shown.endswith("%s: write the number as %s\n" % (word, number))
-
-
-@pytest.mark.parametrize("word", [",1", "1x", "e6", "1e99"])
-def test_other_words_give_no_hint(bb: str, word: str) -> None:
-    status, shown = run_on_terminal([bb, "decide", "--steps", word], b"")
-    assert status == 2 and "write the number" not in shown
+    hint = "%s: write the number as %s\n" % (word, number)
+    assert status == 2 and (shown.endswith(hint) if number else "write the number" not in shown)
 
 
 def parse(form: str, text: str) -> list[str]:
@@ -169,34 +164,17 @@ def test_progress_over_a_file(progress: Progress) -> None:
 
 
 def feed(command: Sequence[str], batch: bytes, is_enough: Callable[[bytes], object]) -> tuple[bytes, int]:
-    """Feed a command by a pipe, batch after batch, until what its terminal shows is enough.
-
-    Returns what was shown, and how many batches there were. Standard output is the null device.
-    """
-    reader, terminal = pty.openpty()
-    shown, batches, end = b"", 0, time.monotonic() + PATIENCE
-
-    def read(wait: float) -> bytes:
-        found = b""
-        while select.select([reader], [], [], wait)[0]:
-            found += os.read(reader, 4096)
-        return found
-
-    with subprocess.Popen(
-        command, stdin=subprocess.PIPE, stdout=subprocess.DEVNULL, stderr=terminal
-    ) as process:
-        assert process.stdin is not None
-        while not is_enough(shown) and time.monotonic() < end:
-            process.stdin.write(batch)
-            process.stdin.flush()
-            batches += 1
-            shown += read(0)
-        process.stdin.close()
-        while process.poll() is None:
-            shown += read(0.01)
-    os.close(terminal)
-    os.close(reader)
-    return shown, batches
+    """Feed a command batches by a pipe until its terminal shows enough; return this and their number."""
+    batches, end = 0, time.monotonic() + PATIENCE
+    with open_terminal() as (terminal, shown):
+        how: dict[str, Any] = {"stdin": subprocess.PIPE, "stdout": subprocess.DEVNULL, "stderr": terminal}
+        with subprocess.Popen(command, **how) as process:
+            assert process.stdin is not None
+            while not is_enough(b"".join(shown)) and time.monotonic() < end:
+                process.stdin.write(batch)
+                process.stdin.flush()
+                batches += 1
+    return b"".join(shown), batches
 
 
 def shows_two_lines(shown: bytes) -> bool:
@@ -252,9 +230,6 @@ def test_no_progress_where_standard_output_is_a_device(bb: str) -> None:
 
 
 def test_no_progress_where_standard_output_is_a_terminal(bb: str) -> None:
-    reader, terminal = pty.openpty()
-    subprocess.run([bb, "decide", "--steps", "9"], input=LIST, stdout=terminal, stderr=terminal)
-    shown = os.read(reader, 65_536)
-    os.close(reader)
-    os.close(terminal)
-    assert b"%" not in shown and b"\x1b" not in shown
+    with open_terminal() as (terminal, shown):
+        subprocess.run([bb, "decide", "--steps", "9"], input=LIST, stdout=terminal, stderr=terminal)
+    assert shown and b"%" not in b"".join(shown) and b"\x1b" not in b"".join(shown)

@@ -31,6 +31,12 @@ REFUSED = {
     "--states 4 --steps many": "--steps is many, but must be",
     "--states 4 --every 0": "--every is 0, but must be",
     **{"--states 4 --part " + part: "--part is %s, but must be K/N" % part for part in ("5/4", "0/4", "4")},
+    "--below 1RB": "--below is 1RB, but must be a machine without Z",
+    "--below 1RB1LB_1LA1RZ": "--below is 1RB1LB_1LA1RZ, but must be a machine without Z",
+    "--below ------ --states 2": "--states isn't the size of --below's machine",
+    "--below ------ --part 1/2": "--part doesn't go with --below or --shards",
+    "--states 2 --every 2 --shards 1": "--every doesn't go with --below or --shards",
+    "--states 2 --shards 0": "--shards is 0, but must be a whole number from 1 to 256",
     "--states=4 --fast": "--fast is no option",
     "4": "4 is no option",
 }

@@ -17,8 +17,7 @@ _NAME = os.path.basename(sys.argv[0])
 
 
 def output_of(*command: object) -> str:
-    """Return what a command writes, run at the top of the repository, without the newline at its end; end the
-    process where it fails."""
+    """Run a command at the repository's top; return its trimmed output, or end the process if it fails."""
     words = [str(word) for word in command]
     try:
         done = subprocess.run(words, cwd=TOP, stdout=subprocess.PIPE, stdin=subprocess.DEVNULL, text=True)
@@ -32,14 +31,6 @@ def output_of(*command: object) -> str:
     return done.stdout.strip()
 
 
-def version_of_header() -> str:
-    """Return the version that include/bb.h names."""
-    found = re.search(r'#define BB_VERSION "([0-9.]+)"', (TOP / "include" / "bb.h").read_text("utf-8"))
-    if found is None:
-        sys.exit("%s: include/bb.h has no version" % _NAME)
-    return found[1]
-
-
 class Version(NamedTuple):
     """The header's version, what names the commit behind it, and the commit with `, changed` where it is."""
 
@@ -49,9 +40,11 @@ class Version(NamedTuple):
 
 
 def commit_version(paths: Sequence[str], files: Iterable[pathlib.Path]) -> Version:
-    """Return the version of a package: where something below `paths` differs from the commit, the suffix ends
-    in `.changed` and a digest of `files`, in their order."""
-    number, commit = version_of_header(), output_of("git", "rev-parse", "HEAD")
+    """Return a package's version, with `.changed` and a digest of `files` after changes below `paths`."""
+    header = re.search(r'#define BB_VERSION "([0-9.]+)"', (TOP / "include" / "bb.h").read_text("utf-8"))
+    if header is None:
+        sys.exit("%s: include/bb.h has no version" % _NAME)
+    number, commit = header[1], output_of("git", "rev-parse", "HEAD")
     suffix = "g" + commit[:12]
     if not output_of("git", "status", "--porcelain", "--", *paths):
         return Version(number, suffix, commit)

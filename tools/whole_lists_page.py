@@ -2,10 +2,11 @@
 
 from __future__ import annotations
 
+import itertools
 import json
 import pathlib
 import re
-from typing import Any, Callable, Iterator
+from typing import Any, Callable, Iterator, Sequence
 
 DOCS = pathlib.Path(__file__).resolve().parents[1] / "docs"
 PAGE, RESULTS = DOCS / "whole-lists.md", DOCS / "whole-lists.json"
@@ -21,23 +22,27 @@ RECURRENCES = {
 QUASIHALTS = {"2x2": (6,), "3x2": (55,), "2x3": (59,), "4x2": (66_349, 32_779_478)}
 NO_RECURRENCES = "This run has no recurrences: it was made before `tools/whole_lists` counted them."
 TREES = {"backward levels": "Levels of a tree", "backward nodes": "Nodes of a tree"}
-# Lines of verdicts on a second pass: the seconds of a machine at these limits.
 Fields = dict[str, Any]
+# The head of a table and its rows.
+Rows = Iterator[Sequence[object]]
 
 
 def number(value: float) -> str:
     return "{:,}".format(value) if isinstance(value, int) else "{:,.0f}".format(value)
 
 
-def row(*cells: object) -> str:
-    return "| %s |" % " | ".join(
-        number(cell) if isinstance(cell, (int, float)) else str(cell) for cell in cells
-    )
+def row(cells: Sequence[object]) -> str:
+    texts = (number(cell) if isinstance(cell, (int, float)) else str(cell) for cell in cells)
+    return "| %s |" % " | ".join(texts)
 
 
-def head(*cells: str) -> Iterator[str]:
-    yield row(*cells)
-    yield "|%s" % ("---|" * len(cells))
+def table(rows: Rows) -> Iterator[str]:
+    """The lines of a table, or of the sentence in place of one without a head."""
+    head = next(rows, None)
+    yield NO_RECURRENCES if head is None else row(head)
+    if head is not None:
+        yield "|%s" % ("---|" * len(head))
+        yield from map(row, rows)
 
 
 def run_of(found: Fields) -> Iterator[str]:
@@ -48,132 +53,99 @@ def run_of(found: Fields) -> Iterator[str]:
     yield text.format(found["commit"], found["build"], lines, seconds / 60, found["threads"])
 
 
-def counts_of(found: Fields) -> Iterator[str]:
-    yield from head("Size", "Lines", *("`%s`" % kind for kind in KINDS), "Holdouts", "Share")
+def counts_of(found: Fields) -> Rows:
+    yield "Size", "Lines", *("`%s`" % kind for kind in KINDS), "Holdouts", "Share"
     for name, one in found["sizes"].items():
-        counts = [one["counts"][kind] for kind in KINDS]
-        yield row(
-            name, one["lines"], *counts, one["holdouts"], "%.2f %%" % (100 * one["holdouts"] / one["lines"])
-        )
+        counts, share = [one["counts"][kind] for kind in KINDS], 100 * one["holdouts"] / one["lines"]
+        yield name, one["lines"], *counts, one["holdouts"], "%.2f %%" % share
 
 
-def passes_of(found: Fields) -> Iterator[str]:
-    yield from head("Size", "Limits", "Machines", "Decided", "Left")
+def passes_of(found: Fields) -> Rows:
+    yield "Size", "Limits", "Machines", "Decided", "Left"
     for name, one in found["sizes"].items():
         for each in one["passes"]:
             left = each["counts"]["undecided steps"] + each["counts"]["undecided cells"]
-            yield row(name, "`%s`" % each["limits"], each["lines"], each["lines"] - left, left)
+            yield name, "`%s`" % each["limits"], each["lines"], each["lines"] - left, left
 
 
-def holdouts_of(found: Fields) -> Iterator[str]:
-    yield from head("Size", "Holdouts", "With several `---`", "Of these, halting in a later pass")
-    for name, one in found["sizes"].items():
-        yield row(name, one["holdouts"], one["wide"], one["late"])
+def holdouts_of(found: Fields) -> Rows:
+    yield "Size", "Holdouts", "With several `---`", "Of these, halting in a later pass"
+    yield from ((name, one["holdouts"], one["wide"], one["late"]) for name, one in found["sizes"].items())
 
 
-def greatest_of(found: Fields) -> Iterator[str]:
-    yield from head("Size", "", "", "Line")
-    for name, one in found["sizes"].items():
-        for key, words in {**GREATEST, **TREES}.items():
-            if key in one["greatest"]:
-                most, line = one["greatest"][key]
-                yield row(name, words, most, "`%s`" % line)
+def greatest_in(lists: Fields, titles: dict[str, str]) -> Rows:
+    """The greatest numbers of some lists, each with its line."""
+    if lists:
+        yield "Size", "", "", "Line"
+    for name, one in lists.items():
+        found = [(titles[key], *one["greatest"][key]) for key in titles if key in one["greatest"]]
+        yield from ((name, words, most, "`%s`" % line) for words, most, line in found)
 
 
-def recurrences_in(found: Fields) -> Iterator[tuple[str, Fields]]:
+def recurrences_in(found: Fields) -> Fields:
     """The recurrences of each size's list, and of its completions, by name."""
+    lists: Fields = {}
     for name, one in found["sizes"].items():
         if "recurrences" in one:
-            yield name, {"lines": one["lines"], **one["recurrences"]}
+            lists[name] = {"lines": one["lines"], **one["recurrences"]}
             if "completions" in one["recurrences"]:
-                yield name + ", completed", one["recurrences"]["completions"]
+                lists[name + ", completed"] = one["recurrences"]["completions"]
+    return lists
 
 
-def recurrences_of(found: Fields) -> Iterator[str]:
-    rows = dict(recurrences_in(found))
-    if not rows:
-        yield NO_RECURRENCES
-        return
-    yield from head(
-        "Size",
-        "Machines",
-        "Recur",
-        "Quasihalt",
-        *map("Greatest {}".format, ("start", "period", "shift", "quasihalt")),
-    )
-    for name, one in rows.items():
-        most = [one["greatest"].get(key, (0, ""))[0] for key in RECURRENCES]
-        yield row(name, one["lines"], one["counts"]["recurs"], one["counts"]["quasihalts"], *most)
+def recurrences_of(found: Fields) -> Rows:
+    lists = recurrences_in(found)
+    if lists:
+        most = map("Greatest {}".format, ("start", "period", "shift", "quasihalt"))
+        yield "Size", "Machines", "Recur", "Quasihalt", *most
+    for name, one in lists.items():
+        greatest = [one["greatest"].get(key, (0, ""))[0] for key in RECURRENCES]
+        yield name, one["lines"], one["counts"]["recurs"], one["counts"]["quasihalts"], *greatest
 
 
-def recurrence_lines_of(found: Fields) -> Iterator[str]:
-    rows = dict(recurrences_in(found))
-    if not rows:
-        yield NO_RECURRENCES
-        return
-    yield from head("Size", "", "", "Line")
-    for name, one in rows.items():
-        for key, words in RECURRENCES.items():
-            if key in one["greatest"]:
-                most, line = one["greatest"][key]
-                yield row(name, words, most, "`%s`" % line)
-
-
-def quasihalts_of(found: Fields) -> Iterator[str]:
+def quasihalts_of(found: Fields) -> Rows:
     """The known quasihalting steps beside those of the run, with their lines."""
-    rows = dict(recurrences_in(found))
-    if not rows:
-        yield NO_RECURRENCES
-        return
-    yield from head("Size", "Known", "Here", "Line")
+    lists = recurrences_in(found)
+    if lists:
+        yield "Size", "Known", "Here", "Line"
     for name, known in QUASIHALTS.items():
-        if name in rows:
-            lines = [
-                rows[each]["greatest"]["quasihalts"] for each in (name, name + ", completed") if each in rows
-            ]
-            lines += [(int(line.split()[-1]), line) for line in rows[name].get("known", {}).get("lines", ())]
-            for most in known:
-                here = next((line for number, line in lines if number == most), None)
-                yield row(name, most, "the same" if here else "not found", "`%s`" % here if here else "")
+        own = [lists[each] for each in (name, name + ", completed") if each in lists]
+        lines = [one["greatest"]["quasihalts"] for one in own]
+        for one in own:
+            lines += [(int(line.split()[-1]), line) for line in one.get("known", {}).get("lines", ())]
+        for most in known if own else ():
+            here = next((line for number, line in lines if number == most), None)
+            yield name, most, "the same" if here else "not found", "`%s`" % here if here else ""
 
 
-def times_of(found: Fields) -> Iterator[str]:
+def times_of(found: Fields) -> Rows:
     titles = {"walk": "First pass", "later": "Later passes", "recurrences": "Recurrences of these"}
     some = any("recurrences" in one["seconds"] for one in found["sizes"].values())
     steps = [step for step in titles if some or step != "recurrences"]
-    names = [
-        word
-        for step in steps
-        for word in (titles[step], "Their core time" if step != "walk" else "Its core time")
-    ]
-    yield from head("Size", *names, "Core time of a machine")
+    names = [(titles[step], "%s core time" % ("Its" if step == "walk" else "Their")) for step in steps]
+    yield "Size", *itertools.chain(*names), "Core time of a machine"
     for name, one in found["sizes"].items():
         seconds = [one["seconds"].get(step, {}) for step in steps]
         times = ["%.1f s" % each.get(kind, 0) for each in seconds for kind in ("clock", "cores")]
         lines = one["passes"][1]["lines"]
-        each = "%.2f ms" % (1_000 * one["seconds"]["later"]["cores"] / lines) if lines else "-"
-        yield row(name, *times, each)
+        yield name, *times, "%.2f ms" % (1_000 * one["seconds"]["later"]["cores"] / lines) if lines else "-"
 
 
 def covers_of(found: Fields) -> Iterator[str]:
-    yield ""
-    yield from ("    " + one["cover"] for one in found["sizes"].values())
-    yield ""
+    yield from ("", *("    " + one["cover"] for one in found["sizes"].values()), "")
 
 
 def digests_of(found: Fields) -> Iterator[str]:
-    yield ""
-    for name, one in found["sizes"].items():
-        yield from ("    %s  %s %s" % (sha256, name, what) for what, sha256 in one["sha256"].items())
-    yield ""
+    rows = ((name, *pair) for name, one in found["sizes"].items() for pair in one["sha256"].items())
+    yield from ("", *("    %s  %s %s" % (sha256, name, what) for name, what, sha256 in rows), "")
 
 
-def larger_of(found: Fields) -> Iterator[str]:
+def larger_of(found: Fields) -> Rows:
     """What larger sizes take, by their samples and the rates of the sizes done."""
-    rows = {name: estimate(one, found["sizes"]) for name, one in found["samples"].items()}
-    yield from head("", *rows)
-    for what in next(iter(rows.values()), ()):
-        yield row(what, *(each[what] for each in rows.values()))
+    sizes = {name: estimate(one, found["sizes"]) for name, one in found["samples"].items()}
+    yield "", *sizes
+    for what in next(iter(sizes.values()), ()):
+        yield what, *(each[what] for each in sizes.values())
 
 
 def estimate(sample: Fields, sizes: Fields) -> dict[str, str]:
@@ -210,28 +182,23 @@ def power(value: float) -> str:
     return "%s × 10^%d" % (digits, int(exponent))
 
 
-TABLES: dict[str, Callable[[Fields], Iterator[str]]] = {
-    "run": run_of,
-    "counts": counts_of,
-    "passes": passes_of,
-    "holdouts": holdouts_of,
-    "greatest": greatest_of,
-    "recurrences": recurrences_of,
-    "recurrence lines": recurrence_lines_of,
+WORDS = (run_of, covers_of, digests_of)
+TABLES: dict[str, Callable[[Fields], Iterator[Any]]] = {
+    **{of.__name__[:-3]: of for of in (*WORDS, counts_of, passes_of, holdouts_of, recurrences_of, times_of)},
+    "greatest": lambda found: greatest_in(found["sizes"], {**GREATEST, **TREES}),
+    "recurrence lines": lambda found: greatest_in(recurrences_in(found), RECURRENCES),
     "quasihalts": quasihalts_of,
-    "times": times_of,
-    "covers": covers_of,
-    "digests": digests_of,
     "larger": larger_of,
 }
 
 
 def fill(page: str, found: Fields) -> str:
     """The page with its tables filled. Raises ValueError if it has no place for one."""
-    for name, lines in TABLES.items():
-        table = "".join(line + "\n" for line in lines(found))
+    for name, made in TABLES.items():
+        lines = made(found) if made in WORDS else table(made(found))
+        text = "".join(line + "\n" for line in lines)
         place = re.compile(r"(<!-- %s -->\n)(?:(?!<!--).)*(<!-- end -->)" % name, re.S)
-        page, count = place.subn(lambda match: match[1] + table + match[2], page)
+        page, count = place.subn(lambda match: match[1] + text + match[2], page)
         if count != 1:
             raise ValueError("%s has %d places for the table %s, but needs one" % (PAGE, count, name))
     return page

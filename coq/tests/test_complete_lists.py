@@ -6,6 +6,8 @@ import re
 from typing import Sequence
 
 import pytest
+from support.claims import forge
+from support.machines import spoil
 from support.program import LIST_LIMITS, CommandResult, Decide, as_lines, options, run_command
 from support.second_checker import COQ, Edit, build_wrong
 
@@ -32,30 +34,11 @@ def compare(cover: str, coq_cover: str, words: Sequence[str], given: bytes) -> C
     return theirs
 
 
-def shift_number(verdict: str, source: random.Random) -> str:
-    """Add one to a number of a verdict, or subtract it; undecided ones stay."""
-    fields = verdict.split(" ")
-    places = [at for at, field in enumerate(fields) if field.isdecimal()]
-    if places:
-        at = source.choice(places)
-        fields[at] = str(max(0, int(fields[at]) + source.choice([-1, 1])))
-    return " ".join(fields)
-
-
 def break_line(line: str, source: random.Random) -> str:
-    """Change a line's machine, its verdict, a number or a character."""
-    machine, _, verdict = line.partition(" ")
-    place = source.randrange(len(line))
-    entry = 4 * source.randrange(len(machine) // 4) if source.random() < 0.5 else 0
-    changed = machine[:entry] + source.choice(["1RA", "0LB", "1RZ", "---"]) + machine[entry + 3 :]
-    shifted = machine + " " + shift_number(verdict, source)
-    undecided = machine + " undecided " + source.choice(["steps", "cells"])
-    halt = machine + " halt %d %d" % (source.randrange(8), source.randrange(5))
-    mistyped = line[:place] + source.choice("01RLABZ- _\r\0\xff") + line[place + 1 :]
-    spaced, refused = line + " " * source.randrange(3), "refused %d" % source.randrange(9)
-    long = "x" * source.choice([0, 1, 1_023, 1_024, 5_000])
-    others = [changed + " " + verdict, line[:place], spaced, refused, long]
-    return source.choice([undecided, halt, mistyped, *others, *[shifted] * 3])
+    """Change a line's machine, its verdict, a number or a character, or cut it."""
+    (forged,) = forge(source, [line], 1)
+    undecided = "%s undecided %s" % (line.split(" ")[0], source.choice(["steps", "cells"]))
+    return source.choice([undecided, spoil(source, line), *[forged] * 4])
 
 
 def break_list(lines: Sequence[str], source: random.Random) -> list[str]:

@@ -18,16 +18,12 @@ ListMachines = Callable[..., list[str]]
 WITHOUT_KIT = ("coq", "lister", "plain", "plain-library")
 
 
-def debian_package(program: str) -> str:
-    """Name the Debian package of a program, as `.ci/packages.txt` lists it."""
-    rows = [line.split("#")[0].split() for line in (TOP / ".ci" / "packages.txt").read_text().splitlines()]
-    return next((row[0] for row in rows if program in row[1:]), "no package")
-
-
 def missing_requirements(programs: Sequence[str], modules: Sequence[str] = ()) -> list[str]:
     """List the programs and Python modules that aren't installed, each with its Debian package."""
+    rows = [line.split("#")[0].split() for line in (TOP / ".ci" / "packages.txt").read_text().splitlines()]
+    packages = {program: row[0] for row in reversed(rows) for program in row[1:]}
     absent = [program for program in programs if shutil.which(program) is None]
-    missing = ["%s isn't installed (Debian: %s)" % (name, debian_package(name)) for name in absent]
+    missing = ["%s isn't installed (Debian: %s)" % (one, packages.get(one, "no package")) for one in absent]
     unknown = [module for module in modules if importlib.util.find_spec(module) is None]
     words = "Python has no %s (Debian: python3-%s, for /usr/bin/python3)"
     return missing + [words % (module, module) for module in unknown]
@@ -71,9 +67,6 @@ def list_files(*words: str) -> list[str]:
 
 
 def restore_signals() -> None:
-    """Let this process end by SIGINT and SIGHUP, which processes started by `&` or `nohup` ignore.
-
-    It is the `preexec_fn` of processes that a test interrupts.
-    """
+    """As `preexec_fn`: let a process end by SIGINT and SIGHUP, also below `&` or `nohup`."""
     for number in (signal.SIGINT, signal.SIGHUP):
         signal.signal(number, signal.SIG_DFL)

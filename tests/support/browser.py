@@ -13,8 +13,10 @@ from typing import Any, Callable, Sequence
 
 from .program import SWITCHES, run_command, words_of_plan
 
-# Records the longest task that blocked the page, in milliseconds.
-WATCH = """
+# Finds elements by id and by selector, and records the longest task that blocked the page, in milliseconds.
+HELPERS = """
+window.$ = (id) => document.getElementById(id);
+window.$$ = (selector) => [...document.querySelectorAll(selector)];
 window.longest = 0;
 new PerformanceObserver((list) => list.getEntries().forEach((entry) => {
   window.longest = Math.max(window.longest, entry.duration);
@@ -22,23 +24,19 @@ new PerformanceObserver((list) => list.getEntries().forEach((entry) => {
 """
 # Overrides the number of cores.
 CORES = "Object.defineProperty(navigator, 'hardwareConcurrency', { get: () => %d });"
-DISPATCH = """
-const [name, event] = arguments;
-document.getElementById(name).dispatchEvent(new Event(event, { bubbles: true }));
-"""
 DROP = """
 const moved = new DataTransfer();
-moved.items.add(document.getElementById("file").files[0]);
+moved.items.add($("file").files[0]);
 dispatchEvent(new DragEvent("drop", { dataTransfer: moved, bubbles: true, cancelable: true }));
 """
 HIDE_FILE = """
-document.getElementById("file").addEventListener("change", (event) => event.stopImmediatePropagation(),
+$("file").addEventListener("change", (event) => event.stopImmediatePropagation(),
   { capture: true, once: true });
 """
 # Runs a script, and returns the milliseconds until the diagram is drawn again.
 DRAWING = """
 const done = arguments[arguments.length - 1];
-const canvas = document.getElementById("diagram");
+const canvas = $("diagram");
 const begun = performance.now();
 const watch = new MutationObserver(() => {
   if (canvas.dataset.state === "drawn") {
@@ -51,7 +49,6 @@ watch.observe(canvas, { attributes: true, attributeFilter: ["data-state"] });
 """
 # Turns the wheel by some notches, at a place in pixels from the picture's corner.
 WHEEL = """
-canvas.focus({ preventScroll: true });
 const { left, top } = canvas.getBoundingClientRect();
 canvas.dispatchEvent(new WheelEvent("wheel", {
   deltaY: -100 * arguments[0],
@@ -64,15 +61,12 @@ canvas.dispatchEvent(new WheelEvent("wheel", {
 # Parses a CSS colour.
 COLOUR = "const parse = (text) => (text.match(/[0-9.]+/g) ?? []).map(Number);"
 PIXELS = """
-const pen = document.getElementById("diagram").getContext("2d");
+const pen = $("diagram").getContext("2d");
 const { x, y, ratio } = pen.canvas.dataset;
 return arguments[0].map(([right, down]) => [...pen.getImageData(
   (right + Number(x)) * ratio, (down + Number(y)) * ratio, 1, 1).data].slice(0, 3));
 """
-ROWS = (
-    "return [...document.querySelectorAll('#shown .row')].map((row) => "
-    "[...row.children].map((cell) => cell.textContent))"
-)
+ROWS = "return $$('#shown .row').map((row) => [...row.children].map((cell) => cell.textContent))"
 # Timeout of `Page.until`, in seconds.
 PATIENCE = 1_800
 # Timeouts of driver commands and of scripts and page loads, in seconds.
@@ -147,7 +141,7 @@ class Page(contextlib.ExitStack):
         self.driver.set_page_load_timeout(SCRIPT)
         self.folder, self.path, self.program = str(folder), str(path), program
         self.command("Page.setDownloadBehavior", behavior="allow", downloadPath=self.folder)
-        self.add_script(WATCH + (CORES % cores if cores else ""))
+        self.add_script(HELPERS + (CORES % cores if cores else ""))
 
     def command(self, name: str, **words: Any) -> Any:
         return self.driver.execute_cdp_cmd(name, words)
@@ -187,10 +181,10 @@ class Page(contextlib.ExitStack):
 
     def get(self, name: str, field: str) -> Any:
         """Return a property of an element."""
-        return self.js("return document.getElementById(arguments[0])[arguments[1]]", name, field)
+        return self.js("return $(arguments[0])[arguments[1]]", name, field)
 
     def put(self, name: str, field: str, value: Any) -> None:
-        self.js("document.getElementById(arguments[0])[arguments[1]] = arguments[2]", name, field, value)
+        self.js("$(arguments[0])[arguments[1]] = arguments[2]", name, field, value)
 
     def text(self, name: str) -> str:
         return str(self.get(name, "textContent"))
@@ -199,7 +193,7 @@ class Page(contextlib.ExitStack):
         return str(self.js("return document.activeElement.id"))
 
     def click(self, name: str) -> None:
-        self.js("document.getElementById(arguments[0]).click()", name)
+        self.js("$(arguments[0]).click()", name)
 
     def press(self, name: str, *keys: str) -> None:
         """Press keys in an element, one after another."""
@@ -211,7 +205,7 @@ class Page(contextlib.ExitStack):
     def type(self, name: str, text: str, event: str = "input") -> None:
         """Set a field's text, with an event."""
         self.put(name, "value", text)
-        self.js(DISPATCH, name, event)
+        self.js("$(arguments[0]).dispatchEvent(new Event(arguments[1], { bubbles: true }))", name, event)
 
     def choose_option(self, name: str, value: str) -> None:
         """Choose an option of a menu by its value."""
@@ -219,13 +213,12 @@ class Page(contextlib.ExitStack):
 
     def choose_example(self, name: str) -> None:
         """Choose an example by its name, and wait for its results."""
-        script = "return [...arguments[0]].find((one) => one.text === arguments[1]).value"
-        options = self.get("examples", "options")
-        self.await_answer(lambda: self.choose_option("examples", self.js(script, options, name)))
+        script = "return [...$('examples').options].find((one) => one.text === arguments[0]).value"
+        self.await_answer(lambda: self.choose_option("examples", self.js(script, name)))
 
     def await_answer(self, act: Callable[[], object]) -> None:
         """Run an action that starts a list, and wait for its results."""
-        self.js("document.getElementById('results').dataset.state = 'requested'")
+        self.js("$('results').dataset.state = 'requested'")
         act()
         self.wait_until_done()
 
@@ -250,7 +243,7 @@ class Page(contextlib.ExitStack):
         self.until(lambda: "\u2026" not in self.text("facts"))
 
     def open_row(self, row: int) -> None:
-        self.js("document.querySelectorAll('#shown .row')[arguments[0]].click()", row)
+        self.js("$$('#shown .row')[arguments[0]].click()", row)
 
     def rows(self) -> list[list[str]]:
         return list(self.js(ROWS))
@@ -272,7 +265,7 @@ class Page(contextlib.ExitStack):
 
     def state(self) -> str:
         """Return the state of the run: requested, running, done, stopped or ended."""
-        return str(self.js("return document.getElementById('results').dataset.state"))
+        return str(self.js("return $('results').dataset.state"))
 
     def wait_until_done(self) -> None:
         """Wait until the run is over."""
@@ -280,7 +273,7 @@ class Page(contextlib.ExitStack):
 
     def wait_until_drawn(self, is_wanted: Callable[[View], bool] = bool) -> View:
         """Wait until the diagram is drawn, and some seconds for a wanted view; return the view's numbers."""
-        script = "return {...document.getElementById('diagram').dataset}"
+        script = "return {...$('diagram').dataset}"
 
         def view() -> View:
             drawn = self.until(lambda: (found := self.js(script)).get("state") == "drawn" and found)
@@ -294,22 +287,22 @@ class Page(contextlib.ExitStack):
         return float(self.wait_for_js(DRAWING % script, *words)) / 1_000
 
     def time_zoom(self, notches: float, right: float, down: float) -> float:
-        """Return the seconds from a turn of the wheel until the diagram is drawn again."""
-        return self.time_drawing(WHEEL, notches, right, down)
+        """Return the seconds from a turn of the wheel in the focused diagram until it is drawn again."""
+        return self.time_drawing("canvas.focus({ preventScroll: true });" + WHEEL, notches, right, down)
 
     def size(self) -> tuple[int, int]:
         return self.get("diagram", "clientWidth"), self.get("diagram", "clientHeight")
 
     def focus_on(self, name: str) -> None:
-        self.js("document.getElementById(arguments[0]).focus()", name)
+        self.js("$(arguments[0]).focus()", name)
 
     def scroll_to_diagram(self) -> None:
-        self.js("document.getElementById('diagram').scrollIntoView({ block: 'center' })")
+        self.js("$('diagram').scrollIntoView({ block: 'center' })")
 
     def go_to(self, step: str) -> None:
         """Go to a step by the tape's field."""
         self.put("tape-step", "value", step)
-        self.js("document.getElementById('tape-form').requestSubmit()")
+        self.js("$('tape-form').requestSubmit()")
 
     def colour(self, name: str) -> list[int]:
         script = "return getComputedStyle(document.documentElement).getPropertyValue(arguments[0])"
@@ -343,7 +336,7 @@ class Page(contextlib.ExitStack):
 
     def choose(self, path: str, drop: bool = False) -> None:
         """Choose or drop a file; the run starts at once."""
-        self.js("document.getElementById('results').dataset.state = 'requested'")
+        self.js("$('results').dataset.state = 'requested'")
         self.put("file", "value", "")
         if drop:
             self.js(HIDE_FILE)
@@ -393,14 +386,14 @@ class Page(contextlib.ExitStack):
         """Return the errors in the console."""
         return [entry["message"] for entry in self.driver.get_log("browser") if entry["level"] == "SEVERE"]
 
-    def quit(self) -> None:
-        """Quit the browser, ignoring errors."""
-        with contextlib.suppress(Exception):
-            self.driver.quit()
-
     def end(self) -> None:
         """Close the browser; kill its process group if it doesn't respond."""
-        ending = threading.Thread(target=self.quit, daemon=True)
+
+        def end_driver() -> None:
+            with contextlib.suppress(Exception):
+                self.driver.quit()
+
+        ending = threading.Thread(target=end_driver, daemon=True)
         ending.start()
         ending.join(ENDING)
         if ending.is_alive():

@@ -1,5 +1,4 @@
-"""Verdict lines, true and false, for the checks that hold two checkers against each other: what a list's
-verdicts become when something is changed, and claims of pairs and trees that are made here by plain runs."""
+"""Verdict lines, true and false, for checkers to answer alike: changed verdicts, and claims of plain runs."""
 
 import itertools
 import random
@@ -19,8 +18,7 @@ LONG = 1_023
 
 
 def pairs_of(text: str, steps: int) -> Iterator[str]:
-    """Claims of each pair of records of a side, and of each pair of steps at one position, whose states are
-    the same: the cells alone tell which hold."""
+    """Claims of all pairs of records of a side, and of steps at one position, with equal states."""
     run = list(simulate(text, steps))
     for side, out in (("R", 1), ("L", -1)):
         tops = [max(0, *(out * now.head for now in run[:n])) if n else 0 for n in range(len(run))]
@@ -34,8 +32,7 @@ def pairs_of(text: str, steps: int) -> Iterator[str]:
 
 
 def trees_of(text: str, levels: int, nodes: int) -> Iterator[str]:
-    """Claims of all trees up to so many levels and nodes: where the machine's tree ends within them, one has
-    its numbers, and holds unless the start is inside."""
+    """Claims of all trees up to so many levels and nodes; at most one of them holds."""
     for h in range(levels + 1):
         for k in range(h, nodes + 1):
             yield "%s backward %d %d" % (text, h, k)
@@ -62,8 +59,7 @@ def with_side(_: random.Random, fields: list[str]) -> list[str]:
 
 
 def with_pair(source: random.Random, fields: list[str]) -> list[str]:
-    """Another pair of the same machine: the next one, that of double the distance, one turned round, or one
-    without its extent."""
+    """Another pair of the machine: a later or longer one, one turned round, or one without its extent."""
     at = {"cycler": 2, "translated": 3}.get(fields[1], 0)
     if not at:
         return fields
@@ -126,8 +122,7 @@ def refusals(numbers: Iterable[int]) -> Iterator[str]:
 
 
 def tight_limits(line: str) -> Iterator[tuple[Sequence[int], str]]:
-    """A line of a run, with limits that are just enough and just not: of steps, and of cells with and without
-    one more, to which a step into Z may lead."""
+    """A line of a run, with limits of steps and cells that are just enough, and just not."""
     fields = line.split(" ")
     at = {"halt": 2, "cycler": 3, "translated": 4}.get(fields[1])
     if at is None:

@@ -16,8 +16,7 @@ from .runs import Process, wait_until
 
 
 class Cluster:
-    """A scheduler and workers, all of them processes; what is started is ended by its id.
-    `more` are words that each of them gets."""
+    """A scheduler and workers as processes, each with the words `more`, and ended by its id."""
 
     def __init__(self, top: pathlib.Path, more: list[str]) -> None:
         self.top, self.more = top, more

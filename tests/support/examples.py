@@ -1,7 +1,7 @@
-"""The folders of `examples/` that hold one command each.
+"""The folders of `examples/` with one command each.
 
-`command` has the program's words, `lines.txt` its standard input (none: it is empty), `expected.txt` what it
-writes, and `status` the status that it ends with (none: 0). Words that name files are read from the top.
+`command` has the program's words, `lines.txt` its standard input, if any, `expected.txt` its output, and
+`status` its exit status, if not 0. Files are named from the top.
 """
 
 import dataclasses

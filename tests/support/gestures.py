@@ -9,7 +9,7 @@ Point = tuple[float, float]
 MOVES = 12
 # The canvas's corner in the window, inside its border.
 BOX = """
-const canvas = document.getElementById("diagram");
+const canvas = $("diagram");
 const { x, y } = canvas.getBoundingClientRect();
 return [x + canvas.clientLeft, y + canvas.clientTop];
 """

@@ -57,8 +57,7 @@ def machine(source: random.Random, states: int, symbols: int) -> str:
 
 
 def mixed_machines(count: int, seed: int) -> Iterator[str]:
-    """So many random machines: of each ten, seven of 1 to 7 states and 2 symbols, two of up to 4 states and
-    10 symbols, and one of up to 25 states and 10 symbols."""
+    """So many random machines: most of them of 1 to 7 states and 2 symbols, some of up to 25 and 10."""
     source = random.Random(seed)
     for k in range(count):
         if k % 10 < 7:

@@ -19,9 +19,9 @@ PAUSE = 0.3
 # The wheel's place in the picture: from the left edge, and the least distance from the lower edge.
 RIGHT, LOWEST = 220, 10
 GO = """
-document.getElementById("tape-step").value = arguments[0];
+$("tape-step").value = arguments[0];
 canvas.dataset.state = "requested";
-document.getElementById("tape-form").requestSubmit();
+$("tape-form").requestSubmit();
 """
 
 

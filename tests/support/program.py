@@ -15,6 +15,8 @@ import sys
 import threading
 from typing import IO, Any, Callable, Iterable, Iterator, Mapping, NamedTuple, Sequence, TypeVar
 
+from . import TOP
+
 Limits = TypeVar("Limits")
 LIMITS = ("steps", "cells", "depth", "nodes")
 SWITCHES = ("cyclers", "translated", "backward")
@@ -103,8 +105,9 @@ def place_programs(folder: pathlib.Path, *paths: str) -> pathlib.Path:
     return folder
 
 
-def on_terminal(command: Sequence[str], given: bytes, output: int | IO[bytes]) -> tuple[int, str]:
-    """The status of a command whose standard error is a terminal, and what that shows."""
+@contextlib.contextmanager
+def open_terminal() -> Iterator[tuple[int, list[bytes]]]:
+    """Open a terminal; the pieces that it shows come meanwhile, and are whole after the block."""
     reader, terminal = pty.openpty()
     shown: list[bytes] = []
 
@@ -115,10 +118,18 @@ def on_terminal(command: Sequence[str], given: bytes, output: int | IO[bytes]) -
 
     listening = threading.Thread(target=collect)
     listening.start()
-    ended = subprocess.run(command, input=given, stdout=output, stderr=terminal)
-    os.close(terminal)
-    listening.join()
-    os.close(reader)
+    try:
+        yield terminal, shown
+    finally:
+        os.close(terminal)
+        listening.join()
+        os.close(reader)
+
+
+def on_terminal(command: Sequence[str], given: bytes, output: int | IO[bytes]) -> tuple[int, str]:
+    """The status of a command whose standard error is a terminal, and what that shows."""
+    with open_terminal() as (terminal, shown):
+        ended = subprocess.run(command, input=given, stdout=output, stderr=terminal)
     return ended.returncode, b"".join(shown).decode().replace("\r\n", "\n")
 
 
@@ -128,8 +139,7 @@ def as_lines(lines: Iterable[str]) -> bytes:
 
 
 def replies(command: Sequence[str], lines: Iterable[str]) -> list[str]:
-    """The lines that a command of the program answers to these. It must end with status 0, or with 1 as where
-    an answer isn't clean, and say nothing on standard error."""
+    """The program's replies to these lines; it must end with status 0 or 1, without an error message."""
     status, output, error = run_command(command, as_lines(lines))
     assert status in (0, 1) and not error, "%s: status %d, %r" % (" ".join(command[1:]), status, error)
     return output.decode().splitlines()
@@ -155,6 +165,13 @@ def decide_machines(program: str, machines: Sequence[str], *words: str) -> list[
     return verdicts
 
 
+def build_peer(folder: pathlib.Path, name: str, *words: str) -> str:
+    """Build a plain Rust program of the benchmarks, and return its path. It takes rustc 1.65 or later."""
+    source, built = TOP / "benchmarks" / name / "main.rs", str(folder / name)
+    subprocess.run(["rustc", "-O", "-C", "codegen-units=1", *words, "-o", built, str(source)], check=True)
+    return built
+
+
 def kind_of(line: str) -> str:
     """The kind of a verdict line, or `refused`."""
     fields = line.split(" ")
@@ -178,9 +195,7 @@ def least_time(command: Sequence[str], given: bytes) -> float:
 
 
 def begins_modulo_64(built: str) -> list[int]:
-    """Where the function of the watched run begins in a program or library, modulo 64. On a processor that is
-    slow at branches that cross a multiple of 32 bytes, that makes a tenth of the time of short runs. It takes
-    `nm`; FileNotFoundError where there is none."""
+    """Where the single-pass run begins modulo 64, by `nm`: it may make a tenth of the time of short runs."""
     symbols = run_command(["nm", built]).output.decode("utf-8", "replace").splitlines()
     begins = [symbol.split()[0] for symbol in symbols if "single_pass::continue_single_pass::" in symbol]
     return [int(begin, 16) % 64 for begin in begins]

@@ -1,5 +1,4 @@
-"""What the tests of the runner share: a list of each kind of line, a run over it, and executors that answer
-wrongly or late."""
+"""A list of each kind of line, runs over it, and executors that answer wrongly or late."""
 
 from __future__ import annotations
 

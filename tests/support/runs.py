@@ -171,8 +171,7 @@ def require_interrupted(case: Case, process: Process) -> None:
 
 
 def kill_often(case: Case, count: int, chance: random.Random, *words: str) -> int:
-    """Kills runs at random moments, each of which goes on after the one before; how many were killed before
-    their end. After one that came to its end it begins anew."""
+    """Kill runs at random moments, each resumed by the next; return how many were killed before their end."""
     kills, whole = 0, 0
     while kills < count and whole < count + 5:
         if kill_after(case, chance.randint(0, 4), "--piece", str(chance.randint(50, 150)), *words):
@@ -184,8 +183,8 @@ def kill_often(case: Case, count: int, chance: random.Random, *words: str) -> in
 
 
 def most_memory(case: Case, count: int, limits: Sequence[int]) -> int:
-    """The most memory that a run over so many lines takes, in KiB; 0 where it failed. The list isn't held
-    here, since a process begins with the memory of the one that it was forked from."""
+    """The most memory that a run over so many lines takes, in KiB; 0 where it failed."""
+    # A process begins with the memory of the one that it was forked from, so the list isn't held here.
     with open(case.list, "wb") as file:
         for _ in range(count // 1_000):
             file.write(as_lines([CHAMPION]) * 1_000)
@@ -207,8 +206,7 @@ def is_at_work(pid: int) -> bool:
 
 
 def interrupt(where: str) -> tuple[int, bytes, float]:
-    """How a process ends that is interrupted in a list, in one long machine or in a trace: its status, what
-    it said, and after how many seconds."""
+    """Interrupt a process in a list, a long machine or a trace; return its status, message and delay."""
     command = [sys.executable, "-c", WAITS, where, LONG_MACHINE.decode().strip()]
     pipe = subprocess.PIPE
     with subprocess.Popen(command, preexec_fn=restore_signals, stdout=pipe, stderr=pipe) as process:

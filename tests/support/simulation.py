@@ -23,10 +23,7 @@ class Configuration(NamedTuple):
 def simulate(
     text: str, steps: int, state: int | None = 0, tape: dict[int, int] | None = None
 ) -> Iterator[Configuration]:
-    """Yield a machine's configurations at step 0, 1, .., `steps`, or until it halts.
-
-    All of them share the tape, which changes with each step; it is written in place where one is given.
-    """
+    """Yield the configurations of steps 0 to `steps`, or until a halt; all share one tape."""
     table, cells = table_of(text), {} if tape is None else tape
     head = low = high = 0
     for _ in range(steps + 1):
@@ -52,10 +49,7 @@ def decide_confirmed(bb: str, machines: Words, limits: Words, plan: Words = ()) 
 
 
 def compare_lines(name: str, found: Words, expected: Words, given: Words = ()) -> None:
-    """Require two lists to be the same, and print how many lines were compared.
-
-    A failure names the first lines that differ, each with the line of `given` that it is the reply to.
-    """
+    """Require equal lists, and print their length; a failure names lines of `given` whose replies differ."""
     assert len(found) == len(expected), "%s: %d lines, not %d" % (name, len(found), len(expected))
     wrong = [k for k, pair in enumerate(zip(found, expected)) if pair[0] != pair[1]]
     shown = ["%s%r, not %r" % (given and given[k] + ": ", found[k], expected[k]) for k in wrong[:10]]

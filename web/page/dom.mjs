@@ -98,6 +98,17 @@ export function announce(/** @type {string} */ text) {
 export const colourOf = (/** @type {string} */ name) =>
   getComputedStyle(document.documentElement).getPropertyValue(name).trim();
 
+/** A table in which each row begins with its heading. */
+export function createTable(/** @type {Node[]} */ head, /** @type {[string, ...Node[]][]} */ rows) {
+  const rowOf = (/** @type {[string, ...Node[]]} */ [name, ...cells]) =>
+    create("tr", {}, create("th", { scope: "row" }, name), ...cells);
+  return create("table", {}, create("tr", {}, ...head), ...rows.map(rowOf));
+}
+
+/** The terms and descriptions of facts; an id begins with the prefix. */
+export const createFacts = (/** @type {string} */ prefix, /** @type {[string, string, Node | string][]} */ facts) =>
+  facts.flatMap(([id, name, words]) => [create("dt", {}, name), create("dd", { id: prefix + id }, words)]);
+
 /** The channels of the ten symbols' colours, of unvisited cells and of the head. */
 export function readPalette() {
   const symbols = Array.from({ length: 10 }, (_, symbol) => `--s${symbol}`);

@@ -8,7 +8,7 @@ const PATIENCE_MILLISECONDS = 400;
 
 const embeddedText = (/** @type {string} */ id) => byId(id).textContent ?? "";
 
-/** @typedef {{name: string, call: string, plan: Record<string, any>, lines: string}} Example */
+/** @typedef {{name: string, call: string, plan: Plan, lines: string}} Example */
 export const examples = /** @type {Example[]} */ (JSON.parse(embeddedText("examples-data")));
 const workerUrl = URL.createObjectURL(new Blob([embeddedText("worker")], { type: "text/javascript" }));
 /** @type {Promise<WebAssembly.Module | null>} the compiled module; null if unsupported */
@@ -36,10 +36,7 @@ export function releaseWorker(/** @type {Worker} */ worker) {
   idleWorkers.push(worker);
 }
 
-/**
- * Starts up to `most` idle workers, one at a time, until a list comes. Each answers the examples for a
- * moment, so that the browser optimizes its hot code.
- */
+/** Starts up to `most` idle workers, one at a time, until a list comes, and warms up their code. */
 export function prestartWorkers(/** @type {number} */ most, /** @type {() => boolean} */ isBusy) {
   setTimeout(() => {
     idleWorkers.forEach(warmUp);
@@ -62,10 +59,7 @@ function warmUp(/** @type {Worker} */ worker) {
 /** An error as workers report it. */
 export const errorFields = (/** @type {Error} */ { name, message }) => ({ error: name, message });
 
-/**
- * A worker for one request at a time, such as pictures. A new request waits a moment for the current one,
- * then interrupts it. It replaces a waiting one.
- */
+/** A worker for one request at a time. The next one waits a moment for it, and replaces a waiting one. */
 export class WorkerClient {
   constructor(patience = PATIENCE_MILLISECONDS) {
     this.patience = patience;

@@ -1,14 +1,6 @@
 /**
  * Reads a line of a list: its machine and the text around it, or a refusal. A machine is accepted only if one
  * reading is possible, and every rewriting is reported. The Python package's reader has the same tests.
- *
- * @typedef {import("./machine-parser.mjs").ParsedMachine} ParsedMachine
- * @typedef {import("./machine-parser.mjs").Reason} Reason
- * @typedef {[tokens.Text, ParsedMachine | Reason]} Read a text of the line and its reading
- * @typedef {ParsedMachine & {kind: "machine", before: string, behind: string}} Machine
- * @typedef {Reason & {kind: "refusal"}} Refusal
- * @typedef {Machine | Refusal | {kind: "nothing"}} Reading
- * @typedef {import("./list-reader.mjs").Form} Form
  */
 import { REWRITINGS, isMachine, parseArrays, parseEntries, parseWords, reasonOf } from "./machine-parser.mjs";
 import { isCommentWithMachine, isSkipped } from "./skipped-lines.mjs";
@@ -85,7 +77,7 @@ export function readLine(given, form = "text") {
 const refuse = (/** @type {string} */ kind, /** @type {string} */ reason, /** @type {number} */ place) =>
   ({ kind: "refusal", ...reasonOf(kind, reason, place) });
 
-/** @returns {Machine} of a line that begins with the machine, and a space if more follows */
+/** @returns {MachineReading} of a line that begins with the machine, and a space if more follows */
 function readMachineFirst(/** @type {string} */ bare) {
   const [machine] = bare.split(" ", 1);
   return { kind: "machine", machine, rewritten: [], before: "", behind: bare.slice(machine.length + 1) };
@@ -164,7 +156,7 @@ function readTexts(/** @type {string} */ line) {
 }
 
 /** Explains that a text is the line of one state, if the state's letter precedes it. */
-function findStateLine(/** @type {string} */ line, /** @type {tokens.Text} */ text) {
+function findStateLine(/** @type {string} */ line, /** @type {EntryText} */ text) {
   const group = tokens.joinWords(text);
   const isOther = group.includes("_") || text.arrays.length > 0 || text.isAddress;
   const found = isOther ? null : STATE.exec(line.slice(0, text.begin));
@@ -175,7 +167,7 @@ function findStateLine(/** @type {string} */ line, /** @type {tokens.Text} */ te
 }
 
 /** Explains a line without entries. */
-function explainNoText(/** @type {string} */ line, /** @type {tokens.Word[]} */ rows) {
+function explainNoText(/** @type {string} */ line, /** @type {Word[]} */ rows) {
   const rule = rows.find(({ text }) => text.length >= 6 || text === line.trim());
   if (rule !== undefined) {
     const what = rule.text.includes("-") ? "dashes" : "dots";
@@ -191,7 +183,7 @@ function explainNoText(/** @type {string} */ line, /** @type {tokens.Word[]} */ 
 }
 
 /** @returns {Read[] | Reason} the text's reading, or those of its words if each is a machine */
-function readText(/** @type {tokens.Text} */ text) {
+function readText(/** @type {EntryText} */ text) {
   if (!text.isLast) return reasonOf("none", NO_MACHINE, text.words[0].begin + 1);
   if (text.arrays.length > 0) return [[text, parseArrays(text.arrays)]];
   if (text.words.length === 1) {
@@ -212,7 +204,7 @@ function readText(/** @type {tokens.Text} */ text) {
 }
 
 /** Explains a word that is a machine both with and without the dots at an end. */
-function findAmbiguousDots(/** @type {tokens.Word} */ { begin, text }) {
+function findAmbiguousDots(/** @type {Word} */ { begin, text }) {
   const isFound = (/** @type {string} */ part) =>
     part !== "" && "machine" in parseWords([{ begin, text: part }]);
   const [head, tail] = [text.slice(0, -3), text.slice(3)];
@@ -236,7 +228,7 @@ function selectMachine(/** @type {Read[]} */ found) {
     return /** @type {Reason} */ (longest[1]);
   }
   const isSetApart = read.every(([text]) => tokens.joinWords(text).includes("_"));
-  const isIgnored = (/** @type {tokens.Text} */ text) => isSetApart && tokens.isLoneEntry(text);
+  const isIgnored = (/** @type {EntryText} */ text) => isSetApart && tokens.isLoneEntry(text);
   const others = found.filter(([text, outcome]) => !("machine" in outcome) && !isIgnored(text));
   const { machine } = /** @type {ParsedMachine} */ (read[0][1]);
   const name = tokens.abbreviate(machine);

@@ -1,12 +1,4 @@
-/**
- * Prepares a list for the engine: finds its form, and the machine on each line.
- *
- * @typedef {"machines" | "verdicts" | "table" | "text"} Form one bare machine a line; verdict lines; a table
- *   with a column of machines; any text with one machine a line
- * @typedef {{bytes: Uint8Array, numbers: Uint32Array | null, places: Uint32Array | null, skipped: number}}
- *   PreparedList the engine's input; the number of each of its lines in the original list, from 0, and the
- *   offset there, or null if all lines are unchanged; and the number of skipped lines
- */
+/** Prepares a list for the engine: finds its form, and the machine on each line. */
 import { OF_MACHINES, isVerdictLine, readLine } from "./line-reader.mjs";
 import { isMachine } from "./machine-parser.mjs";
 import { isSkipped, isTableHeader } from "./skipped-lines.mjs";

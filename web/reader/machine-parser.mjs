@@ -1,12 +1,4 @@
-/**
- * Parses a text of entries as a machine, or explains why it is none.
- *
- * @typedef {import("./tokens.mjs").Word} Word
- * @typedef {{machine: string, rewritten: string[]}} ParsedMachine in the engine's format, and the rewritings
- * @typedef {{refusal: string, reason: string, place: number}} Reason its kind, a sentence, and the column,
- *   from 1
- * @typedef {[number, string][]} Group entries with their offsets in the line
- */
+/** Parses a text of entries as a machine, or explains why it is none. */
 import { codePointName, findAll, findHidden } from "./tokens.mjs";
 
 const STATES = "ABCDEFGHIJKLMNOPQRSTUVWXY";

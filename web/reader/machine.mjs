@@ -1,14 +1,4 @@
-/**
- * Machines and verdict lines as the engine writes them, and verdicts in words.
- *
- * @typedef {{write: number, move: 1 | -1, next: number}} Entry `next` is -1 for Z
- * @typedef {{state: number, symbol: number, entry: Entry | null}} Rule `entry` is null if undefined
- * @typedef {{states: number, symbols: number, rules: Rule[]}} Machine
- * @typedef {{kind: Kind, numbers: number[], side: string, text: string}} Verdict
- * @typedef {{machine: string, start: number, period: number, shift: number, quasihalts: number | null,
- *   uses: string[], entries: string[]}} Recurrence `uses` of states and `entries`: a step, `*` for ever, `-` never
- * @typedef {"halt" | "cycler" | "translated" | "backward" | "undecided" | "refused"} Kind
- */
+/** Machines and verdict lines as the engine writes them, and verdicts in words. */
 
 /** The kinds of verdict lines, in display order. @type {readonly Kind[]} */
 export const KINDS = ["halt", "cycler", "translated", "backward", "undecided", "refused"];

@@ -1,13 +1,4 @@
-/**
- * Splits a line into candidates for machines: words of entries, rows of dashes or dots, addresses. Also the
- * limits on line lengths, and names of invisible characters.
- *
- * @typedef {{begin: number, text: string}} Word with its offset in the line
- * @typedef {{words: Word[], begin: number, end: number, isAddress: boolean, isLast: boolean,
- *   arrays: Word[][]}} Text words with only spaces between them. `begin` and `end` enclose the whole address;
- *   `isLast` marks its last part. `arrays` has the entries of each group written as an array.
- * @typedef {{texts: Text[], rows: Word[]}} Tokens
- */
+/** Splits a line into words of entries, rows of dashes or dots, and addresses. Also limits on lengths. */
 
 /** Longer lines go to the engine unread, and are refused. The longest machine has 774 characters. */
 export const LONGEST_LINE = 16_384;
@@ -42,21 +33,21 @@ const SPACES = /^[ \u00a0]*$/;
 
 export const endOf = (/** @type {Word} */ { begin, text }) => begin + text.length;
 
-export const joinWords = (/** @type {Text} */ { words }) => words.map(({ text }) => text).join(" ");
+export const joinWords = (/** @type {EntryText} */ { words }) => words.map(({ text }) => text).join(" ");
 
-export const isLoneEntry = (/** @type {Text} */ { words }) =>
+export const isLoneEntry = (/** @type {EntryText} */ { words }) =>
   words.length === 1 && words[0].text.length === 3;
 
-/** @returns {Text} */
+/** @returns {EntryText} */
 export function textOf(/** @type {Word[]} */ words) {
   const end = endOf(words[words.length - 1]);
   return { words, begin: words[0].begin, end, isAddress: false, isLast: true, arrays: [] };
 }
 
-export const hasOnlyEntries = (/** @type {Text} */ { words }) =>
+export const hasOnlyEntries = (/** @type {EntryText} */ { words }) =>
   words.length > 1 && words.every(({ text }) => text.length === 3);
 
-/** @returns {Tokens} */
+/** @returns {{texts: EntryText[], rows: Word[]}} */
 export function tokenize(/** @type {string} */ given) {
   const texts = findArrays(given);
   const line = texts.reduce(
@@ -86,7 +77,7 @@ export function tokenize(/** @type {string} */ given) {
 export const findAll = (/** @type {Word} */ { begin, text }, /** @type {RegExp} */ pattern) =>
   Array.from(text.matchAll(pattern), ({ index = 0, 0: found }) => ({ begin: begin + index, text: found }));
 
-/** @returns {Text[]} machines written as arrays of entries */
+/** @returns {EntryText[]} machines written as arrays of entries */
 function findArrays(/** @type {string} */ line) {
   const found = line.includes("[") ? findAll({ begin: 0, text: line }, ARRAYS) : [];
   return found.map((word) => {
@@ -112,7 +103,7 @@ function trimPunctuation(/** @type {Word} */ word) {
   return { begin, text: isStopped ? text.slice(0, -1) : text };
 }
 
-/** @returns {Text[]} */
+/** @returns {EntryText[]} */
 function findAddressTexts(/** @type {Word} */ address) {
   const last = address.begin + address.text.replace(/\/+$/, "").lastIndexOf("/") + 1;
   return findAll(address, PART).flatMap((found) => {
@@ -154,7 +145,7 @@ function adjacentRuns(/** @type {string} */ line, /** @type {Word[]} */ words) {
 
 /**
  * The row next to a text, as long as its word, which may be a group of the machine.
- * @param {string} line @param {Text} text @param {Word[]} rows
+ * @param {string} line @param {EntryText} text @param {Word[]} rows
  */
 export function findAdjacentRow(line, text, rows) {
   const before = line.slice(0, text.begin).replace(/[ \u00a0]+$/, "").length;

@@ -1,7 +1,6 @@
 /**
- * Reads by the page's reader, for `test_page_lists.py`. A line of standard input is JSON: `[line, form]`, of
- * which the reading comes back; a list of `lines`, of which the form comes back; or `bytes` in hexadecimal
- * digits, of which the encoding does. The sentences of the reader come first.
+ * Reads by the page's reader, for `test_page_lists.py`. A line of JSON is `[line, form]`, a list of `lines`, or
+ * `bytes` in hexadecimal digits; the reply is its reading, form or encoding. The reader's sentences come first.
  */
 import { createInterface } from "node:readline";
 import { encodingOf } from "../page/input/files.mjs";

@@ -23,7 +23,7 @@ MOST_BYTES = 272_384
 UNDECIDED = """
 const taken = [0, 0, 0].map(() => {
   const begun = performance.now();
-  document.getElementById("open-next").click();
+  $("open-next").click();
   return performance.now() - begun;
 });
 return Math.max(...taken);
@@ -39,7 +39,7 @@ def test_first_verdict_and_first_list(tab: Page) -> None:
     assert "halts after 6 steps" in tab.text("machine-says")
     tab.wait_until_drawn()
     tab.until(lambda: "The row above shows it." in tab.text("behind"))
-    png = tab.js("return document.getElementById('diagram').toDataURL('image/png')").split(",")[1]
+    png = tab.js("return $('diagram').toDataURL('image/png')").split(",")[1]
     assert base64.b64decode(png).startswith(b"\x89PNG")
     assert tab.js("return performance.getEntriesByName('first verdict').length") == 1
     assert tab.rows()[-1] == ["3", "1rB1LB", "refused 2", "\u2013"]

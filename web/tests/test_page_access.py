@@ -31,7 +31,7 @@ const ground = (element) => {
   return layers.reverse().reduce((below, layer) => (layer.length ? over(layer, below) : below), white);
 };
 const seen = (element) => element.checkVisibility() && element.getClientRects().length > 0;
-const all = [...document.querySelectorAll("body *")].filter(seen);
+const all = $$("body *").filter(seen);
 const hasText = (node) => node.nodeType === 3 && node.data.trim();
 const texts = all.filter((one) => [...one.childNodes].some(hasText));
 const used = "button:not(:disabled), input[type=text], select, textarea";
@@ -47,16 +47,10 @@ return [
 NAMED = "button textbox combobox checkbox link grid img image listbox progressbar group region application"
 # References to missing or repeated ids.
 REFERENCES = """
-const found = [];
-for (const name of ["aria-describedby", "aria-labelledby", "aria-activedescendant", "aria-controls", "for"]) {
-  for (const one of document.querySelectorAll("[" + name + "]")) {
-    for (const id of one.getAttribute(name).split(" ")) {
-      document.getElementById(id) ?? found.push(name + " " + id);
-    }
-  }
-}
-const ids = [...document.querySelectorAll("[id]")].map((one) => one.id);
-return [...found, ...ids.filter((id, k) => ids.indexOf(id) !== k)];
+const names = ["aria-describedby", "aria-labelledby", "aria-activedescendant", "aria-controls", "for"];
+const used = (name) => $$("[" + name + "]").flatMap((one) => one.getAttribute(name).split(" "));
+const ids = $$("[id]").map((one) => one.id);
+return [...names.flatMap(used).filter((id) => !$(id)), ...ids.filter((id, k) => ids.indexOf(id) !== k)];
 """
 SEND = """
 const done = arguments[arguments.length - 1];
@@ -88,21 +82,18 @@ worker.onerror = () => done("error");
 """
 LIVE = """
 window.live = [];
-new MutationObserver(() => window.live.push([performance.now(), document.getElementById("live").textContent]))
-  .observe(document.getElementById("live"), { childList: true, characterData: true, subtree: true });
+new MutationObserver(() => window.live.push([performance.now(), $("live").textContent]))
+  .observe($("live"), { childList: true, characterData: true, subtree: true });
 """
 CLIPPED = """
-return [...document.querySelectorAll("#shown .row > *")].filter((cell) => cell.scrollWidth > cell.clientWidth + 1)
+return $$("#shown .row > *").filter((cell) => cell.scrollWidth > cell.clientWidth + 1)
   .map((cell) => cell.textContent);
 """
-TOPS = """
-return [...document.querySelectorAll("#shown .row")[1].children]
-  .map((one) => Math.round(one.getBoundingClientRect().top));
-"""
+TOPS = "return [...$$('#shown .row')[1].children].map((one) => Math.round(one.getBoundingClientRect().top))"
 DIGITS = """
 const pen = document.createElement("canvas").getContext("2d");
 pen.font = "11px system-ui, sans-serif";
-return document.getElementById("diagram").dataset.x - 9 - pen.measureText(arguments[0]).width;
+return $("diagram").dataset.x - 9 - pen.measureText(arguments[0]).width;
 """
 WIDTH = "return document.documentElement.scrollWidth"
 
@@ -198,7 +189,7 @@ def test_live_text(tab: Page) -> None:
     time.sleep(1.2)
     times = [at for at, _ in tab.js("return window.live")]
     assert min(after - before for before, after in zip(times, times[1:])) >= 990
-    roles = tab.js("return [...document.querySelectorAll('[role=status], [aria-live]')].map((one) => one.id)")
+    roles = tab.js("return $$('[role=status], [aria-live]').map((one) => one.id)")
     assert roles == ["live"]
 
 

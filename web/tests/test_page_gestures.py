@@ -11,7 +11,7 @@ STEPS = 10_000
 NEAR = 6_000
 # The events of a drag by the right button.
 OTHER_BUTTON = """
-const canvas = document.getElementById("diagram");
+const canvas = $("diagram");
 canvas.setPointerCapture = () => {};
 const { left, top } = canvas.getBoundingClientRect();
 for (const [kind, far] of [["down", 0], ["move", 40], ["move", 80], ["up", 80]]) {

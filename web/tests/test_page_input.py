@@ -10,7 +10,7 @@ from support.gestures import type_text
 from support.machines import CHAMPION, CHAMPION_OF_FOUR
 
 SELECTED = """
-const { selectionStart: first, selectionEnd: end, value } = document.getElementById("list");
+const { selectionStart: first, selectionEnd: end, value } = $("list");
 return end - first === value.length ? "all" : end - first;
 """
 DROP_TEXT = """
@@ -67,7 +67,7 @@ def test_clear_empties_the_list(tab: Page) -> None:
 
 def test_words_fold_out(tab: Page) -> None:
     """The explanation of kinds and answers opens by keyboard."""
-    words = "return [...document.querySelectorAll('#words dt')].map((one) => one.textContent.split(' ')[0])"
+    words = "return $$('#words dt').map((one) => one.textContent.split(' ')[0])"
     kinds = ["halt", "cycler", "translated", "backward", "undecided", "refused"]
     assert tab.js(words) == kinds + ["ok", "open", "bad", "over", "unread"]
     is_shown = "return document.querySelector('#results #words dl').checkVisibility()"
@@ -162,9 +162,9 @@ def test_changed_file_is_named(tab: Page) -> None:
     path.write_bytes(b"1RB1LB_1LA1RZ\n1RA1RA\n")
     tab.run()
     assert soon(lambda: "can\u2019t be read" in tab.text("error"))
-    tab.js("document.getElementById('file').click = () => {}")
+    tab.js("$('file').click = () => {}")
     tab.click("file-choose")
-    assert tab.js("return document.getElementById('file').files.length") == 0
+    assert tab.js("return $('file').files.length") == 0
     tab.choose(str(path))
     assert soon(lambda: tab.text("machine-text") == "1RB1LB_1LA1RZ")
 

@@ -62,7 +62,7 @@ def test_page_by_keys(tab: Page) -> None:
     """A machine is typed and decided, and every control is reached in both directions."""
     tab.js("document.activeElement.blur(); scrollTo(0, 0)")
     walk(tab, BEFORE[:3])
-    tab.js("document.getElementById('list').select()")
+    tab.js("$('list').select()")
     type_text(tab, MACHINE)
     walk(tab, BEFORE[3:4])
     tab.await_answer(lambda: press_key(tab, Keys.ENTER))

@@ -10,14 +10,13 @@ STEPS = 50_000_000
 # Opens the next line, and returns soon after what diagram and tape show; the champion's trace takes longer.
 NEXT = """
 const done = arguments[arguments.length - 1];
-const part = (name) => document.getElementById(name);
-part("rows").dispatchEvent(new KeyboardEvent("keydown", { key: "n", bubbles: true }));
-const play = part("tape-play").textContent;
+$("rows").dispatchEvent(new KeyboardEvent("keydown", { key: "n", bubbles: true }));
+const play = $("tape-play").textContent;
 setTimeout(() => {
-  const canvas = part("diagram");
+  const canvas = $("diagram");
   const data = canvas.getContext("2d").getImageData(0, 0, canvas.width, canvas.height).data;
-  const text = part("machine-text").textContent;
-  done([play, text, canvas.dataset.state, data.some(Boolean), part("tape-cells").children.length]);
+  const text = $("machine-text").textContent;
+  done([play, text, canvas.dataset.state, data.some(Boolean), $("tape-cells").children.length]);
 }, 180);
 """
 WORKERS = """

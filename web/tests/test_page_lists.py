@@ -222,7 +222,7 @@ def test_each_line_is_counted_once(tab: Page) -> None:
     """As decided, undecided, refused or skipped; the kinds have the same counts."""
     tab.open_list("1RB1LB_1LA1RZ", "1RA1RA", "no", "# c", "", CHAMPION, plan={"steps": 100})
     assert "2 decided, 1 undecided, 1 refused, 2 skipped" in tab.text("status")
-    script = "return [...document.querySelectorAll('#kinds button')].map((one) => one.textContent)"
+    script = "return $$('#kinds button').map((one) => one.textContent)"
     kinds = {text.split()[0]: int(text.split()[1]) for text in tab.js(script)}
     assert (sum(kinds.values()), kinds["refused"]) == (4, 1)
 

@@ -109,7 +109,7 @@ def test_keys_and_buttons_open_other_rows(tab: Page) -> None:
 def test_late_answers_are_dropped(tab: Page) -> None:
     """Late replies for a line aren't shown with the next one."""
     tab.open_list("1RA1RA", HALT, CHAMPION, plan={"steps": 100})
-    tab.js("for (let k = 0; k < 2; k += 1) document.getElementById('row-next').click()")
+    tab.js("for (let k = 0; k < 2; k += 1) $('row-next').click()")
     tab.until(lambda: tab.wait_until_drawn() and "\u2026" not in tab.text("facts"))
     time.sleep(0.5)
     assert "Steps 0 to 100" in tab.text("diagram-text")

@@ -6,7 +6,7 @@ import re
 import time
 
 import pytest
-from support.browser import HEAD, Page, soon
+from support.browser import HEAD, WHEEL, Page, soon
 from support.gestures import Keys, cell_at, place_of, send_mouse, window_point
 from support.machines import CHAMPION, CHAMPION_OF_FOUR, LATE, TREE, seldom_halting
 from support.node import Engine
@@ -18,23 +18,18 @@ TRANSLATED = "1LB0LA_1RA---"
 FOUR_SYMBOLS = "1RB2LA1RA1RA_1LB1LA3RB1RZ"
 # Limits under which 1RA1RA is undecided and exceeds the cells.
 FEW_CELLS = "&steps=1000&cells=8&depth=2&cyclers=off&translated=off&backward=off"
-TURN = """
-const canvas = document.getElementById("diagram");
-const box = canvas.getBoundingClientRect();
-canvas.dispatchEvent(new WheelEvent("wheel",
-  { deltaY: -200, clientX: box.x + 300, clientY: box.y + 200, bubbles: true, cancelable: true }));
-"""
+TURN = "const canvas = $('diagram');" + WHEEL
 GO_AND_PLAY = """
-const part = (name) => document.getElementById("tape-" + name);
+const part = (name) => $("tape-" + name);
 part("form").requestSubmit();
 part("play").click();
 return [part("text").textContent, part("play").textContent];
 """
 CELLS = """
-return [...document.querySelectorAll("#tape-cells .cell")].filter((one) => !one.querySelector(".blank"))
+return $$("#tape-cells .cell").filter((one) => !one.querySelector(".blank"))
   .map((one) => [Number(one.dataset.at), one.querySelector(".symbol").textContent]);
 """
-LEVELS = "return [...document.querySelectorAll('.level')].map((one) => Number(one.dataset.count))"
+LEVELS = "return $$('.level').map((one) => Number(one.dataset.count))"
 
 
 def row_requests(source: random.Random) -> list[dict[str, int]]:
@@ -197,11 +192,11 @@ def test_views_are_drawn_soon(tab: Page) -> None:
 def test_wheel_zooms_at_the_pointer(tab: Page) -> None:
     """If the picture has the focus: the step under the pointer stays."""
     before = tab.open_machine(CHAMPION, "&steps=10000000")
-    cell = cell_at(before, (300, 200))
-    tab.js(TURN)
+    cell, turn = cell_at(before, (300, 200)), (2, 300 - before["x"], 200 - before["y"])
+    tab.js(TURN, *turn)
     assert tab.wait_until_drawn() == before
     tab.focus_on("diagram")
-    tab.js(TURN)
+    tab.js(TURN, *turn)
     after = tab.wait_until_drawn(lambda view: view != before)
     assert after["every"] < before["every"]
     assert abs(place_of(after, *cell)[1] - 200) <= 2 + after["high"]
@@ -309,7 +304,7 @@ def test_stretch_of_a_translated_cycler(tab: Page) -> None:
     line = tab.program_output("decide", {}, TRANSLATED.encode()).decode().split()
     first, second, _, length = map(int, line[3:])
     view, mark = tab.open_machine(TRANSLATED), tab.colour("--mark")
-    tab.until(lambda: tab.js("return document.querySelectorAll('#behind .same').length") == 2 * length)
+    tab.until(lambda: tab.js("return $$('#behind .same').length") == 2 * length)
     tab.until(lambda: "show it" in tab.text("behind"))
     rows = trace(tab.program, TRANSLATED, second)
     for step in (first, second):

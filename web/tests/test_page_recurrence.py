@@ -1,8 +1,8 @@
 """The exact repetition of an open machine: its facts, its last uses, and its marks in the diagram."""
 
 import pytest
-from selenium.webdriver.common.keys import Keys
 from support.browser import Page, View
+from support.gestures import Keys
 from support.machines import CHAMPION, HALT, LATE
 from support.recurrences import reply_to_pair
 from support.traces import format_number, trace
@@ -10,9 +10,7 @@ from support.traces import format_number, trace
 LEFT, CYCLE = "1RB---_1LB0RB", "0RB---_0LA---"
 # A machine that quasihalts, and one of three symbols that repeats later than it is found to.
 QUASIHALTS, LATER = "1RB0LB_1LA0RC_1LC1LA", "1RB0LA---_1LB2LA0RB"
-TABLE = """
-return [...document.querySelectorAll("#uses tr")].map((row) => [...row.children].map((one) => one.textContent));
-"""
+TABLE = "return $$('#uses tr').map((row) => [...row.children].map((one) => one.textContent))"
 WORDS = {"*": "for ever", "-": "never"}
 
 
@@ -86,18 +84,6 @@ def test_machines_without_one(tab: Page) -> None:
     tab.until(lambda: not tab.get("recurrence", "hidden"))
     assert tab.text("exact-start") == "Step 0."
     assert tab.text("exact-period") == "2 steps."
-
-
-def test_by_keyboard(tab: Page) -> None:
-    """The button is reached behind that of the marked steps; each shows its steps again."""
-    open_exact(tab, LATER)
-    start = int(exact_of(tab, LATER)[0])
-    tab.press("marked", Keys.TAB)
-    assert tab.focus() == "exact"
-    tab.press("exact", Keys.SPACE)
-    assert tab.tape_is_at(format_number(start))
-    tab.focus_on("uses")
-    assert tab.focus() == "uses"
 
 
 def test_on_a_phone(phone: Page) -> None:

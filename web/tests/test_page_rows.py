@@ -5,10 +5,10 @@ import time
 from support.browser import LONG, Page, soon
 from support.machines import CHAMPION, CHAMPION_OF_FOUR, HALT
 
-CHOSEN = "return [...document.querySelectorAll('#shown [aria-selected=true]')].map((row) => row.children[1].textContent)"
+CHOSEN = "return $$('#shown [aria-selected=true]').map((row) => row.children[1].textContent)"
 LINES = [HALT, "1RA1RA", LONG, "1LB0LA_1RA---", CHAMPION_OF_FOUR]
 ORDERS = """
-const order = document.getElementById("order");
+const order = $("order");
 for (const value of arguments[0]) {
   order.value = value;
   order.dispatchEvent(new Event("change"));
@@ -52,9 +52,9 @@ def test_chosen_line_stays(tab: Page) -> None:
 
 def test_buttons_of_kinds_stay(tab: Page) -> None:
     """Buttons are reused, so clicks and focus aren't lost."""
-    tab.js("window.chip = document.getElementById('kind-halt')")
+    tab.js("window.chip = $('kind-halt')")
     tab.open_list(HALT, HALT)
-    assert tab.js("return window.chip === document.getElementById('kind-halt')")
+    assert tab.js("return window.chip === $('kind-halt')")
     assert tab.text("kind-halt") == "halt 2"
 
 

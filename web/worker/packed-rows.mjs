@@ -1,11 +1,4 @@
-/**
- * Rows of a trace with packed cells.
- *
- * @typedef {{steps: Float64Array, heads: Int32Array, lows: Int32Array, widths: Int32Array,
- *   offsets: Int32Array, states: string, cells: Uint8Array, bits: number}} PackedRows For each row, the step,
- *   the head, the lowest visited position, the number of visited cells, and the offset of its first cell in
- *   `cells`; a cell has 1 bit if the machine has two symbols, else 4
- */
+/** Rows of a trace with packed cells. */
 import { numberAt } from "./replies.mjs";
 
 const SPACE = 32;
@@ -73,19 +66,6 @@ function allocateCells(/** @type {Int32Array} */ widths, /** @type {number} */ b
 
 /** @returns {PackedRows} the rows of a trace of a machine with so many symbols */
 export function parseTrace(/** @type {Uint8Array} */ text, /** @type {number} */ symbols) {
-  const { begins, states, ...columns } = parseColumns(text);
-  const bits = symbols === 2 ? 1 : 4;
-  const pack = bits === 1 ? packBits : packNibbles;
-  const steps = Float64Array.from(columns.steps);
-  const integers = [columns.heads, columns.lows, columns.widths];
-  const [heads, lows, widths] = integers.map((column) => Int32Array.from(column));
-  const { offsets, cells } = allocateCells(widths, bits);
-  begins.forEach((begin, k) => pack(cells.subarray(offsets[k]), text, begin, widths[k]));
-  return { steps, heads, lows, widths, offsets, states, cells, bits };
-}
-
-/** The fields of a trace's lines, and the offsets of their cells. */
-function parseColumns(/** @type {Uint8Array} */ text) {
   /** @type {Record<"steps" | "heads" | "lows" | "widths" | "begins", number[]>} */
   const columns = { steps: [], heads: [], lows: [], widths: [], begins: [] };
   let states = "";
@@ -102,7 +82,14 @@ function parseColumns(/** @type {Uint8Array} */ text) {
     states += String.fromCharCode(text[letter]);
     from = end + 1;
   }
-  return { ...columns, states };
+  const bits = symbols === 2 ? 1 : 4;
+  const pack = bits === 1 ? packBits : packNibbles;
+  const steps = Float64Array.from(columns.steps);
+  const integers = [columns.heads, columns.lows, columns.widths];
+  const [heads, lows, widths] = integers.map((column) => Int32Array.from(column));
+  const { offsets, cells } = allocateCells(widths, bits);
+  columns.begins.forEach((begin, k) => pack(cells.subarray(offsets[k]), text, begin, widths[k]));
+  return { steps, heads, lows, widths, offsets, states, cells, bits };
 }
 
 const signedAt = (/** @type {Uint8Array} */ text, /** @type {number} */ from) =>

@@ -1,8 +1,6 @@
 /**
  * The pixels of a diagram, one for each column and row, in the mean colour of its cells.
  *
- * @typedef {import("./packed-rows.mjs").PackedRows} PackedRows
- * @typedef {import("../page/diagram/viewport.mjs").View} View
  * @typedef {(k: number, from: number, to: number) => number} Mean of the cells `from` to `to` of row `k`
  * @typedef {(rows: PackedRows, view: View, palette: number[][]) => Mean} CreateMean
  */

@@ -1,9 +1,4 @@
-/**
- * Parses the engine's replies from their bytes, without making strings.
- *
- * @typedef {{starts: Uint32Array, kinds: Uint8Array}} Lines the offset of each line and the end of the last
- *   one, and the number of each line's kind
- */
+/** Parses the engine's replies from their bytes, without making strings. */
 import { newlineBits, wordsOf } from "../lib/memory.mjs";
 import { ANSWERS, KINDS } from "../reader/machine.mjs";
 
@@ -42,11 +37,9 @@ function addStarts(lines, bytes, from, to) {
   return count;
 }
 
-/**
- * The offset of each line and the end of the last one, in an array that the next call overwrites. Scans four
- * bytes at a time, in half the time of `indexOf`.
- */
+/** The offset of each line and the end of the last one, in an array that the next call overwrites. */
 export function startsOf(/** @type {Uint8Array} */ bytes) {
+  // Scanning four bytes at a time takes half the time of `indexOf`.
   const { length } = bytes;
   scratch = scratch.length > length + 1 ? scratch : new Uint32Array(2 * length + 2);
   const { words, first } = wordsOf(bytes);
@@ -99,12 +92,8 @@ export function numberAt(/** @type {Uint8Array} */ bytes, /** @type {number} */ 
   return at === from ? -1 : value;
 }
 
-/**
- * The starts and kinds of verdict lines; other lines get any kind. Known starts of the machines' lines save
- * scanning the machines.
- * @param {Uint8Array} bytes @param {Uint32Array | null} machines @returns {Lines}
- */
-export function readLines(bytes, machines) {
+/** Starts and kinds of verdict lines. The machines' starts, if known, save scanning. @returns {Lines} */
+export function readLines(/** @type {Uint8Array} */ bytes, /** @type {Uint32Array | null} */ machines) {
   const starts = startsOf(bytes).slice();
   const kinds = new Uint8Array(starts.length - 1).fill(REFUSED);
   for (let k = 0; k < kinds.length; k += 1) {

@@ -2,15 +2,6 @@
  * Cached rows of a machine's run. Each trace starts at step 0, so rows are kept, and those of closer,
  * neighbouring and farther views are traced ahead. Most views then need no trace.
  *
- * @typedef {import("../lib/bb.mjs").Engine} Engine
- * @typedef {import("./packed-rows.mjs").PackedRows} PackedRows
- * @typedef {{from: number, every: number, upto: number}} RowRequest the steps `from`, `from + every`, .. to
- *   `upto`
- * @typedef {RowRequest & {machine: string, cells: number, space: number}} AheadRequest `space`: most bytes
- * @typedef {{request: RowRequest, rows: PackedRows, cut: boolean}} CachedRows `cut`: the limit of cells ended
- *   the trace; `upto` is infinite if the run ended
- * @typedef {{upto: number, step: number, halts: boolean, low: number, width: number}} LastRow the last row up
- *   to a step, and whether the run halts there
  * @typedef {{closer: number, farther: number, beyond: number, most: number}} NextViews the row intervals of a
  *   closer and a farther view, the farther view's steps above and below this one, and the last step
  */
@@ -133,11 +124,8 @@ export class RowCache {
     return { request: { from, every, upto: hasEnded ? Infinity : upto }, rows, cut: !clean };
   }
 
-  /**
-   * Requests for closer, neighbouring and farther views that aren't cached.
-   * @param {RowRequest} view @param {NextViews} next @returns {AheadRequest[]}
-   */
-  aheadRequests(view, { closer, farther, beyond, most }) {
+  /** Requests for closer, neighbouring and farther views that aren't cached. @returns {AheadRequest[]} */
+  aheadRequests(/** @type {RowRequest} */ view, /** @type {NextViews} */ { closer, farther, beyond, most }) {
     const request = this.fitRequest(view);
     const { from, upto, every } = request;
     const half = Math.ceil((upto - from) / every / 2) * every;

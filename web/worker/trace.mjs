@@ -1,13 +1,4 @@
-/**
- * Rows, pictures and growth of a machine's run, from its cached trace.
- *
- * @typedef {{step: number, state: string, head: number, low: number, cells: Uint8Array}} Row
- * @typedef {import("../lib/bb.mjs").Engine} Engine
- * @typedef {import("./row-cache.mjs").RowRequest} RowRequest
- * @typedef {import("./row-cache.mjs").AheadRequest} AheadRequest
- * @typedef {import("../page/diagram/viewport.mjs").View} View
- * @typedef {{machine: string, cells: number}} Run
- */
+/** Rows, pictures and growth of a machine's run, from its cached trace. */
 import { ZOOM, fitViews, zoomView } from "../page/diagram/viewport.mjs";
 import { unpackRow } from "./packed-rows.mjs";
 import { paintRows } from "./pixels.mjs";
@@ -43,15 +34,12 @@ export const traceAhead = (/** @type {Engine} */ engine, /** @type {AheadRequest
   cacheFor(engine, request).trace(request, request.space);
 
 /** Caches another worker's rows if they belong to the current run. */
-export function storeRows(/** @type {Run & {cached: import("./row-cache.mjs").CachedRows}} */ message) {
+export function storeRows(/** @type {Run & {cached: CachedRows}} */ message) {
   isCached(message) && cache?.store(message.cached);
 }
 
-/**
- * The growth of the visited cells, by their numbers after a hundredth, a tenth and all of the steps.
- * @param {Engine} engine @param {Run & {upto: number}} request
- */
-export function measureGrowth(engine, request) {
+/** The growth of the visited cells, by their numbers after a hundredth, a tenth and all of the steps. */
+export function measureGrowth(/** @type {Engine} */ engine, /** @type {Run & {upto: number}} */ request) {
   const { upto } = request;
   const own = cacheFor(engine, request);
   const { step: last, halts, width } = own.lastRow(upto);
@@ -72,7 +60,7 @@ export function measureGrowth(engine, request) {
  * The picture of a view.
  * @param {Engine} engine
  * @param {Run & {upto: number, view: View | null, width: number, height: number, palette: number[][],
- *   fit: import("../page/diagram/viewport.mjs").Fit}} request a null view means the best fit
+ *   fit: Fit}} request a null view means the best fit
  */
 export function makePicture(engine, request) {
   const { upto, width, height, fit, palette } = request;
@@ -91,7 +79,10 @@ export function makePicture(engine, request) {
   const isWhole = k < 0 || (end >= whole.step && whole.width > rows.widths[k]);
   const span = spanOf(isWhole ? whole : { low: rows.lows[k], width: rows.widths[k] });
   const isEnd = k < 0 || rows.steps[k] + every <= end || whole.step < Math.min(end, fit.last);
-  const ahead = own.aheadRequests(wanted, nextViews(view, home, height, upto));
+  // The rows of the views one zoom away.
+  const [near, far] = [ZOOM, 1 / ZOOM].map((factor) => zoomView(view, home, factor, { x: 0, y: 0 }));
+  const beyond = Math.max(0, rowCount(far, height) * far.every - rowCount(view, height) * view.every);
+  const ahead = own.aheadRequests(wanted, { closer: near.every, farther: far.every, beyond, most: upto });
   return { rows, cut: cut && isEnd, every, columns, image, ...span, view, home, ahead };
 }
 
@@ -101,13 +92,3 @@ const spanOf = (/** @type {{low: number, width: number}} */ { low, width }) => {
 };
 
 const rowCount = (/** @type {View} */ { high }, /** @type {number} */ height) => Math.ceil(height / high);
-
-/**
- * The rows of the views one zoom away.
- * @param {View} view @param {View} home @param {number} height @param {number} most the last step
- */
-function nextViews(view, home, height, most) {
-  const [near, far] = [ZOOM, 1 / ZOOM].map((factor) => zoomView(view, home, factor, { x: 0, y: 0 }));
-  const beyond = rowCount(far, height) * far.every - rowCount(view, height) * view.every;
-  return { closer: near.every, farther: far.every, beyond: Math.max(0, beyond), most };
-}

@@ -1,22 +1,4 @@
-/**
- * The page's worker: decides and checks chunks of a list, traces machines, sorts rows.
- *
- * @typedef {import("../lib/bb.mjs").Engine} Engine
- * @typedef {{mode: "decide" | "check", clean: boolean, form: import("../reader/list-reader.mjs").Form,
- *   plan: Record<string, any>}} ListRequest
- * @typedef {{job: number, bytes: Uint8Array, lines: Uint8Array | null, starts: Uint32Array,
- *   kinds: Uint8Array, steps?: Float64Array, answers: Uint8Array, kindCounts: number[],
- *   answerCounts: number[], first: number, numbers: Uint32Array | null, source: Uint8Array | null,
- *   places: Uint32Array | null, skipped: number, next: number, nextLine: number, done: boolean,
- *   milliseconds: number, memoryBytes: number, plans?: Uint8Array}} Part the reply to a batch of lines.
- *   `bytes`: the output; `lines`: the verdict lines, if checked; `starts`: their offsets; `steps`: the steps
- *   in each, once parsed; `first`: the number of the first line, and `numbers` of all if some were skipped;
- *   `source` and `places`: the original lines and their offsets if some differ from the engine's input;
- *   `next` and `nextLine`: the next byte and line of the chunk; `plans`: the number of each line's limits, if
- *   they aren't all the list's
- * @typedef {{job: number, at: string, lines: number, bytes: number}} BatchNote the beginning of a batch: its
- *   first line, and its numbers of lines and bytes
- */
+/** The page's worker: decides and checks chunks of a list, traces machines, sorts rows. */
 import { load } from "../lib/bb.mjs";
 import { lineAt, prepareList, unchangedList } from "../reader/list-reader.mjs";
 import { ANSWERS, KINDS, markedSteps, parseRecurrence } from "../reader/machine.mjs";
@@ -105,7 +87,7 @@ function answerList(/** @type {any} */ { job, bytes: chunk, line: first, request
 
 /**
  * The numbers and original texts of a batch's lines; null if they can be derived.
- * @param {import("../reader/list-reader.mjs").PreparedList} list @param {Uint8Array} chunk
+ * @param {PreparedList} list @param {Uint8Array} chunk
  * @param {{from: number, line: number, count: number}} batch @param {number[]} kindCounts
  */
 function originOf({ bytes, numbers, places }, chunk, { from, line, count }, kindCounts) {
@@ -121,15 +103,14 @@ function originOf({ bytes, numbers, places }, chunk, { from, line, count }, kind
 }
 
 /** The verdict on one machine and the checker's answer. */
-function decideOne(/** @type {{machine: string, plan: Record<string, any>}} */ { machine, plan }) {
+function decideOne(/** @type {{machine: string, plan: Plan}} */ { machine, plan }) {
   const part = answerBatch(new TextEncoder().encode(machine), { mode: "decide", plan });
   return { line: new TextDecoder().decode(part.bytes).trimEnd(), answer: ANSWERS[part.answers[0]], part };
 }
 
 /**
- * The reply on the recurrence behind a verdict line, and the rows of its start, of the step a period later, and of
- * the last use of each state.
- * @param {Engine} host @param {{line: string, plan: Record<string, any>}} request
+ * The reply on the recurrence behind a verdict line, and the rows of its marked steps.
+ * @param {Engine} host @param {{line: string, plan: Plan}} request
  */
 function findRecurrence(host, { line, plan: { steps, cells } }) {
   const [reply] = host.recurrence([line], { steps, cells, entries: true });

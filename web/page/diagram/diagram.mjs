@@ -1,10 +1,7 @@
 /**
  * The space-time diagram: a row is a step, a column a position.
  *
- * @typedef {viewport.View} View
- * @typedef {geometry.Place} Place
- * @typedef {{machine: string, cells: number, upto: number} & Omit<viewport.Fit, "opens">} DiagramRun
- * @typedef {ReturnType<typeof import("../../worker/trace.mjs").makePicture>} Picture
+ * @typedef {{machine: string, cells: number, upto: number} & Omit<Fit, "opens">} DiagramRun
  */
 import { byId, readPalette } from "../dom.mjs";
 import { WorkerClient } from "../worker-client.mjs";
@@ -25,8 +22,8 @@ export class Diagram {
     this.run = /** @type {DiagramRun | null} */ (null);
     this.picture = /** @type {Picture | null} */ (null);
     this.sheet = /** @type {HTMLCanvasElement | null} */ (null);
-    this.marks = /** @type {import("./paint.mjs").Mark[]} */ ([]);
-    this.marked = /** @type {viewport.Pair | null} */ (null);
+    this.marks = /** @type {Mark[]} */ ([]);
+    this.marked = /** @type {Pair | null} */ (null);
     /** @type {View | null} null until the first picture */
     this.view = null;
     this.isOpening = true;
@@ -52,7 +49,7 @@ export class Diagram {
   }
 
   /** Shows a machine from its start, or its marks. */
-  open(/** @type {DiagramRun} */ run, /** @type {import("./paint.mjs").Mark[]} */ marks) {
+  open(/** @type {DiagramRun} */ run, /** @type {Mark[]} */ marks) {
     this.close();
     Object.assign(this, { run, marks, marked: run.pair, tapePlace: { step: 0, position: 0 } });
     this.fit(true);
@@ -90,7 +87,7 @@ export class Diagram {
   }
 
   /** Adds a mark to those of the open machine. A marked row gets only its label. */
-  addMark(/** @type {import("./paint.mjs").Mark} */ mark) {
+  addMark(/** @type {Mark} */ mark) {
     const marked = new Map(this.marks.flatMap(({ bands }) => bands.map((band) => [band.step, band])));
     mark.bands.forEach(({ step, label }) => Object.assign(marked.get(step) ?? {}, { label }));
     const bands = mark.bands.filter(({ step }) => !marked.has(step));
@@ -162,7 +159,7 @@ export class Diagram {
 
   /**
    * Zooms a view around a point, and moves the point to another.
-   * @param {View} from @param {number} factor @param {viewport.Point} point @param {viewport.Point} goal
+   * @param {View} from @param {number} factor @param {Point} point @param {Point} goal
    */
   moveAndZoom(from, factor, point, goal) {
     if (this.picture !== null) {
@@ -174,7 +171,7 @@ export class Diagram {
   }
 
   /** Zooms around a point of the canvas; the default is the pointer, the tape's step or a head. */
-  zoom(/** @type {number} */ factor, /** @type {viewport.Point | undefined} */ point) {
+  zoom(/** @type {number} */ factor, /** @type {Point | undefined} */ point) {
     const { scene, picture, area } = this;
     if (scene !== null && picture !== null) {
       const { x, y } = point ?? this.zoomCentre(scene);
@@ -182,7 +179,7 @@ export class Diagram {
     }
   }
 
-  zoomCentre(/** @type {geometry.Scene} */ scene) {
+  zoomCentre(/** @type {Scene} */ scene) {
     return geometry.zoomCentre(scene, [this.pointed, this.tapePlace]);
   }
 

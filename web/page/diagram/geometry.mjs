@@ -1,14 +1,4 @@
-/**
- * Steps and positions in the diagram's canvas, and their descriptions.
- *
- * @typedef {import("./viewport.mjs").View} View
- * @typedef {import("./viewport.mjs").Point} Point
- * @typedef {import("./diagram.mjs").Picture} Picture
- * @typedef {{x: number, y: number, width: number, height: number}} Area of the canvas without its axes
- * @typedef {{step: number, position: number}} Place
- * @typedef {{view: View, area: Area, picture: Picture | null}} Scene the current view, and the last picture,
- *   which may show another view
- */
+/** Steps and positions in the diagram's canvas, and their descriptions. */
 import { formatCount, formatNumber, stateText } from "../../reader/machine.mjs";
 import { symbolAt } from "../../worker/packed-rows.mjs";
 import { FRAMED, cellsPerPixel, isSameView, stepsPerPixel } from "./viewport.mjs";
@@ -76,21 +66,16 @@ export function zoomCentre(/** @type {Scene} */ scene, /** @type {(Place | null)
   return wanted ? pointOf(scene, wanted) : centre;
 }
 
-/** The cells and steps of one move of the pointer by keys. */
-function pointerStride(/** @type {View} */ view, /** @type {boolean} */ far) {
-  const pixels = far ? FAR_PIXELS : POINTER_PIXELS;
-  if (view.wide >= FRAMED && view.high >= FRAMED && !far) return { cells: 1, steps: 1 };
-  const cells = Math.max(1, Math.round(pixels / view.wide)) * view.across;
-  return { cells, steps: Math.max(1, Math.round(pixels / view.high)) * view.every };
-}
-
 /**
  * The pointer's next place, at a row.
  * @param {Scene} scene @param {Place} from @param {{right: number, down: number, far: boolean}} move
  * @param {number} upto the last step
  */
 export function nextPlace({ view, picture }, from, { right, down, far }, upto) {
-  const { cells, steps } = pointerStride(view, far);
+  const isSingle = view.wide >= FRAMED && view.high >= FRAMED && !far;
+  const pixels = far ? FAR_PIXELS : POINTER_PIXELS;
+  const times = (/** @type {number} */ size) => Math.max(1, Math.round(pixels / size));
+  const [cells, steps] = isSingle ? [1, 1] : [times(view.wide) * view.across, times(view.high) * view.every];
   const every = picture?.every ?? 1;
   const isOlder = picture !== null && !isSameView(picture.view, view);
   const stride = isOlder ? steps : Math.max(steps, every);
@@ -107,11 +92,8 @@ export function moveView(/** @type {View} */ view, /** @type {number} */ right, 
   return { ...view, left: view.left + columns * view.across, top: view.top + rows * view.every };
 }
 
-/**
- * The view moved so that it contains visited cells.
- * @param {Scene} scene @param {number} upto the last step
- */
-export function clampView({ view, area, picture }, upto) {
+/** The view moved so that it contains visited cells, and none after the last step. */
+export function clampView(/** @type {Scene} */ { view, area, picture }, /** @type {number} */ upto) {
   const { low, high } = picture ?? { low: 0, high: 0 };
   const width = area.width * cellsPerPixel(view);
   const overlap = OVERLAP * view.across;

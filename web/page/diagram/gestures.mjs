@@ -12,15 +12,12 @@ const MOST_NOTCHES = 3;
 const CLICK_PIXELS = 4;
 
 export class Gestures {
-  /**
-   * @param {import("./diagram.mjs").Diagram} diagram
-   * @param {(words: string, byKeys: boolean) => void} tell shows a description of the pointed cell
-   */
-  constructor(diagram, tell) {
+  /** `tell` shows a description of the pointed cell. */
+  constructor(/** @type {Diagram} */ diagram, /** @type {(words: string, byKeys: boolean) => void} */ tell) {
     this.diagram = diagram;
     this.report = tell;
     // In the window; the mouse is a finger.
-    this.fingers = /** @type {Map<number, import("./viewport.mjs").Point>} */ (new Map());
+    this.fingers = /** @type {Map<number, Point>} */ (new Map());
     this.moved = 0;
     /** The view, the middle between the fingers in the canvas, and their distance. */
     this.start = this.startGesture();
@@ -131,16 +128,11 @@ export class Gestures {
     const far = Math.hypot(now.x - before.x, now.y - before.y);
     if (this.moved === 0 && far < CLICK_PIXELS) return;
     this.moved += far;
-    if (this.canMove) {
-      this.fingers.set(event.pointerId, now);
-      this.applyGesture();
-    }
-  }
-
-  /** Moves and zooms the picture around the point between the fingers. */
-  applyGesture() {
+    if (!this.canMove) return;
+    this.fingers.set(event.pointerId, now);
     const { diagram, start } = this;
     if (start !== null) {
+      // Moves and zooms the picture around the point between the fingers.
       const { middle, apart } = this.span();
       const factor = start.apart > 0 && apart > 0 ? (apart / start.apart) ** 2 : 1;
       diagram.moveAndZoom(start.view, factor, start.middle, middle);

@@ -1,10 +1,6 @@
 /**
  * Paints a diagram: picture, heads, axes and marks.
  *
- * @typedef {import("./diagram.mjs").Picture} Picture
- * @typedef {{step: number, from: number | null, to: number | null, label: string, isMinor?: boolean}} Band cells
- *   of a row
- * @typedef {{bands: Band[], arrow: boolean, colour?: string}} Mark `colour`: by default that of marks
  * @typedef {{x: number, y: number, wide: number, high: number}} Box
  */
 import { formatNumber } from "../../reader/machine.mjs";
@@ -35,7 +31,7 @@ export function createSheet(/** @type {Picture} */ { image, columns, rows: { ste
 
 /** Paints a view in an area of a canvas. */
 export class Painter {
-  /** @param {HTMLCanvasElement} canvas @param {import("./geometry.mjs").Scene} scene */
+  /** @param {HTMLCanvasElement} canvas @param {Scene} scene */
   constructor(canvas, { view, area }) {
     this.ratio = window.devicePixelRatio || 1;
     canvas.width = Math.round(canvas.clientWidth * this.ratio);
@@ -87,10 +83,7 @@ export class Painter {
     }
   }
 
-  /**
-   * Frames the heads, with their states in large cells. A halo in the symbol's text colour makes the frame
-   * visible on every symbol.
-   */
+  /** Frames the heads, with a halo that is visible on every symbol, and with states in large cells. */
   paintHeads(/** @type {Picture} */ { rows }) {
     const { pen, view: { wide, high } } = this;
     if (wide < FRAMED || high < FRAMED) return;
@@ -141,17 +134,14 @@ export class Painter {
   }
 
   /** Outlines the pointer of the keys. */
-  paintPlace(/** @type {import("./geometry.mjs").Place} */ { step, position }) {
+  paintPlace(/** @type {Place} */ { step, position }) {
     const [wide, high] = [this.view.wide, this.view.high].map((pixels) => Math.max(5, pixels));
     const box = { x: this.xOf(position), y: this.yOf(step), wide, high };
     this.outline(box, colourOf("--panel"), 4, -2);
     this.outline(box, colourOf("--accent"), 2, -2);
   }
 
-  /**
-   * Outlines bands, with labels below each other, and an arrow from the first to the second on request. A minor
-   * band has its label only beside rows without another one.
-   */
+  /** Outlines bands with labels, and draws arrows. A minor band's label must not be near another one. */
   paintMarks(/** @type {Mark[]} */ marks) {
     const bands = marks.flatMap((mark) => {
       return mark.bands.map((band) => ({ ...band, box: this.boxOf(band), colour: mark.colour ?? "--mark" }));
@@ -161,7 +151,9 @@ export class Painter {
     const taken = visible.map(({ box }) => ({ middle: box.y + box.high / 2, high: box.high, of: box }));
     let free = this.area.y + LABEL_PIXELS / 2;
     for (const { box, label, colour, isMinor } of visible) {
-      this.paintBand(box, colour);
+      // With a halo.
+      this.outline(box, colourOf("--panel"), 1, -2.5);
+      this.outline(box, colourOf(colour), 2, -1);
       if (!isMinor) {
         const wanted = Math.max(box.y + box.high / 2, free);
         const middle = Math.min(wanted, this.bottom - LABEL_PIXELS / 2);
@@ -187,12 +179,6 @@ export class Painter {
     const end = to === null ? this.right - 1 : this.xOf(to + 1);
     const y = Math.floor(this.yOf(step));
     return { x, y, wide: Math.max(LEAST_BAND, end - x), high: Math.max(LEAST_BAND, this.view.high) };
-  }
-
-  /** Outlines a band, with a halo. */
-  paintBand(/** @type {Box} */ box, /** @type {string} */ colour) {
-    this.outline(box, colourOf("--panel"), 1, -2.5);
-    this.outline(box, colourOf(colour), 2, -1);
   }
 
   /** @param {Box} box a band @param {string} label @param {number} middle its height @param {string} colour */

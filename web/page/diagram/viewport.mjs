@@ -1,16 +1,4 @@
-/**
- * Views of a diagram: their steps, positions and scale, fitting and zooming.
- *
- * @typedef {{top: number, left: number, every: number, high: number, across: number, wide: number}} View the
- *   first row's step and the first column's position; a row is every `every`-th step and `high` pixels high,
- *   a column is `across` cells and `wide` pixels wide; in each pair at least one number is 1
- * @typedef {{first: number, second: number, low: number | null, high: number | null}} Pair two marked steps,
- *   and the positions between which they are marked, null for all
- * @typedef {{step: number, low: number, width: number}} End the visited positions of a run's last row
- * @typedef {{last: number, pair: Pair | null, opens: boolean, end: End | null}} Fit the last step, the marked
- *   pair, whether the view is to open on it, and the last row if the run is known to halt
- * @typedef {{x: number, y: number}} Point in pixels
- */
+/** Views of a diagram: their steps, positions and scale, fitting and zooming. */
 
 /** The factor of zooming by keys and buttons. */
 export const ZOOM = 4;

@@ -4,8 +4,6 @@ import { formatNumber } from "../../reader/machine.mjs";
 import { LONGEST_SHOWN } from "../../reader/tokens.mjs";
 import { byId, create } from "../dom.mjs";
 
-/** @typedef {import("../../lib/limits.mjs").Limit} Limit */
-
 const SWITCHES = ["cyclers", "translated", "backward"];
 const LABELS = /** @type {Record<string, string>} */ ({
   steps: "steps of one simulation",
@@ -40,21 +38,21 @@ function showChanges() {
 }
 
 /** Sets all fields, missing ones to their defaults. */
-export function setPlan(/** @type {Record<string, any>} */ plan) {
+export function setPlan(/** @type {Plan} */ plan) {
   LIMITS.forEach((name) => (field(name).value = String(plan[name] ?? RANGES[name].default)));
   SWITCHES.forEach((name) => (field(name).checked = plan[name] ?? true));
   clearRefusals();
   showChanges();
 }
 
-/** @returns {Record<string, any>} the fields' contents, as typed */
+/** @returns {Plan} the fields' contents, as typed */
 export function fieldTexts() {
   const switches = SWITCHES.map((name) => [name, field(name).checked]);
   return Object.fromEntries([...LIMITS.map((name) => [name, field(name).value]), ...switches]);
 }
 
 /** A plan with ten times the steps and four times the cells, up to the greatest. */
-export function enlargePlan(/** @type {Record<string, any>} */ plan) {
+export function enlargePlan(/** @type {Plan} */ plan) {
   const least = (/** @type {bigint} */ one, /** @type {bigint} */ two) => (one < two ? one : two);
   const steps = least(BigInt(plan.steps) * 10n, RANGES.steps.max);
   const cells = least(BigInt(plan.cells) * 4n, RANGES.cells.max);
@@ -77,10 +75,10 @@ export function parseNumber(/** @type {string} */ input) {
   return rest < 0 ? null : BigInt(whole + fraction) * 10n ** BigInt(rest);
 }
 
-/** @returns {Record<string, any> | null} the fields' plan; null for a refused limit, whose refusal is shown */
+/** @returns {Plan | null} the fields' plan; null for a refused limit, whose refusal is shown */
 export function readPlan() {
   clearRefusals();
-  /** @type {Record<string, any>} */
+  /** @type {Plan} */
   const plan = Object.fromEntries(SWITCHES.map((name) => [name, field(name).checked]));
   for (const name of LIMITS) {
     const text = field(name).value;
@@ -118,7 +116,7 @@ export function showRefusal(/** @type {string} */ limit, /** @type {string} */ m
 }
 
 /** The fragment of a link that opens a machine with a plan. */
-export function linkOf(/** @type {string} */ machine, /** @type {Record<string, any>} */ plan) {
+export function linkOf(/** @type {string} */ machine, /** @type {Plan} */ plan) {
   const words = new URLSearchParams({ machine });
   const limits = LIMITS.filter((name) => plan[name] !== RANGES[name].default);
   limits.forEach((name) => words.set(name, String(plan[name])));

@@ -10,14 +10,6 @@ const NO_VERDICT_LINE =
   "Unread: a verdict line is a machine, a space and a verdict, as in “1RB1LB_1LA1RZ halt 6 4”, of at most " +
   "1,023 bytes.";
 
-/**
- * @typedef {import("../../reader/machine.mjs").Verdict} Verdict
- * @typedef {import("../../reader/line-reader.mjs").Reading} Reading
- * @typedef {import("../../reader/list-reader.mjs").Form} Form
- * @typedef {{text: string | null, number: number, form: Form | null}} InputLine the original line, null if it
- *   is the machine; its number; and the form of its list, null if lines aren't rewritten
- */
-
 /** Shows a line's rewriting, or the place and reason of its refusal. */
 export function showInputNotes(/** @type {InputLine} */ line, /** @type {Verdict} */ verdict) {
   const { text, number, form } = line;
@@ -49,7 +41,7 @@ function refusalText(reading, { numbers: [column], text }, isAccepted) {
   return `Refused: ${reading.reason}; ${ADVICE[reading.refusal]}.${program}`;
 }
 
-/** @param {import("../../reader/line-reader.mjs").Machine} reading @param {string} text */
+/** @param {MachineReading} reading @param {string} text */
 function rewritingText({ rewritten, before, behind }, text) {
   const kinds = rewritten.map((kind) => REWRITINGS[/** @type {"spaces"} */ (kind)]);
   const beside = [before, behind].filter((one) => one !== "").map((one) => `“${one}”`);

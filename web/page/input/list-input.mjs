@@ -8,8 +8,7 @@ import { decompress, requireUtf8 } from "./files.mjs";
 
 /**
  * @typedef {"decide" | "check"} Mode
- * @typedef {import("../../reader/list-reader.mjs").Form} Form
- * @typedef {{text: string, gone: string, plan: Record<string, any>, mode: string, clean: boolean,
+ * @typedef {{text: string, gone: string, plan: Plan, mode: string, clean: boolean,
  *   form: string, isExample: boolean, hash: string}} StoredInput `gone`: the name of a list too long to be
  *   stored; `isExample`: the settings are an example's; `hash`: the fragment of the address
  */
@@ -111,7 +110,7 @@ export class ListInput {
     this.applySettings({}, true, "auto");
   }
 
-  /** @param {Record<string, any>} plan @param {boolean} clean @param {string} mode @param {string} [form] */
+  /** @param {Plan} plan @param {boolean} clean @param {string} mode @param {string} [form] */
   applySettings(plan, clean, mode, form = "auto") {
     setPlan(plan);
     this.clean.checked = clean;

@@ -34,19 +34,17 @@ export class ChunkReader {
     for (;;) {
       const newline = this.buffered.indexOf(NEWLINE, Math.min(this.size, this.buffered.length) - 1);
       const isEnd = newline < 0 && this.pendingRead === null && this.offset >= this.blob.size;
-      if (newline >= 0 || isEnd) return this.cutChunk(isEnd ? this.buffered.length : newline + 1);
+      if (newline >= 0 || isEnd) {
+        const bytes = this.buffered.subarray(0, isEnd ? this.buffered.length : newline + 1);
+        const { line } = this;
+        this.buffered = this.buffered.subarray(bytes.length);
+        this.line += countLines(bytes);
+        return bytes.length > 0 ? { bytes, line } : null;
+      }
       this.dropLongTail();
       const bytes = await this.read();
       this.buffered = this.buffered.length === 0 ? bytes : concatBytes([this.buffered, bytes]);
     }
-  }
-
-  cutChunk(/** @type {number} */ length) {
-    const bytes = this.buffered.subarray(0, length);
-    const { line } = this;
-    this.buffered = this.buffered.subarray(length);
-    this.line += countLines(bytes);
-    return length > 0 ? { bytes, line } : null;
   }
 
   /** Truncates a long line, and skips its rest. */
@@ -85,7 +83,7 @@ export class ChunkReader {
 
 /**
  * The machines of rows to decide again, in chunks with the index of their first row.
- * @param {import("./results.mjs").Results} results @param {Uint32Array} rows @param {number} workers
+ * @param {Results} results @param {Uint32Array} rows @param {number} workers
  */
 export function* holdoutChunks(results, rows, workers) {
   const size = Math.min(MOST_LINES, Math.ceil(rows.length / (CHUNKS_PER_WORKER * workers)));

@@ -8,8 +8,6 @@ import { WorkerPool } from "./pool.mjs";
 import { Results } from "./results.mjs";
 import { slowLineText, statusText } from "./status.mjs";
 
-/** @typedef {import("../../worker/worker.mjs").ListRequest} ListRequest */
-
 const MOST_WORKERS = 8;
 const REFRESH_MILLISECONDS = 250;
 const ANNOUNCE_MILLISECONDS = 10_000;
@@ -44,7 +42,7 @@ export class ListRun {
     this.onShow = () => {};
     this.pool = /** @type {WorkerPool | null} */ (null);
     this.results = new Results({});
-    /** @type {import("./status.mjs").RunInfo} */
+    /** @type {RunInfo} */
     this.info = { mode: "decide", plan: {}, form: null, isText: true, size: 0, begun: 0, taken: 0 };
     // The latest limits.
     this.plan = {};
@@ -92,7 +90,7 @@ export class ListRun {
     this.startClock();
   }
 
-  /** @param {Uint32Array} rows @param {Record<string, any>} plan @param {number} number of the plan */
+  /** @param {Uint32Array} rows @param {Plan} plan @param {number} number of the plan */
   decideRows(rows, plan, number) {
     const { results } = this;
     if (rows.length === 0) {
@@ -115,10 +113,7 @@ export class ListRun {
     this.scheduleShow();
   }
 
-  /**
-   * @param {number} workers @param {ListRequest} request
-   * @param {Omit<import("./pool.mjs").PoolTask, "fail">} task
-   */
+  /** @param {number} workers @param {ListRequest} request @param {Omit<PoolTask, "fail">} task */
   startPool(workers, request, task) {
     /** @type {HTMLButtonElement} */ (byId("stop")).disabled = false;
     this.pool = new WorkerPool(workers, request, {
@@ -143,7 +138,7 @@ export class ListRun {
     prestartWorkers(workerCount(), () => this.isRunning);
   }
 
-  fail(/** @type {import("./pool.mjs").Failure} */ failure) {
+  fail(/** @type {Failure} */ failure) {
     this.finish("Ended");
     const { limit, message } = failure;
     limit === undefined ? showError(failureText(failure)) : showRefusal(limit, message);

@@ -8,10 +8,7 @@ import { RowTable } from "./row-table.mjs";
 const FIRST_VERDICT = "first verdict";
 
 export class ListView {
-  /**
-   * @param {import("../machine/machine-view.mjs").MachineView} view
-   * @param {import("./list-run.mjs").ListRun} work
-   */
+  /** @param {MachineView} view @param {ListRun} work */
   constructor(view, work) {
     this.view = view;
     view.replaceRow = (by, plan) => this.replaceOpenRow(by, plan);
@@ -24,7 +21,7 @@ export class ListView {
     byId("kinds").append(...this.kindButtons);
     this.order = /** @type {HTMLSelectElement} */ (byId("order"));
     this.wasOpened = false;
-    this.openLine = /** @type {import("./results.mjs").LinePlace | null} */ (null);
+    this.openLine = /** @type {LinePlace | null} */ (null);
     this.openText = "";
     // Counts displays, so that outdated sorts are dropped.
     this.turn = 0;
@@ -60,11 +57,8 @@ export class ListView {
     }
   }
 
-  /**
-   * Replaces the open row after a new decision; returns whether it could. Checked claims stay.
-   * @param {import("../../worker/worker.mjs").Part} by @param {Record<string, any>} plan
-   */
-  replaceOpenRow(by, plan) {
+  /** Replaces the open row after a new decision; returns whether it could. Checked claims stay. */
+  replaceOpenRow(/** @type {Part} */ by, /** @type {Plan} */ plan) {
     const { openLine, work: { results } } = this;
     const row = openLine?.part.lines === null ? results.rowOf(openLine) : -1;
     if (row >= 0) {
@@ -119,11 +113,8 @@ export class ListView {
     if (isSorted) this.showSorted(rows.slice(), order === "down");
   }
 
-  /**
-   * Sorts rows by steps in a worker, and shows them unless others are shown meanwhile.
-   * @param {Uint32Array} rows @param {boolean} down
-   */
-  async showSorted(rows, down) {
+  /** Sorts rows by steps in a worker, and shows them unless others are shown meanwhile. */
+  async showSorted(/** @type {Uint32Array} */ rows, /** @type {boolean} */ down) {
     const { turn, work: { results } } = this;
     const isLast = () => turn === this.turn && results === this.work.results;
     const steps = await results.stepsOf(rows, isLast);

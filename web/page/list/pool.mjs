@@ -1,18 +1,4 @@
-/**
- * The workers of a list run.
- *
- * @typedef {import("../../worker/worker.mjs").Part} Part
- * @typedef {import("../../worker/worker.mjs").BatchNote} BatchNote
- * @typedef {{bytes: Uint8Array, line: number}} Chunk whole lines, and the number of the first
- * @typedef {Chunk & {job: number, done: number, nextLine: number}} SentChunk its next byte to answer, and the
- *   number of that line
- * @typedef {{worker: Worker, chunks: SentChunk[], note: BatchNote | null, since: number, memoryBytes: number,
- *   milliseconds: number, size: number | undefined}} PoolWorker `note` and `since`: the current batch;
- *   `milliseconds`: of the last batch; `size`: the bytes of the next batch, if set
- * @typedef {{error: string, message: string, limit?: string}} Failure
- * @typedef {{nextChunk: () => Promise<Chunk | null>, part: (part: Part, read: number) => void,
- *   end: () => void, fail: (failure: Failure) => void}} PoolTask
- */
+/** The workers of a list run. */
 import { acquireWorker, errorFields, newWorker, ready, releaseWorker } from "../worker-client.mjs";
 
 // With two chunks a worker needn't wait while the page draws.
@@ -27,10 +13,7 @@ const SPLIT = 8;
 const FRESH = { note: null, since: 0, memoryBytes: 0, milliseconds: 0, size: 1 };
 
 export class WorkerPool {
-  /**
-   * @param {number} size @param {import("../../worker/worker.mjs").ListRequest} request
-   * @param {PoolTask} task
-   */
+  /** @param {number} size @param {ListRequest} request @param {PoolTask} task */
   constructor(size, request, task) {
     this.task = task;
     this.request = request;

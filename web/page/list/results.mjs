@@ -1,9 +1,4 @@
-/**
- * The results of a list, in the order of its lines; chunks may finish in another order.
- *
- * @typedef {import("../../worker/worker.mjs").Part} Part
- * @typedef {{part: Part, line: number}} LinePlace
- */
+/** The results of a list, in the order of its lines; chunks may finish in another order. */
 import { ANSWERS, KINDS, UNREAD_LINE, parseVerdictLine } from "../../reader/machine.mjs";
 import { concatBytes, lineAt } from "../../reader/list-reader.mjs";
 import { BYTES_KEPT, LONGEST_SHOWN } from "../../reader/tokens.mjs";
@@ -19,7 +14,7 @@ export const [FIRST_PASS, LARGER] = [1, 2];
 const MOST_PLANS = 255;
 
 export class Results {
-  /** @param {Record<string, any>} plan the limits of the list */
+  /** @param {Plan} plan the limits of the list */
   constructor(plan) {
     // Limits by their numbers.
     this.plans = [plan, plan];
@@ -60,7 +55,7 @@ export class Results {
   }
 
   /** The number of a plan, new or known. */
-  planNumber(/** @type {Record<string, any>} */ plan) {
+  planNumber(/** @type {Plan} */ plan) {
     const { plans } = this;
     const isSame = (/** @type {any} */ one) => one.steps === plan.steps && one.cells === plan.cells;
     const at = plans.findIndex((one, k) => k >= LARGER && isSame(one));

@@ -1,8 +1,6 @@
 /**
  * The table of lines. Only visible rows are in the document, so that millions of lines scroll.
  *
- * @typedef {import("./results.mjs").Results} Results
- * @typedef {import("../../worker/worker.mjs").Part} Part
  * @typedef {{element: HTMLElement, of: Part, line: number, bytes: Uint8Array, isChosen: boolean}} DrawnRow
  *   `of`, `line` and `bytes`: its part, its line there, and the part's bytes when it was drawn
  */
@@ -32,7 +30,7 @@ export class RowTable {
     this.chosen = -1;
     // The place of the chosen line, or the next one if it is filtered out.
     this.gap = 0;
-    this.line = /** @type {import("./results.mjs").LinePlace | null} */ (null);
+    this.line = /** @type {LinePlace | null} */ (null);
     this.phone = matchMedia(PHONE);
     this.phone.addEventListener("change", () => this.onResize());
     this.box = byId("rows");

@@ -1,11 +1,4 @@
-/**
- * The status of a list run, in words.
- *
- * @typedef {import("../../reader/list-reader.mjs").Form} Form
- * @typedef {{mode: "decide" | "check", plan: Record<string, any>, form: Form | null, isText: boolean,
- *   size: number, begun: number, taken: number}} RunInfo the form of its lines, null if they aren't
- *   rewritten; whether it begins as UTF-8; its bytes; its start and duration in milliseconds, 0 while it runs
- */
+/** The status of a list run, in words. */
 import { ANSWERS, KINDS, formatCount, formatNumber } from "../../reader/machine.mjs";
 import { LONGEST_QUOTED } from "../../reader/tokens.mjs";
 
@@ -19,8 +12,7 @@ const SLOW_MILLISECONDS = 500;
 /**
  * Progress, counts and the checker's answers. Each line is counted once.
  * @param {string} outcome Running, Done, Stopped or Ended
- * @param {number} share of the list that is done, 0 to 1
- * @param {RunInfo} info @param {import("./results.mjs").Results} results
+ * @param {number} share of the list that is done, 0 to 1 @param {RunInfo} info @param {Results} results
  */
 export function statusText(outcome, share, info, results) {
   const seconds = (info.taken || performance.now() - info.begun) / 1000;

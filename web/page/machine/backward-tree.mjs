@@ -1,19 +1,9 @@
 /** The tree of configurations before a halt, from its definition. */
 
-/**
- * @typedef {import("../../reader/machine.mjs").Machine} Machine
- * @typedef {{state: number, known: Map<number, number>}} Node symbols by distance from the head
- * @typedef {{levels: Node[][], count: number, ended: boolean}} Tree `ended`: it has all levels
- */
+/** @typedef {{levels: TreeNode[][], count: number, ended: boolean}} Tree `ended`: it has all levels */
 
-/** @returns {Node[]} the nodes of undefined entries and of those into Z */
-function haltingNodes(/** @type {Machine} */ { rules }) {
-  const halting = rules.filter(({ entry }) => entry === null || entry.next === -1);
-  return halting.map(({ state, symbol }) => ({ state, known: new Map([[0, symbol]]) }));
-}
-
-/** @returns {Node[]} one for each entry into the node's state that wrote the cell behind the head */
-function predecessors(/** @type {Machine} */ { rules }, /** @type {Node} */ node) {
+/** @returns {TreeNode[]} one for each entry into the node's state that wrote the cell behind the head */
+function predecessors(/** @type {Machine} */ { rules }, /** @type {TreeNode} */ node) {
   return rules.flatMap(({ state, symbol, entry }) => {
     const left = entry?.move === 1 ? -1 : 1;
     const there = node.known.get(left) ?? entry?.write;
@@ -27,7 +17,8 @@ function predecessors(/** @type {Machine} */ { rules }, /** @type {Node} */ node
 export function buildTree(/** @type {Machine} */ machine, /** @type {number} */ most) {
   const levels = [];
   let count = 0;
-  let level = haltingNodes(machine);
+  const halting = machine.rules.filter(({ entry }) => entry === null || entry.next === -1);
+  let level = halting.map(({ state, symbol }) => ({ state, known: new Map([[0, symbol]]) }));
   while (level.length > 0 && count + level.length <= most) {
     levels.push(level);
     count += level.length;
@@ -37,7 +28,7 @@ export function buildTree(/** @type {Machine} */ machine, /** @type {number} */ 
 }
 
 /** The cells from left to right, unknown ones as `.`, the head's in brackets. */
-export function nodeText(/** @type {Node} */ node) {
+export function nodeText(/** @type {TreeNode} */ node) {
   const distances = [...node.known.keys()];
   const low = Math.min(...distances);
   const cells = Array.from({ length: Math.max(...distances) - low + 1 }, (_, k) => {

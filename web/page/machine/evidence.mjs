@@ -5,14 +5,6 @@ import { symbolAt } from "../tape/tape-row.mjs";
 import { WorkerClient } from "../worker-client.mjs";
 import { nodeText, buildTree } from "./backward-tree.mjs";
 
-/**
- * @typedef {import("../../reader/machine.mjs").Verdict} Verdict
- * @typedef {import("../../worker/trace.mjs").Row} Row
- * @typedef {import("../diagram/paint.mjs").Band} Band
- * @typedef {import("../diagram/paint.mjs").Mark} Mark
- * @typedef {import("../diagram/viewport.mjs").Fit} Fit
- */
-
 const MOST_NODES = 100_000;
 const NODES_SHOWN = 60;
 const LEVELS_SHOWN = 40;
@@ -173,7 +165,7 @@ function createTree(/** @type {{machine: string, verdict: Verdict}} */ { machine
 
 const createHint = (/** @type {string} */ words) => create("p", { class: "hint" }, words);
 
-function createLevel(/** @type {import("./backward-tree.mjs").Node[]} */ level, /** @type {number} */ k) {
+function createLevel(/** @type {TreeNode[]} */ level, /** @type {number} */ k) {
   const texts = level.slice(0, NODES_SHOWN).map((node) => `${stateLetter(node.state)} ${nodeText(node)}`);
   const nodes = texts.map((text) => create("span", {}, text));
   if (level.length > NODES_SHOWN) {

@@ -1,13 +1,11 @@
 /**
- * Facts about a machine: other forms, consequences of its verdict for other machines, starts and later steps,
- * and the growth of its cells.
+ * Facts about a machine: other forms, consequences of its verdict, and the growth of its cells.
  *
- * @typedef {import("../../reader/machine.mjs").Verdict} Verdict
  * @typedef {{machine: string, cells: number, steps: number, verdict: Verdict, isConfirmed: boolean}} About
  * @typedef {{growth: string, steps: number, visited: number[]}} Growth
  */
 import { formatCount, entryText, parseMachine, formatNumber } from "../../reader/machine.mjs";
-import { create, byId } from "../dom.mjs";
+import { byId, create, createFacts } from "../dom.mjs";
 import { WorkerClient } from "../worker-client.mjs";
 
 const NORMAL_STEPS = 10_000;
@@ -41,7 +39,7 @@ export const mirrorImage = (/** @type {string} */ text) =>
   text.replace(/[LR]/g, (move) => (move === "L" ? "R" : "L"));
 
 /** The states in the order of their first use. */
-function firstUses(/** @type {import("../../reader/machine.mjs").Machine} */ { symbols, rules }) {
+function firstUses(/** @type {Machine} */ { symbols, rules }) {
   const cells = new Uint8Array(2 * NORMAL_STEPS + 1);
   const found = new Set([0]);
   let [state, at] = [0, NORMAL_STEPS];
@@ -100,19 +98,14 @@ export function showMachineInfo(/** @type {About} */ about) {
   const normal = normalForm(machine);
   const mirror = mirrorImage(machine);
   const code = (/** @type {string} */ text) => create("code", {}, text);
-  /** @type {[string, string, Node | string][]} */
-  const facts = [
+  byId("facts").replaceChildren(...createFacts("fact-", [
     ["normal", "Normal form", normal === machine ? "It is in normal form." : code(normal)],
     ["mirror", "Mirror image", code(mirror)],
     ["growth", "Cells visited", "…"],
     ["completions", "Undefined entries", isConfirmed ? "…" : "The verdict isn’t confirmed by the checker."],
     ["starts", "Every start", isConfirmed ? startsText(verdict) : "–"],
     ["later", "Step 10¹⁵", isConfirmed ? "…" : "–"],
-  ];
-  const parts = facts.flatMap(([id, name, words]) => {
-    return [create("dt", {}, name), create("dd", { id: `fact-${id}` }, words)];
-  });
-  byId("facts").replaceChildren(...parts);
+  ]));
   requestGrowth(about);
   isConfirmed && requestLaterRow(about);
 }

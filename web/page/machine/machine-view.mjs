@@ -6,7 +6,7 @@ import { Diagram } from "../diagram/diagram.mjs";
 import { Gestures } from "../diagram/gestures.mjs";
 import { ZOOM } from "../diagram/viewport.mjs";
 import {
-  announce, byId, copyPicture, copyText, create, onClick, saveFile, setInactive, showText,
+  announce, byId, copyPicture, copyText, create, createTable, onClick, saveFile, setInactive, showText,
 } from "../dom.mjs";
 import { enlargePlan, linkOf } from "../input/fields.mjs";
 import { showInputNotes } from "../input/input-notes.mjs";
@@ -29,8 +29,7 @@ const DOUBTS = /** @type {Record<string, string>} */ ({
 });
 
 /**
- * @typedef {import("../../reader/machine.mjs").Verdict} Verdict
- * @typedef {{machine: string, verdict: Verdict, answer: string, plan: Record<string, any>,
+ * @typedef {{machine: string, verdict: Verdict, answer: string, plan: Plan,
  *   isWaiting?: boolean}} About `answer`: the checker's; `isWaiting`: for the second pass
  */
 
@@ -42,12 +41,12 @@ export class MachineView {
     this.client = new WorkerClient();
     /**
      * Replaces the open machine's row after a new decision; returns whether it could.
-     * @type {(by: import("../../worker/worker.mjs").Part, plan: Record<string, any>) => boolean}
+     * @type {(by: Part, plan: Plan) => boolean}
      */
     this.replaceRow = () => false;
     this.about = /** @type {About | null} */ (null);
     /** The exact start of the open machine, and the step a period later. */
-    this.exact = /** @type {import("../diagram/viewport.mjs").Pair | null} */ (null);
+    this.exact = /** @type {Pair | null} */ (null);
     this.blankTimer = 0;
     this.closeTimer = 0;
     new Gestures(this.diagram, (words, byKeys) => {
@@ -70,12 +69,8 @@ export class MachineView {
     });
   }
 
-  /**
-   * Shows a machine with its verdict.
-   * @param {About} about @param {boolean} moves whether a narrow page scrolls to it
-   * @param {import("../input/input-notes.mjs").InputLine} given
-   */
-  open(about, moves, given) {
+  /** Shows a machine with its verdict. If it `moves`, a narrow page scrolls to it. */
+  open(/** @type {About} */ about, /** @type {boolean} */ moves, /** @type {InputLine} */ given) {
     const { machine, verdict } = about;
     const isMachine = verdict.kind !== "refused";
     this.about = about;
@@ -137,7 +132,7 @@ export class MachineView {
     const machine = parseMachine(text);
     const cells = Number(plan.cells);
     const steps = Number(plan.steps);
-    byId("machine-table").replaceChildren(createTable(machine));
+    byId("machine-table").replaceChildren(createEntries(machine));
     byId("legend").replaceChildren(...createLegend(machine));
     byId("diagram").setAttribute("aria-label", `Space-time diagram of ${text}. ${verdictText(verdict)}`);
     /** @type {HTMLAnchorElement} */ (byId("elsewhere")).href = ELSEWHERE + text;
@@ -216,20 +211,18 @@ function sentenceOf(/** @type {About} */ { verdict, answer, isWaiting }) {
 }
 
 /** A table with a row for each state and a column for each symbol. */
-function createTable(/** @type {import("../../reader/machine.mjs").Machine} */ machine) {
-  const symbols = Array.from({ length: machine.symbols }, (_, k) => create("th", { scope: "col" }, String(k)));
-  const head = create("tr", {}, create("td", { "aria-label": "state and symbol" }), ...symbols);
-  const rows = Array.from({ length: machine.states }, (_, state) => {
-    const entries = machine.rules.slice(state * machine.symbols, (state + 1) * machine.symbols);
-    const cells = entries.map(({ symbol, entry }) =>
+function createEntries(/** @type {Machine} */ { states, symbols, rules }) {
+  const names = Array.from({ length: symbols }, (_, k) => create("th", { scope: "col" }, String(k)));
+  const rows = Array.from({ length: states }, (_, state) => {
+    const cells = rules.slice(state * symbols, (state + 1) * symbols).map(({ symbol, entry }) =>
       create("td", { "data-entry": `${stateLetter(state)}${symbol}` }, entryText(entry)),
     );
-    return create("tr", {}, create("th", { scope: "row" }, stateLetter(state)), ...cells);
+    return /** @type {[string, ...Node[]]} */ ([stateLetter(state), ...cells]);
   });
-  return create("table", {}, head, ...rows);
+  return createTable([create("td", { "aria-label": "state and symbol" }), ...names], rows);
 }
 
-function createLegend(/** @type {import("../../reader/machine.mjs").Machine} */ { symbols }) {
+function createLegend(/** @type {Machine} */ { symbols }) {
   const names = Array.from({ length: symbols }, (_, symbol) => [`s${symbol}`, String(symbol)]);
   return [...names, ["head", "head"], ["unvisited", "not visited yet"]].map(([colour, name]) => {
     const swatch = create("i", { "aria-hidden": true });

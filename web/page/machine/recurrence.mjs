@@ -1,14 +1,7 @@
 /** The exact repetition behind a pair: facts, last uses, and marks on the diagram. */
 import { formatCount, formatNumber, stateLetter } from "../../reader/machine.mjs";
-import { byId, create } from "../dom.mjs";
+import { byId, create, createFacts, createTable } from "../dom.mjs";
 import { WorkerClient } from "../worker-client.mjs";
-
-/**
- * @typedef {import("../../reader/machine.mjs").Recurrence} Recurrence
- * @typedef {import("../../worker/trace.mjs").Row} Row
- * @typedef {import("../diagram/paint.mjs").Mark} Mark
- * @typedef {import("../diagram/viewport.mjs").Pair} Pair
- */
 
 // The most marked last uses, the latest ones.
 const MOST_MARKED = 8;
@@ -25,7 +18,7 @@ export function clearRecurrence() {
 
 /**
  * Finds and shows the recurrence behind a confirmed pair, and passes on its mark and the pair of its start.
- * @param {string} line @param {Record<string, any>} plan @param {(mark: Mark, pair: Pair) => void} onFound
+ * @param {string} line @param {Plan} plan @param {(mark: Mark, pair: Pair) => void} onFound
  */
 export function showRecurrence(line, plan, onFound) {
   current = line;
@@ -39,50 +32,38 @@ export function showRecurrence(line, plan, onFound) {
       byId("recurrence-facts").replaceChildren(create("dd", {}, words));
       return;
     }
-    byId("recurrence-facts").replaceChildren(...createFacts(found));
+    byId("recurrence-facts").replaceChildren(...createFacts("exact-", factsOf(found)));
     byId("uses").replaceChildren(createUses(found));
     byId("exact").hidden = false;
     onFound(markOf(found, rows), pairOf(found, rows));
   });
 }
 
-function shiftText(/** @type {number} */ shift) {
+/** @returns {[string, string, string][]} */
+function factsOf(/** @type {Recurrence} */ { start, period, shift, quasihalts }) {
   const side = shift > 0 ? "right" : "left";
-  return shift === 0
-    ? "None: the configuration comes again."
-    : `${formatCount(Math.abs(shift), "cell")} to the ${side}.`;
-}
-
-function createFacts(/** @type {Recurrence} */ { start, period, shift, quasihalts }) {
+  const moves = `${formatCount(Math.abs(shift), "cell")} to the ${side}.`;
   const stops = quasihalts === null ? "No state has a last use." : `After ${formatCount(quasihalts, "step")}.`;
-  /** @type {[string, string, string][]} */
-  const facts = [
+  return [
     ["start", "Start", `Step ${formatNumber(start)}.`],
     ["period", "Period", `${formatCount(period, "step")}.`],
-    ["shift", "Shift", shiftText(shift)],
+    ["shift", "Shift", shift === 0 ? "None: the configuration comes again." : moves],
     ["quasihalt", "Quasihalt", stops],
   ];
-  return facts.flatMap(([id, name, words]) => {
-    return [create("dt", {}, name), create("dd", { id: `exact-${id}` }, words)];
-  });
-}
-
-/** A last use in words. */
-function useText(/** @type {string} */ use) {
-  return use === "*" ? "for ever" : use === "-" ? "never" : formatNumber(Number(use));
 }
 
 /** A table with a row for each state: its last use, and those of its entries. */
 function createUses(/** @type {Recurrence} */ { uses, entries }) {
   const symbols = entries.length / uses.length;
   const names = ["Last use", "state", ...Array.from({ length: symbols }, (_, symbol) => `at ${symbol}`)];
-  const head = create("tr", {}, ...names.map((name) => create("th", { scope: "col" }, name)));
+  const textOf = (/** @type {string} */ use) =>
+    use === "*" ? "for ever" : use === "-" ? "never" : formatNumber(Number(use));
   const rows = uses.map((use, state) => {
     const own = [use, ...entries.slice(state * symbols, (state + 1) * symbols)];
-    const cells = own.map((one, k) => create("td", k === 0 ? { class: "exact" } : {}, useText(one)));
-    return create("tr", {}, create("th", { scope: "row" }, stateLetter(state)), ...cells);
+    const cells = own.map((one, k) => create("td", k === 0 ? { class: "exact" } : {}, textOf(one)));
+    return /** @type {[string, ...Node[]]} */ ([stateLetter(state), ...cells]);
   });
-  return create("table", {}, head, ...rows);
+  return createTable(names.map((name) => create("th", { scope: "col" }, name)), rows);
 }
 
 /** @returns {Mark} the head's cells at the start, a period later, and at the latest last uses of states */

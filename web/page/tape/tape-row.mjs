@@ -1,8 +1,4 @@
-/**
- * A row of the tape: its cells, the next entry, and its description.
- *
- * @typedef {import("../../worker/trace.mjs").Row} Row
- */
+/** A row of the tape: its cells, the next entry, and its description. */
 import { entryText, parseMachine, formatNumber, stateLetter, stateText } from "../../reader/machine.mjs";
 import { create } from "../dom.mjs";
 

@@ -5,11 +5,7 @@ import { parseNumber } from "../input/fields.mjs";
 import { WorkerClient } from "../worker-client.mjs";
 import { createCell, nextEntry, highlightEntry, stepText } from "./tape-row.mjs";
 
-/**
- * @typedef {import("../../worker/trace.mjs").Row} Row
- * @typedef {import("../diagram/geometry.mjs").Place} Place
- * @typedef {{machine: string, cells: number, last: number}} About `last`: the last step
- */
+/** @typedef {{machine: string, cells: number, last: number}} About `last`: the last step */
 
 // The cells of the rows in one request.
 const STRETCH_CELLS = 2_000_000;
