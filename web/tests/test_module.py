@@ -61,6 +61,13 @@ def test_example(same: Same, example: Example) -> None:
     assert same(example.words[0], example.plan, example.lines)
 
 
+@each_way
+@pytest.mark.parametrize("is_on", [True, False])
+def test_first_list_of_the_readme(same: Same, is_on: bool) -> None:
+    """By all deciders, and by simulation alone."""
+    same("decide", dict.fromkeys(SWITCHES, is_on), README)
+
+
 @pytest.mark.parametrize(
     "same, every", [("engine", 1), ("tab", 9), pytest.param("tab", 1, marks=slow)], indirect=["same"]
 )

@@ -86,6 +86,18 @@ def test_machines_without_one(tab: Page) -> None:
     assert tab.text("exact-period") == "2 steps."
 
 
+def test_by_keyboard(tab: Page) -> None:
+    """The button is reached behind that of the marked steps; each shows its steps again."""
+    open_exact(tab, LATER)
+    start = int(exact_of(tab, LATER)[0])
+    tab.press("marked", Keys.TAB)
+    assert tab.focus() == "exact"
+    tab.press("exact", Keys.SPACE)
+    assert tab.tape_is_at(format_number(start))
+    tab.focus_on("uses")
+    assert tab.focus() == "uses"
+
+
 def test_on_a_phone(phone: Page) -> None:
     """Nothing exceeds the width, with many states and uses."""
     for machine in (QUASIHALTS, LATE):
