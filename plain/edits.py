@@ -34,7 +34,17 @@ from support.program import ROWS, as_lines, options  # noqa: E402
 from support.second_checker import made_claims, tight_claims  # noqa: E402
 from test_plain import COMMANDS, EDGES, EDGES_OF_LISTS, FOUR, GIVEN, PLANS, WORDS  # noqa: E402
 
-CRATES = ("bb_machine", "bb_sim", "bb_narrow", "bb_tree", "bb_cert", "bb_decide", "bb_lines", "bb_run", "bb_repetition")
+CRATES = (
+    "bb_machine",
+    "bb_sim",
+    "bb_narrow",
+    "bb_tree",
+    "bb_cert",
+    "bb_decide",
+    "bb_lines",
+    "bb_run",
+    "bb_repetition",
+)
 PROGRAMS = ("bb", "cover", "recurrence")
 BUILT = ("build", *(word for name in PROGRAMS for word in ("-p", name)))
 TESTED = ("tests_of_verdicts", "tests_of_runs", "tests_of_parts", "bb", "bb_c")

@@ -127,7 +127,7 @@ def validate_verdicts(given: bytes, verdicts: bytes) -> Counts:
 
 
 def validate_answers(verdicts: bytes, answers: bytes) -> None:
-    """Raises ReplyError for invalid answers; its `line` is set for one that doesn't confirm a verdict."""
+    """Raises ReplyError for invalid answers, with `line` set for an unconfirmed verdict."""
     lines = _split(answers, verdicts.count(b"\n"), "answers")
     place = next((place for place, line in enumerate(lines) if line not in (b"ok", b"open")), None)
     if place is None:
@@ -204,7 +204,7 @@ class Job:
 
 
 def bisect_job(job: Job) -> list[Job]:
-    """Jobs for the halves of a job, which end it once both are done. A single line is a FatalLineError."""
+    """Jobs for the halves of a job; the last of both ends it. A single line is a FatalLineError."""
     lines = [line + b"\n" for line in job.lines.split(b"\n")[:-1]]
     if len(lines) < 2:
         job.future.set_exception(FatalLineError(job.first))

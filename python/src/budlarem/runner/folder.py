@@ -94,7 +94,7 @@ def _open_pass(top: Directory, name: str) -> Iterator[Directory]:
 
 
 def require_own(top: Directory, known_passes: int | None) -> None:
-    """Raises FolderError for foreign files; without `known_passes` each has to show that it is a run's."""
+    """Raises FolderError for foreign files; without `known_passes` each has to prove to be a run's."""
     names = top.names()
     passes = [name for name in names if PASS.fullmatch(name)]
     checked = (README, VERDICTS, SUMMARY, LOCK) if passes else (LOCK,)

@@ -146,7 +146,7 @@ class ListFile:
         return min(read / self.size, 1.0)
 
     def first_lines(self, most: int) -> list[bytes]:
-        """Its first lines, which `lines` and `blocks` return again. None if it pauses before so many came."""
+        """Its first lines; `lines` and `blocks` return them again. None if it pauses before so many came."""
         held: list[bytes] = []
         count, size, is_paused = 0, 0, False
         while count < most and size < most * LONGEST_GIVEN and not is_paused:

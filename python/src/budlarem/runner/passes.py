@@ -311,7 +311,7 @@ class PassRun:
         self._next = 0.0
 
     def run(self, lines: StreamLines) -> PassResult:
-        """Decides the lines of all chunks that aren't stored. Raises what `Backend.run_pass` does."""
+        """Decides the lines of all chunks that aren't stored. Raises the errors of `Backend.run_pass`."""
         with contextlib.ExitStack() as stack:
             for end in (self._sync, self._writer.close, self._stop):
                 stack.callback(end)
@@ -441,7 +441,7 @@ class Outcome:
 
 
 def run(folder: Folder, source: ListFile, passes: Sequence[Limits], options: RunOptions) -> Outcome:
-    """Decides a list, and writes verdicts and summary into a folder. Raises what `Backend.run_pass` does."""
+    """Decides a list, and writes verdicts and summary into a folder. Raises the errors of `Backend.run_pass`."""
     try:
         return _run_passes(folder, source, passes, options)
     except OSError:
