@@ -13,7 +13,8 @@ use Rattle.bb_repetition.specs.Lockstep.{IsAt}
 
 -- step n uses the entry for this state and symbol
 abbrev pub UsesEntry : Table → ℕ → ℕ → ℕ → Type 0
-UsesEntry table n state symbol = transition_at table n ≡ Some (record { state = State state; symbol = symbol })
+UsesEntry table n state symbol =
+    transition_at table n ≡ Some (record { state = State state; symbol = symbol })
 
 -- step n uses the entry with this place: the entries of state A, then those of B, ten places for each state
 pub record UsesPlace (table : Table) (n place : ℕ) : Type 0 where

@@ -7,8 +7,8 @@ pub record CountsStart (first second old new : ℕ) : Type 0 where
   pub short : second ≤ 4096 → new ≡ old + second
   pub long : 4096 < second → new ≡ old + first + second
 
--- the cost of the shift: nothing if the period is the distance of the pair; else the period, and before it the
--- way to the first step if the run was short
+-- the cost of the shift: nothing if the period is the distance of the pair; else the period, and before it
+-- the way to the first step if the run was short
 pub record CountsShift (first second period old new : ℕ) : Type 0 where
   pub whole : period ≡ second - first → new ≡ old
   pub short : period ≢ second - first → second ≤ 4096 → new ≡ old + first + period

@@ -101,8 +101,8 @@ impl History {
         self.places[(step + distance) as usize] == self.places[step as usize]
     }
 
-    /// Whether each step from `first` on uses the entry of the step `distance` later, as far as that is before
-    /// `end`.
+    /// Whether each step from `first` on uses the entry of the step `distance` later, as far as that is
+    /// before `end`.
     pub(crate) fn repeats(&self, first: u64, distance: u64, end: u64) -> bool
         requires order { first + distance ≤ end }
         requires few { end ≤ MAX_RECORDED }

@@ -1,8 +1,9 @@
 //! The exact recurrence of a run, from a known pair.
-ghost use Rattle.std.specs.Prelude.{◌≡◌, ◌+◌, ◌-◌, ◌*◌, ◌<◌, ◌≤◌, ◌^◌, IfOk, IsTrue, MatchBool, OnErr, OnOk, length};
+ghost use Rattle.std.specs.Prelude.{◌≡◌, ◌+◌, ◌-◌, ◌*◌, ◌<◌, ◌≤◌, ◌^◌};
+ghost use Rattle.std.specs.Prelude.{IfOk, IsTrue, MatchBool, OnErr, OnOk, length};
 ghost use Rattle.bb_machine.specs.Machine.{symbols_of};
 ghost use Rattle.bb_narrow.specs.Packed.{IsTableOf};
-ghost use Rattle.bb_narrow.specs.Registers.{IsNarrowRun};
+ghost use Rattle.bb_narrow.specs.Registers.{IsNarrowRun, StaysInWord};
 ghost use Rattle.bb_sim.specs.Runner.{steps_of};
 ghost use Rattle.bb_sim.specs.Span.{Inside};
 ghost use Rattle.laws_of_repetition.specs.Repetition.{Repeats, RepeatsExactly};
@@ -64,8 +65,8 @@ impl<T> Tapes<T> {
 /// `second` is inside the limits, and no step is made past it. Resets `uses`, and records there the last uses
 /// up to `second`.
 ///
-/// The steps are counted in `meter`. A run of at most 4,096 steps is made once and recorded: it costs `second`,
-/// and `first` and the period more if the period is less than the distance. A longer one costs
+/// The steps are counted in `meter`. A run of at most 4,096 steps is made once and recorded: it costs
+/// `second`, and `first` and the period more if the period is less than the distance. A longer one costs
 /// `first + second` for the start and the last uses, the period for the shift if that is less than the
 /// distance, and at most 4 * log2(`second - first`) times the distance for the least period.
 ///
@@ -109,9 +110,9 @@ pub fn find_recurrence<T: Tape>(
     })
 }
 
-/// Makes the run up to the second step of a pair, and records the last uses. Returns the first step from which
-/// on the transitions are those of `second - first` steps later, and the runner at the first step of the pair.
-/// The last number tells how many cells the head is farther to the right at the second step.
+/// Makes the run up to the second step of a pair, and records the last uses. Returns the first step from
+/// which on the transitions are those of `second - first` steps later, and the runner at the first step of
+/// the pair. The last number tells how many cells the head is farther to the right at the second step.
 fn find_start<T: Tape>(
     machine: &Machine,
     limits: &Limits,
@@ -262,8 +263,8 @@ fn record_run_from<T: Tape>(
     Ok((saved, runner))
 }
 
-/// Makes a run up to the second step of a pair in registers, and records it. Where it leaves their 64 cells, the
-/// rest is made on the tape.
+/// Makes a run up to the second step of a pair in registers, and records it. Where it leaves their 64 cells,
+/// the rest is made on the tape.
 fn record_run_in_registers<T: Tape>(
     machine: &Machine,
     limits: &Limits,
@@ -324,8 +325,8 @@ fn record_run_in_registers<T: Tape>(
     Ok((saved, at_second.runner(machine, limits)))
 }
 
-/// Advances a run in registers to a step, and records its entries and last uses. It stops before the step where
-/// it would leave the 64 cells.
+/// Advances a run in registers to a step, and records its entries and last uses. It stops early only before a
+/// step that leaves the 64 cells.
 #[inline(never)]
 fn record_registers_to(
     machine: &Machine,
@@ -349,6 +350,7 @@ fn record_registers_to(
     ensures run { IsNarrowRun machine.now limits.now result }
     ensures later { start.steps ≤ result.steps }
     ensures within { result.steps ≤ to }
+    ensures reached { result.steps < to → StaysInWord machine.now (result.steps + 1) → ⊥ }
     ensures uses { AreSeen machine.now result.steps uses.new }
     ensures recorded { IsRecorded machine.now result.steps history.new }
 {
@@ -504,8 +506,8 @@ fn start_after(start: u64, step: u64, same: bool) -> u64
     if same { start } else { step + 1 }
 }
 
-/// How many cells the head is farther to the right a period after the first step of a pair. `whole` is that of
-/// the second step: a run is needed only for a smaller period.
+/// How many cells the head is farther to the right a period after the first step of a pair. `whole` is that
+/// of the second step: a run is needed only for a smaller period.
 fn find_shift<T: Tape>(
     machine: &Machine,
     limits: &Limits,

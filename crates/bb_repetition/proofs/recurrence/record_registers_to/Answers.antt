@@ -1,4 +1,6 @@
-use Rattle.std.proofs.Common.{arith, sym, subst}
+use Rattle.std.proofs.Common.{◌+◌, ◌∙◌, ap, arith, sym, subst}
+use Rattle.bb_narrow.specs.Registers.{StaysInWord}
+use Rattle.bb_narrow.specs.declared.run.NarrowRun.{NarrowRun}
 use Rattle.bb_repetition.specs.History.{IsRecorded}
 use Rattle.bb_repetition.specs.LastUses.{AreSeen}
 use Rattle.bb_repetition.proofs.InRegisters.{goes_on}
@@ -24,3 +26,9 @@ loop-run-preserved c =
       recorded = subst (λ n. IsRecorded c.args.machine.now n c.record.new.self) (sym made.1)
           (c.record.ensures c.args.machine.now c.record_in_registers-place.ensures.place here.recorded);
     }
+
+pub returns-in-Outside-clause-reached : goal.returns-in-Outside-clause-reached
+returns-in-Outside-clause-reached c = λ less stays.
+    let known = c.loop-run.invariant.is_run in
+    let steps = ap (λ (run : NarrowRun). run.steps) c.in-Outside.ensures.0 ∙ known.steps_is in
+    c.in-Outside.ensures.1 known (subst (λ n. StaysInWord c.args.machine.now (n + 1)) steps stays)
