@@ -80,7 +80,7 @@ python/dist/built: $(built)/libbb.so $(package) python/build_wheel.py
 	$(python) python/build_wheel.py --library $(built)/libbb.so
 	@touch $@
 
-web/out/bb.wasm: $(built)/proved web/build_module.sh web/narrow.py
+web/out/bb.wasm: $(built)/libbb.so web/build_module.sh web/narrow.py
 	web/build_module.sh
 
 web/out/bb.html: web/out/bb.wasm $(page) $(wildcard examples/*/*)
