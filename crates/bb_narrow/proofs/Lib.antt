@@ -9,3 +9,4 @@ pub mod Ending
 pub mod TapeBits
 pub mod Starting
 pub mod Word
+pub mod InBlocks

@@ -149,25 +149,38 @@ impl BlockRun {
     }
 }
 
-/// Where a block begins for a head that went right or left, if it lies in the window on one side of 0.
+/// How many cells of a new block are behind a head that went right or left, counted from the block's beginning.
 #[inline(always)]
-fn block_start(runner: &Runner, right: bool) -> Option<i64>
+fn cells_before(right: bool) -> i64
+    ensures some { pos 0 ≤ℤ result }
+    ensures few { result <ℤ pos 64 }
+{
+    if right { BEHIND } else { 63 - BEHIND }
+}
+
+/// Where the block begins that has so many cells before the head, if it is in the window on one side of 0.
+#[inline(always)]
+fn block_start(runner: &Runner, before: i64) -> Option<i64>
     requires low { neg_ℤ (pos MAX_CELLS) ≤ℤ position_of runner.now }
     requires high { position_of runner.now ≤ℤ pos MAX_CELLS }
+    requires some { pos 0 ≤ℤ before }
+    requires few { before <ℤ pos 64 }
     ensures { IfSome result (λ from. IsBlockOf runner.now from) }
 {
-    let behind = if right { BEHIND } else { 63 - BEHIND };
-    let from = runner.position() - behind;
+    let from = runner.position() - before;
     if from < runner.low() {
         return None;
     }
     if runner.high() < from + 63 {
         return None;
     }
-    if from < 0 && 0 < from + 64 {
-        return None;
+    if from >= 0 {
+        return Some(from);
     }
-    Some(from)
+    if from + 64 <= 0 {
+        return Some(from);
+    }
+    None
 }
 
 /// Makes the steps inside a block, if there is one around the head.
@@ -175,7 +188,7 @@ fn run_block<T: Tape>(
     machine: &Machine,
     table: &NarrowTable,
     runner: &mut Runner,
-    right: bool,
+    before: i64,
     tape: &mut T,
     limits: &Limits,
     meter: &mut Meter,
@@ -186,6 +199,8 @@ fn run_block<T: Tape>(
     requires table { IsTableOf machine.now table.now }
     requires stands { Stands machine.now runner.old (T.view tape.old) }
     requires near { IsBeside (T.view tape.old) (position_of runner.old) }
+    requires some { pos 0 ≤ℤ before }
+    requires less { before <ℤ pos 64 }
     requires limit { (T.view tape.old).limit ≡ limits.now.cells }
     requires few { steps_of runner.old ≤ limits.now.steps }
     requires counted { (begun : Meter) × CountsTo machine.now (steps_of runner.old) begun meter.old
@@ -193,7 +208,7 @@ fn run_block<T: Tape>(
     ensures { GoesOn machine.now limits.now runner.old runner.new (T.view tape.old) (T.view tape.new)
         meter.old meter.new }
 {
-    let Some(from) = block_start(runner, right) else {
+    let Some(from) = block_start(runner, before) else {
         return;
     };
     let Some(state) = runner.state() else {
@@ -236,14 +251,17 @@ pub fn simulate_in_blocks<T: Tape>(
     let table = NarrowTable::new(machine);
     let mut runner = runner;
     loop {
-        let before = runner.position();
+        let position = runner.position();
         let Ok(moved) = runner.advance(machine, tape, limits, meter) else {
             unreachable!();
         };
-        if moved != Moved::Stepped {
-            return simulate_from(machine, runner, tape, limits, meter);
+        match moved {
+            Moved::Stepped => {}
+            Moved::Halted | Moved::NoSteps | Moved::NoCells => {
+                return simulate_from(machine, runner, tape, limits, meter);
+            }
         }
-        let right = before < runner.position();
-        run_block(machine, &table, &mut runner, right, tape, limits, meter);
+        let before = cells_before(position < runner.position());
+        run_block(machine, &table, &mut runner, before, tape, limits, meter);
     }
 }
