@@ -173,10 +173,10 @@ module _ {table : Table} {bounds : Bounds} {from : ℤ} {tape : TapeView} {run :
         → cell view_next.content (from +ℤ pos k) ≡ bit_at (flipped_bits run.registers.bits run.registers.head (bit_at f 6)) k
     cell_next k h = elim (cases_eq k known.place) [
       | inl same ↦ rw same (
-        ap (cell view_next.content) (sym known.position)
-        ∙ cell-with_cell-same view.content (position_of old) goes.write
-        ∙ goes.writes ∙ ap (λ n. (n + bit_at f 6) % 2) symbol_is
-        ∙ sym (flipped_same run.registers.bits run.registers.head known.place (bit_at f 6) known.head (bit_at-lt f 6)))
+          ap (cell view_next.content) (sym known.position)
+          ∙ cell-with_cell-same view.content (position_of old) goes.write
+          ∙ goes.writes ∙ ap (λ n. (n + bit_at f 6) % 2) symbol_is
+          ∙ sym (flipped_same run.registers.bits run.registers.head known.place (bit_at f 6) known.head (bit_at-lt f 6)))
       | inr other ↦
           cell-with_cell-other view.content (position_of old) goes.write (from +ℤ pos k)
           (λ e. other (omega (arith, ints, e, known.position)))

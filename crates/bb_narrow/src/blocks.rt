@@ -24,11 +24,11 @@ const BEHIND: i64 = 8;
 
 /// A run inside a block. Bit i of its registers is the block's cell i.
 #[derive(Clone, Copy, Debug)]
-pub struct BlockRun {
+pub(crate) struct BlockRun {
     /// Its configuration.
-    pub registers: Registers,
+    pub(crate) registers: Registers,
     /// The steps made so far.
-    pub steps: u64,
+    pub(crate) steps: u64,
 }
 
 impl BlockRun {
@@ -223,7 +223,7 @@ fn run_block<T: Tape>(
 /// Continues a run as [`simulate_from`] does, for a machine of two symbols and at most seven states. Where it
 /// can, it takes blocks of 64 cells into registers.
 #[inline(never)]
-pub fn simulate_in_blocks<T: Tape>(
+pub(crate) fn simulate_in_blocks<T: Tape>(
     machine: &Machine,
     runner: Runner,
     tape: &mut T,

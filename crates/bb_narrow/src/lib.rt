@@ -2,7 +2,7 @@
 //! bits of one number.
 #![tactic(auto)]
 
-pub mod blocks;
+mod blocks;
 pub mod cells;
 pub mod handover;
 pub mod registers;

@@ -14,7 +14,7 @@ loop-place-preserved c =
     record {
       bits = λ k h. elim (cases_eq k at) [
         | inl same ↦ rw same (
-          get_or-set_same c.loop-place.a at bit 0 (omega (arith, here.length, room)) ∙ shr_and_one c.args.bits at)
+            get_or-set_same c.loop-place.a at bit 0 (omega (arith, here.length, room)) ∙ shr_and_one c.args.bits at)
         | inr apart ↦
             get_or-set_other c.loop-place.a at k bit 0 apart ∙ here.bits k (omega (arith, h, apart))
       ];
