@@ -167,6 +167,9 @@ fn block_start(runner: &Runner, before: i64) -> Option<i64>
     requires few { before <ℤ pos 64 }
     ensures { IfSome result (λ from. IsBlockOf runner.now from) }
 {
+    if runner.position().cast_unsigned() % 8 != 0 {
+        return None;
+    }
     let from = runner.position() - before;
     if from < runner.low() {
         return None;
@@ -183,12 +186,12 @@ fn block_start(runner: &Runner, before: i64) -> Option<i64>
     None
 }
 
-/// Makes the steps inside a block, if there is one around the head.
+/// Makes the steps inside a block around the head.
 fn run_block<T: Tape>(
     machine: &Machine,
     table: &NarrowTable,
     runner: &mut Runner,
-    before: i64,
+    from: i64,
     tape: &mut T,
     limits: &Limits,
     meter: &mut Meter,
@@ -198,9 +201,7 @@ fn run_block<T: Tape>(
     requires states { length machine.now ≤ 7 }
     requires table { IsTableOf machine.now table.now }
     requires stands { Stands machine.now runner.old (T.view tape.old) }
-    requires near { IsBeside (T.view tape.old) (position_of runner.old) }
-    requires some { pos 0 ≤ℤ before }
-    requires less { before <ℤ pos 64 }
+    requires block { IsBlockOf runner.old from }
     requires limit { (T.view tape.old).limit ≡ limits.now.cells }
     requires few { steps_of runner.old ≤ limits.now.steps }
     requires counted { (begun : Meter) × CountsTo machine.now (steps_of runner.old) begun meter.old
@@ -208,9 +209,6 @@ fn run_block<T: Tape>(
     ensures { GoesOn machine.now limits.now runner.old runner.new (T.view tape.old) (T.view tape.new)
         meter.old meter.new }
 {
-    let Some(from) = block_start(runner, before) else {
-        return;
-    };
     let Some(state) = runner.state() else {
         return;
     };
@@ -218,6 +216,71 @@ fn run_block<T: Tape>(
     let end = start.run(machine, table, limits);
     end.put(machine, limits, runner, tape, from);
     meter.steps += end.steps - start.steps;
+}
+
+/// Makes steps on the tape up to one after which there is a block around the head. None where a step stops or
+/// is outside the limits; then it isn't made.
+fn find_block<T: Tape>(
+    machine: &Machine,
+    runner: &mut Runner,
+    tape: &mut T,
+    limits: &Limits,
+    meter: &mut Meter,
+) -> Option<i64>
+    requires fixed { T.GROWS ≡ false }
+    requires stands { Stands machine.now runner.old (T.view tape.old) }
+    requires limit { (T.view tape.old).limit ≡ limits.now.cells }
+    requires few { steps_of runner.old ≤ limits.now.steps }
+    requires counted { (begun : Meter) × CountsTo machine.now (steps_of runner.old) begun meter.old
+        × (begun.steps + limits.now.steps + 1 < 2 ^ 64) }
+    ensures goes { GoesOn machine.now limits.now runner.old runner.new (T.view tape.old) (T.view tape.new)
+        meter.old meter.new }
+    ensures block { IfSome result (λ from. IsBlockOf runner.new from) }
+    ensures stepped { IfSome result (λ from. steps_of runner.old < steps_of runner.new) }
+{
+    let limits = *limits;
+    let mut here = *runner;
+    let mut spent = *meter;
+    let from = step_to_block(machine, &mut here, tape, &limits, &mut spent);
+    *runner = here;
+    *meter = spent;
+    from
+}
+
+/// The body of `find_block`, inlined there: runner, limits and meter are its locals and stay in registers.
+#[inline(always)]
+fn step_to_block<T: Tape>(
+    machine: &Machine,
+    runner: &mut Runner,
+    tape: &mut T,
+    limits: &Limits,
+    meter: &mut Meter,
+) -> Option<i64>
+    requires fixed { T.GROWS ≡ false }
+    requires stands { Stands machine.now runner.old (T.view tape.old) }
+    requires limit { (T.view tape.old).limit ≡ limits.now.cells }
+    requires few { steps_of runner.old ≤ limits.now.steps }
+    requires counted { (begun : Meter) × CountsTo machine.now (steps_of runner.old) begun meter.old
+        × (begun.steps + limits.now.steps + 1 < 2 ^ 64) }
+    ensures goes { GoesOn machine.now limits.now runner.old runner.new (T.view tape.old) (T.view tape.new)
+        meter.old meter.new }
+    ensures block { IfSome result (λ from. IsBlockOf runner.new from) }
+    ensures stepped { IfSome result (λ from. steps_of runner.old < steps_of runner.new) }
+{
+    loop {
+        let position = runner.position();
+        let Ok(moved) = runner.advance(machine, tape, limits, meter) else {
+            unreachable!();
+        };
+        match moved {
+            Moved::Stepped => {}
+            Moved::Halted | Moved::NoSteps | Moved::NoCells => return None,
+        }
+        let before = cells_before(position < runner.position());
+        if let Some(from) = block_start(runner, before) {
+            return Some(from);
+        }
+    }
 }
 
 /// Continues a run as [`simulate_from`] does, for a machine of two symbols and at most seven states. Where it
@@ -251,17 +314,9 @@ pub(crate) fn simulate_in_blocks<T: Tape>(
     let table = NarrowTable::new(machine);
     let mut runner = runner;
     loop {
-        let position = runner.position();
-        let Ok(moved) = runner.advance(machine, tape, limits, meter) else {
-            unreachable!();
+        let Some(from) = find_block(machine, &mut runner, tape, limits, meter) else {
+            return simulate_from(machine, runner, tape, limits, meter);
         };
-        match moved {
-            Moved::Stepped => {}
-            Moved::Halted | Moved::NoSteps | Moved::NoCells => {
-                return simulate_from(machine, runner, tape, limits, meter);
-            }
-        }
-        let before = cells_before(position < runner.position());
-        run_block(machine, &table, &mut runner, before, tape, limits, meter);
+        run_block(machine, &table, &mut runner, from, tape, limits, meter);
     }
 }
