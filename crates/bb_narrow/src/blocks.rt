@@ -3,8 +3,7 @@ ghost use Rattle.std.specs.Prelude.{◌≡◌, ◌+◌, ◌<◌, ◌≤◌, ◌^
 ghost use Rattle.std.specs.Prelude.{IfOk, IfSome, IsTrue, OnErr, OnOk, length};
 ghost use Rattle.bb_machine.specs.Machine.{symbols_of};
 ghost use Rattle.bb_tape.specs.declared.tape.TheConstants.{MAX_CELLS};
-ghost use Rattle.bb_tape.specs.Block.{IsBlock, PutsBits};
-ghost use Rattle.bb_tape.specs.TapeView.{IsBeside, TapeView};
+ghost use Rattle.bb_tape.specs.TapeView.{TapeView};
 ghost use Rattle.bb_sim.specs.declared.meter.Meter.{Meter};
 ghost use Rattle.bb_sim.specs.Meter.{CountsPart, CountsRun, CountsTo, IsWithinRun};
 ghost use Rattle.bb_sim.specs.Outcome.{IsOutcome};
@@ -21,6 +20,10 @@ use bb_tape::{Memory, Tape};
 
 /// How many cells of a new block are behind the head.
 const BEHIND: i64 = 8;
+
+/// Blocks are looked for where the head is at a multiple of this, which spares other steps the test. A head
+/// that crosses a block comes to such a position where it leaves it.
+const STRIDE: u64 = 8;
 
 /// A run inside a block. Bit i of its registers is the block's cell i.
 #[derive(Clone, Copy, Debug)]
@@ -167,7 +170,7 @@ fn block_start(runner: &Runner, before: i64) -> Option<i64>
     requires few { before <ℤ pos 64 }
     ensures { IfSome result (λ from. IsBlockOf runner.now from) }
 {
-    if runner.position().cast_unsigned() % 8 != 0 {
+    if runner.position().cast_unsigned() % STRIDE != 0 {
         return None;
     }
     let from = runner.position() - before;
