@@ -139,6 +139,32 @@ packed_at table symbol n q f s all below shift is =
     rw first at (all q (omega (arith, below))) in
     rw (is, shift) there
 
+-- the entry that a table tells for a state and the symbol at a place
+pub packed_entry : {table : Table} {packed : NarrowTable} (registers : Registers) (place state symbol : ℕ)
+    → registers.head ≡ 2 ^ place → symbol ≡ bit_at registers.bits place → state < length table
+    → registers.entry % 64 ≡ 9 * state → IsTableOf table packed
+    → (one : Bool) → (IsTrue one ↔ (bit_and registers.bits registers.head ≢ 0)) → (f : ℕ)
+    → (one ≡ false → f ≡ packed.zero / 2 ^ (registers.entry % 64))
+    → (one ≡ true → f ≡ packed.one / 2 ^ (registers.entry % 64))
+    → IsPackedEntry f symbol (entry_of table state symbol)
+packed_entry {table} {packed} registers place state symbol head_is symbol_is below shift is_table true tells f at_zero at_one =
+    let yes : IsTrue true = refl in
+    let some : bit_and registers.bits (2 ^ place) ≢ 0 = rw head_is at (tells.0 yes) in
+    let is : symbol ≡ 1 = symbol_is ∙ bit_set registers.bits place some in
+    rw is (packed_at table 1 packed.one state f (registers.entry % 64) is_table.one below shift (at_one refl))
+packed_entry {table} {packed} registers place state symbol head_is symbol_is below shift is_table false tells f at_zero at_one =
+    let none : bit_at registers.bits place ≡ 0 =
+    elim (by_bit (bit_at registers.bits place) (bit_at-lt registers.bits place)) [
+      | inl is ↦ is
+      | inr set ↦
+          let some : bit_and registers.bits registers.head ≢ 0 =
+          rw head_is (and_set registers.bits place set) in
+          let wrong : IsTrue false = tells.1 some in
+          absurd cc
+    ] in
+    let is : symbol ≡ 0 = symbol_is ∙ none in
+    rw is (packed_at table 0 packed.zero state f (registers.entry % 64) is_table.zero below shift (at_zero refl))
+
 module _ {table : Table} {registers : Registers} {runner : Runner} {view : TapeView}
     (stands : Stands table runner view) (at : MatchesRunner registers runner view) where
   symbol_is : cell view.content (position_of runner) ≡ bit_at registers.bits at.place
@@ -155,26 +181,9 @@ module _ {table : Table} {registers : Registers} {runner : Runner} {view : TapeV
       → (one ≡ true → f ≡ packed.one / 2 ^ (registers.entry % 64))
       → IsPackedEntry f (cell view.content (position_of runner))
       (entry_at table (state_of runner) (cell view.content (position_of runner)))
-  entry_known {packed} is_table true tells f at_zero at_one =
-      let yes : IsTrue true = refl in
-      let some : bit_and registers.bits (2 ^ at.place) ≢ 0 = rw at.head at (tells.0 yes) in
-      let is : cell view.content (position_of runner) ≡ 1 =
-      symbol_is ∙ bit_set registers.bits at.place some in
-      rw (is, at.state_is)
-      (packed_at table 1 packed.one at.state f (registers.entry % 64) is_table.one below at.entry (at_one refl))
-  entry_known {packed} is_table false tells f at_zero at_one =
-      let none : bit_at registers.bits at.place ≡ 0 =
-      elim (by_bit (bit_at registers.bits at.place) (bit_at-lt registers.bits at.place)) [
-        | inl is ↦ is
-        | inr set ↦
-            let some : bit_and registers.bits registers.head ≢ 0 =
-            rw at.head (and_set registers.bits at.place set) in
-            let wrong : IsTrue false = tells.1 some in
-            absurd cc
-      ] in
-      let is : cell view.content (position_of runner) ≡ 0 = symbol_is ∙ none in
-      rw (is, at.state_is)
-      (packed_at table 0 packed.zero at.state f (registers.entry % 64) is_table.zero below at.entry (at_zero refl))
+  entry_known is_table one tells f at_zero at_one =
+      rw at.state_is
+      (packed_entry registers at.place at.state _ at.head symbol_is below at.entry is_table one tells f at_zero at_one)
 
   -- what the bits are after the write
   pub content_written : (flip write : ℕ) → flip < 2

@@ -10,3 +10,4 @@ pub mod Inside
 pub mod TapeBits
 pub mod Starting
 pub mod Word
+pub mod InBlocks

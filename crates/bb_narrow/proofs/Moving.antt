@@ -45,7 +45,7 @@ use Rattle.bb_narrow.proofs.OneBit.{bit_clear, bit_set, or_set}
 use Rattle.bb_narrow.proofs.Entries.{GoesTo, MovesTo, below, content_written, moves_out, moves_to}
 
 -- the window that has taken in one position more, and its written cell, keep a view sound
-sound_next : (view : TapeView) (p q : ℤ) (write : ℕ) → IsSound view → IsInside view p → write ≤ MAX_SYMBOL
+pub sound_next : (view : TapeView) (p q : ℤ) (write : ℕ) → IsSound view → IsInside view p → write ≤ MAX_SYMBOL
     → cells_between (int_min view.low q) (int_max view.high q) ≤ view.limit
     → IsSound (written (visited view q) p write)
 sound_next view p q write sound inside small fits =
@@ -116,7 +116,7 @@ more_bits view p to there wide window order old i h = elim (cases_eq i to) [
   )
 
 -- the entry that applies is one of the machine
-named_at : (table : Table) → IsMachine table → (state : Next) (q symbol : ℕ) → state ≡ State q → q < length table
+pub named_at : (table : Table) → IsMachine table → (state : Next) (q symbol : ℕ) → state ≡ State q → q < length table
     → symbol < symbols_of table → IsEntryOf (length table) (symbols_of table) (entry_at table state symbol)
 named_at table machine state q symbol is below small = rw is (entry_named _ _ table q symbol machine below small)
 

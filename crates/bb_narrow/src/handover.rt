@@ -60,7 +60,8 @@ impl NarrowRun {
 }
 
 /// The position of the lowest set bit.
-fn lowest_position(bits: u64) -> i64
+#[inline]
+pub(crate) fn lowest_position(bits: u64) -> i64
     requires some { 0 < bits }
     ensures { IsLowest bits result }
 {

@@ -2,6 +2,7 @@
 //! bits of one number.
 #![tactic(auto)]
 
+mod blocks;
 pub mod cells;
 pub mod handover;
 pub mod registers;

@@ -5,10 +5,11 @@ ghost use Rattle.bb_sim.specs.Meter.{CountsPart, CountsRun, IsWithinRun};
 ghost use Rattle.bb_sim.specs.Outcome.{IsOutcome};
 ghost use Rattle.bb_narrow.specs.Registers.{EndsWith, IsNarrowRun};
 
+use crate::blocks::simulate_in_blocks;
 use crate::run::{NarrowMoved, NarrowRun};
 use crate::table::{MOST_STATES, NarrowTable};
 use bb_machine::{Limits, Machine};
-use bb_sim::{Meter, Outcome, simulate, simulate_from};
+use bb_sim::{Meter, Outcome, simulate};
 use bb_tape::{Memory, Tape};
 
 /// A run in registers and its outcome; none where its next step would leave the 64 cells.
@@ -63,7 +64,7 @@ pub fn simulate_narrow<T: Tape>(
             unreachable!();
         };
         end.run.count(end.run.steps, limits, meter);
-        return simulate_from(machine, runner, tape, limits, meter);
+        return simulate_in_blocks(machine, runner, tape, limits, meter);
     };
     end.run.count(end.run.last_step(outcome), limits, meter);
     Ok(outcome)

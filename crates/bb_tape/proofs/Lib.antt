@@ -7,10 +7,12 @@ mod Sound
 mod MapContent
 mod Outcome
 mod Slices
+mod Lanes
 mod RingIndex
 mod Laying
 mod Rings
 mod RingSteps
+mod Blocks
 mod Pieces
 mod FromPieces
 mod AnyPosition

@@ -1,4 +1,5 @@
 pub mod Content
+pub mod Block
 pub mod Numbers
 pub mod TapeView
 pub mod Window

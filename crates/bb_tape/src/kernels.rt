@@ -1,7 +1,8 @@
 //! Comparing and counting over slices, 32 bytes at a time.
 
 ghost use Rattle.std.specs.Prelude.{◌≡◌, ◌↔◌, ◌==◌, ◌+◌, ◌*◌, ◌^◌, ◌<◌, ◌≤◌};
-ghost use Rattle.std.specs.Prelude.{not, length, take, count_by, IsTrue};
+ghost use Rattle.std.specs.Prelude.{not, length, take, count_by, IsTrue, ℕ, min, slice_index};
+ghost use Rattle.std.specs.Int.{bit_at};
 ghost use Rattle.std.specs.Simd.Lanes.{chunk};
 
 use std::simd::prelude::*;
@@ -93,4 +94,48 @@ fn count_one_by_one(a: &[u8]) -> usize
     ensures { result ≡ count_by (λ x. not (x == 0)) a.now }
 {
     a.iter().filter(|x| **x != 0).count()
+}
+
+/// Which of the 64 bytes from an index on aren't 0, as bits.
+#[inline(always)]
+pub(crate) fn nonzero_bits(a: &[u8], at: usize) -> u64
+    requires { at + 64 ≤ length a.now }
+    ensures { (k : ℕ) → k < 64 → bit_at result k ≡ min 1 (slice_index a.now (at + k)) }
+{
+    nonzero_lanes(a, at + LANES) * (1 << LANES) + nonzero_lanes(a, at)
+}
+
+/// Which of the 32 bytes from an index on aren't 0, as bits.
+#[inline(always)]
+fn nonzero_lanes(a: &[u8], at: usize) -> u64
+    requires { at + LANES ≤ length a.now }
+    ensures bits { (k : ℕ) → k < LANES → bit_at result k ≡ min 1 (slice_index a.now (at + k)) }
+    ensures small { result < 2 ^ LANES }
+{
+    let some = u8x32::from_slice(&a[at..]).simd_ne(u8x32::splat(0));
+    some.to_bitmask()
+}
+
+/// Puts the bits of a number into the 64 bytes from an index on.
+#[inline(always)]
+pub(crate) fn put_bits(a: &mut [u8], at: usize, bits: u64)
+    requires { at + 64 ≤ length a.old }
+    ensures here { (k : ℕ) → k < 64 → slice_index a.new (at + k) ≡ bit_at bits k }
+    ensures below { (k : ℕ) → k < at → slice_index a.new k ≡ slice_index a.old k }
+    ensures above { (k : ℕ) → at + 64 ≤ k → slice_index a.new k ≡ slice_index a.old k }
+    ensures length { length a.new ≡ length a.old }
+{
+    spread(&mut a[at..at + 64], bits);
+}
+
+/// Writes the bits of a number to 64 bytes.
+#[inline(always)]
+fn spread(a: &mut [u8], bits: u64)
+    requires { length a.old ≡ 64 }
+    ensures bits { (k : ℕ) → k < 64 → slice_index a.new k ≡ bit_at bits k }
+    ensures length { length a.new ≡ 64 }
+{
+    for place in 0..64usize {
+        a[place] = ((bits >> place) & 1) as u8;
+    }
 }

@@ -7,7 +7,7 @@ ghost use Rattle.bb_tape.specs.TapeView.{fresh, IsSound, IsStretch};
 ghost use Rattle.bb_tape.specs.Windowed.{view_of};
 ghost use Rattle.bb_tape.specs.Ring.{CanCopy, IsClear, ring_content, symbols};
 
-use crate::kernels::{count_nonzero, equal};
+use crate::kernels::{count_nonzero, equal, nonzero_bits, put_bits};
 use crate::tape::{MAX_CELLS, Memory, Tape, TapeFault};
 use crate::window::{NEAR, Window};
 use std::alloc::Global;
@@ -265,6 +265,18 @@ impl Tape for RingTape {
     fn score(&self) -> u64 {
         let (first, second) = self.pieces(self.window.low, self.window.width());
         (count_nonzero(first) + count_nonzero(second)) as u64
+    }
+
+    #[inline]
+    fn block(&self, from: i64) -> u64 {
+        nonzero_bits(self.cells.as_slice(), self.window.index(from))
+    }
+
+    #[inline]
+    fn put_block(&mut self, from: i64, bits: u64) -> Result<(), Memory> {
+        let at = self.window.index(from);
+        put_bits(self.cells.as_mut_slice(), at, bits);
+        Ok(())
     }
 
     #[inline]

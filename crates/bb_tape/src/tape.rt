@@ -1,6 +1,7 @@
 //! A tape as its users see it, and why a call on one may be refused.
 
 ghost use Rattle.std.specs.Prelude.{◌≡◌, ◌↔◌, ◌≤◌, Bool, IfErr, IsTrue, OnErr, OnOk, pos, ◌+ℤ◌, ◌-ℤ◌, ◌<ℤ◌};
+ghost use Rattle.bb_tape.specs.Block.{HasBits, IsBlock, PutsBits};
 ghost use Rattle.bb_tape.specs.Content.{cell, score};
 ghost use Rattle.bb_tape.specs.TapeView.{TapeView, fresh, visited, written, width, IsInside};
 ghost use Rattle.bb_tape.specs.TapeView.{IsBeside, IsStretch, AgreesFrom, IsSound};
@@ -116,6 +117,36 @@ pub trait Tape: Drop {
     /// How many cells aren't 0.
     fn score(&self) -> u64
         ensures { result ≡ score (view self.now).content };
+
+    /// Which of the 64 cells of a block aren't 0, as bits: that at `from` is the lowest.
+    fn block(&self, from: i64) -> u64
+        requires { IsBlock (view self.now) from }
+        ensures { HasBits (view self.now).content from result }
+    {
+        let mut bits = 0;
+        for place in 0..64u32 {
+            if self.read_inside(from + i64::from(place)) != 0 {
+                bits |= 1 << place;
+            }
+        }
+        bits
+    }
+
+    /// Puts the bits of a number into the 64 cells of a block.
+    fn put_block(&mut self, from: i64, bits: u64) -> Result<(), Memory>
+        requires { IsBlock (view self.old) from }
+        ensures ok { OnOk result (PutsBits (view self.old) (view self.new) from bits 64) }
+        ensures limit { (view self.new).limit ≡ (view self.old).limit }
+        ensures memory { OnErr result (IsTrue GROWS) }
+    {
+        for place in 0..64u32 {
+            let symbol = ((bits >> place) & 1) as u8;
+            let Ok(()) = self.write(from + i64::from(place), symbol) else {
+                return Err(Memory);
+            };
+        }
+        Ok(())
+    }
 
     /// The lowest position of the window.
     fn low(&self) -> i64

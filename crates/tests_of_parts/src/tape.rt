@@ -85,6 +85,23 @@ fn reaches_in_three_cells<T: Tape>(rt: &impl Abort, tape: &mut T) -> Result<(), 
     Ok(())
 }
 
+/// Blocks of 64 cells, taken and put back, on a blank tape with limit 200.
+fn blocks_in_two_hundred_cells<T: Tape>(rt: &impl Abort, tape: &mut T) -> Result<(), Fail>
+    requires { T.view tape.old ≡ fresh 200 }
+{
+    widen_to(tape, -64)?;
+    widen_to(tape, 66)?;
+    tape.write(2, 10)?;
+    tape.write(63, 1)?;
+    tape.write(64, 3)?;
+    assert_eq!(rt; tape.block(0), (1 << 63) + 4);
+    tape.put_block(3, u64::MAX - 1)?;
+    assert_eq!(rt; (tape.read(2), tape.read(3), tape.read(4), tape.read(66)), (10, 0, 1, 1));
+    tape.put_block(-64, 6)?;
+    assert_eq!(rt; (tape.block(-64), tape.read(-63), tape.score()), (6, 1, 66));
+    Ok(())
+}
+
 #[test]
 fn rows_over_a_map(rt: HostRuntime) -> Result<(), Fail> {
     let alloc = rt.alloc();
@@ -95,6 +112,7 @@ fn rows_over_a_map(rt: HostRuntime) -> Result<(), Fail> {
     )?;
     writes_in_three_cells(&rt, &mut MapTape::new(alloc, 3))?;
     reaches_in_three_cells(&rt, &mut MapTape::new(alloc, 3))?;
+    blocks_in_two_hundred_cells(&rt, &mut MapTape::new(alloc, 200))?;
     copies_in_three_cells(
         &rt,
         &mut MapTape::new(alloc, 3),
@@ -114,6 +132,7 @@ fn rows_over_a_ring(rt: HostRuntime) -> Result<(), Fail> {
     )?;
     writes_in_three_cells(&rt, &mut RingTape::new(alloc, 3)?)?;
     reaches_in_three_cells(&rt, &mut RingTape::new(alloc, 3)?)?;
+    blocks_in_two_hundred_cells(&rt, &mut RingTape::new(alloc, 200)?)?;
     copies_in_three_cells(
         &rt,
         &mut RingTape::new(alloc, 3)?,

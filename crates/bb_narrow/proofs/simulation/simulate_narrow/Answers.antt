@@ -15,22 +15,22 @@ so_far g c =
     let known = c.run_in_registers-end.ensures.run in
     counted_so_far known c.args.meter.now _ (c.in-Ok.ensures.steps ∙ known.steps_is) c.count.ensures
 
-pub simulate_from-requires-clause-counted : goal.simulate_from-requires-clause-counted
-simulate_from-requires-clause-counted g c =
-    (c.args.meter.now, so_far g (goal.at.simulate_from-requires-clause-counted g c).After-count, c.requires.room)
+pub simulate_in_blocks-requires-clause-counted : goal.simulate_in_blocks-requires-clause-counted
+simulate_in_blocks-requires-clause-counted g c =
+    (c.args.meter.now, so_far g (goal.at.simulate_in_blocks-requires-clause-counted g c).After-count, c.requires.room)
 
 pub returns-in_default-clause-counted : goal.returns-in_default-clause-counted
 returns-in_default-clause-counted g c =
-    c.simulate_from.ensures.counted c.args.meter.now
+    c.simulate_in_blocks.ensures.counted c.args.meter.now
     (so_far g (goal.at.returns-in_default-clause-counted g c).After-count)
 
 pub returns-in_default-clause-cut : goal.returns-in_default-clause-cut
 returns-in_default-clause-cut g c =
-    c.simulate_from.ensures.cut c.args.meter.now (so_far g (goal.at.returns-in_default-clause-cut g c).After-count)
+    c.simulate_in_blocks.ensures.cut c.args.meter.now (so_far g (goal.at.returns-in_default-clause-cut g c).After-count)
 
 pub returns-in_default-clause-within : goal.returns-in_default-clause-within
 returns-in_default-clause-within g c =
-    c.simulate_from.ensures.within c.args.meter.now
+    c.simulate_in_blocks.ensures.within c.args.meter.now
     (so_far g (goal.at.returns-in_default-clause-within g c).After-count)
 
 -- how the run has ended

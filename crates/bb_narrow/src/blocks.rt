@@ -1,0 +1,325 @@
+//! A run on a tape, made in registers while it stays within a block of 64 cells.
+ghost use Rattle.std.specs.Prelude.{◌≡◌, ◌+◌, ◌<◌, ◌≤◌, ◌^◌, ℤ, neg_ℤ, pos, ◌+ℤ◌, ◌≤ℤ◌, ◌<ℤ◌, false};
+ghost use Rattle.std.specs.Prelude.{IfOk, IfSome, IsTrue, OnErr, OnOk, length};
+ghost use Rattle.bb_machine.specs.Machine.{symbols_of};
+ghost use Rattle.bb_tape.specs.declared.tape.TheConstants.{MAX_CELLS};
+ghost use Rattle.bb_tape.specs.TapeView.{TapeView};
+ghost use Rattle.bb_sim.specs.declared.meter.Meter.{Meter};
+ghost use Rattle.bb_sim.specs.Meter.{CountsPart, CountsRun, CountsTo, IsWithinRun};
+ghost use Rattle.bb_sim.specs.Outcome.{IsOutcome};
+ghost use Rattle.bb_sim.specs.Runner.{Stands, high_of, low_of, position_of, state_of, steps_of};
+ghost use Rattle.bb_narrow.specs.Blocks.{GoesOn, IsBlockOf, IsBlockRun};
+ghost use Rattle.bb_narrow.specs.Packed.{IsTableOf};
+
+use crate::handover::lowest_position;
+use crate::registers::{Registers, stops};
+use crate::table::NarrowTable;
+use bb_machine::{Limits, Machine, Next};
+use bb_sim::{Meter, Moved, Outcome, Runner, simulate_from};
+use bb_tape::{Memory, Tape};
+
+/// How many cells of a new block are behind the head.
+const BEHIND: i64 = 8;
+
+/// Blocks are looked for where the head is at a multiple of this, which spares other steps the test. A head
+/// that crosses a block comes to such a position where it leaves it.
+const STRIDE: u64 = 8;
+
+/// A run inside a block. Bit i of its registers is the block's cell i.
+#[derive(Clone, Copy, Debug)]
+pub(crate) struct BlockRun {
+    /// Its configuration.
+    pub(crate) registers: Registers,
+    /// The steps made so far.
+    pub(crate) steps: u64,
+}
+
+impl BlockRun {
+    /// Makes the next step, if there is one inside the block and the limit of steps. False if not.
+    #[inline(always)]
+    fn advance(&mut self, machine: &Machine, table: &NarrowTable, limits: &Limits) -> bool
+        requires symbols { symbols_of machine.now ≡ 2 }
+        requires table { IsTableOf machine.now table.now }
+        requires few { self.old.steps ≤ limits.now.steps }
+        ensures run { (from : ℤ) (tape : TapeView) → IsBlockRun machine.now limits.now from tape self.old
+            → IsBlockRun machine.now limits.now from tape self.new }
+        ensures few { self.new.steps ≤ limits.now.steps }
+        ensures more { self.old.steps ≤ self.new.steps }
+        ensures stepped { IsTrue result → self.new.steps ≡ self.old.steps + 1 }
+    {
+        machine.show_machine();
+        let entry = table.entry(self.registers.entry, self.registers.reads_one());
+        if stops(entry) {
+            return false;
+        }
+        let head = self.registers.moved_head(entry);
+        if head == 0 {
+            return false;
+        }
+        if self.steps == limits.steps() {
+            return false;
+        }
+        self.registers = Registers {
+            bits: self.registers.flipped_bits(entry),
+            head,
+            entry,
+        };
+        self.steps += 1;
+        true
+    }
+
+    /// Makes all steps up to one that stops, leaves the block or is outside the limit of steps.
+    #[inline(always)]
+    fn run(self, machine: &Machine, table: &NarrowTable, limits: &Limits) -> BlockRun
+        requires symbols { symbols_of machine.now ≡ 2 }
+        requires table { IsTableOf machine.now table.now }
+        requires few { self.steps ≤ limits.now.steps }
+        ensures run { (from : ℤ) (tape : TapeView) → IsBlockRun machine.now limits.now from tape self
+            → IsBlockRun machine.now limits.now from tape result }
+        ensures few { result.steps ≤ limits.now.steps }
+        ensures more { self.steps ≤ result.steps }
+    {
+        let mut run = self;
+        let table = *table;
+        let limits = *limits;
+        loop {
+            if !run.advance(machine, &table, &limits) {
+                return run;
+            }
+        }
+    }
+
+    /// Takes the cells of a block from a tape, for the runner that stands there.
+    #[inline(always)]
+    fn take<T: Tape>(
+        machine: &Machine,
+        limits: &Limits,
+        runner: &Runner,
+        state: u8,
+        tape: &T,
+        from: i64,
+    ) -> BlockRun
+        requires symbols { symbols_of machine.now ≡ 2 }
+        requires states { length machine.now ≤ 7 }
+        requires stands { Stands machine.now runner.now (T.view tape.now) }
+        requires state { state_of runner.now ≡ Next.State state }
+        requires limit { (T.view tape.now).limit ≡ limits.now.cells }
+        requires few { steps_of runner.now ≤ limits.now.steps }
+        requires block { IsBlockOf runner.now from }
+        ensures run { IsBlockRun machine.now limits.now from (T.view tape.now) result }
+        ensures steps { result.steps ≡ steps_of runner.now }
+    {
+        BlockRun {
+            registers: Registers {
+                bits: tape.block(from),
+                head: 1 << ((runner.position() - from) as u32),
+                entry: 9 * u64::from(state),
+            },
+            steps: runner.steps(),
+        }
+    }
+
+    /// Puts the cells back, and moves the runner to where the run stands.
+    #[inline(always)]
+    fn put<T: Tape>(
+        &self,
+        machine: &Machine,
+        limits: &Limits,
+        runner: &mut Runner,
+        tape: &mut T,
+        from: i64,
+    )
+        requires fixed { T.GROWS ≡ false }
+        requires low { low_of runner.old ≡ (T.view tape.old).low }
+        requires high { high_of runner.old ≡ (T.view tape.old).high }
+        requires run { IsBlockRun machine.now limits.now from (T.view tape.old) self.now }
+        ensures stands { Stands machine.now runner.new (T.view tape.new) }
+        ensures limit { (T.view tape.new).limit ≡ (T.view tape.old).limit }
+        ensures low { (T.view tape.new).low ≡ (T.view tape.old).low }
+        ensures high { (T.view tape.new).high ≡ (T.view tape.old).high }
+        ensures steps { steps_of runner.new ≡ self.now.steps }
+    {
+        let Ok(()) = tape.put_block(from, self.registers.bits) else {
+            unreachable!();
+        };
+        *runner = Runner::at(
+            Next::State(self.registers.state()),
+            from + 32 + lowest_position(self.registers.head),
+            self.steps,
+            runner.low(),
+            runner.cells(),
+        );
+    }
+}
+
+/// How many cells of a new block are behind a head that went right or left, counted from the block's beginning.
+#[inline(always)]
+fn cells_before(right: bool) -> i64
+    ensures some { pos 0 ≤ℤ result }
+    ensures few { result <ℤ pos 64 }
+{
+    if right { BEHIND } else { 63 - BEHIND }
+}
+
+/// Where the block begins that has so many cells before the head, if it is in the window on one side of 0.
+#[inline(always)]
+fn block_start(runner: &Runner, before: i64) -> Option<i64>
+    requires low { neg_ℤ (pos MAX_CELLS) ≤ℤ position_of runner.now }
+    requires high { position_of runner.now ≤ℤ pos MAX_CELLS }
+    requires some { pos 0 ≤ℤ before }
+    requires few { before <ℤ pos 64 }
+    ensures { IfSome result (λ from. IsBlockOf runner.now from) }
+{
+    if runner.position().cast_unsigned() % STRIDE != 0 {
+        return None;
+    }
+    let from = runner.position() - before;
+    if from < runner.low() {
+        return None;
+    }
+    if runner.high() < from + 63 {
+        return None;
+    }
+    if from >= 0 {
+        return Some(from);
+    }
+    if from + 64 <= 0 {
+        return Some(from);
+    }
+    None
+}
+
+/// Makes the steps inside a block around the head.
+fn run_block<T: Tape>(
+    machine: &Machine,
+    table: &NarrowTable,
+    runner: &mut Runner,
+    from: i64,
+    tape: &mut T,
+    limits: &Limits,
+    meter: &mut Meter,
+)
+    requires fixed { T.GROWS ≡ false }
+    requires symbols { symbols_of machine.now ≡ 2 }
+    requires states { length machine.now ≤ 7 }
+    requires table { IsTableOf machine.now table.now }
+    requires stands { Stands machine.now runner.old (T.view tape.old) }
+    requires block { IsBlockOf runner.old from }
+    requires limit { (T.view tape.old).limit ≡ limits.now.cells }
+    requires few { steps_of runner.old ≤ limits.now.steps }
+    requires counted { (begun : Meter) × CountsTo machine.now (steps_of runner.old) begun meter.old
+        × (begun.steps + limits.now.steps + 1 < 2 ^ 64) }
+    ensures { GoesOn machine.now limits.now runner.old runner.new (T.view tape.old) (T.view tape.new)
+        meter.old meter.new }
+{
+    let Some(state) = runner.state() else {
+        return;
+    };
+    let start = BlockRun::take(machine, limits, runner, state, tape, from);
+    let end = start.run(machine, table, limits);
+    end.put(machine, limits, runner, tape, from);
+    meter.steps += end.steps - start.steps;
+}
+
+/// Makes steps on the tape up to one after which there is a block around the head. None where a step stops or
+/// is outside the limits; then it isn't made.
+fn find_block<T: Tape>(
+    machine: &Machine,
+    runner: &mut Runner,
+    tape: &mut T,
+    limits: &Limits,
+    meter: &mut Meter,
+) -> Option<i64>
+    requires fixed { T.GROWS ≡ false }
+    requires stands { Stands machine.now runner.old (T.view tape.old) }
+    requires limit { (T.view tape.old).limit ≡ limits.now.cells }
+    requires few { steps_of runner.old ≤ limits.now.steps }
+    requires counted { (begun : Meter) × CountsTo machine.now (steps_of runner.old) begun meter.old
+        × (begun.steps + limits.now.steps + 1 < 2 ^ 64) }
+    ensures goes { GoesOn machine.now limits.now runner.old runner.new (T.view tape.old) (T.view tape.new)
+        meter.old meter.new }
+    ensures block { IfSome result (λ from. IsBlockOf runner.new from) }
+    ensures stepped { IfSome result (λ from. steps_of runner.old < steps_of runner.new) }
+{
+    let limits = *limits;
+    let mut here = *runner;
+    let mut spent = *meter;
+    let from = step_to_block(machine, &mut here, tape, &limits, &mut spent);
+    *runner = here;
+    *meter = spent;
+    from
+}
+
+/// The body of `find_block`, inlined there: runner, limits and meter are its locals and stay in registers.
+#[inline(always)]
+fn step_to_block<T: Tape>(
+    machine: &Machine,
+    runner: &mut Runner,
+    tape: &mut T,
+    limits: &Limits,
+    meter: &mut Meter,
+) -> Option<i64>
+    requires fixed { T.GROWS ≡ false }
+    requires stands { Stands machine.now runner.old (T.view tape.old) }
+    requires limit { (T.view tape.old).limit ≡ limits.now.cells }
+    requires few { steps_of runner.old ≤ limits.now.steps }
+    requires counted { (begun : Meter) × CountsTo machine.now (steps_of runner.old) begun meter.old
+        × (begun.steps + limits.now.steps + 1 < 2 ^ 64) }
+    ensures goes { GoesOn machine.now limits.now runner.old runner.new (T.view tape.old) (T.view tape.new)
+        meter.old meter.new }
+    ensures block { IfSome result (λ from. IsBlockOf runner.new from) }
+    ensures stepped { IfSome result (λ from. steps_of runner.old < steps_of runner.new) }
+{
+    loop {
+        let position = runner.position();
+        let Ok(moved) = runner.advance(machine, tape, limits, meter) else {
+            unreachable!();
+        };
+        match moved {
+            Moved::Stepped => {}
+            Moved::Halted | Moved::NoSteps | Moved::NoCells => return None,
+        }
+        let before = cells_before(position < runner.position());
+        if let Some(from) = block_start(runner, before) {
+            return Some(from);
+        }
+    }
+}
+
+/// Continues a run as [`simulate_from`] does, for a machine of two symbols and at most seven states. Where it
+/// can, it takes blocks of 64 cells into registers.
+#[inline(never)]
+pub(crate) fn simulate_in_blocks<T: Tape>(
+    machine: &Machine,
+    runner: Runner,
+    tape: &mut T,
+    limits: &Limits,
+    meter: &mut Meter,
+) -> Result<Outcome, Memory>
+    requires fixed { T.GROWS ≡ false }
+    requires symbols { symbols_of machine.now ≡ 2 }
+    requires states { length machine.now ≤ 7 }
+    requires stands { Stands machine.now runner (T.view tape.old) }
+    requires limit { (T.view tape.old).limit ≡ limits.now.cells }
+    requires steps { steps_of runner ≤ limits.now.steps }
+    requires counted { (begun : Meter) × CountsTo machine.now (steps_of runner) begun meter.old
+        × (begun.steps + limits.now.steps + 1 < 2 ^ 64) }
+    ensures outcome { IfOk result (IsOutcome machine.now limits.now) }
+    ensures counted { (begun : Meter) → CountsTo machine.now (steps_of runner) begun meter.old
+        → OnOk result (CountsRun machine.now limits.now begun meter.new) }
+    ensures cut { (begun : Meter) → CountsTo machine.now (steps_of runner) begun meter.old
+        → OnErr result (CountsPart machine.now limits.now (T.view tape.new).content begun meter.new) }
+    ensures within { (begun : Meter) → CountsTo machine.now (steps_of runner) begun meter.old
+        → IsWithinRun limits.now begun meter.new }
+    ensures limit { (T.view tape.new).limit ≡ (T.view tape.old).limit }
+    ensures memory { OnErr result (IsTrue T.GROWS) }
+{
+    let table = NarrowTable::new(machine);
+    let mut runner = runner;
+    loop {
+        let Some(from) = find_block(machine, &mut runner, tape, limits, meter) else {
+            return simulate_from(machine, runner, tape, limits, meter);
+        };
+        run_block(machine, &table, &mut runner, from, tape, limits, meter);
+    }
+}

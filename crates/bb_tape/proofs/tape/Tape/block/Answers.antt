@@ -1,0 +1,48 @@
+use Rattle.std.proofs.Common.{◌≡◌, ◌∙◌, ◌+ℤ◌, ap, arith, of_z, pos, sym, to_z, w64}
+use Rattle.std.proofs.lemmas.Int.{ints}
+use Rattle.bb_tape.specs.Content.{cell}
+use Rattle.bb_tape.proofs.Blocks.{bits_clear, bits_set, rest_set}
+use Rattle.bb_tape.proofs.tape.Tape.block.Given as given
+use Rattle.bb_tape.proofs.tape.Tape.block.Goals as goal
+use Rattle.bb_tape.proofs.tape.Tape.block.Goals.{After-read_inside, then-read_inside-ne0, else-read_inside-ne0}
+
+is_read : (g : given.Over) (c : After-read_inside g) → c.read_inside.result
+    ≡ cell (g.Self.Tape.view c.args.self.now).content (to_z w64 (of_z w64 c.args.from) +ℤ pos c.loop-place.place)
+is_read g c =
+    let sound = g.met.Self.Tape.sound c.args.self.now in
+    c.read_inside.ensures
+    ∙ ap (cell (g.Self.Tape.view c.args.self.now).content) (omega (
+      arith,
+      ints,
+      c.from.ensures,
+      c.loop-place-test.true,
+      c.requires.low,
+      c.requires.high,
+      sound.from_zero,
+      sound.to_zero,
+      sound.within,
+      sound.limited,
+    ))
+
+pub loop-place-preserved : goal.loop-place-preserved
+loop-place-preserved g c =
+    let here = c.loop-place.invariant in
+    let read = is_read g (goal.at.loop-place-preserved g c).After-read_inside in
+    let content = (g.Self.Tape.view c.args.self.now).content in
+    let from = to_z w64 (of_z w64 c.args.from) in
+    let at = c.loop-place.place in
+    let few = c.loop-place-test.true in
+    elim c.if-read_inside-ne0.branch [
+      | then-read_inside-ne0 w ↦ rw w.bits-is (record {
+        few = omega arith;
+        bits = bits_set content from c.loop-place.bits at few here.bits here.rest
+            (λ none. w.if-read_inside-ne0.true (read ∙ none));
+        rest = rest_set content from c.loop-place.bits at few here.bits here.rest;
+      })
+      | else-read_inside-ne0 w ↦ rw w.bits-is (record {
+        few = omega arith;
+        bits = bits_clear content from c.loop-place.bits at few here.bits here.rest
+            (sym read ∙ w.if-read_inside-ne0.false);
+        rest = λ k h. here.rest k (omega (arith, h));
+      })
+    ]
