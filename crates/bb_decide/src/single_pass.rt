@@ -106,8 +106,8 @@ impl SinglePass {
 }
 
 /// Runs a machine until it halts, a limit is met, a record agrees with its partner or, in registers, a
-/// configuration is that of its partner. None at the first later step with the state, position and fingerprint
-/// of its partner, the greatest power of two below it: the two configurations may be the same.
+/// configuration is that of its partner. None at the first later step with the state, position and
+/// fingerprint of its partner, the greatest power of two below it: the two configurations may be the same.
 ///
 /// After an error the contents of the tapes are unspecified; the next call resets them.
 #[inline(never)]
@@ -130,8 +130,8 @@ pub fn run_single_pass<T: Tape, K: FingerprintKeys>(
     continue_single_pass(machine, limits, keys, begun, bench, meter)
 }
 
-/// The single-pass run of a machine that fits the registers: it begins there, and goes on on the bench where it
-/// leaves them.
+/// The single-pass run of a machine that fits the registers: it begins there, and goes on on the bench where
+/// it leaves them.
 fn run_from_registers<T: Tape, K: FingerprintKeys>(
     machine: &Machine,
     limits: &Limits,
@@ -214,8 +214,8 @@ fn continue_single_pass<T: Tape, K: FingerprintKeys>(
     run_single_pass_inline(machine, &limits, keys, begun, bench, meter)
 }
 
-/// The body of `continue_single_pass`, inlined there: the limits are its local and stay in registers. The runner
-/// counts its steps and cells, and the meter adds them at the end of the run.
+/// The body of `continue_single_pass`, inlined there: the limits are its local and stay in registers. The
+/// runner counts its steps and cells, and the meter adds them at the end of the run.
 #[inline(always)]
 fn run_single_pass_inline<T: Tape, K: FingerprintKeys>(
     machine: &Machine,

@@ -57,8 +57,8 @@ impl From<AllocError> for Refusal {
     }
 }
 
-/// Reads a command line. The first word is the program's name. Words come before limits, and limits before the
-/// machine.
+/// Reads a command line. The first word is the program's name. Words come before limits, and limits before
+/// the machine.
 pub fn ask(alloc: Global, words: &[&str]) -> Result<Asked, Refusal>
     ensures asked { IfOk result (IsAskedBy (map (λ word. word.now) words.now)) }
     ensures stop { IfErr result (IsStopOf (map (λ word. word.now) words.now)) }
