@@ -203,7 +203,9 @@ def measure_peer(bench: Bench, seed: int) -> None:
         table.times(case.name, ours, theirs)
     table.head("Branches and instructions")
     if has("branches", "objdump"):
-        table.row("unaligned and aligned branches of the single-pass run", "%d, %d" % unaligned_branches(program))
+        table.row(
+            "unaligned and aligned branches of the single-pass run", "%d, %d" % unaligned_branches(program)
+        )
     if has("instructions", "valgrind"):
         forms = {"the program": [program], "the peer in one run": [peer, "--one-run"], "the limit": [limit]}
         counted = "".join(decided[0].lines.splitlines(keepends=True)[::COUNTED])

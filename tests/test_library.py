@@ -82,7 +82,9 @@ def test_library_exports_its_calls_alone(library: pathlib.Path) -> None:
 
 
 @pytest.mark.needs("objdump")
-@pytest.mark.parametrize("target, path", [("library", "crates/bb_c/out/libbb.so"), ("bb", "crates/bb/out/bb")])
+@pytest.mark.parametrize(
+    "target, path", [("library", "crates/bb_c/out/libbb.so"), ("bb", "crates/bb/out/bb")]
+)
 def test_branches_are_aligned(target: str, path: str) -> None:
     """In what is proved; rustc aligns the branches of the build without the kit."""
     unaligned, aligned = unaligned_branches(str(build(target, path)))

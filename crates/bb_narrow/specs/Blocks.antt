@@ -21,9 +21,8 @@ pub record IsBlockOf (runner : Runner) (from : ℤ) : Type 0 where
   pub here : from ≤ℤ position_of runner
   pub within : position_of runner <ℤ (from +ℤ pos 64)
 
--- The state of a machine's run within the bounds, whose cells from a position on are kept in registers: there
--- is a runner, and the view of a tape, that stand for the same configuration and steps. All else of the view is
--- that of a tape on which the registers aren't written yet.
+-- A machine's run within the bounds, with the cells from a position on in registers. A runner and the view of a
+-- tape stand for the same configuration and steps. Outside the block the view is the tape's own.
 pub record IsBlockRun (table : Table) (bounds : Bounds) (from : ℤ) (tape : TapeView) (run : BlockRun)
     : Type 0 where
   pub runner : Runner

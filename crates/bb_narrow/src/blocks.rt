@@ -21,8 +21,8 @@ use bb_tape::{Memory, Tape};
 /// How many cells of a new block are behind the head.
 const BEHIND: i64 = 8;
 
-/// Blocks are looked for where the head is at a multiple of this, which spares other steps the test. A head
-/// that crosses a block comes to such a position where it leaves it.
+/// Blocks are looked for at multiples of this position alone, to spare other steps the test. A head leaves a
+/// crossed block at such a position.
 const STRIDE: u64 = 8;
 
 /// A run inside a block. Bit i of its registers is the block's cell i.
@@ -68,7 +68,7 @@ impl BlockRun {
         true
     }
 
-    /// Makes all steps up to one that stops, leaves the block or is outside the limit of steps.
+    /// Makes all steps before a halt, the end of the block or the limit of steps.
     #[inline(always)]
     fn run(self, machine: &Machine, table: &NarrowTable, limits: &Limits) -> BlockRun
         requires symbols { symbols_of machine.now ≡ 2 }
@@ -89,7 +89,7 @@ impl BlockRun {
         }
     }
 
-    /// Takes the cells of a block from a tape, for the runner that stands there.
+    /// Takes the cells of a block from a tape, for the runner on it.
     #[inline(always)]
     fn take<T: Tape>(
         machine: &Machine,
@@ -119,7 +119,7 @@ impl BlockRun {
         }
     }
 
-    /// Puts the cells back, and moves the runner to where the run stands.
+    /// Puts the cells back, and moves the runner to the run's position.
     #[inline(always)]
     fn put<T: Tape>(
         &self,
@@ -152,7 +152,7 @@ impl BlockRun {
     }
 }
 
-/// How many cells a new block has to the left of a head that went right or left.
+/// How many cells a new block has to the left of the head, by its last move.
 #[inline(always)]
 fn cells_before(right: bool) -> i64
     ensures some { pos 0 ≤ℤ result }
@@ -161,7 +161,7 @@ fn cells_before(right: bool) -> i64
     if right { BEHIND } else { 63 - BEHIND }
 }
 
-/// Where the block begins that has so many cells before the head, if it is in the window on one side of 0.
+/// The beginning of the block with so many cells before the head, if it is in the window on one side of 0.
 #[inline(always)]
 fn block_start(runner: &Runner, before: i64) -> Option<i64>
     requires low { neg_ℤ (pos MAX_CELLS) ≤ℤ position_of runner.now }
@@ -221,8 +221,8 @@ fn run_block<T: Tape>(
     meter.steps += end.steps - start.steps;
 }
 
-/// Makes steps on the tape up to one after which there is a block around the head. None where a step stops or
-/// is outside the limits; then it isn't made.
+/// Makes steps on the tape until there is a block around the head. None at a halt or a limit, before the
+/// step.
 fn find_block<T: Tape>(
     machine: &Machine,
     runner: &mut Runner,
@@ -286,8 +286,8 @@ fn step_to_block<T: Tape>(
     }
 }
 
-/// Continues a run as [`simulate_from`] does, for a machine of two symbols and at most seven states. Where it
-/// can, it takes blocks of 64 cells into registers.
+/// Continues a run as [`simulate_from`] does, for a machine of two symbols and at most seven states. If
+/// possible, it takes blocks of 64 cells into registers.
 #[inline(never)]
 pub(crate) fn simulate_in_blocks<T: Tape>(
     machine: &Machine,

@@ -96,8 +96,8 @@ impl NarrowRun {
         NarrowMoved::Stepped
     }
 
-    /// Makes the next step of a run that doesn't end here, unless it would leave the 64 cells: then it returns
-    /// false. It has no branch by the window, as the next cell is often new.
+    /// Makes the next step of a run not at its end. False if the step would leave the 64 cells; it isn't made
+    /// then. There is no branch by the window, as the next cell is often new.
     #[inline(always)]
     pub fn advance_inside(
         &mut self,
