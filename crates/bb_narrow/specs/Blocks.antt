@@ -21,8 +21,8 @@ pub record IsBlockOf (runner : Runner) (from : ℤ) : Type 0 where
   pub here : from ≤ℤ position_of runner
   pub within : position_of runner <ℤ (from +ℤ pos 64)
 
--- A machine's run within the bounds, with the cells from a position on in registers. A runner and the view of a
--- tape stand for the same configuration and steps. Outside the block the view is the tape's own.
+-- A machine's run within the bounds, with the cells from a position on in registers. A runner and the view of
+-- a tape stand for the same configuration and steps. Outside the block the view is the tape's own.
 pub record IsBlockRun (table : Table) (bounds : Bounds) (from : ℤ) (tape : TapeView) (run : BlockRun)
     : Type 0 where
   pub runner : Runner

@@ -96,7 +96,10 @@ fn blocks_in_two_hundred_cells<T: Tape>(rt: &impl Abort, tape: &mut T) -> Result
     tape.write(64, 3)?;
     assert_eq!(rt; tape.block(0), (1 << 63) + 4);
     tape.put_block(3, u64::MAX - 1)?;
-    assert_eq!(rt; (tape.read(2), tape.read(3), tape.read(4), tape.read(66)), (10, 0, 1, 1));
+    assert_eq!(rt;
+        (tape.read(2), tape.read(3), tape.read(4), tape.read(66)),
+        (10, 0, 1, 1)
+    );
     tape.put_block(-64, 6)?;
     assert_eq!(rt; (tape.block(-64), tape.read(-63), tape.score()), (6, 1, 66));
     Ok(())
