@@ -50,17 +50,12 @@ built := crates/bb_c/out
 .PHONY: library
 library: $(built)/libbb.so ## prove and link the library for other languages: libbb.so, libbb.a, include/bb.h
 
-# On some processors the branches of the single-pass run, and of the search for records, are slow unless they
-# begin at a multiple of 32 (docs/performance-tried.md).
 $(built)/libbb.so: $(built)/proved Makefile
 	@echo "linking libbb.so" >&2
 	@set -e; parts=$$(mktemp -d); trap 'rm -rf "$$parts"' EXIT; \
 	top=$$PWD; kit=$$(dirname "$$(rt doc)"); cd "$$parts"; \
 	ar x "$$top/$(built)/libbb_c.a"; ar x "$$kit/c/liblibc_c.a"; ld -r -o bb.o ./*.o; \
-	objcopy --wildcard --keep-global-symbol='bb_*' \
-	    --set-section-alignment '.text.bb_decide::single_pass::run_single_pass*=64' \
-	    --set-section-alignment '.text.bb_decide::single_pass::continue_single_pass*=64' \
-	    --set-section-alignment '.text.bb_decide::translation::seek_translation*=32' bb.o; \
+	objcopy --wildcard --keep-global-symbol='bb_*' bb.o; \
 	rm -f "$$top/$(built)/libbb.a"; ar rcs "$$top/$(built)/libbb.a" bb.o; \
 	cc -shared -Wl,-soname,libbb.so -Wl,-z,noexecstack -o libbb.so bb.o; \
 	mv libbb.so "$$top/$@"
@@ -80,7 +75,7 @@ python/dist/built: $(built)/libbb.so $(package) python/build_wheel.py
 	$(python) python/build_wheel.py --library $(built)/libbb.so
 	@touch $@
 
-web/out/bb.wasm: $(built)/proved web/build_module.sh web/narrow.py
+web/out/bb.wasm: $(built)/libbb.so web/build_module.sh web/narrow.py
 	web/build_module.sh
 
 web/out/bb.html: web/out/bb.wasm $(page) $(wildcard examples/*/*)

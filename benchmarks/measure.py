@@ -23,8 +23,8 @@ from typing import Callable, NamedTuple, Sequence
 
 from measuring import Cost, Table, has, list_machines, make, parser, program_of, run, take_turns
 from support.machines import CHAMPION, halting_once, uniform
-from support.program import MAX_CELLS, SIMULATION, as_lines, begins_modulo_64, build_peer, kind_of, replies
-from support.program import run_command
+from support.program import MAX_CELLS, SIMULATION, as_lines, build_peer, kind_of, replies, run_command
+from support.program import unaligned_branches
 
 CHAMPION_LIST = CHAMPION + "\n"
 LIMITS = ["--steps", "1000", "--cells", "200", "--depth", "60"]
@@ -201,9 +201,9 @@ def measure_peer(bench: Bench, seed: int) -> None:
         costs = bench.costs(case.lines, commands, True, 2 * table.runs - 1)
         ours, *theirs = (min(cost.processor for cost in row) for row in costs)
         table.times(case.name, ours, theirs)
-    table.head("Places and instructions")
-    if has("where the single-pass run begins", "nm"):
-        table.row("where the single-pass run begins, modulo 64", str(begins_modulo_64(program)))
+    table.head("Branches and instructions")
+    if has("branches", "objdump"):
+        table.row("unaligned and aligned branches of the single-pass run", "%d, %d" % unaligned_branches(program))
     if has("instructions", "valgrind"):
         forms = {"the program": [program], "the peer in one run": [peer, "--one-run"], "the limit": [limit]}
         counted = "".join(decided[0].lines.splitlines(keepends=True)[::COUNTED])

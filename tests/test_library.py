@@ -10,7 +10,7 @@ from typing import Callable
 import budlarem
 import pytest
 from support import TOP, ListMachines, build, require
-from support.program import as_lines, begins_modulo_64, run_command, replies
+from support.program import as_lines, replies, run_command, unaligned_branches
 from support.simulation import compare_lines
 from support.traces import trace
 
@@ -81,10 +81,12 @@ def test_library_exports_its_calls_alone(library: pathlib.Path) -> None:
     assert sorted(symbols) == CALLS
 
 
-@pytest.mark.needs("nm")
-def test_single_pass_run_begins_at_a_multiple_of_64() -> None:
-    """In the proved library; rustc aligns the branches of the other one."""
-    assert begins_modulo_64(str(build("library", "crates/bb_c/out/libbb.so"))) == [0]
+@pytest.mark.needs("objdump")
+@pytest.mark.parametrize("target, path", [("library", "crates/bb_c/out/libbb.so"), ("bb", "crates/bb/out/bb")])
+def test_branches_are_aligned(target: str, path: str) -> None:
+    """In what is proved; rustc aligns the branches of the build without the kit."""
+    unaligned, aligned = unaligned_branches(str(build(target, path)))
+    assert unaligned == 0 < aligned
 
 
 @pytest.mark.parametrize("compiler", [C, CPP], ids=" ".join)

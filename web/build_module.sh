@@ -3,13 +3,13 @@
 #
 #     web/build_module.sh
 #
-# It proves the library's crate if needed, in about two minutes after `./bb`. web/narrow.py narrows the pointers
-# of the library's LLVM IR to 32 bits, and the kit's clang compiles it for WebAssembly. The kit stays unchanged:
-# a folder of links replaces it during the build. Progress goes to standard error.
+# `make library` proves the library's crate and keeps its LLVM IR. web/narrow.py narrows the pointers of this code
+# to 32 bits, and the kit's clang compiles it for WebAssembly. Progress goes to standard error.
 set -eu
 [ $# -eq 0 ] || { echo "build_module.sh: it takes no arguments" >&2; exit 2; }
 web=$(cd "$(dirname "$0")" && pwd)
 module=$web/out/bb.wasm
+code=$web/../crates/bb_c/out/module.bc
 calls='bb_decide bb_decide_line bb_check bb_check_line bb_trace bb_recurrence'
 room=$(mktemp -d)
 trap 'rm -rf "$room"' EXIT
@@ -25,40 +25,13 @@ unexpected() {
     exit 1
 }
 
-# Links the kit's files under $room/kit. `bin` is a copy, since `rt` finds the kit by its own path, and clang is
-# a script that keeps the LLVM IR.
-stand_in() {
+# Proves the library's crate, which keeps its intermediate code.
+prove() {
     command -v rt >/dev/null || unexpected 'there is no command rt'
     kit=$(dirname "$(rt doc)")
-    for part in bin/rt bin/rattle toolchain/bin/clang toolchain/bin/ld.lld; do
-        [ -x "$kit/$part" ] || unexpected "$kit/$part is missing"
-    done
-    mkdir -p "$room/kit/toolchain/bin"
-    for part in "$kit"/* "$kit"/toolchain/* "$kit"/toolchain/bin/*; do
-        case ${part#"$kit"/} in
-            bin | toolchain | toolchain/bin | toolchain/bin/clang) ;;
-            *) ln -s "$part" "$room/kit/${part#"$kit"/}" ;;
-        esac
-    done
-    cp -R "$kit/bin" "$room/kit/bin"
-    cat >"$room/kit/toolchain/bin/clang" <<END
-#!/bin/sh
-for word in "\$@"; do
-    case \$word in *module.bc) cp "\$word" '$room/module.bc' ;; esac
-done
-exec '$kit/toolchain/bin/clang' "\$@"
-END
-    chmod +x "$room/kit/toolchain/bin/clang"
-}
-
-# Proves the library's crate, and keeps its intermediate code as $room/module.bc.
-prove() {
-    say 'proving bb_c and what it stands on'
-    if ! (cd "$web/../crates/bb_c" && "$room/kit/bin/rt" lib) </dev/null >"$room/log" 2>&1; then
-        cat "$room/log" >&2
-        exit 1
-    fi
-    [ -s "$room/module.bc" ] || unexpected 'the kit gave its clang no module.bc'
+    [ -s "$code" ] || rm -f "${code%/*}/proved"
+    make -s -C "$web/.." library >"$room/log" 2>&1 || { cat "$room/log" >&2; exit 1; }
+    [ -s "$code" ] || unexpected "the kit gave its clang no intermediate code"
 }
 
 # Runs the kit's clang over intermediate code; what it says is shown where it fails.
@@ -76,7 +49,7 @@ translate() {
 compile() {
     say 'compiling bb.wasm'
     ln -s "$kit/toolchain/bin/ld.lld" "$room/wasm-ld"
-    translate "$room/module.bc" --target=wasm64-unknown-unknown -S -emit-llvm -Xclang -disable-llvm-passes \
+    translate "$code" --target=wasm64-unknown-unknown -S -emit-llvm -Xclang -disable-llvm-passes \
         -o "$room/wide.ll"
     python3 "$web/narrow.py" "$room/wide.ll" "$room/narrow.ll"
     translate "$room/narrow.ll" --target=wasm32-unknown-unknown -msimd128 -mbulk-memory \
@@ -93,7 +66,6 @@ compile() {
     mv "$room/bb.wasm" "$module"
 }
 
-stand_in
 prove
 compile
 echo "$module"

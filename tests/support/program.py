@@ -194,11 +194,17 @@ def least_time(command: Sequence[str], given: bytes) -> float:
     return min(times)
 
 
-def begins_modulo_64(built: str) -> list[int]:
-    """Where the single-pass run begins modulo 64, by `nm`: it may make a tenth of the time of short runs."""
-    symbols = run_command(["nm", built]).output.decode("utf-8", "replace").splitlines()
-    begins = [symbol.split()[0] for symbol in symbols if "single_pass::continue_single_pass::" in symbol]
-    return [int(begin, 16) % 64 for begin in begins]
+def unaligned_branches(built: str) -> tuple[int, int]:
+    """How many branches of the single-pass run lie across a multiple of 32 bytes or end there, and how many lie
+    elsewhere, by `objdump`: some processors are slow at the first."""
+    code = run_command(["objdump", "-d", "--no-show-raw-insn", built]).output.decode("utf-8", "replace")
+    counts = [0, 0]
+    for function in re.findall(r"^\w+ <.*single_pass::\w*single_pass::(?s:.*?)\n\n", code, re.MULTILINE):
+        rows = re.findall(r"^ *(\w+):\t(\w+)", function, re.MULTILINE)
+        for (begin, word), (end, _) in zip(rows, rows[1:]):
+            if word.startswith("j"):
+                counts[int(begin, 16) // 32 == int(end, 16) // 32] += 1
+    return counts[0], counts[1]
 
 
 def plan_of(words: list[str]) -> dict[str, Any]:

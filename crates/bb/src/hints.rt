@@ -1,6 +1,7 @@
 //! Hints on a terminal beside an answer: the kind of an input without lines, and the form of a number.
 
-ghost use Rattle.std.specs.Prelude.{◌≡◌, None};
+ghost use Rattle.std.specs.Prelude.{◌≡◌, ◌↔◌, None, Some};
+ghost use Rattle.bb.specs.Hints.{IsGzip, IsUtf16};
 
 use arrayvec::ArrayString;
 use std::fmt;
@@ -62,7 +63,10 @@ impl<R: Read> Read for Hinted<R> {
 }
 
 /// The hint from the first bytes of an input, if any.
-pub fn input_hint(bytes: &[u8]) -> Option<InputHint> {
+pub fn input_hint(bytes: &[u8]) -> Option<InputHint>
+    ensures gzip { (result ≡ Some InputHint.Gzip) ↔ IsGzip bytes.now }
+    ensures utf16 { (result ≡ Some InputHint.Utf16) ↔ IsUtf16 bytes.now }
+{
     if bytes.starts_with(b"\x1f\x8b") {
         return Some(InputHint::Gzip);
     }

@@ -1,4 +1,6 @@
 //! The content of the progress line of `bb`, and its conditions.
+ghost use Rattle.std.specs.Prelude.{◌≡◌, IfSome, Some};
+ghost use Rattle.bb.specs.Progress.{counts_claims};
 
 use bb_command::Work;
 use bb_run::{AnswerCounts, VerdictCounts};
@@ -25,7 +27,9 @@ pub struct CountsByKind<'a> {
 impl<'a> CountsByKind<'a> {
     /// The counts to show during this work. None for a trace, if standard error is no terminal, and if
     /// standard output is neither a file nor the null device.
-    pub fn of(rt: &HostRuntime, work: &Work, counts: &'a Counts) -> Option<CountsByKind<'a>> {
+    pub fn of(rt: &HostRuntime, work: &Work, counts: &'a Counts) -> Option<CountsByKind<'a>>
+        ensures { IfSome result (λ shown. counts_claims work.now ≡ Some shown.is_check) }
+    {
         let is_check = match work {
             Work::Decide(_) => false,
             Work::Check => true,

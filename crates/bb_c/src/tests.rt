@@ -179,8 +179,8 @@ fn costs_are_added(rt: HostRuntime) {
     );
 }
 
-/// A pair, a machine that quasihalts, the same by a pair two periods apart, a pair beyond the limits, no pair,
-/// and no claim; and the replies.
+/// A pair, a machine that quasihalts, the same by a pair two periods apart, a pair beyond the limits, no
+/// pair, and no claim; and the replies.
 const PAIRS: &[u8] = b"1RB---_1RA--- translated R 2 4 2 1
 1RB---_1RB--- translated R 1 2 1 1
 1RB---_1RB--- translated R 1 3

@@ -1,8 +1,9 @@
 //! Options and arguments of a command line, and the values given for them.
-ghost use Rattle.std.specs.Prelude.{◌≡◌, false, IfOk, Some, codes, option_map};
+ghost use Rattle.std.specs.Prelude.{◌≡◌, ◌++◌, false, IfOk, IfSome, Some, codes, decimal, option_map};
 ghost use Rattle.std.specs.String.{string_bytes};
 ghost use Rattle.clap.specs.Words.{first_of, found_of, kind_of, rows_of, rule_of};
 ghost use Rattle.clap.specs.declared.builder.texts.Texts.TheVariants.{One};
+ghost use Rattle.bb_machine.specs.declared.limits.TheConstants.{MAX_CELLS};
 ghost use Rattle.bb_command.specs.Command.{IsKindStop, is_given, number_of};
 ghost use Rattle.bb_command.specs.CommandLine.{
   by_default,
@@ -21,6 +22,9 @@ use std::alloc::{AllocError, Global};
 /// The default number of cells: 2^16.
 const DEFAULT_CELLS: &str = "65536";
 
+/// The help of `--cells`. Help is a literal; a clause says that its range ends at `MAX_CELLS`.
+const CELLS_HELP: &str = "The most cells of one tape, 1 to 67108864";
+
 /// The option `--steps N`, the limit of steps.
 pub fn steps<'a>(alloc: Global) -> Arg<'a>
     ensures rule { rule_of result ≡ steps_rule }
@@ -38,13 +42,10 @@ pub fn steps<'a>(alloc: Global) -> Arg<'a>
 pub fn cells<'a>(alloc: Global) -> Arg<'a>
     ensures rule { rule_of result ≡ cells_rule }
     ensures local { result.global ≡ false }
+    ensures help { IfSome result.help (λ help.
+        help.now ≡ codes "The most cells of one tape, 1 to " ++ decimal MAX_CELLS) }
 {
-    limit(
-        alloc,
-        "cells",
-        DEFAULT_CELLS,
-        "The most cells of one tape, 1 to 67108864",
-    )
+    limit(alloc, "cells", DEFAULT_CELLS, CELLS_HELP)
 }
 
 /// An option with a default. Help is one literal, so the ranges of `bb_machine::limits` are written out

@@ -25,7 +25,8 @@ IsHalt verdict = IsTrue (is_halt verdict)
 abbrev pub IsOneOf : Table → Option UndefinedEntry → Option UndefinedEntry → Type 0
 IsOneOf table None found = found ≡ None
 IsOneOf table (Some undefined) None = HasOtherUndefined table undefined.state undefined.symbol → ⊥
-IsOneOf table (Some undefined) (Some other) = (other ≡ undefined) × HasOtherUndefined table undefined.state undefined.symbol
+IsOneOf table (Some undefined) (Some other) =
+    (other ≡ undefined) × HasOtherUndefined table undefined.state undefined.symbol
 
 -- the checker's answer to the verdict is `ok` or `open`
 pub record IsFineClaim (bounds : Bounds) (table : Table) (verdict : Verdict) : Type 0 where

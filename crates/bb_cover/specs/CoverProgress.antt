@@ -36,8 +36,8 @@ size_after None table = Some (record { states = length table; symbols = symbols_
 size_after (Some size) table = Some size
 
 -- a machine was visited: those that fill its `---`, if there is one to fill, come in its place
-pub record GoesOn (below : Option Table) (old : CoverProgress) (table : Table) (undefined : Option UndefinedEntry)
-    (new : CoverProgress) : Type 0 where
+pub record GoesOn (below : Option Table) (old : CoverProgress) (table : Table)
+    (undefined : Option UndefinedEntry) (new : CoverProgress) : Type 0 where
   pub rest : List Table
   pub asked : IsAsked below old.size old.walk table rest
   pub more : List Table

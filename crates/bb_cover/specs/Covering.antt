@@ -86,14 +86,14 @@ CoversRoot None verdicts states symbols =
 CoversRoot (Some first) verdicts states symbols = Unit {0}
 
 -- these verdict lines are the whole walk, and the counts are theirs
-pub record IsJoinedWalk (below : Option Table) (counts : Counts) (states symbols : ℕ) (verdicts : List VerdictLine)
-    : Type 0 where
+pub record IsJoinedWalk (below : Option Table) (counts : Counts) (states symbols : ℕ)
+    (verdicts : List VerdictLine) : Type 0 where
   pub below_root : IsWalkBelow (root_of below states symbols) verdicts
   pub covers : CoversRoot below verdicts states symbols
   pub totals : HasTotals verdicts counts.lines counts.undecided counts.wide
 
--- so with the lines of each shard in its place, whatever they are, the list is a whole walk; without shards it
--- is that itself
+-- so with the lines of each shard in its place, whatever they are, the list is a whole walk; without shards
+-- it is that itself
 pub record CoversSize (task : Task) (bytes : List (List ℕ)) (counts : Counts) (states symbols : ℕ)
     : Type 0 where
   pub whole : IsWholeWalk task bytes states symbols

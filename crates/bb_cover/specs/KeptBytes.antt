@@ -38,8 +38,11 @@ shard_short table shard bytes is =
     let undecided = number shard.undecided is.numbers.1 in
     let wide = number shard.wide is.numbers.2 in
     let whole = length-append (text table) (32 ∷ shard_text shard is.digest) in
-    let words = length-append (codes "below ") (decimal shard.lines ++ (32 ∷ (decimal shard.undecided ++ (32 ∷ (decimal shard.wide ++ (32 ∷ is.digest)))))) in
-    let first = length-append (decimal shard.lines) (32 ∷ (decimal shard.undecided ++ (32 ∷ (decimal shard.wide ++ (32 ∷ is.digest))))) in
+    let words = length-append (codes "below ")
+    (decimal shard.lines ++ (32 ∷ (decimal shard.undecided
+    ++ (32 ∷ (decimal shard.wide ++ (32 ∷ is.digest)))))) in
+    let first = length-append (decimal shard.lines)
+    (32 ∷ (decimal shard.undecided ++ (32 ∷ (decimal shard.wide ++ (32 ∷ is.digest))))) in
     let second = length-append (decimal shard.undecided) (32 ∷ (decimal shard.wide ++ (32 ∷ is.digest))) in
     let third = length-append (decimal shard.wide) (32 ∷ is.digest) in
     let digest = is.is_digest.0 in
@@ -52,7 +55,8 @@ item_short form bytes item is = by item.content is
   where
     by : (content : Content) → IsItemLine form (record { table = item.table; content = content }) bytes
         → length bytes ≤ LINE_BUFFER
-    by (Claim verdict) p = let short = length-line (said.Claim item.table verdict) bytes p in omega (arith, short)
+    by (Claim verdict) p = let short = length-line (said.Claim item.table verdict) bytes p in
+        omega (arith, short)
     by (Shard shard) p = shard_short item.table shard bytes p.1
 
 module _ (line : List ℕ) (form : Form) where
@@ -118,5 +122,6 @@ module _ (task : Task) (line : List ℕ) where
 -- what the kept bytes of a line do, the line does
 pub took_of_kept : (task : Task) (line : List ℕ) (old new : CoverProgress)
     → TookBy old.stop task old (take (LINE_BUFFER + 1) line) new → TookBy old.stop task old line new
-took_of_kept task line old new took = of_kept line task.form (λ bytes. TookBy old.stop task old bytes new) took
+took_of_kept task line old new took =
+    of_kept line task.form (λ bytes. TookBy old.stop task old bytes new) took
     (λ long. took_of_long task line old.stop old new long took)

@@ -49,7 +49,8 @@ FillsAt table None more = more ≡ []
 FillsAt table (Some undefined) more = FillsUndefinedBy table undefined.state undefined.symbol more
 
 -- the machine was the next one, and those that fill its `---` come in its place
-pub record VisitsNext (table : Table) (undefined : Option UndefinedEntry) (old new : List Table) : Type 0 where
+pub record VisitsNext (table : Table) (undefined : Option UndefinedEntry) (old new : List Table)
+    : Type 0 where
   pub rest : List Table
   pub was : old ≡ table ∷ rest
   pub more : List Table

@@ -23,12 +23,14 @@ pub record IsUndefinedOf (table : Table) (undefined : UndefinedEntry) : Type 0 w
 -- on which `---` the machine halts after so many steps, if on any
 abbrev pub HaltsOn : Table → ℕ → Option UndefinedEntry → Type 0
 HaltsOn table steps None = (state symbol : ℕ) → HaltsOnUndefined table steps state symbol → ⊥
-HaltsOn table steps (Some undefined) = HaltsOnUndefined table steps undefined.state undefined.symbol × IsUndefinedOf table undefined
+HaltsOn table steps (Some undefined) =
+    HaltsOnUndefined table steps undefined.state undefined.symbol × IsUndefinedOf table undefined
 
 -- on which of several `---` the line's machine halts, if on any
 abbrev pub IsToFill : VerdictLine → Option UndefinedEntry → Type 0
 IsToFill line None = (state symbol : ℕ) → HaltsOnOneOf line state symbol → ⊥
-IsToFill line (Some undefined) = HaltsOnOneOf line undefined.state undefined.symbol × IsUndefinedOf line.table undefined
+IsToFill line (Some undefined) =
+    HaltsOnOneOf line undefined.state undefined.symbol × IsUndefinedOf line.table undefined
 
 -- how many `---` there are
 

@@ -69,7 +69,8 @@ fn read_verdict(line: &[u8], machine: &mut Machine) -> Option<Verdict>
 /// The counts in the line of a shard, if it is one. The machine is read in place of another.
 fn read_shard(line: &[u8], machine: &mut Machine) -> Option<ShardCounts>
     ensures found { IfSome result (λ shard. IsShardLine machine.new shard line.now) }
-    ensures none { IfNone result ((table : Table) (shard : ShardCounts) → IsShardLine table shard line.now → ⊥) }
+    ensures none { IfNone result ((table : Table) (shard : ShardCounts)
+        → IsShardLine table shard line.now → ⊥) }
 {
     let (text, words) = split_at_space(line)?;
     match machine.read_in_place(text) {

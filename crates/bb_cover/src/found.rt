@@ -19,7 +19,8 @@ pub enum Why {
 /// The line at which the walk stops.
 #[derive(Clone, Copy, Debug, PartialEq, Eq)]
 pub struct Stop {
-    /// The line's number in the list itself, from 1; one past the last at the end of the list. It saturates at 2^64 - 1.
+    /// The line's number in the list itself, from 1; one past the last at the end of the list. It saturates
+    /// at 2^64 - 1.
     pub line: u64,
     pub why: Why,
 }

@@ -118,7 +118,8 @@ impl CoverProgress {
         content: &Content,
         undefined: Option<UndefinedEntry>,
     )
-        requires asked { (rest : List Table) × IsAsked below.now self.old.size self.old.walk machine.old rest }
+        requires asked { (rest : List Table)
+            × IsAsked below.now self.old.size self.old.walk machine.old rest }
         requires unbegun { self.old.size ≡ None → self.old.walk ≡ [] }
         requires undefined { IfSome undefined (IsUndefinedOf machine.old) }
         ensures goes { GoesOn below.now self.old machine.old undefined self.new }
@@ -185,14 +186,16 @@ impl<T: Tape> LineSink for Checker<'_, T> {
     ghost use Rattle.bb_cover.specs.CoverProgress.{Took};
     ghost use Rattle.bb_cover.specs.KeptBytes.{took_of_kept};
 
-    ghost took = { λ a line b. (b.task.now ≡ a.task.now) × Took a.task.now a.progress.now line b.progress.now };
+    ghost took = { λ a line b. (b.task.now ≡ a.task.now)
+        × Took a.task.now a.progress.now line b.progress.now };
 
     ghost keeps = { λ a b. (b.task ≡ a.task) × (b.pair.ghost_name ≡ a.pair.ghost_name)
         × (b.path.ghost_name ≡ a.path.ghost_name) × (depth_of b.path.now ≡ depth_of a.path.now)
         × (b.progress.ghost_name ≡ a.progress.ghost_name) };
 
     ghost is_ready = { λ c. PairHasCells T.view c.task.now.limits.cells c.pair.now
-        × (c.task.now.limits.depth ≤ depth_of c.path.now) × (c.progress.now.size ≡ None → c.progress.now.walk ≡ []) };
+        × (c.task.now.limits.depth ≤ depth_of c.path.now)
+        × (c.progress.now.size ≡ None → c.progress.now.walk ≡ []) };
 
     ghost GROWS = { T.GROWS };
 
@@ -264,9 +267,9 @@ fn starts(below: &Option<Machine>, machine: &Machine) -> bool
     }
 }
 
-/// Walks along the lines of a list, and checks each claim: whether they are those of a walk in depth through all
-/// machines of a size, or below a machine, in tree normal form. It allocates once, before the first line. `seen`
-/// has the number of lines so far.
+/// Walks along the lines of a list, and checks each claim: whether they are those of a walk in depth through
+/// all machines of a size, or below a machine, in tree normal form. It allocates once, before the first line.
+/// `seen` has the number of lines so far.
 ///
 /// A line ends at a newline; a last line without one counts if it isn't empty. Reads to end of file, also
 /// after the walk stops. After a fault, don't use the reader again.

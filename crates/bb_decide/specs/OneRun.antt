@@ -37,8 +37,8 @@ pub record RepeatsInRegisters (table : Table) (bounds : Bounds) (s : ℕ) : Type
   pub first : IsFirstCycle table bounds partner s
   pub fits : FitsRegisters table s
 
--- the last step of the single-pass run that isn't stopped: that of a cycle in registers; else that of the first
--- record that agrees with its partner, or of the whole run
+-- the last step of the single-pass run that isn't stopped: that of a cycle in registers; else that of the
+-- first record that agrees with its partner, or of the whole run
 abbrev pub SinglePassSteps : Table → Bounds → ℕ → Type 0
 SinglePassSteps table bounds steps = RepeatsInRegisters table bounds steps
     ⊎ (((s : ℕ) → RepeatsInRegisters table bounds s → ⊥) × TranslationSteps table bounds steps)
@@ -86,9 +86,9 @@ pub record LeavesRegisters (table : Table) (bounds : Bounds) (s : ℕ) : Type 0 
   pub leaves : FitsRegisters table (s + 1) → ⊥
 
 -- so many steps were made before the run that was refused memory, with both searches in use, the last of any
--- run being `latest`: none, if it is the single-pass run; those in registers, if there was no memory to put its
--- configuration on a tape; those up to its stop, if it is the search for cycles; and those of that search too,
--- without a find, if it is the one for records
+-- run being `latest`: none, if it is the single-pass run; those in registers, if there was no memory to put
+-- its configuration on a tape; those up to its stop, if it is the search for cycles; and those of that search
+-- too, without a find, if it is the one for records
 abbrev pub StepsBefore : (ℤ → ℕ) → Table → Bounds → ℕ → ℕ → Type 0
 StepsBefore key table bounds before latest = ((before ≡ 0) × (latest ≡ 0))
     ⊎ (LeavesRegisters table bounds before × (latest ≡ before))

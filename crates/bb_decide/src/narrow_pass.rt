@@ -1,5 +1,5 @@
-//! The single-pass run of a machine of two symbols and at most seven states, in registers. It ends at a halt, at
-//! two agreeing records, at a repeated configuration, or where the run leaves the 64 cells.
+//! The single-pass run of a machine of two symbols and at most seven states, in registers. It ends at a halt,
+//! at two agreeing records, at a repeated configuration, or where the run leaves the 64 cells.
 ghost use Rattle.std.specs.Prelude.{◌≡◌, ◌≤◌, ◌*◌, ◌<◌, ◌^◌, length};
 ghost use Rattle.bb_machine.specs.Machine.{symbols_of};
 ghost use Rattle.bb_narrow.specs.Packed.{IsTableOf};
@@ -121,8 +121,8 @@ impl NarrowPass {
     }
 }
 
-/// Runs a machine in registers until it halts, a limit is met, a record agrees with its partner, a configuration
-/// is that of its partner, or its next step would leave the 64 cells.
+/// Runs a machine in registers until it halts, a limit is met, a record agrees with its partner, a
+/// configuration is that of its partner, or its next step would leave the 64 cells.
 pub(crate) fn run_narrow_pass(machine: &Machine, limits: &Limits) -> NarrowEnd
     requires symbols { symbols_of machine.now ≡ 2 }
     requires states { length machine.now ≤ 7 }

@@ -9,8 +9,8 @@ use bb_cert::{Extent, Side, Verdict};
 use bb_machine::{Limits, Machine};
 use bb_narrow::{BitCells, NarrowRun};
 
-/// The kept record of a side, and the head's bit nearest to the start since. Before the first record it is the
-/// start that is kept.
+/// The kept record of a side, and the head's bit nearest to the start since. Before the first record it is
+/// the start that is kept.
 #[derive(Clone, Copy, Debug)]
 pub(crate) struct NarrowRecords {
     pub(crate) kept: NarrowRun,
@@ -50,8 +50,8 @@ impl NarrowRecords {
         };
     }
 
-    /// Whether the cells from the nearest position out to the kept record are those that lie as far before the
-    /// one that the run has just made.
+    /// Whether the cells from the nearest position out to the kept record are those that lie as far before
+    /// the one that the run has just made.
     #[inline(always)]
     fn has_same_cells(
         &self,
@@ -88,8 +88,8 @@ impl NarrowRecords {
     ) -> bool
         requires { KnowsHeads machine.now limits.now side self.now run.now kept head }
         ensures { (at : KnowsHeads machine.now limits.now side self.now run.now kept head)
-            → IsTrue result ↔ AgreesWithKept at.comparison.records at.comparison.is_run.runner at.comparison.saved
-            at.comparison.is_run.view }
+            → IsTrue result ↔ AgreesWithKept at.comparison.records at.comparison.is_run.runner
+            at.comparison.saved at.comparison.is_run.view }
     {
         if kept == 0 {
             return false;
@@ -100,8 +100,8 @@ impl NarrowRecords {
         self.has_same_cells(side, run, kept, head, machine, limits)
     }
 
-    /// Compares the record that the run has just made with the kept one. The verdict where they agree; else the
-    /// record is kept, if its number is at least twice that of the kept one.
+    /// Compares the record that the run has just made with the kept one. The verdict where they agree; else
+    /// the record is kept, if its number is at least twice that of the kept one.
     #[inline(always)]
     pub fn compare(
         &mut self,
@@ -111,7 +111,8 @@ impl NarrowRecords {
         limits: &Limits,
     ) -> Option<Verdict>
         requires { CanCompareRecord machine.now limits.now side self.old run }
-        ensures compared { (can : CanCompareRecord machine.now limits.now side self.old run) → HasCompared can self.new result }
+        ensures compared { (can : CanCompareRecord machine.now limits.now side self.old run)
+            → HasCompared can self.new result }
         ensures numbers { IfSome result HasNumbers }
     {
         limits.show_accepted();

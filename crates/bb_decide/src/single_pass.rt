@@ -1,9 +1,13 @@
 //! The single-pass run. It ends at a halt, at two agreeing records, or at a repeated fingerprint.
-ghost use Rattle.std.specs.Prelude.{◌≡◌, ◌*◌, ◌≤◌, ℤ, length};
+ghost use Rattle.std.specs.Prelude.{◌≡◌, ◌+◌, ◌*◌, ◌<◌, ◌≤◌, ◌^◌, ℤ, IfOk, IfSome, IsTrue, OnErr, length};
 ghost use Rattle.bb_machine.specs.Machine.{symbols_of};
+ghost use Rattle.bb_sim.specs.Runner.{steps_of};
+ghost use Rattle.bb_cert.specs.verdict.Verdict.{HasNumbers};
 ghost use Rattle.bb_decide.specs.Bench.{BenchHasCells};
+ghost use Rattle.bb_decide.specs.inside.Follow.{ComparesRecord, IsReady, on_side};
 ghost use Rattle.bb_decide.specs.inside.SearchResult.{RunsSinglePass};
 ghost use Rattle.bb_decide.specs.inside.Searching.{IsUnderWay};
+ghost use Rattle.bb_decide.specs.inside.Step.{TakesOver};
 
 use crate::bench::Bench;
 use crate::fingerprint::update_fingerprint;
@@ -11,8 +15,8 @@ use crate::keys::FingerprintKeys;
 use crate::narrow_pass::{NarrowResult, run_narrow_pass};
 use crate::record_search::compare_record;
 use crate::search_result::{SearchResult, count_run, outcome_of};
-use bb_cert::Side;
 use bb_cert::records::{Records, widened_side};
+use bb_cert::{Side, Verdict};
 use bb_machine::{Limits, Machine};
 use bb_narrow::fits_registers;
 use bb_sim::{Meter, Moved, Runner};
@@ -106,8 +110,8 @@ impl SinglePass {
 }
 
 /// Runs a machine until it halts, a limit is met, a record agrees with its partner or, in registers, a
-/// configuration is that of its partner. None at the first later step with the state, position and fingerprint
-/// of its partner, the greatest power of two below it: the two configurations may be the same.
+/// configuration is that of its partner. None at the first later step with the state, position and
+/// fingerprint of its partner, the greatest power of two below it: the two configurations may be the same.
 ///
 /// After an error the contents of the tapes are unspecified; the next call resets them.
 #[inline(never)]
@@ -130,8 +134,8 @@ pub fn run_single_pass<T: Tape, K: FingerprintKeys>(
     continue_single_pass(machine, limits, keys, begun, bench, meter)
 }
 
-/// The single-pass run of a machine that fits the registers: it begins there, and goes on on the bench where it
-/// leaves them.
+/// The single-pass run of a machine that fits the registers: it begins there, and goes on on the bench where
+/// it leaves them.
 fn run_from_registers<T: Tape, K: FingerprintKeys>(
     machine: &Machine,
     limits: &Limits,
@@ -178,7 +182,7 @@ fn copy_of(limits: &Limits) -> Limits
     *limits
 }
 
-/// These records, whose side is known.
+/// These records, whose side is known: written out by the caller, it is a constant of the loop.
 #[inline(always)]
 fn of_side(records: Records, side: Side) -> Records
     requires side { records.side ≡ side }
@@ -187,6 +191,46 @@ fn of_side(records: Records, side: Side) -> Records
     let mut known = records;
     known.side = side;
     known
+}
+
+/// Compares the record just made by the runner on a side, on the tapes of a bench. If there is no memory to
+/// keep it, the meter adds the run.
+#[inline(always)]
+fn compare_on_bench<T: Tape>(
+    side: Side,
+    right: &mut Records,
+    left: &mut Records,
+    runner: &Runner,
+    bench: &mut Bench<T>,
+    meter: &mut Meter,
+) -> Result<Option<Verdict>, Memory>
+    requires right_limit { (T.view bench.old.right).limit ≡ (T.view bench.old.run).limit }
+    requires left_limit { (T.view bench.old.left).limit ≡ (T.view bench.old.run).limit }
+    requires ready { IsReady (on_side side right.old left.old) runner.now
+        (on_side side (T.view bench.old.right) (T.view bench.old.left)) (T.view bench.old.run) }
+    requires room { meter.old.steps + steps_of runner.now < 2 ^ 64 }
+    ensures looks { IfOk result (ComparesRecord side runner.now (T.view bench.old.run) right.old left.old
+        (T.view bench.old.right) (T.view bench.old.left) right.new left.new
+        (T.view bench.new.right) (T.view bench.new.left)) }
+    ensures numbers { IfOk result (λ found. IfSome found HasNumbers) }
+    ensures run { bench.new.run ≡ bench.old.run }
+    ensures path { bench.new.path ≡ bench.old.path }
+    ensures right_limit { (T.view bench.new.right).limit ≡ (T.view bench.old.right).limit }
+    ensures left_limit { (T.view bench.new.left).limit ≡ (T.view bench.old.left).limit }
+    ensures memory { OnErr result (IsTrue T.GROWS) }
+    ensures uncounted { IfOk result (λ found. meter.new ≡ meter.old) }
+    ensures cut { OnErr result (TakesOver runner.now meter.old meter.new) }
+{
+    compare_record(
+        side,
+        right,
+        left,
+        runner,
+        &bench.run,
+        &mut bench.right,
+        &mut bench.left,
+        meter,
+    )
 }
 
 /// Continues a single-pass run on the tapes of a bench.
@@ -214,8 +258,8 @@ fn continue_single_pass<T: Tape, K: FingerprintKeys>(
     run_single_pass_inline(machine, &limits, keys, begun, bench, meter)
 }
 
-/// The body of `continue_single_pass`, inlined there: the limits are its local and stay in registers. The runner
-/// counts its steps and cells, and the meter adds them at the end of the run.
+/// The body of `continue_single_pass`, inlined there: the limits are its local and stay in registers. The
+/// runner counts its steps and cells, and the meter adds them at the end of the run.
 #[inline(always)]
 fn run_single_pass_inline<T: Tape, K: FingerprintKeys>(
     machine: &Machine,
@@ -234,7 +278,6 @@ fn run_single_pass_inline<T: Tape, K: FingerprintKeys>(
 {
     limits.show_accepted();
     let mut runner = begun.runner;
-    // The sides are written out, so that each is a constant of the loop.
     let mut right = of_side(begun.right, Side::R);
     let mut left = of_side(begun.left, Side::L);
     let mut fingerprints = begun.fingerprints;
@@ -248,18 +291,14 @@ fn run_single_pass_inline<T: Tape, K: FingerprintKeys>(
             count_run(meter, runner);
             return Err(Memory);
         };
-        match moved {
-            Moved::Stepped => {}
-            moved => {
-                count_run(meter, runner);
-                return Ok(Some(SearchResult::Ran(outcome_of(moved, runner, &bench.run))));
-            }
-        }
+        let Moved::Stepped = moved else {
+            count_run(meter, runner);
+            return Ok(Some(SearchResult::Ran(outcome_of(moved, runner, &bench.run))));
+        };
         // Z is never met twice, so this step can't be a repeat: the run ends.
         let Some(_) = runner.state() else {
             count_run(meter, runner);
-            let outcome = outcome_of(Moved::Halted, runner, &bench.run);
-            return Ok(Some(SearchResult::Ran(outcome)));
+            return Ok(Some(SearchResult::Ran(outcome_of(Moved::Halted, runner, &bench.run))));
         };
         let new = bench.run.read_inside(position);
         fingerprints.current = update_fingerprint(fingerprints.current, keys, position, old, new);
@@ -274,16 +313,7 @@ fn run_single_pass_inline<T: Tape, K: FingerprintKeys>(
         let Some(side) = widened_side(&runner, cells) else {
             continue;
         };
-        match compare_record(
-            side,
-            &mut right,
-            &mut left,
-            &runner,
-            &bench.run,
-            &mut bench.right,
-            &mut bench.left,
-            meter,
-        )? {
+        match compare_on_bench(side, &mut right, &mut left, &runner, bench, meter)? {
             Some(verdict) => {
                 count_run(meter, runner);
                 return Ok(Some(SearchResult::Found(verdict)));

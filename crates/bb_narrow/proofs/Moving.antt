@@ -41,7 +41,7 @@ use Rattle.bb_narrow.specs.BitCells.{IsInWord, bits_content}
 use Rattle.bb_narrow.specs.Packed.{right_bit}
 use Rattle.bb_narrow.specs.Registers.{ContinuesTo, IsNarrowRun, MatchesWindow, StaysInWord, flipped_bits, moved_head}
 use Rattle.bb_narrow.proofs.Bits.{at_bit}
-use Rattle.bb_narrow.proofs.OneBit.{bit_clear, bit_set}
+use Rattle.bb_narrow.proofs.OneBit.{bit_clear, bit_set, or_set}
 use Rattle.bb_narrow.proofs.Entries.{GoesTo, MovesTo, below, content_written, moves_out, moves_to}
 
 -- the window that has taken in one position more, and its written cell, keep a view sound
@@ -70,7 +70,7 @@ pow_fits k h =
     let least : 2 ^ k ≤ 2 ^ 63 = pow-le-pow_right {n = 2} (omega arith) {i = k} {j = 63} (omega (arith, h)) in
     omega (arith, least)
 
-flipped_fits : (bits head flip : ℕ) → bits < 2 ^ 64 → head < 2 ^ 64 → flipped_bits bits head flip < 2 ^ 64
+pub flipped_fits : (bits head flip : ℕ) → bits < 2 ^ 64 → head < 2 ^ 64 → flipped_bits bits head flip < 2 ^ 64
 flipped_fits bits head zero p q = p
 flipped_fits bits head (suc flip) p q = xor_lt 64 bits head p q
 
@@ -302,6 +302,16 @@ module _ {table : Table} {bounds : Bounds} {run : NarrowRun} (machine : IsMachin
           fits = known.window_is.fits;
           room_is = rw (low, high) known.window_is.room_is;
         }
+
+    -- it is taken in again
+    pub window_again : (fits : cells_between (int_min view.low there) (int_max view.high there) ≤ view.limit)
+        → MatchesWindow (bit_or run.window head) run.room (view_next fits)
+    window_again fits =
+        let to = to_window in
+        let at_to : head ≡ 2 ^ to.to = is ∙ head_at ∙ to.is in
+        let set : bit_at run.window to.to ≡ 1 = bit_set run.window to.to (λ e. visited_there (ap (bit_and run.window) at_to ∙ e)) in
+        subst (λ w. MatchesWindow w run.room (view_next fits))
+        (sym (ap (bit_or run.window) at_to ∙ or_set run.window to.to set)) (window_same fits)
 
   -- a cell that wasn't
   module _ (head : ℕ) (is : head ≡ moved_head run.registers.head (bit_at f 7)) (unseen : bit_and run.window head ≡ 0) where

@@ -91,7 +91,8 @@ abbrev pub last_step : NarrowRun → Outcome → ℕ
 last_step run (Halt steps score) = steps
 last_step run outcome = run.steps
 
--- the run ends with an outcome, at the last step inside: where it stood, or one step on in Z; its window stays
+-- the run ends with an outcome, at the last step inside: where it stood, or one step on in Z; its window
+-- stays
 pub record EndsWith {table : Table} {bounds : Bounds} {run : NarrowRun} (known : IsNarrowRun table bounds run)
     (outcome : Outcome) : Type 0 where
   pub runner : Runner
@@ -104,16 +105,22 @@ pub record EndsWith {table : Table} {bounds : Bounds} {run : NarrowRun} (known :
   pub made : last_step run outcome ≡ steps_of runner
   pub cells : span table (steps_of runner) + run.room ≡ bounds.cells
 
+-- the run doesn't end where it is
+abbrev pub HasNoEnd : Table → Bounds → NarrowRun → Type 0
+HasNoEnd table bounds run =
+    (known : IsNarrowRun table bounds run) → (outcome : Outcome) → EndsWith known outcome → ⊥
+
 -- the run is at the next configuration, not in Z, by a step inside
-pub record ContinuesTo {table : Table} {bounds : Bounds} {run : NarrowRun} (known : IsNarrowRun table bounds run)
-    (new : NarrowRun) : Type 0 where
+pub record ContinuesTo {table : Table} {bounds : Bounds} {run : NarrowRun}
+    (known : IsNarrowRun table bounds run) (new : NarrowRun) : Type 0 where
   pub next : IsNarrowRun table bounds new
   pub steps : steps_of next.runner ≡ steps_of known.runner + 1
   pub inside : Inside table bounds (steps_of next.runner)
   pub low : next.view.low ≡ int_min known.view.low (position_of next.runner)
   pub high : next.view.high ≡ int_max known.view.high (position_of next.runner)
   pub right : bit_at new.registers.entry 7 ≡ 1 → position_of next.runner ≡ position_of known.runner +ℤ pos 1
-  pub left : (bit_at new.registers.entry 7 ≡ 1 → ⊥) → position_of next.runner ≡ position_of known.runner -ℤ pos 1
+  pub left : (bit_at new.registers.entry 7 ≡ 1 → ⊥)
+      → position_of next.runner ≡ position_of known.runner -ℤ pos 1
 
 -- what a call does, wherever the run stood
 abbrev pub AdvancesNarrow : Table → Bounds → NarrowRun → NarrowRun → NarrowMoved → Type 0

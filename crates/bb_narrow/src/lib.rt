@@ -1,5 +1,5 @@
-//! Runs of machines of two symbols and at most seven states, in registers while they stay within 64 cells: the
-//! bits of one number.
+//! Runs of machines of two symbols and at most seven states, in registers while they stay within 64 cells:
+//! the bits of one number.
 #![tactic(auto)]
 
 mod blocks;

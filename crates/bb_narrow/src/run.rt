@@ -1,11 +1,12 @@
 //! A run in registers, step by step.
-ghost use Rattle.std.specs.Prelude.{◌≡◌, ◌+◌, ◌-◌, ◌<◌, ◌≤◌, ◌^◌, ◌↔◌, IsTrue};
+ghost use Rattle.std.specs.Prelude.{◌≡◌, ◌≢◌, ◌+◌, ◌-◌, ◌<◌, ◌≤◌, ◌^◌, ◌↔◌, IsTrue, MatchBool, bit_and};
 ghost use Rattle.bb_sim.specs.Meter.{counted};
 ghost use Rattle.std.specs.Int.{bit_at};
 ghost use Rattle.bb_machine.specs.Machine.{symbols_of};
 ghost use Rattle.bb_narrow.specs.Packed.{IsTableOf};
 ghost use Rattle.bb_narrow.specs.Registers.{AdvancesNarrow, EndsWith, IsNarrowRun, IsNextEntry, IsSameConfiguration};
-ghost use Rattle.bb_narrow.specs.Registers.{last_step};
+ghost use Rattle.bb_narrow.specs.Registers.{HasNoEnd, last_step};
+ghost use Rattle.bb_narrow.specs.declared.run.NarrowMoved.TheVariants.{Outside, Stepped};
 
 use crate::registers::{Registers, halts, stops};
 use crate::table::NarrowTable;
@@ -93,6 +94,49 @@ impl NarrowRun {
         };
         self.steps += 1;
         NarrowMoved::Stepped
+    }
+
+    /// Makes the next step of a run that doesn't end here, unless it would leave the 64 cells: then it returns
+    /// false. It has no branch by the window, as the next cell is often new.
+    #[inline(always)]
+    pub fn advance_inside(
+        &mut self,
+        machine: &Machine,
+        table: &NarrowTable,
+        limits: &Limits,
+    ) -> bool
+        requires symbols { symbols_of machine.now ≡ 2 }
+        requires table { IsTableOf machine.now table.now }
+        requires run { IsNarrowRun machine.now limits.now self.old }
+        requires goes_on { HasNoEnd machine.now limits.now self.old }
+        ensures { MatchBool result (AdvancesNarrow machine.now limits.now self.old self.new Stepped)
+            (AdvancesNarrow machine.now limits.now self.old self.new Outside) }
+    {
+        machine.show_machine();
+        limits.show_accepted();
+        let entry = table.entry(self.registers.entry, self.registers.reads_one());
+        let head = self.registers.moved_head(entry);
+        if head == 0 {
+            return false;
+        }
+        self.room -= self.new_cells(head);
+        self.window |= head;
+        self.registers = Registers {
+            bits: self.registers.flipped_bits(entry),
+            head,
+            entry,
+        };
+        self.steps += 1;
+        true
+    }
+
+    /// How many cells the window has more with this one.
+    #[inline(always)]
+    fn new_cells(&self, head: u64) -> u64
+        ensures new { bit_and self.now.window head ≡ 0 → result ≡ 1 }
+        ensures visited { bit_and self.now.window head ≢ 0 → result ≡ 0 }
+    {
+        u64::from(self.window & head == 0)
     }
 
     /// Whether state, position and cells are those of another run.

@@ -87,8 +87,8 @@ impl NarrowTable {
         table
     }
 
-    /// The entry for a state and a symbol, in the low nine bits. The low six bits of `state` are nine times the
-    /// state.
+    /// The entry for a state and a symbol, in the low nine bits. The low six bits of `state` are nine times
+    /// the state.
     #[inline(always)]
     pub(crate) fn entry(&self, state: u64, is_one: bool) -> u64
         ensures zero { is_one ≡ false → result ≡ self.now.zero / 2 ^ (state % 64) }

@@ -12,6 +12,7 @@ ghost use Rattle.laws_of_repetition.specs.Shift.{IsShift};
 ghost use Rattle.bb_repetition.specs.History.{IsRecorded, KeepsRun};
 ghost use Rattle.bb_repetition.specs.LastUses.{AreSeen};
 ghost use Rattle.bb_repetition.specs.Lockstep.{HasCome, IsAt, IsNear, IsOpen};
+ghost use Rattle.bb_repetition.specs.Packed.{IsPacked};
 ghost use Rattle.bb_repetition.specs.Recurrence.{CountsAtMost, CountsRecurrence, CountsShift, CountsStart};
 ghost use Rattle.bb_repetition.specs.Tapes.{TapesHaveCells};
 
@@ -21,7 +22,7 @@ use crate::period::least_period;
 use crate::uses::LastUses;
 use bb_cert::Pair;
 use bb_machine::{Limits, Machine};
-use bb_narrow::{NarrowMoved, NarrowRun, NarrowTable, fits_registers};
+use bb_narrow::{NarrowRun, NarrowTable, fits_registers};
 use bb_sim::{Meter, Runner};
 use bb_tape::{Memory, Tape};
 
@@ -96,9 +97,55 @@ pub fn find_recurrence<T: Tape>(
     ensures tapes { TapesHaveCells T.view limits.now.cells tapes.new }
     ensures memory { OnErr result (IsTrue T.GROWS) }
 {
+    let packed = pack(machine);
+    find_packed(machine, packed, limits, first, second, tapes, uses, meter)
+}
+
+/// The table of a machine that fits into registers.
+#[inline(always)]
+pub(crate) fn pack(machine: &Machine) -> Option<NarrowTable>
+    ensures { IsPacked machine.now result }
+{
+    if fits_registers(machine) {
+        Some(NarrowTable::new(machine))
+    } else {
+        None
+    }
+}
+
+/// [`find_recurrence`] with the table packed.
+pub(crate) fn find_packed<T: Tape>(
+    machine: &Machine,
+    packed: Option<NarrowTable>,
+    limits: &Limits,
+    first: u64,
+    second: u64,
+    tapes: &mut Tapes<T>,
+    uses: &mut LastUses,
+    meter: &mut Meter,
+) -> Result<Recurrence, Memory>
+    requires packed { IsPacked machine.now packed }
+    requires tapes { TapesHaveCells T.view limits.now.cells tapes.old }
+    requires order { first < second }
+    requires pair { Repeats machine.now first (second - first) }
+    requires inside { Inside machine.now limits.now second }
+    requires room { meter.old.steps ≤ 10 ^ 12 }
+    ensures exact { IfOk result (λ found. RepeatsExactly machine.now found.start found.period) }
+    ensures shift { IfOk result (λ found. IsShift machine.now found.start found.period found.shift) }
+    ensures early { IfOk result (λ found. found.start ≤ first) }
+    ensures uses { OnOk result (AreSeen machine.now second uses.new) }
+    ensures whole { IfOk result (λ found. found.start + found.period ≤ second) }
+    ensures counted { IfOk result (λ found.
+        CountsRecurrence first second found.period meter.old.steps meter.new.steps) }
+    ensures few { CountsAtMost first second meter.old.steps meter.new.steps }
+    ensures tapes { TapesHaveCells T.view limits.now.cells tapes.new }
+    ensures memory { OnErr result (IsTrue T.GROWS) }
+{
     limits.show_accepted();
     uses.reset(machine);
-    let (start, saved, whole) = find_start(machine, limits, first, second, tapes, uses, meter)?;
+    let (start, saved, whole) = find_start(
+        machine, packed, limits, first, second, tapes, uses, meter,
+    )?;
     let period = least_period(machine, limits, saved, first, second, tapes, meter)?;
     let shift = find_shift(
         machine, limits, saved, first, period, second, whole, tapes, meter,
@@ -115,6 +162,7 @@ pub fn find_recurrence<T: Tape>(
 /// the pair. The last number tells how many cells the head is farther to the right at the second step.
 fn find_start<T: Tape>(
     machine: &Machine,
+    packed: Option<NarrowTable>,
     limits: &Limits,
     first: u64,
     second: u64,
@@ -122,6 +170,7 @@ fn find_start<T: Tape>(
     uses: &mut LastUses,
     meter: &mut Meter,
 ) -> Result<(u64, Runner, i64), Memory>
+    requires packed { IsPacked machine.now packed }
     requires goes_on { IsOpen machine.now limits.now second }
     requires tapes { TapesHaveCells T.view limits.now.cells tapes.old }
     requires order { first ≤ second }
@@ -139,7 +188,7 @@ fn find_start<T: Tape>(
     ensures memory { OnErr result (IsTrue T.GROWS) }
 {
     if second <= MAX_RECORDED {
-        start_of_short(machine, limits, first, second, tapes, uses, meter)
+        start_of_short(machine, packed, limits, first, second, tapes, uses, meter)
     } else {
         start_of_long(machine, limits, first, second, tapes, uses, meter)
     }
@@ -148,6 +197,7 @@ fn find_start<T: Tape>(
 /// Makes one run up to the second step of a pair, and records it.
 fn start_of_short<T: Tape>(
     machine: &Machine,
+    packed: Option<NarrowTable>,
     limits: &Limits,
     first: u64,
     second: u64,
@@ -155,6 +205,7 @@ fn start_of_short<T: Tape>(
     uses: &mut LastUses,
     meter: &mut Meter,
 ) -> Result<(u64, Runner, i64), Memory>
+    requires packed { IsPacked machine.now packed }
     requires goes_on { IsOpen machine.now limits.now second }
     requires tapes { TapesHaveCells T.view limits.now.cells tapes.old }
     requires order { first ≤ second }
@@ -171,7 +222,7 @@ fn start_of_short<T: Tape>(
     ensures tapes { TapesHaveCells T.view limits.now.cells tapes.new }
     ensures memory { OnErr result (IsTrue T.GROWS) }
 {
-    let (saved, runner) = record_run(machine, limits, first, second, tapes, uses, meter)?;
+    let (saved, runner) = record_run(machine, packed, limits, first, second, tapes, uses, meter)?;
     let start = tapes.history.start(first, second - first);
     Ok((start, saved, runner.position() - saved.position()))
 }
@@ -180,6 +231,7 @@ fn start_of_short<T: Tape>(
 /// machine fits there. Returns the runners at both steps.
 fn record_run<T: Tape>(
     machine: &Machine,
+    packed: Option<NarrowTable>,
     limits: &Limits,
     first: u64,
     second: u64,
@@ -187,6 +239,7 @@ fn record_run<T: Tape>(
     uses: &mut LastUses,
     meter: &mut Meter,
 ) -> Result<(Runner, Runner), Memory>
+    requires packed { IsPacked machine.now packed }
     requires goes_on { IsOpen machine.now limits.now second }
     requires tapes { TapesHaveCells T.view limits.now.cells tapes.old }
     requires order { first ≤ second }
@@ -202,8 +255,8 @@ fn record_run<T: Tape>(
     ensures tapes { TapesHaveCells T.view limits.now.cells tapes.new }
     ensures memory { OnErr result (IsTrue T.GROWS) }
 {
-    if fits_registers(machine) {
-        return record_run_in_registers(machine, limits, first, second, tapes, uses, meter);
+    if let Some(table) = packed {
+        return record_run_in_registers(machine, &table, limits, first, second, tapes, uses, meter);
     }
     let start = Runner::start(machine, &mut tapes.pair.run);
     record_run_from(machine, limits, start, first, second, tapes, uses, meter)
@@ -267,6 +320,7 @@ fn record_run_from<T: Tape>(
 /// the rest is made on the tape.
 fn record_run_in_registers<T: Tape>(
     machine: &Machine,
+    table: &NarrowTable,
     limits: &Limits,
     first: u64,
     second: u64,
@@ -275,7 +329,7 @@ fn record_run_in_registers<T: Tape>(
     meter: &mut Meter,
 ) -> Result<(Runner, Runner), Memory>
     requires symbols { symbols_of machine.now ≡ 2 }
-    requires states { length machine.now ≤ 7 }
+    requires table { IsTableOf machine.now table.now }
     requires goes_on { IsOpen machine.now limits.now second }
     requires tapes { TapesHaveCells T.view limits.now.cells tapes.old }
     requires order { first ≤ second }
@@ -291,12 +345,9 @@ fn record_run_in_registers<T: Tape>(
     ensures tapes { TapesHaveCells T.view limits.now.cells tapes.new }
     ensures memory { OnErr result (IsTrue T.GROWS) }
 {
-    let table = NarrowTable::new(machine);
     let start = NarrowRun::start(machine, limits);
     let history = &mut tapes.history;
-    let at_first = record_registers_to(
-        machine, &table, start, limits, first, second, history, uses,
-    );
+    let at_first = record_registers_to(machine, table, start, limits, first, second, history, uses);
     meter.steps += at_first.steps;
     if at_first.steps < first {
         let runner = at_first.move_to_tape(machine, limits, &mut tapes.pair.run)?;
@@ -305,7 +356,7 @@ fn record_run_in_registers<T: Tape>(
     let saved = at_first.runner(machine, limits);
     let history = &mut tapes.history;
     let at_second = record_registers_to(
-        machine, &table, at_first, limits, second, second, history, uses,
+        machine, table, at_first, limits, second, second, history, uses,
     );
     meter.steps += at_second.steps - first;
     if at_second.steps < second {
@@ -359,10 +410,8 @@ fn record_registers_to(
     let mut run = start;
     while run.steps < to {
         let here = run;
-        match run.advance(machine, &table, &limits) {
-            NarrowMoved::Stepped => {}
-            NarrowMoved::Ended(_) => unreachable!(),
-            NarrowMoved::Outside => return run,
+        if !run.advance_inside(machine, &table, &limits) {
+            return run;
         }
         let place = uses.record_in_registers(machine, &limits, &here);
         history.record(here.steps, place);

@@ -1,5 +1,6 @@
 //! The reply to a confirmed pair, written.
 ghost use Rattle.std.specs.Prelude.{◌≡◌, ℕ, ◌+◌, ◌<◌, ◌≤◌, [], ◌++◌, codes, decimal, length, MatchOption};
+ghost use Rattle.std.specs.Fmt.{signed_decimal};
 ghost use Rattle.arrayvec.specs.ArrayVec.{array_vec_len};
 ghost use Rattle.bb_machine.specs.Machine.{symbols_of, text};
 ghost use Rattle.laws_of_repetition.specs.Repetition.{RepeatsExactly};
@@ -74,8 +75,25 @@ fn numbers_into(found: &Recurrence, text: &mut Text)
     append(b" ", text);
     number_into(found.period, text);
     append(b" ", text);
+    shift_into(found.shift, text);
+}
+
+/// Appends a shift: that of most machines is one digit, behind a sign if it is negative.
+fn shift_into(shift: i64, text: &mut Text)
+    requires room { array_vec_len text.old + 20 ≤ REPLY }
+    ensures appended { text.new.items ≡ text.old.items ++ signed_decimal shift }
+    ensures short { array_vec_len text.new ≤ array_vec_len text.old + 20 }
+{
+    if shift >= 0 {
+        number_into(shift as u64, text);
+        return;
+    }
+    if shift > -10 {
+        append(&[b'-', b'0' + (-shift) as u8], text);
+        return;
+    }
     let mut digits = Buffer::new();
-    append(digits.format(found.shift).as_bytes(), text);
+    append(digits.format(shift).as_bytes(), text);
 }
 
 /// Appends the last use of each state.

@@ -36,7 +36,8 @@ IsLineCost bounds line cost = HasClaimCost bounds line cost
 -- a cost for each line, in order
 abbrev pub AreLineCosts : Bounds → List (List ℕ) → List LineCost → Type 0
 AreLineCosts bounds [] [] = Unit {0}
-AreLineCosts bounds (line ∷ lines) (cost ∷ costs) = IsLineCost bounds line cost × AreLineCosts bounds lines costs
+AreLineCosts bounds (line ∷ lines) (cost ∷ costs) =
+    IsLineCost bounds line cost × AreLineCosts bounds lines costs
 AreLineCosts bounds lines costs = ⊥
 
 -- the steps and the nodes of a line, together
@@ -49,7 +50,8 @@ pub record CostNothing (costs : List LineCost) (most index : ℕ) : Type 0 where
   pub none : most ≡ 0
   pub at_first : index ≡ 0
 
--- the line with this index, counted from 0, costs this much; those before it cost less, and no other costs more
+-- the line with this index, counted from 0, costs this much; those before it cost less, and no other costs
+-- more
 pub record IsMostAt (costs : List LineCost) (most index : ℕ) : Type 0 where
   pub before : List LineCost
   pub cost : LineCost

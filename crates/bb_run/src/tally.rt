@@ -10,7 +10,7 @@ ghost use Rattle.bb_run.specs.Seen.{SawRefusal};
 use crate::counts::VerdictCounts;
 use crate::summary::Summary;
 use arrayvec::ArrayVec;
-use bb_cert::{Verdict, lines_are_short, refusal_into, verdict_into};
+use bb_cert::{LINE_BUFFER, Verdict, lines_are_short, refusal_into, verdict_into};
 use bb_lines::responder::REPLY;
 use bb_machine::Machine;
 use bb_sim::Meter;
@@ -24,6 +24,8 @@ pub(crate) struct Tally<'a> {
     /// The steps and nodes of the last line; 0 before the first line and for a refused one.
     pub(crate) last_cost: u64,
     counts: &'a VerdictCounts,
+    // The words of the last reply. A new buffer for each line would be cleared whole.
+    words: ArrayVec<u8, LINE_BUFFER>,
 }
 
 impl<'a> Tally<'a> {
@@ -39,6 +41,7 @@ impl<'a> Tally<'a> {
             },
             last_cost: 0,
             counts,
+            words: ArrayVec::new(),
         }
     }
 
@@ -59,9 +62,9 @@ impl<'a> Tally<'a> {
                 self.summary.clean = false;
                 self.last_cost = 0;
                 self.counts.add_refusal();
-                let mut refusal = ArrayVec::new();
-                refusal_into(refused.column, &mut refusal);
-                text.try_extend_from_slice(refusal.as_slice()).unwrap();
+                self.words.clear();
+                refusal_into(refused.column, &mut self.words);
+                text.try_extend_from_slice(self.words.as_slice()).unwrap();
                 false
             }
         }
@@ -90,9 +93,9 @@ impl<'a> Tally<'a> {
         lines_are_short();
         // The line is the machine's text, so it isn't written anew.
         text.try_extend_from_slice(line).unwrap();
-        let mut words = ArrayVec::new();
-        verdict_into(verdict, &mut words);
-        text.try_extend_from_slice(words.as_slice()).unwrap();
+        self.words.clear();
+        verdict_into(verdict, &mut self.words);
+        text.try_extend_from_slice(self.words.as_slice()).unwrap();
         self.summary.peak = self.summary.peak.greatest(meter);
         self.last_cost = meter.steps + meter.nodes;
         self.counts.add(verdict);

@@ -69,8 +69,8 @@ impl Runner {
         }
     }
 
-    /// A runner inside a run: its configuration apart from the tape, the steps made so far, and its window, that
-    /// has so many cells from the least position on.
+    /// A runner inside a run: its configuration apart from the tape, the steps made so far, and its window,
+    /// that has so many cells from the least position on.
     #[inline]
     pub fn at(state: Next, position: i64, made: u64, low: i64, cells: u64) -> Runner
         requires some_cell { 0 < cells }

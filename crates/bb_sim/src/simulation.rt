@@ -97,7 +97,8 @@ fn run_machine<T: Tape>(
     requires counted { (begun : Meter) × CountsTo machine.now (steps_of runner) begun meter.old
         × (begun.steps + limits.now.steps + 1 < 2 ^ 64) }
     ensures { (begun : Meter) → CountsTo machine.now (steps_of runner) begun meter.old
-        → Simulates T.GROWS machine.now limits.now (T.view tape.old) (T.view tape.new) begun meter.new result }
+        → Simulates T.GROWS machine.now limits.now (T.view tape.old) (T.view tape.new) begun meter.new
+        result }
 {
     let mut runner = runner;
     loop {

@@ -1,6 +1,7 @@
 //! The arguments of a process.
-ghost use Rattle.std.specs.Prelude.{◌≡◌, IfOk, map};
+ghost use Rattle.std.specs.Prelude.{◌≡◌, IfErr, IfOk, map};
 ghost use Rattle.std.specs.String.{string_bytes};
+ghost use Rattle.bb_terminal.specs.Arguments.{IsUnread};
 
 use bb_command::Stop;
 use std::alloc::{AllocError, Global};
@@ -8,7 +9,9 @@ use std::env;
 use std::io::ErrorKind;
 
 /// Reads the process's arguments, which must be UTF-8.
-pub fn read_arguments(rt: &HostRuntime) -> Result<Vec<String>, Stop> {
+pub fn read_arguments(rt: &HostRuntime) -> Result<Vec<String>, Stop>
+    ensures { IfErr result IsUnread }
+{
     match env::args(rt) {
         Ok(arguments) => Ok(arguments.collect(rt.alloc())?),
         Err(error) if error.kind() == ErrorKind::InvalidData => {

@@ -19,6 +19,10 @@ use Rattle.cover.specs.declared.command.Refusal.TheVariants.{Common, Machine}
 abbrev pub text_rule : Text → Rule
 text_rule name = record (new_rule name) { long = Some name; value_names = 1 }
 
+-- --cells N
+abbrev pub cells_rule : Rule
+cells_rule = by_default (codes "67108864") (number_rule (codes "cells"))
+
 -- cover [--steps N] [--cells N] [--depth N] [--nodes N] [--below MACHINE] [--skeleton] [FILE]; a limit that
 -- isn't given is the greatest
 abbrev pub command_line : App
@@ -26,7 +30,7 @@ command_line = record {
   top = record (new_shape (codes "cover")) {
     has_version = true;
     rules = by_default (codes "1000000000000") (number_rule (codes "steps"))
-        ∷ by_default (codes "67108864") (number_rule (codes "cells"))
+        ∷ cells_rule
         ∷ by_default (codes "10000") (number_rule (codes "depth"))
         ∷ by_default (codes "1000000000000") (number_rule (codes "nodes"))
         ∷ text_rule (codes "below")

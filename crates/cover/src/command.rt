@@ -1,11 +1,12 @@
 //! The command line: the list, the required walk, and its limits.
-ghost use Rattle.std.specs.Prelude.{◌≡◌, [], false, true, IfErr, IfOk, codes, map};
+ghost use Rattle.std.specs.Prelude.{◌≡◌, ◌++◌, [], false, true, IfErr, IfOk, IfSome, codes, decimal, map};
 ghost use Rattle.clap.specs.Simple.{new_shape};
 ghost use Rattle.clap.specs.Words.{app_of, first_of, found_of, rows_of, rule_of};
 ghost use Rattle.bb_machine.specs.Column.{IsColumn};
+ghost use Rattle.bb_machine.specs.declared.limits.TheConstants.{MAX_CELLS};
 ghost use Rattle.bb_command.specs.Command.{IsLimitsStop, is_given, list_bounds};
 ghost use Rattle.cover.specs.CommandLine.{IsAskedBy, IsBelow, IsStopOf, command_line, form_by, text_rule};
-ghost use Rattle.cover.specs.CommandLine.{IsTextRefused};
+ghost use Rattle.cover.specs.CommandLine.{IsTextRefused, cells_rule};
 ghost use Rattle.cover.specs.Status.{refusal_status};
 
 use bb_command::Stop;
@@ -57,8 +58,8 @@ impl From<AllocError> for Refusal {
     }
 }
 
-/// Reads a command line. The first word is the program's name. Words come before limits, and limits before the
-/// machine.
+/// Reads a command line. The first word is the program's name. Words come before limits, and limits before
+/// the machine.
 pub fn ask(alloc: Global, words: &[&str]) -> Result<Asked, Refusal>
     ensures asked { IfOk result (IsAskedBy (map (λ word. word.now) words.now)) }
     ensures stop { IfErr result (IsStopOf (map (λ word. word.now) words.now)) }
@@ -90,6 +91,9 @@ pub fn ask(alloc: Global, words: &[&str]) -> Result<Asked, Refusal>
 
 /// The most cells of any limit, as the default: a claim may need as many.
 const MOST_CELLS: &str = "67108864";
+
+/// The help of `--cells`. Help is a literal; a clause says that its range ends at `MAX_CELLS`.
+const CELLS_HELP: &str = "Most cells, 1 to 67108864";
 
 /// The most steps, and the most nodes, of any limit, as the default.
 const MOST_STEPS: &str = "1000000000000";
@@ -125,7 +129,7 @@ fn program<'a>(alloc: Global) -> Result<Command<'a>, AllocError>
 {
     base_command(alloc)
         .arg(limit(alloc, "steps", MOST_STEPS, "Most steps, 0 to 1000000000000"))?
-        .arg(limit(alloc, "cells", MOST_CELLS, "Most cells, 1 to 67108864"))?
+        .arg(cells(alloc))?
         .arg(limit(alloc, "depth", MOST_LEVELS, "Most levels, 0 to 10000"))?
         .arg(limit(alloc, "nodes", MOST_STEPS, "Most nodes, 0 to 1000000000000"))?
         .arg(below(alloc))?
@@ -151,6 +155,16 @@ fn base_command<'a>(alloc: Global) -> Command<'a>
         .about("Whether a list of verdicts settles every machine of a size")
         .after_help(ABOUT)
         .version("0.2.0")
+}
+
+/// The limit of cells, by default the greatest.
+fn cells<'a>(alloc: Global) -> Arg<'a>
+    ensures rule { rule_of result ≡ cells_rule }
+    ensures local { result.global ≡ false }
+    ensures help { IfSome result.help (λ help.
+        help.now ≡ codes "Most cells, 1 to " ++ decimal MAX_CELLS) }
+{
+    limit(alloc, "cells", MOST_CELLS, CELLS_HELP)
 }
 
 /// The option with the first machine of the walk.

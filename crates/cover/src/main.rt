@@ -1,5 +1,5 @@
-//! `cover`: whether a list of verdicts settles every machine of a size, or is one shard of such a list, as defined
-//! in `docs/cover.md`.
+//! `cover`: whether a list of verdicts settles every machine of a size, or is one shard of such a list, as
+//! defined in `docs/cover.md`.
 #![tactic(auto)]
 
 mod command;

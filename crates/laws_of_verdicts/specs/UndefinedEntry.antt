@@ -38,8 +38,9 @@ pub record HaltsNext (machine : Table) (steps score symbol write : ℕ) : Type 0
 
 -- a completion with `---` there too does the same
 abbrev pub UndefinedEntriesKeepHalts : Type 0
-UndefinedEntriesKeepHalts = (table machine : Table) (steps score state symbol : ℕ) → IsCompletion table machine
-    → HaltsOnUndefined table steps state symbol → entry_of machine state symbol ≡ Undefined
+UndefinedEntriesKeepHalts = (table machine : Table) (steps score state symbol : ℕ)
+    → IsCompletion table machine → HaltsOnUndefined table steps state symbol
+    → entry_of machine state symbol ≡ Undefined
     → Claim table (Halt steps score) → Claim machine (Halt steps score)
 
 -- one with an entry into Z there halts one step later, and its score differs by the cell that it writes

@@ -80,8 +80,8 @@ pub fn normal_form_covers()
     ensures walks { WalksAreInNormalForm }
 {}
 
-/// Walks compose. The lines of a walk from two lists of machines are those of a walk from the first, followed by
-/// those of a walk from the second, and the other way round. So a walk can be checked in shards.
+/// Walks compose. The lines of a walk from two lists of machines are those of a walk from the first, followed
+/// by those of a walk from the second, and the other way round. So a walk can be checked in shards.
 pub fn walks_compose()
     ensures { WalksCompose }
 {}

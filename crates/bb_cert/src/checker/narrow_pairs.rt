@@ -1,5 +1,5 @@
 //! The two kinds of pairs on a machine whose run begins in registers.
-ghost use Rattle.std.specs.Prelude.{◌≡◌, ◌<◌, ◌≤◌, IfOk, IsTrue, OnErr, false, length};
+ghost use Rattle.std.specs.Prelude.{◌≡◌, ◌<◌, ◌≤◌, IfOk, IfSome, IsTrue, OnErr, false, length};
 ghost use Rattle.bb_machine.specs.Machine.{symbols_of};
 ghost use Rattle.bb_narrow.specs.Packed.{IsTableOf};
 ghost use Rattle.bb_narrow.specs.Registers.{EndsWith, IsNarrowRun};
@@ -27,6 +27,20 @@ use bb_machine::{Limits, Machine};
 use bb_narrow::{BitCells, NarrowRun, NarrowTable, fits_registers};
 use bb_sim::{Meter, Outcome, Runner};
 use bb_tape::{Memory, Tape};
+
+/// The table of a machine, packed here if it isn't already.
+#[inline(always)]
+fn table_of(machine: &Machine, packed: Option<NarrowTable>) -> NarrowTable
+    requires symbols { symbols_of machine.now ≡ 2 }
+    requires states { length machine.now ≤ 7 }
+    requires packed { IfSome packed (IsTableOf machine.now) }
+    ensures { IsTableOf machine.now result }
+{
+    match packed {
+        Some(table) => table,
+        None => NarrowTable::new(machine),
+    }
+}
 
 /// Moves a run onto a tape, and counts it so far.
 fn move_run<T: Tape>(
@@ -89,11 +103,13 @@ fn answer_of(outcome: Outcome) -> Answer
 /// the start.
 pub(crate) fn check_cycler_to_limit<T: Tape>(
     machine: &Machine,
+    packed: Option<NarrowTable>,
     first: u64,
     limits: &Limits,
     pair: &mut Pair<T>,
     meter: &mut Meter,
 ) -> Result<Answer, Memory>
+    requires packed { IfSome packed (IsTableOf machine.now) }
     requires order { first < limits.now.steps }
     requires tapes { PairHasCells T.view limits.now.cells pair.old }
     requires meter { meter.old ≡ zero_meter }
@@ -111,13 +127,14 @@ pub(crate) fn check_cycler_to_limit<T: Tape>(
     if !fits_registers(machine) {
         return check_cycler_on_tape(machine, first, limits, pair, meter);
     }
-    check_cycler_in_registers(machine, first, limits, pair, meter)
+    check_cycler_in_registers(machine, packed, first, limits, pair, meter)
 }
 
 /// Whether the configuration of one step comes again at another: by one run, in registers as long as it keeps
 /// within 64 cells.
 fn check_cycler_in_registers<T: Tape>(
     machine: &Machine,
+    packed: Option<NarrowTable>,
     first: u64,
     limits: &Limits,
     pair: &mut Pair<T>,
@@ -125,6 +142,7 @@ fn check_cycler_in_registers<T: Tape>(
 ) -> Result<Answer, Memory>
     requires symbols { symbols_of machine.now ≡ 2 }
     requires states { length machine.now ≤ 7 }
+    requires packed { IfSome packed (IsTableOf machine.now) }
     requires order { first < limits.now.steps }
     requires tapes { PairHasCells T.view limits.now.cells pair.old }
     requires meter { meter.old ≡ zero_meter }
@@ -136,7 +154,7 @@ fn check_cycler_in_registers<T: Tape>(
     ensures tapes { PairHasCells T.view limits.now.cells pair.new }
     ensures memory { OnErr result (IsTrue T.GROWS) }
 {
-    let table = NarrowTable::new(machine);
+    let table = table_of(machine, packed);
     let start = NarrowRun::start(machine, limits);
     let kept = run_registers_to(machine, &table, start, limits, first);
     match kept.stop {
@@ -172,11 +190,13 @@ fn check_cycler_in_registers<T: Tape>(
 /// that grows is used from the start.
 pub(crate) fn check_translated_to_limit<T: Tape>(
     machine: &Machine,
+    packed: Option<NarrowTable>,
     claim: RecordPair,
     limits: &Limits,
     pair: &mut Pair<T>,
     meter: &mut Meter,
 ) -> Result<Answer, Memory>
+    requires packed { IfSome packed (IsTableOf machine.now) }
     requires order { claim.first < limits.now.steps }
     requires tapes { PairHasCells T.view limits.now.cells pair.old }
     requires meter { meter.old ≡ zero_meter }
@@ -194,13 +214,14 @@ pub(crate) fn check_translated_to_limit<T: Tape>(
     if !fits_registers(machine) {
         return check_translated_on_tape(machine, claim, limits, pair, meter);
     }
-    check_translated_in_registers(machine, claim, limits, pair, meter)
+    check_translated_in_registers(machine, packed, claim, limits, pair, meter)
 }
 
 /// Whether two steps make agreeing records, with the claimed extent: by one run, in registers as long as it
 /// keeps within 64 cells.
 fn check_translated_in_registers<T: Tape>(
     machine: &Machine,
+    packed: Option<NarrowTable>,
     claim: RecordPair,
     limits: &Limits,
     pair: &mut Pair<T>,
@@ -208,6 +229,7 @@ fn check_translated_in_registers<T: Tape>(
 ) -> Result<Answer, Memory>
     requires symbols { symbols_of machine.now ≡ 2 }
     requires states { length machine.now ≤ 7 }
+    requires packed { IfSome packed (IsTableOf machine.now) }
     requires order { claim.first < limits.now.steps }
     requires tapes { PairHasCells T.view limits.now.cells pair.old }
     requires meter { meter.old ≡ zero_meter }
@@ -219,7 +241,7 @@ fn check_translated_in_registers<T: Tape>(
     ensures tapes { PairHasCells T.view limits.now.cells pair.new }
     ensures memory { OnErr result (IsTrue T.GROWS) }
 {
-    let table = NarrowTable::new(machine);
+    let table = table_of(machine, packed);
     let start = NarrowRun::start(machine, limits);
     let at_start = start.runner(machine, limits);
     let begun = ReplayState {

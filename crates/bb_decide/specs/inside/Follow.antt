@@ -72,9 +72,11 @@ on_side L right left = left
 -- the records of one side were compared, with a verdict or not; those of the other stay
 abbrev pub ComparesRecord : Side → Runner → TapeView → Records → Records → TapeView → TapeView
     → Records → Records → TapeView → TapeView → Option Verdict → Type 0
-ComparesRecord R runner run right left saved_right saved_left new_right new_left new_saved_right new_saved_left found =
+ComparesRecord R runner run right left saved_right saved_left
+    new_right new_left new_saved_right new_saved_left found =
     Compares right runner run saved_right new_right new_saved_right found
     × (new_right.side ≡ right.side) × (new_left ≡ left) × (new_saved_left ≡ saved_left)
-ComparesRecord L runner run right left saved_right saved_left new_right new_left new_saved_right new_saved_left found =
+ComparesRecord L runner run right left saved_right saved_left
+    new_right new_left new_saved_right new_saved_left found =
     Compares left runner run saved_left new_left new_saved_left found
     × (new_left.side ≡ left.side) × (new_right ≡ right) × (new_saved_right ≡ saved_right)

@@ -21,8 +21,8 @@ use Rattle.bb_decide.specs.declared.narrow_pass.NarrowResult.TheVariants.{Found,
 
 -- a run in registers, with what is kept of it: no step up to there is a cycle, and no record agrees with its
 -- partner
-pub record IsPassIn (table : Table) (bounds : Bounds) (run : NarrowRun) (kept : KeptRun) (right left : NarrowRecords)
-    : Type 0 where
+pub record IsPassIn (table : Table) (bounds : Bounds) (run : NarrowRun) (kept : KeptRun)
+    (right left : NarrowRecords) : Type 0 where
   pub is_run : IsNarrowRun table bounds run
   pub kept_is_run : IsNarrowRun table bounds kept.run
   pub search : IsInCycleSearch table bounds is_run.runner kept_is_run.runner is_run.view kept_is_run.view

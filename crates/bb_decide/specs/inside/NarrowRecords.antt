@@ -20,8 +20,8 @@ nearer_bit R a b = min a b
 nearer_bit L a b = max a b
 
 -- the registers keep what these records, and what was saved of the tape, say
-pub record KeepsRecord (table : Table) (bounds : Bounds) (side : Side) (narrow : NarrowRecords) (records : Records)
-    (saved : TapeView) : Type 0 where
+pub record KeepsRecord (table : Table) (bounds : Bounds) (side : Side) (narrow : NarrowRecords)
+    (records : Records) (saved : TapeView) : Type 0 where
   pub is_run : IsNarrowRun table bounds narrow.kept
   pub kept : records.kept ≡ is_run.runner
   pub saved_is : saved ≡ is_run.view
@@ -32,8 +32,8 @@ pub record KeepsRecord (table : Table) (bounds : Bounds) (side : Side) (narrow :
   pub nearest_is : records.nearest ≡ pos place -ℤ pos 32
 
 -- the record that a run has just made can be compared with the kept one
-pub record CanCompareRecord (table : Table) (bounds : Bounds) (side : Side) (narrow : NarrowRecords) (run : NarrowRun)
-    : Type 0 where
+pub record CanCompareRecord (table : Table) (bounds : Bounds) (side : Side) (narrow : NarrowRecords)
+    (run : NarrowRun) : Type 0 where
   pub records : Records
   pub saved : TapeView
   pub keeps : KeepsRecord table bounds side narrow records saved
@@ -41,21 +41,22 @@ pub record CanCompareRecord (table : Table) (bounds : Bounds) (side : Side) (nar
   pub ready : IsReady records is_run.runner saved is_run.view
 
 -- these are the positions of the two heads
-pub record KnowsHeads (table : Table) (bounds : Bounds) (side : Side) (narrow : NarrowRecords) (run : NarrowRun)
-    (kept head : ℤ) : Type 0 where
+pub record KnowsHeads (table : Table) (bounds : Bounds) (side : Side) (narrow : NarrowRecords)
+    (run : NarrowRun) (kept head : ℤ) : Type 0 where
   pub comparison : CanCompareRecord table bounds side narrow run
   pub kept_is : kept ≡ position_of comparison.records.kept
   pub head_is : head ≡ position_of comparison.is_run.runner
 
 -- and a record is kept in the state in which the run is
-pub record CanCompareCells (table : Table) (bounds : Bounds) (side : Side) (narrow : NarrowRecords) (run : NarrowRun)
-    (kept head : ℤ) : Type 0 where
+pub record CanCompareCells (table : Table) (bounds : Bounds) (side : Side) (narrow : NarrowRecords)
+    (run : NarrowRun) (kept head : ℤ) : Type 0 where
   pub known : KnowsHeads table bounds side narrow run kept head
   pub same : IsKeptInStateOf known.comparison.records known.comparison.is_run.runner
 
 -- it was compared, and kept in its turn
 pub record HasCompared {table : Table} {bounds : Bounds} {side : Side} {old : NarrowRecords} {run : NarrowRun}
-    (can : CanCompareRecord table bounds side old run) (new : NarrowRecords) (found : Option Verdict) : Type 0 where
+    (can : CanCompareRecord table bounds side old run) (new : NarrowRecords) (found : Option Verdict)
+    : Type 0 where
   pub records : Records
   pub saved : TapeView
   pub keeps : KeepsRecord table bounds side new records saved

@@ -88,8 +88,8 @@ pub record Seeks {T : Type 0} (Finds : Option Verdict → Type 0) (grows : Bool)
 
 -- the same of the single-pass run
 pub record RunsSinglePass {T : Type 0} (grows : Bool) (view : T → TapeView) (table : Table) (bounds : Bounds)
-    (key : ℤ → ℕ) (bench_old bench_new : Bench T) (old new : Meter) (result : Result (Option SearchResult) Memory)
-    : Type 0 where
+    (key : ℤ → ℕ) (bench_old bench_new : Bench T) (old new : Meter)
+    (result : Result (Option SearchResult) Memory) : Type 0 where
   pub single_pass : IfOk result (MakesSinglePass table bounds key old new)
   pub cut : OnErr result (CutsSinglePass table bounds (view bench_new.run).content old new)
   pub within : IsWithinRun bounds old new

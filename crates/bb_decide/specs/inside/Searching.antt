@@ -21,8 +21,8 @@ use Rattle.bb_decide.specs.declared.single_pass.SinglePass.{SinglePass}
 
 -- the search for cycles is at the step where a runner stands: the partner of the next step is kept, and no
 -- step up to here is a cycle
-pub record IsInCycleSearch (table : Table) (bounds : Bounds) (runner kept : Runner) (view view_kept : TapeView)
-    : Type 0 where
+pub record IsInCycleSearch (table : Table) (bounds : Bounds) (runner kept : Runner)
+    (view view_kept : TapeView) : Type 0 where
   pub stands : Stands table runner view
   pub within : steps_of runner ≤ bounds.steps
   pub kept_stands : Stands table kept view_kept
@@ -46,9 +46,9 @@ pub record IsInRecordSearch (table : Table) (bounds : Bounds) (runner : Runner) 
   pub searched : AreSearched table (steps_of runner) right left saved_right saved_left
   pub none : (side : Side) (a b : ℕ) → b ≤ steps_of runner → IsTranslation table bounds side a b → ⊥
 
--- the single-pass run is at the step where a runner stands, not in Z: the fingerprint is that of its tape; the
--- other is that of a tape on which the kept runner stood, the partner of the next step; no step up to here is a
--- cycle; none that left the registers has its partner's fingerprint; and the next one has left them
+-- the single-pass run is at the step where a runner stands, not in Z: the fingerprint is that of its tape;
+-- the other is that of a tape on which the kept runner stood, the partner of the next step; no step up to
+-- here is a cycle; none that left the registers has its partner's fingerprint; and the next one has left them
 pub record IsInSinglePass (table : Table) (bounds : Bounds) (key : ℤ → ℕ) (runner : Runner) (view : TapeView)
     (fingerprints : Fingerprints) : Type 0 where
   pub kept_view : TapeView

@@ -5,9 +5,9 @@ use Rattle.cover.proofs.command.program.Goals as goal
 pub returns : goal.returns
 returns c =
     let one = with_arg c.in_ok-arg.ensures c.base_command.ensures c.limit.ensures.rule c.limit.ensures.local in
-    let two = with_arg c.in_ok-arg-2.ensures one c.limit-2.ensures.rule c.limit-2.ensures.local in
-    let three = with_arg c.in_ok-arg-3.ensures two c.limit-3.ensures.rule c.limit-3.ensures.local in
-    let four = with_arg c.in_ok-arg-4.ensures three c.limit-4.ensures.rule c.limit-4.ensures.local in
+    let two = with_arg c.in_ok-arg-2.ensures one c.cells.ensures.rule c.cells.ensures.local in
+    let three = with_arg c.in_ok-arg-3.ensures two c.limit-2.ensures.rule c.limit-2.ensures.local in
+    let four = with_arg c.in_ok-arg-4.ensures three c.limit-3.ensures.rule c.limit-3.ensures.local in
     let five = with_arg c.in_ok-arg-5.ensures four c.below.ensures.rule c.below.ensures.local in
     let six = with_arg c.in_ok-arg-6.ensures five c.switch.ensures.rule c.switch.ensures.local in
     IfOk-weaker c.arg-7.result _ _

@@ -18,7 +18,7 @@ verdict_into-requires c =
     let long = c.lines_are_short.ensures c.args.self.now.machine c.args.verdict.now (omega (arith, short))
     c.requires.numbers in
     let whole = length-append (text c.args.self.now.machine) (verdict_text c.args.verdict.now) in
-    let none : array_vec_len c.new-words.result ≡ 0 = search rules in
+    let none : array_vec_len c.clear.new.self ≡ 0 = search rules in
     omega (arith, long, whole, none)
 
 pub unwrap-requires-2 : goal.unwrap-requires-2
