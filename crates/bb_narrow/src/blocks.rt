@@ -152,7 +152,7 @@ impl BlockRun {
     }
 }
 
-/// How many cells of a new block are behind a head that went right or left, counted from the block's beginning.
+/// How many cells a new block has to the left of a head that went right or left.
 #[inline(always)]
 fn cells_before(right: bool) -> i64
     ensures some { pos 0 ≤ℤ result }

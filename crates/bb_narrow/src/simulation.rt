@@ -33,7 +33,7 @@ pub fn fits_registers(machine: &Machine) -> bool
 }
 
 /// Runs a machine from its start, as [`simulate`] does, but in registers while it stays within 64 cells. The
-/// rest of a longer run is made on the tape, from there on. A tape that grows is used from the start.
+/// rest of a longer run is made on the tape, in blocks of 64 cells. A tape that grows is used from the start.
 ///
 /// After an error the tape has the configuration of the last counted step; the next run resets it.
 pub fn simulate_narrow<T: Tape>(
