@@ -27,7 +27,7 @@ use Rattle.bb_decide.specs.declared.narrow_records.NarrowRecords.{NarrowRecords}
 use Rattle.bb_decide.specs.inside.NarrowRecords.{CanCompareCells, CanCompareRecord, KeepsRecord, KnowsHeads, nearer_bit}
 
 -- the lesser and the greater of two bits
-pow_min : (a b : ℕ) → min (2 ^ a) (2 ^ b) ≡ 2 ^ min a b
+pub pow_min : (a b : ℕ) → min (2 ^ a) (2 ^ b) ≡ 2 ^ min a b
 pow_min a b = elim (cases_lt a b) [
   | inl less ↦
       let e : min a b ≡ a = omega (arith, less) in
@@ -39,7 +39,7 @@ pow_min a b = elim (cases_lt a b) [
       rw e (omega (arith, f))
 ]
 
-pow_max : (a b : ℕ) → max (2 ^ a) (2 ^ b) ≡ 2 ^ max a b
+pub pow_max : (a b : ℕ) → max (2 ^ a) (2 ^ b) ≡ 2 ^ max a b
 pow_max a b = elim (cases_lt a b) [
   | inl less ↦
       let e : max a b ≡ b = omega (arith, less) in

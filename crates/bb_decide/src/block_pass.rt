@@ -90,6 +90,7 @@ impl BlockPass {
         requires few { barrier.now.to ≤ limits.now.steps }
         ensures pass { GoesOnInBlock machine.now limits.now barrier.now self.old self.new }
         ensures before { IsTrue result → self.old.run.steps < barrier.now.to }
+        ensures more { self.old.run.steps ≤ self.new.run.steps }
         ensures stepped { IsTrue result → self.new.run.steps ≡ self.old.run.steps + 1 }
     {
         let to = barrier.to;

@@ -23,7 +23,7 @@ pub record IsBlockTable (grows : Bool) (table : Table) (packed : NarrowTable) : 
   pub fixed : grows ≡ false
   pub symbols : symbols_of table ≡ 2
   pub states : length table ≤ 7
-  pub packed : IsTableOf table packed
+  pub is : IsTableOf table packed
 
 -- a single-pass run that may go on in a block: its records have passed the head
 pub record CanPass (table : Table) (bounds : Bounds) (key : ℤ → ℕ) (begun : SinglePass) (run : TapeView)
