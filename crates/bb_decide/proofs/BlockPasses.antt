@@ -118,6 +118,24 @@ cell_fits known k h =
     (omega (arith, ints, known.block.low, known.sound.to_zero, known.sound.within, known.sound.limited))
     (omega (arith, ints, h, known.block.high, known.sound.from_zero, known.sound.within, known.sound.limited))
 
+-- the position of a bit of the block, as it is computed
+pub bit_position : {table : Table} {bounds : Bounds} {from : ℤ} {tape : TapeView} {run : BlockRun}
+    → IsBlockRun table bounds from tape run → (k : ℕ) → k < 64 → (r : ℤ) → r ≡ pos k -ℤ pos 32
+    → to_z w64 (of_z w64 (from +ℤ pos 32)) +ℤ to_z w64 (of_z w64 r) ≡ from +ℤ pos k
+bit_position known k h r is =
+    omega (
+      arith,
+      ints,
+      is,
+      h,
+      known.block.low,
+      known.block.high,
+      known.sound.from_zero,
+      known.sound.to_zero,
+      known.sound.within,
+      known.sound.limited,
+    )
+
 -- a step inside the block, before the barrier
 module _ {table : Table} {bounds : Bounds} {key : ℤ → ℕ} {from : ℤ} {tape right left : TapeView} {begun : SinglePass}
     {old : BlockPass} {barrier : Barrier} (new : BlockPass)

@@ -1,4 +1,4 @@
-use Rattle.std.proofs.Common.{◌≡◌, ◌∙◌, ◌+ℤ◌, ap, arith, of_z, pos, sym, to_z, w64}
+use Rattle.std.proofs.Common.{◌≡◌, ◌∙◌, ◌+ℤ◌, ◌/◌, ◌^◌, ap, arith, bit_and, of_z, pos, sym, to_z, w64}
 use Rattle.std.specs.Int.{bit_at}
 use Rattle.std.proofs.lemmas.Int.{ints, to_z-of_z}
 use Rattle.std.proofs.lemmas.Nat.Bits.{bit_at-lt, shr_and_one}
@@ -17,18 +17,35 @@ loop-place-init g c = record {
 }
 
 pub loop-place-preserved-then-was-is : goal.loop-place-preserved-then-was-is
-loop-place-preserved-then-was-is g c = record {
-  few = omega arith;
-  current = λ one middle is half. c.loop-place.invariant.current one middle is (halfway_same ? ? half);
-}
+loop-place-preserved-then-was-is g c =
+    let small = c.loop-place-test.true in
+    let k = c.loop-place.place in
+    let same = sym (shr_and_one c.args.old k) ∙ c.if-was-is.true ∙ shr_and_one c.args.new k in
+    record {
+      few = omega arith;
+      current = λ one middle is half. c.loop-place.invariant.current one middle is (halfway_same small same half);
+    }
 
 pub loop-place-preserved : goal.loop-place-preserved
-loop-place-preserved g c = record {
-  few = omega arith;
-  current = λ one middle is half.
-      let before = c.loop-place.invariant.current one _ is (halfway_before ? half) in
-      c.update_fingerprint-current.ensures _ before ? ∙ ?;
-}
+loop-place-preserved g c =
+    let small = c.loop-place-test.true in
+    let k = c.loop-place.place in
+    let key = g.K.FingerprintKeys.key_of c.args.keys.now in
+    let from = to_z w64 (of_z w64 c.args.from) in
+    let at : to_z w64 (of_z w64 (to_z w64 (of_z w64 c.args.from) +ℤ to_z w64 (of_z w64 c.from.result))) ≡ from +ℤ pos k =
+    omega (arith, ints, c.from.ensures, small, c.requires.low, c.requires.high) in
+    record {
+      few = omega arith;
+      current = λ one middle is half.
+          let before = c.loop-place.invariant.current one _ is (halfway_before small half) in
+          let put = with_cell middle (from +ℤ pos k) (bit_at c.args.old k) in
+          c.update_fingerprint-current.ensures put before
+          (ap (cell put) at ∙ cell-with_cell-same middle (from +ℤ pos k) (bit_at c.args.old k)
+          ∙ sym (shr_and_one c.args.old k))
+          ∙ ap (λ p. fingerprint key (with_cell put p (bit_and (c.args.new / 2 ^ k) 1))) at
+          ∙ ap (λ v. fingerprint key (with_cell put (from +ℤ pos k) v)) (shr_and_one c.args.new k)
+          ∙ ap (fingerprint key) (changed_back small half);
+    }
 
 pub returns : goal.returns
 returns g c one other is changes =
