@@ -20,12 +20,13 @@ use Rattle.bb_sim.proofs.Facts.{inside_here}
 use Rattle.bb_narrow.specs.Blocks.{IsBlockRun}
 use Rattle.bb_narrow.specs.declared.blocks.BlockRun.{BlockRun}
 use Rattle.bb_cert.specs.declared.records.Records.{Records}
+use Rattle.bb_cert.specs.declared.verdict.Side.{Side}
 use Rattle.bb_cert.specs.declared.verdict.Side.TheVariants.{L, R}
 use Rattle.bb_cert.specs.records.Follow.{nearer, passed}
 use Rattle.bb_decide.specs.Fingerprint.{fingerprint}
 use Rattle.bb_decide.specs.inside.BlockPasses.{ChangesTo, IsBarrier, IsBlockPass}
 use Rattle.bb_decide.specs.inside.Searching.{IsInRecordSearch, IsInSinglePass, IsUnderWay}
-use Rattle.bb_decide.specs.inside.Fingerprints.{AreAsKept}
+use Rattle.bb_decide.specs.inside.Fingerprints.{AreAsKept, KeepInTurn}
 use Rattle.bb_decide.specs.inside.Step.{HasMoved}
 use Rattle.bb_decide.specs.declared.block_pass.Barrier.{Barrier}
 use Rattle.bb_decide.specs.declared.block_pass.BlockPass.{BlockPass}
@@ -34,7 +35,7 @@ use Rattle.bb_decide.specs.declared.single_pass.SinglePass.{SinglePass}
 use Rattle.bb_decide.proofs.Halting.{not_in_Z}
 use Rattle.bb_decide.proofs.NarrowCells.{pow_max, pow_min}
 use Rattle.bb_decide.proofs.SinglePass.{single_pass_on}
-use Rattle.bb_decide.proofs.Translations.{goes_on, looks_at_none, takes_in}
+use Rattle.bb_decide.proofs.Translations.{HasPassedBoth, goes_on, looks_at_none, takes_in}
 
 abbrev configuration_of : Runner → TapeView → Configuration
 configuration_of runner view =
@@ -98,6 +99,17 @@ passed_left records side p q = ap (λ z. record records { nearest = z }) nearest
   nearest : nearer records.side records.nearest (int_max p q)
       ≡ nearer records.side (nearer records.side records.nearest p) q
   nearest = rw side (omega (arith, ints, clamps))
+
+nearer_again : (side : Side) (n q : ℤ) → nearer side (nearer side n q) q ≡ nearer side n q
+nearer_again R n q = omega (arith, ints, clamps)
+nearer_again L n q = omega (arith, ints, clamps)
+
+-- where the head was passed already
+pub passed_again : (old new : Records) (p q : ℤ) → FitsSigned w64 p → p ≡ q → new ≡ passed old (to_z w64 (of_z w64 p))
+    → passed new q ≡ new
+passed_again old new p q fits at is =
+    let here : new ≡ passed old q = is ∙ ap (passed old) (to_z-of_z w64 _ fits ∙ at) in
+    rw here (ap (λ z. record old { nearest = z }) (nearer_again old.side old.nearest q))
 
 least_at : (from : ℤ) (a b : ℕ) → from +ℤ pos (min a b) ≡ int_min (from +ℤ pos a) (from +ℤ pos b)
 least_at from a b = omega (arith, ints, clamps)
@@ -355,3 +367,20 @@ leave_block known stands steps on_right on_left is =
       search = search_as stands same on_right on_left known.search;
       single_pass = pass_as _ _ stands same is known.single_pass;
     }
+
+-- a run that made a step, where both searches know it
+pub is_under_way : {table : Table} {bounds : Bounds} {key : ℤ → ℕ} {before after : Runner}
+    {view_before view saved_right saved_left : TapeView} {old_right old_left right left : Records}
+    {old printed new : Fingerprints}
+    → IsInRecordSearch table bounds before view_before old_right old_left saved_right saved_left
+    → IsInSinglePass table bounds key before view_before old
+    → HasMoved table before after view → Inside table bounds (steps_of after)
+    → HasPassedBoth table (steps_of after) right left saved_right saved_left
+    → printed ≡ record old { current = printed.current } → printed.current ≡ fingerprint key view.content
+    → (AreAsKept printed after → ⊥) → KeepInTurn after printed new
+    → IsUnderWay table bounds key
+    (record { runner = after; right = right; left = left; fingerprints = new }) view saved_right saved_left
+is_under_way search single_pass moved inside looks stays is differs keeps = record {
+  search = goes_on search moved inside looks;
+  single_pass = single_pass_on single_pass moved inside stays is differs keeps;
+}
