@@ -359,8 +359,12 @@ pub leave_block : {table : Table} {bounds : Bounds} {key : ℤ → ℕ} {from : 
     → steps_of runner ≡ end.run.steps → new_right ≡ passed begun.right (from +ℤ pos known.least)
     → new_left ≡ passed begun.left (from +ℤ pos known.greatest) → current ≡ fingerprint key new.content
     → IsUnderWay table bounds key
-    (record { runner = runner; right = new_right; left = new_left;
-      fingerprints = record begun.fingerprints { current = current } }) new right left
+    (record {
+      runner = runner;
+      right = new_right;
+      left = new_left;
+      fingerprints = record begun.fingerprints { current = current };
+    }) new right left
 leave_block known stands steps on_right on_left is =
     let same = steps ∙ known.run.steps_is in
     record {

@@ -94,7 +94,10 @@ impl BlockPass {
         ensures stepped { IsTrue result → self.new.run.steps ≡ self.old.run.steps + 1 }
     {
         let to = barrier.to;
-        if !self.run.advance_apart(machine, table, limits, to, barrier.head, barrier.entry) {
+        if !self
+            .run
+            .advance_apart(machine, table, limits, to, barrier.head, barrier.entry)
+        {
             return false;
         }
         let head = self.run.registers.head;
@@ -207,8 +210,13 @@ fn pass_block<T: Tape, K: FingerprintKeys>(
     pass.right.pass(from + 32 + position_of_bit(end.least));
     pass.left.pass(from + 32 + position_of_bit(end.greatest));
     let bits = end.run.registers.bits;
-    pass.fingerprints.current =
-        fingerprint_of_block(begun.fingerprints.current, keys, from, run.registers.bits, bits);
+    pass.fingerprints.current = fingerprint_of_block(
+        begun.fingerprints.current,
+        keys,
+        from,
+        run.registers.bits,
+        bits,
+    );
     pass
 }
 
