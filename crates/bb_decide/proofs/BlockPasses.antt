@@ -1,6 +1,6 @@
 -- Steps of the single-pass run inside a block, over a runner and a view that are in the proof alone.
-use Rattle.std.proofs.Common.{◌≡◌, ◌≢◌, ℕ, ◌+◌, ◌-◌, ◌*◌, ◌%◌, ◌^◌, ◌<◌, ◌≤◌, inl, inr, ℤ, pos, negsuc, ◌+ℤ◌, ◌-ℤ◌}
-use Rattle.std.proofs.Common.{◌≤ℤ◌, ◌<ℤ◌, refl, ap, sym, subst, ◌∙◌, arith, FitsSigned, of_z, to_z, w64, Some, None}
+use Rattle.std.proofs.Common.{◌≡◌, ℕ, ◌+◌, ◌%◌, ◌^◌, ◌<◌, ◌≤◌, inl, inr, ℤ, pos, negsuc, ◌+ℤ◌, ◌-ℤ◌}
+use Rattle.std.proofs.Common.{◌≤ℤ◌, ◌<ℤ◌, refl, ap, sym, subst, ◌∙◌, arith, FitsSigned, of_z, to_z, w64, None}
 use Rattle.std.specs.Prelude.{min, max, unsigned_abs, ◌⊎◌}
 use Rattle.std.specs.Int.{bit_at, int_max, int_min}
 use Rattle.std.proofs.lemmas.Bool.{cases_eq}

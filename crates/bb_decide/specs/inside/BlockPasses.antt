@@ -1,5 +1,5 @@
 -- The steps of a single-pass run inside a block of its tape, for its functions. No public contract cites them.
-use Rattle.std.specs.Prelude.{◌≡◌, ℕ, ℤ, ◌+◌, ◌-◌, ◌*◌, ◌<◌, ◌≤◌, ◌^◌, ◌⊎◌, Bool, false, pos, ◌+ℤ◌, ◌≤ℤ◌, ◌<ℤ◌, length}
+use Rattle.std.specs.Prelude.{◌≡◌, ℕ, ℤ, ◌-◌, ◌*◌, ◌<◌, ◌≤◌, ◌^◌, ◌⊎◌, Bool, false, pos, ◌+ℤ◌, ◌≤ℤ◌, ◌<ℤ◌, length}
 use Rattle.std.specs.Int.{bit_at}
 use Rattle.bb_machine.specs.declared.entry.Next.TheVariants as next
 use Rattle.bb_machine.specs.Limits.{Bounds}

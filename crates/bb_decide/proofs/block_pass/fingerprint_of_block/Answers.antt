@@ -1,11 +1,10 @@
 use Rattle.std.proofs.Common.{◌≡◌, ◌∙◌, ◌+ℤ◌, ◌/◌, ◌^◌, ap, arith, bit_and, of_z, pos, sym, to_z, w64}
 use Rattle.std.specs.Int.{bit_at}
 use Rattle.std.proofs.lemmas.Int.{ints, to_z-of_z}
-use Rattle.std.proofs.lemmas.Nat.Bits.{bit_at-lt, shr_and_one}
+use Rattle.std.proofs.lemmas.Nat.Bits.{shr_and_one}
 use Rattle.bb_tape.specs.Content.{with_cell, cell}
 use Rattle.bb_tape.proofs.Facts.{cell-with_cell-same}
 use Rattle.bb_decide.specs.Fingerprint.{fingerprint}
-use Rattle.bb_decide.specs.inside.BlockPasses.{ChangesTo}
 use Rattle.bb_decide.proofs.BlockPasses.{changed_back, halfway_before, halfway_first, halfway_last, halfway_same}
 use Rattle.bb_decide.proofs.block_pass.fingerprint_of_block.Goals as goal
 

@@ -1,4 +1,4 @@
-use Rattle.std.proofs.Common.{◌∙◌, ◌+ℤ◌, FitsSigned, ap, arith, of_z, pos, subst, sym, to_z, w64}
+use Rattle.std.proofs.Common.{◌∙◌, FitsSigned, ap, arith, of_z, subst, sym, to_z, w64}
 use Rattle.std.proofs.lemmas.Int.{to_z-of_z}
 use Rattle.bb_cert.specs.records.Follow.{passed}
 use Rattle.bb_decide.proofs.BlockPasses.{begin_block, bit_position, cell_fits, changes, leave_block}
