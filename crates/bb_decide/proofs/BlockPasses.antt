@@ -1,7 +1,8 @@
 -- Steps of the single-pass run inside a block, over a runner and a view that are in the proof alone.
-use Rattle.std.proofs.Common.{◌≡◌, ℕ, ◌+◌, ◌%◌, ◌^◌, ◌<◌, ◌≤◌, inl, inr, ℤ, pos, negsuc, ◌+ℤ◌, ◌-ℤ◌}
+use Rattle.std.proofs.Common.{◌≡◌, ◌≢◌, ℕ, ◌+◌, ◌%◌, ◌^◌, ◌<◌, ◌≤◌, inl, inr, ℤ, pos, negsuc, ◌+ℤ◌, ◌-ℤ◌}
 use Rattle.std.proofs.Common.{◌≤ℤ◌, ◌<ℤ◌, refl, ap, sym, subst, ◌∙◌, arith, FitsSigned, of_z, to_z, w64, None}
-use Rattle.std.specs.Prelude.{min, max, unsigned_abs, ◌⊎◌}
+use Rattle.std.specs.Prelude.{bit_xor, min, max, unsigned_abs, ◌⊎◌}
+use Rattle.std.proofs.lemmas.Nat.Bits.{bit_at-lt, bit_at-zero, bit_at_xor}
 use Rattle.std.specs.Int.{bit_at, int_max, int_min}
 use Rattle.std.proofs.lemmas.Bool.{cases_eq}
 use Rattle.std.proofs.lemmas.Int.{ints, clamps, by_lt_z, to_z-of_z}
@@ -271,11 +272,11 @@ changes {tape = tape} {new = new} begins ends stood first stands last =
       rest = λ p out. rw other (ends.rest p out);
     }
 
--- a content whose first cells of a block were changed
-pub record IsHalfway (from : ℤ) (old new place : ℕ) (one middle : Content) : Type 0 where
+-- a content some of whose cells are still to be changed in a block
+pub record IsHalfway (from : ℤ) (old new todo_bits : ℕ) (one middle : Content) : Type 0 where
   pub was : (k : ℕ) → k < 64 → cell one (from +ℤ pos k) ≡ bit_at old k
-  pub done : (k : ℕ) → k < 64 → k < place → cell middle (from +ℤ pos k) ≡ bit_at new k
-  pub todo : (k : ℕ) → k < 64 → place ≤ k → cell middle (from +ℤ pos k) ≡ bit_at old k
+  pub done : (k : ℕ) → k < 64 → bit_at todo_bits k ≡ 0 → cell middle (from +ℤ pos k) ≡ bit_at new k
+  pub todo : (k : ℕ) → k < 64 → bit_at todo_bits k ≡ 1 → cell middle (from +ℤ pos k) ≡ bit_at old k
   pub rest : (p : ℤ) → (p <ℤ from) ⊎ ((from +ℤ pos 64) ≤ℤ p) → cell middle p ≡ cell one p
 
 -- two contents that agree inside the block and outside are the same
@@ -292,65 +293,63 @@ by_block from a b here there =
     rw is (here k within))
     (λ past. there p (inr past))))
 
-pub halfway_first : {from : ℤ} {old new : ℕ} {one middle : Content} → IsHalfway from old new 0 one middle
-    → one ≡ middle
-halfway_first {from} known =
-    by_block from _ _ (λ k h. known.was k h ∙ sym (known.todo k h (omega arith))) (λ p out. sym (known.rest p out))
+pub halfway_first : {from : ℤ} {old new : ℕ} {one middle : Content}
+    → IsHalfway from old new (bit_xor old new) one middle → one ≡ middle
+halfway_first {from} {old} {new} known =
+    by_block from _ _
+    (λ k h. elim (cases_eq (bit_at (bit_xor old new) k) 0) [
+      | inl same ↦
+          let alike : bit_at old k ≡ bit_at new k =
+          omega (arith, same, bit_at_xor old new k, bit_at-lt old k, bit_at-lt new k) in
+          known.was k h ∙ alike ∙ sym (known.done k h same)
+      | inr apart ↦ known.was k h ∙ sym (known.todo k h (omega (arith, apart, bit_at-lt (bit_xor old new) k)))
+    ])
+    (λ p out. sym (known.rest p out))
 
-pub halfway_last : {from : ℤ} {old new : ℕ} {one other : Content} → ChangesTo from old new one other
-    → (place : ℕ) → place ≡ 64 → IsHalfway from old new place one other
-halfway_last changes place is = record {
+pub halfway_last : {from : ℤ} {old new todo_bits : ℕ} {one other : Content} → ChangesTo from old new one other
+    → todo_bits ≡ 0 → IsHalfway from old new todo_bits one other
+halfway_last changes is = rw is (record {
   was = changes.was;
-  done = λ k h less. changes.is k h;
-  todo = λ k h less. absurd (omega (arith, is, h, less));
+  done = λ k h clear. changes.is k h;
+  todo = λ k h set. absurd (omega (arith, set, bit_at-zero k));
   rest = changes.rest;
-}
+})
 
 -- one cell earlier
-pub halfway_before : {from : ℤ} {old new place : ℕ} {one middle : Content} → place < 64
-    → IsHalfway from old new (place + 1) one middle
-    → IsHalfway from old new place one (with_cell middle (from +ℤ pos place) (bit_at old place))
-halfway_before {from} {old} {new} {place} {one} {middle} small known = record {
-  was = known.was;
-  done = λ k h less.
-      cell-with_cell-other middle (from +ℤ pos place) (bit_at old place) (from +ℤ pos k)
-      (λ e. omega (arith, ints, e, less))
-      ∙ known.done k h (omega (arith, less));
-  todo = λ k h more. elim (cases_eq k place) [
-    | inl same ↦ rw same (cell-with_cell-same middle (from +ℤ pos place) (bit_at old place))
-    | inr apart ↦
+module _ {from : ℤ} {old new todo_bits fewer place : ℕ} {one middle : Content} (small : place < 64)
+    (set : bit_at todo_bits place ≡ 1) (cleared : bit_at fewer place ≡ 0)
+    (others : (k : ℕ) → k ≢ place → bit_at fewer k ≡ bit_at todo_bits k)
+    (known : IsHalfway from old new fewer one middle) where
+  pub halfway_before : IsHalfway from old new todo_bits one (with_cell middle (from +ℤ pos place) (bit_at old place))
+  halfway_before = record {
+    was = known.was;
+    done = λ k h clear.
+        let apart : k ≢ place = λ e. omega (arith, ap (bit_at todo_bits) e, clear, set) in
         cell-with_cell-other middle (from +ℤ pos place) (bit_at old place) (from +ℤ pos k)
         (λ e. apart (omega (arith, ints, e)))
-        ∙ known.todo k h (omega (arith, more, apart))
-  ];
-  rest = λ p out.
-      cell-with_cell-other middle (from +ℤ pos place) (bit_at old place) p
-      (λ e. omega (arith, ints, e, small, out))
-      ∙ known.rest p out;
-}
+        ∙ known.done k h (others k apart ∙ clear);
+    todo = λ k h yes. elim (cases_eq k place) [
+      | inl same ↦ rw same (cell-with_cell-same middle (from +ℤ pos place) (bit_at old place))
+      | inr apart ↦
+          cell-with_cell-other middle (from +ℤ pos place) (bit_at old place) (from +ℤ pos k)
+          (λ e. apart (omega (arith, ints, e)))
+          ∙ known.todo k h (others k apart ∙ yes)
+    ];
+    rest = λ p out.
+        cell-with_cell-other middle (from +ℤ pos place) (bit_at old place) p
+        (λ e. omega (arith, ints, e, small, out))
+        ∙ known.rest p out;
+  }
 
 -- with the cell changed again
-pub changed_back : {from : ℤ} {old new place : ℕ} {one middle : Content} → place < 64
-    → IsHalfway from old new (place + 1) one middle
-    → with_cell (with_cell middle (from +ℤ pos place) (bit_at old place)) (from +ℤ pos place) (bit_at new place) ≡ middle
-changed_back {from} {old} {new} {place} {one} {middle} small known =
+pub changed_back : {from : ℤ} {old new fewer place : ℕ} {one middle : Content} → place < 64
+    → bit_at fewer place ≡ 0 → IsHalfway from old new fewer one middle
+    → with_cell (with_cell middle (from +ℤ pos place) (bit_at old place)) (from +ℤ pos place) (bit_at new place)
+    ≡ middle
+changed_back {from} {old} {new} {fewer} {place} {one} {middle} small cleared known =
     ap (with_cell (with_cell middle (from +ℤ pos place) (bit_at old place)) (from +ℤ pos place))
-    (sym (known.done place small (omega arith)))
+    (sym (known.done place small cleared))
     ∙ put_back middle (from +ℤ pos place) (bit_at old place)
-
--- a cell that stays
-pub halfway_same : {from : ℤ} {old new place : ℕ} {one middle : Content} → place < 64
-    → bit_at old place ≡ bit_at new place → IsHalfway from old new (place + 1) one middle
-    → IsHalfway from old new place one middle
-halfway_same {from} {old} {new} {place} {one} {middle} small same known = record {
-  was = known.was;
-  done = λ k h less. known.done k h (omega (arith, less));
-  todo = λ k h more. elim (cases_eq k place) [
-    | inl is ↦ rw is (known.done place small (omega arith) ∙ sym same)
-    | inr apart ↦ known.todo k h (omega (arith, more, apart))
-  ];
-  rest = known.rest;
-}
 
 -- the block left
 pub leave_block : {table : Table} {bounds : Bounds} {key : ℤ → ℕ} {from : ℤ} {tape new right left : TapeView}

@@ -1,5 +1,5 @@
 //! The steps of a single-pass run inside a block of 64 cells of its tape, made in registers.
-ghost use Rattle.std.specs.Prelude.{◌≡◌, ◌+◌, ◌*◌, ◌-◌, ◌<◌, ◌≤◌, ◌^◌, ℕ, ℤ, neg_ℤ, pos, ◌+ℤ◌, ◌≤ℤ◌, ◌<ℤ◌};
+ghost use Rattle.std.specs.Prelude.{◌≡◌, ◌≢◌, ◌+◌, ◌*◌, ◌-◌, ◌<◌, ◌≤◌, ◌^◌, ℕ, ℤ, neg_ℤ, pos, ◌+ℤ◌, ◌≤ℤ◌, ◌<ℤ◌};
 ghost use Rattle.std.specs.Prelude.{false, true, IfSome, IsTrue, length};
 ghost use Rattle.std.specs.Int.{bit_at};
 ghost use Rattle.bb_machine.specs.Machine.{symbols_of};
@@ -132,6 +132,28 @@ impl BlockPass {
     }
 }
 
+/// The place of the lowest set bit.
+#[inline(always)]
+fn lowest_place(bits: u64) -> u32
+    requires { 0 < bits }
+    ensures small { result < 64 }
+    ensures set { bit_at bits result ≡ 1 }
+{
+    bits.trailing_zeros()
+}
+
+/// The bits without one that is set.
+#[inline(always)]
+fn bits_without(bits: u64, place: u32) -> u64
+    requires small { place < 64 }
+    requires set { bit_at bits place ≡ 1 }
+    ensures fewer { result < bits }
+    ensures cleared { bit_at result place ≡ 0 }
+    ensures others { (k : ℕ) → k ≢ place → bit_at result k ≡ bit_at bits k }
+{
+    bits ^ (1 << place)
+}
+
 /// The fingerprint of a tape after the cells of a block changed from bits to others.
 fn fingerprint_of_block<K: FingerprintKeys>(
     current: u64,
@@ -146,15 +168,17 @@ fn fingerprint_of_block<K: FingerprintKeys>(
         → ChangesTo from old new one other → result ≡ fingerprint (K.key_of keys.now) other }
 {
     let mut current = current;
-    for place in 0..64u32 {
+    let mut changed = old ^ new;
+    loop {
+        if changed == 0 {
+            return current;
+        }
+        let place = lowest_place(changed);
         let was = ((old >> place) & 1) as u8;
         let is = ((new >> place) & 1) as u8;
-        if was == is {
-            continue;
-        }
         current = update_fingerprint(current, keys, from + i64::from(place), was, is);
+        changed = bits_without(changed, place);
     }
-    current
 }
 
 /// The table of a machine that fits the registers, for a tape that doesn't grow.
