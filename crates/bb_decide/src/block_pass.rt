@@ -195,7 +195,7 @@ pub(crate) fn block_table<T: Tape>(machine: &Machine, _tape: &T) -> Option<Narro
 }
 
 /// The single-pass run after steps in a block around the head.
-#[inline(never)]
+#[inline(always)]
 fn pass_block<T: Tape, K: FingerprintKeys>(
     machine: &Machine,
     table: &NarrowTable,
@@ -244,8 +244,23 @@ fn pass_block<T: Tape, K: FingerprintKeys>(
     pass
 }
 
-/// The single-pass run after steps in a block around the head, if there is one with so many cells before it.
+/// Where a block begins that has so many cells before the head, if there is a table for it.
 #[inline(always)]
+pub(crate) fn block_for(table: &Option<NarrowTable>, runner: &Runner, before: i64) -> Option<i64>
+    requires low { neg_ℤ (pos MAX_CELLS) ≤ℤ position_of runner.now }
+    requires high { position_of runner.now ≤ℤ pos MAX_CELLS }
+    requires some { pos 0 ≤ℤ before }
+    requires few { before <ℤ pos 64 }
+    ensures { IfSome result (λ from. IsBlockOf runner.now from) }
+{
+    if table.is_none() {
+        return None;
+    }
+    block_start(runner, before)
+}
+
+/// The single-pass run after steps in a block around the head, if there is a table for it.
+#[inline(never)]
 pub(crate) fn after_block<T: Tape, K: FingerprintKeys>(
     machine: &Machine,
     table: &Option<NarrowTable>,
@@ -253,12 +268,11 @@ pub(crate) fn after_block<T: Tape, K: FingerprintKeys>(
     keys: &K,
     begun: SinglePass,
     tape: &mut T,
-    before: i64,
+    from: i64,
 ) -> SinglePass
     requires table { IfSome table.now (IsBlockTable T.GROWS machine.now) }
+    requires block { IsBlockOf begun.runner from }
     requires can { CanPass machine.now limits.now (K.key_of keys.now) begun (T.view tape.old) }
-    requires some { pos 0 ≤ℤ before }
-    requires few { before <ℤ pos 64 }
     ensures pass { (right left : TapeView)
         → IsUnderWay machine.now limits.now (K.key_of keys.now) begun (T.view tape.old) right left
         → IsUnderWay machine.now limits.now (K.key_of keys.now) result (T.view tape.new) right left }
@@ -266,9 +280,6 @@ pub(crate) fn after_block<T: Tape, K: FingerprintKeys>(
     ensures more { steps_of begun.runner ≤ steps_of result.runner }
 {
     let Some(table) = table else {
-        return begun;
-    };
-    let Some(from) = block_start(&begun.runner, before) else {
         return begun;
     };
     pass_block(machine, table, limits, keys, begun, tape, from)

@@ -10,7 +10,7 @@ ghost use Rattle.bb_decide.specs.inside.Searching.{IsUnderWay};
 ghost use Rattle.bb_decide.specs.inside.Step.{TakesOver};
 
 use crate::bench::Bench;
-use crate::block_pass::{after_block, block_table};
+use crate::block_pass::{after_block, block_for, block_table};
 use crate::fingerprint::update_fingerprint;
 use crate::keys::FingerprintKeys;
 use crate::narrow_pass::{NarrowResult, run_narrow_pass};
@@ -314,14 +314,17 @@ fn run_single_pass_inline<T: Tape, K: FingerprintKeys>(
         left.pass(runner.position());
         // A step makes a record exactly if it widens the window.
         let Some(side) = widened_side(&runner, cells) else {
+            let before = cells_before(position < runner.position());
+            let Some(from) = block_for(&table, &runner, before) else {
+                continue;
+            };
             let here = SinglePass {
                 runner,
                 right,
                 left,
                 fingerprints,
             };
-            let before = cells_before(position < runner.position());
-            let pass = after_block(machine, &table, limits, keys, here, &mut bench.run, before);
+            let pass = after_block(machine, &table, limits, keys, here, &mut bench.run, from);
             runner = pass.runner;
             right = of_side(pass.right, Side::R);
             left = of_side(pass.left, Side::L);

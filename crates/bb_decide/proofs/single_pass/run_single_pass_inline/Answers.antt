@@ -12,6 +12,7 @@ use Rattle.bb_decide.proofs.SearchResults.{runs_to_stop, runs_until_cut}
 use Rattle.bb_decide.proofs.Translations.{IsTakenIn, goes_on, is_found, is_ready, looks_at_none, looks_at_one}
 use Rattle.bb_decide.proofs.Translations.{none_at_end, takes_in, tells_pair}
 use Rattle.bb_sim.specs.Runner.{steps_of}
+use Rattle.bb_sim.proofs.Facts.{head_inside, small_position}
 use Rattle.bb_sim.specs.Span.{Inside}
 use Rattle.bb_decide.specs.inside.Step.{HasMoved}
 use Rattle.bb_decide.proofs.Halting.{in_no_state, is_none, not_in_Z}
@@ -137,6 +138,33 @@ taken_in g c =
     c.pass-in-loop-moved.ensures
 
 -- a step that widens nothing makes no record, and the run goes on in a block
+pub block_for-requires-clause-low : goal.block_for-requires-clause-low
+block_for-requires-clause-low g c =
+    let step = step_made g (goal.at.block_for-requires-clause-low g c).After-update_fingerprint in
+    (small_position _ _ (g.met.T.Tape.sound c.advance.new.tape)
+    (head_inside _ _ _ step.0.stands step.0.running)).0
+
+pub block_for-requires-clause-high : goal.block_for-requires-clause-high
+block_for-requires-clause-high g c =
+    let step = step_made g (goal.at.block_for-requires-clause-high g c).After-update_fingerprint in
+    (small_position _ _ (g.met.T.Tape.sound c.advance.new.tape)
+    (head_inside _ _ _ step.0.stands step.0.running)).1
+
+pub loop-moved-preserved-in_default-block_for : goal.loop-moved-preserved-in_default-block_for
+loop-moved-preserved-in_default-block_for g c =
+    let here = c.loop-moved.invariant in
+    let step = step_made g (goal.at.loop-moved-preserved-in_default-block_for g c).After-update_fingerprint in
+    let taken = taken_in g (goal.at.loop-moved-preserved-in_default-block_for g c).After-widened_side in
+    let under = is_under_way here.search here.single_pass step.0 step.1
+    (looks_at_none taken (is_none _ c.in_default-widened_side.not-Some)) refl
+    (current g (goal.at.loop-moved-preserved-in_default-block_for g c).After-update_fingerprint)
+    (λ same. both_ways _ c.if-are_as_kept.false (c.are_as_kept.ensures.1 same)) c.keep_in_turn.ensures in
+    record {
+      search = under.search;
+      single_pass = under.single_pass;
+      lent = lent_on c.advance.ensures.limit refl refl here.lent;
+    }
+
 pub after_block-pass-requires-clause-can : goal.after_block-pass-requires-clause-can
 after_block-pass-requires-clause-can g c =
     let here = c.loop-moved.invariant in
