@@ -25,3 +25,4 @@ pub mod Sure
 pub mod Translations
 pub mod Verdicts
 pub mod SinglePass
+pub mod BlockPasses

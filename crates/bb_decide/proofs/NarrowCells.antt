@@ -1,13 +1,11 @@
 -- The kept record of a side in registers, compared with the next.
-use Rattle.std.proofs.Common.{◌≡◌, ◌≢◌, ℕ, zero, suc, ◌*◌, ◌%◌, ◌^◌, ◌<◌, ◌≤◌, min, max, inl, inr}
+use Rattle.std.proofs.Common.{◌≡◌, ◌≢◌, ℕ, zero, suc, ◌*◌, ◌%◌, ◌^◌, ◌<◌, min, max, inl, inr}
 use Rattle.std.proofs.Common.{ℤ, pos, neg_ℤ, ◌+ℤ◌, ◌-ℤ◌, ◌≤ℤ◌, ap, sym, subst, ◌∙◌, arith, w64, to_z, of_z}
 use Rattle.std.proofs.Common.{FitsSigned, rules}
 use Rattle.std.specs.Prelude.{◌↔◌}
-use Rattle.std.specs.Int.{int_min, trailing_zeros}
+use Rattle.std.specs.Int.{int_min}
 use Rattle.std.proofs.lemmas.Int.{ints, clamps}
-use Rattle.std.proofs.lemmas.Bool.{cases_eq, cases_lt}
-use Rattle.std.proofs.lemmas.Nat.{pow_pos}
-use Rattle.std.proofs.lemmas.Nat.Bits.{bit_at-pow_other, bit_at-trailing_zeros}
+use Rattle.std.proofs.lemmas.Bool.{cases_lt}
 use Rattle.std.proofs.Math.Nat.{pow-le-pow_right}
 use Rattle.bb_machine.specs.declared.entry.Next.TheVariants.{State}
 use Rattle.bb_machine.specs.Limits.{Bounds}
@@ -27,7 +25,7 @@ use Rattle.bb_decide.specs.declared.narrow_records.NarrowRecords.{NarrowRecords}
 use Rattle.bb_decide.specs.inside.NarrowRecords.{CanCompareCells, CanCompareRecord, KeepsRecord, KnowsHeads, nearer_bit}
 
 -- the lesser and the greater of two bits
-pow_min : (a b : ℕ) → min (2 ^ a) (2 ^ b) ≡ 2 ^ min a b
+pub pow_min : (a b : ℕ) → min (2 ^ a) (2 ^ b) ≡ 2 ^ min a b
 pow_min a b = elim (cases_lt a b) [
   | inl less ↦
       let e : min a b ≡ a = omega (arith, less) in
@@ -39,7 +37,7 @@ pow_min a b = elim (cases_lt a b) [
       rw e (omega (arith, f))
 ]
 
-pow_max : (a b : ℕ) → max (2 ^ a) (2 ^ b) ≡ 2 ^ max a b
+pub pow_max : (a b : ℕ) → max (2 ^ a) (2 ^ b) ≡ 2 ^ max a b
 pow_max a b = elim (cases_lt a b) [
   | inl less ↦
       let e : max a b ≡ b = omega (arith, less) in

@@ -2,10 +2,10 @@
 use Rattle.std.proofs.Common.{◌≡◌, ◌≢◌, ℕ, ◌*◌, ◌^◌, ◌<◌, ◌≤◌, inl, inr, Option, Some, None}
 use Rattle.std.proofs.Common.{ℤ, pos, ◌+ℤ◌, ◌-ℤ◌, ◌≤ℤ◌, refl, ap, sym, subst, ◌∙◌, arith, w64, FitsSigned}
 use Rattle.std.specs.Prelude.{◌↔◌}
-use Rattle.std.specs.Int.{bit_at, trailing_zeros}
+use Rattle.std.specs.Int.{bit_at}
 use Rattle.std.proofs.lemmas.Int.{by_lt_z, clamps, ints, to_z-of_z}
 use Rattle.std.proofs.lemmas.Nat.Bits.{bit_at-lt, same_from_bits_below}
-use Rattle.bb_machine.specs.declared.entry.Next.TheVariants.{State, Halt}
+use Rattle.bb_machine.specs.declared.entry.Next.TheVariants.{Halt}
 use Rattle.bb_machine.specs.Limits.{Bounds}
 use Rattle.bb_machine.specs.Machine.{Table}
 use Rattle.bb_tape.specs.TapeView.{TapeView, IsInside}
@@ -32,11 +32,9 @@ use Rattle.bb_decide.proofs.Halting.{no_pair_in_Z, not_in_Z}
 use Rattle.bb_decide.proofs.OneSide.{TellsAgreement}
 use Rattle.bb_decide.proofs.SoFar.{none_earlier, none_so_far}
 use Rattle.bb_decide.proofs.Translations as records
-use Rattle.bb_narrow.specs.declared.registers.Registers.{Registers}
 use Rattle.bb_narrow.specs.declared.run.NarrowRun.{NarrowRun}
-use Rattle.bb_narrow.specs.BitCells.{bits_content}
-use Rattle.bb_narrow.specs.Registers.{MatchesRunner, EndsWith, ContinuesTo, IsNarrowRun, IsSameConfiguration, MatchesWindow}
-use Rattle.bb_narrow.proofs.Facts.{at_bit, bit_of, bits_unique}
+use Rattle.bb_narrow.specs.Registers.{EndsWith, ContinuesTo, IsNarrowRun, IsSameConfiguration, MatchesWindow}
+use Rattle.bb_narrow.proofs.Facts.{at_bit, bit_of}
 use Rattle.bb_narrow.proofs.Facts.{by_bit}
 use Rattle.bb_decide.specs.declared.narrow_records.NarrowRecords.{NarrowRecords}
 use Rattle.bb_decide.specs.declared.narrow_pass.KeptRun.{KeptRun}

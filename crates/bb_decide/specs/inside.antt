@@ -7,3 +7,4 @@ pub mod Step
 pub mod NarrowPass
 pub mod NarrowRecords
 pub mod Searching
+pub mod BlockPasses

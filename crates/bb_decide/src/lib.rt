@@ -2,6 +2,7 @@
 #![tactic(auto)]
 
 pub mod bench;
+mod block_pass;
 pub mod cycle;
 pub mod decision;
 mod fingerprint;

@@ -10,6 +10,7 @@ ghost use Rattle.bb_decide.specs.inside.Searching.{IsUnderWay};
 ghost use Rattle.bb_decide.specs.inside.Step.{TakesOver};
 
 use crate::bench::Bench;
+use crate::block_pass::{after_block, block_for, block_table};
 use crate::fingerprint::update_fingerprint;
 use crate::keys::FingerprintKeys;
 use crate::narrow_pass::{NarrowResult, run_narrow_pass};
@@ -18,6 +19,7 @@ use crate::search_result::{SearchResult, count_run, outcome_of};
 use bb_cert::records::{Records, widened_side};
 use bb_cert::{Side, Verdict};
 use bb_machine::{Limits, Machine};
+use bb_narrow::blocks::cells_before;
 use bb_narrow::fits_registers;
 use bb_sim::{Meter, Moved, Runner};
 use bb_tape::{Memory, Tape};
@@ -281,6 +283,7 @@ fn run_single_pass_inline<T: Tape, K: FingerprintKeys>(
     let mut right = of_side(begun.right, Side::R);
     let mut left = of_side(begun.left, Side::L);
     let mut fingerprints = begun.fingerprints;
+    let table = block_table(machine, &bench.run);
     loop {
         let cells = runner.cells();
         let position = runner.position();
@@ -311,6 +314,21 @@ fn run_single_pass_inline<T: Tape, K: FingerprintKeys>(
         left.pass(runner.position());
         // A step makes a record exactly if it widens the window.
         let Some(side) = widened_side(&runner, cells) else {
+            let before = cells_before(position < runner.position());
+            let Some(from) = block_for(&table, &runner, before) else {
+                continue;
+            };
+            let here = SinglePass {
+                runner,
+                right,
+                left,
+                fingerprints,
+            };
+            let pass = after_block(machine, &table, limits, keys, here, &mut bench.run, from);
+            runner = pass.runner;
+            right = of_side(pass.right, Side::R);
+            left = of_side(pass.left, Side::L);
+            fingerprints = pass.fingerprints;
             continue;
         };
         match compare_on_bench(side, &mut right, &mut left, &runner, bench, meter)? {

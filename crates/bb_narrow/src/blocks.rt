@@ -1,5 +1,5 @@
 //! A run on a tape, made in registers while it stays within a block of 64 cells.
-ghost use Rattle.std.specs.Prelude.{◌≡◌, ◌+◌, ◌<◌, ◌≤◌, ◌^◌, ℤ, neg_ℤ, pos, ◌+ℤ◌, ◌≤ℤ◌, ◌<ℤ◌, false};
+ghost use Rattle.std.specs.Prelude.{◌≡◌, ◌+◌, ◌<◌, ◌≤◌, ◌%◌, ◌^◌, ◌↔◌, ℤ, neg_ℤ, pos, ◌+ℤ◌, ◌≤ℤ◌, ◌<ℤ◌, false};
 ghost use Rattle.std.specs.Prelude.{IfOk, IfSome, IsTrue, OnErr, OnOk, length};
 ghost use Rattle.bb_machine.specs.Machine.{symbols_of};
 ghost use Rattle.bb_tape.specs.declared.tape.TheConstants.{MAX_CELLS};
@@ -27,11 +27,11 @@ const STRIDE: u64 = 8;
 
 /// A run inside a block. Bit i of its registers is the block's cell i.
 #[derive(Clone, Copy, Debug)]
-pub(crate) struct BlockRun {
+pub struct BlockRun {
     /// Its configuration.
-    pub(crate) registers: Registers,
+    pub registers: Registers,
     /// The steps made so far.
-    pub(crate) steps: u64,
+    pub steps: u64,
 }
 
 impl BlockRun {
@@ -68,6 +68,55 @@ impl BlockRun {
         true
     }
 
+    /// Makes the next step, if there is one inside the block, at most to this step, and not to this head in the
+    /// state of this entry. False if not.
+    #[inline(always)]
+    pub fn advance_apart(
+        &mut self,
+        machine: &Machine,
+        table: &NarrowTable,
+        limits: &Limits,
+        to: u64,
+        head: u64,
+        entry: u64,
+    ) -> bool
+        requires symbols { symbols_of machine.now ≡ 2 }
+        requires table { IsTableOf machine.now table.now }
+        requires few { to ≤ limits.now.steps }
+        ensures run { (from : ℤ) (tape : TapeView) → IsBlockRun machine.now limits.now from tape self.old
+            → IsBlockRun machine.now limits.now from tape self.new }
+        ensures stays { result ≡ false → self.new ≡ self.old }
+        ensures before { IsTrue result → self.old.steps < to }
+        ensures stepped { IsTrue result → self.new.steps ≡ self.old.steps + 1 }
+        ensures apart { IsTrue result → self.new.registers.head ≡ head
+            → self.new.registers.entry % 64 ≡ entry → ⊥ }
+    {
+        machine.show_machine();
+        if self.steps >= to {
+            return false;
+        }
+        let next = table.entry(self.registers.entry, self.registers.reads_one());
+        if stops(next) {
+            return false;
+        }
+        let next_head = self.registers.moved_head(next);
+        if next_head == 0 {
+            return false;
+        }
+        if is_there(next_head, next, head, entry) {
+            return false;
+        }
+        *self = BlockRun {
+            registers: Registers {
+                bits: self.registers.flipped_bits(next),
+                head: next_head,
+                entry: next,
+            },
+            steps: self.steps + 1,
+        };
+        true
+    }
+
     /// Makes all steps before a halt, the end of the block or the limit of steps.
     #[inline(always)]
     fn run(self, machine: &Machine, table: &NarrowTable, limits: &Limits) -> BlockRun
@@ -91,7 +140,7 @@ impl BlockRun {
 
     /// Takes the cells of a block from a tape, for the runner on it.
     #[inline(always)]
-    fn take<T: Tape>(
+    pub fn take<T: Tape>(
         machine: &Machine,
         limits: &Limits,
         runner: &Runner,
@@ -121,7 +170,7 @@ impl BlockRun {
 
     /// Puts the cells back, and moves the runner to the run's position.
     #[inline(always)]
-    fn put<T: Tape>(
+    pub fn put<T: Tape>(
         &self,
         machine: &Machine,
         limits: &Limits,
@@ -152,9 +201,17 @@ impl BlockRun {
     }
 }
 
+/// Whether a head and an entry are at this head, in the state of this entry.
+#[inline(always)]
+fn is_there(head: u64, entry: u64, kept_head: u64, kept_entry: u64) -> bool
+    ensures { IsTrue result ↔ ((head ≡ kept_head) × (entry % 64 ≡ kept_entry)) }
+{
+    head == kept_head && entry & 63 == kept_entry
+}
+
 /// How many cells a new block has to the left of the head, by its last move.
 #[inline(always)]
-fn cells_before(right: bool) -> i64
+pub fn cells_before(right: bool) -> i64
     ensures some { pos 0 ≤ℤ result }
     ensures few { result <ℤ pos 64 }
 {
@@ -163,7 +220,7 @@ fn cells_before(right: bool) -> i64
 
 /// The beginning of the block with so many cells before the head, if it is in the window on one side of 0.
 #[inline(always)]
-fn block_start(runner: &Runner, before: i64) -> Option<i64>
+pub fn block_start(runner: &Runner, before: i64) -> Option<i64>
     requires low { neg_ℤ (pos MAX_CELLS) ≤ℤ position_of runner.now }
     requires high { position_of runner.now ≤ℤ pos MAX_CELLS }
     requires some { pos 0 ≤ℤ before }

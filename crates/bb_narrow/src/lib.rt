@@ -2,7 +2,7 @@
 //! the bits of one number.
 #![tactic(auto)]
 
-mod blocks;
+pub mod blocks;
 pub mod cells;
 pub mod handover;
 pub mod registers;
@@ -10,6 +10,7 @@ pub mod run;
 pub mod simulation;
 pub mod table;
 
+pub use blocks::BlockRun;
 pub use cells::BitCells;
 pub use registers::Registers;
 pub use run::{NarrowMoved, NarrowRun};

@@ -1,8 +1,9 @@
 use Rattle.std.proofs.lemmas.Bool.{both_ways}
-use Rattle.std.proofs.Common.{refl, rules, ◌≡◌, ap, arith}
+use Rattle.std.proofs.Common.{refl, rules, ◌≡◌, ◌∙◌, ap, arith}
 use Rattle.bb_sim.specs.declared.meter.Meter.{Meter}
 use Rattle.std.proofs.lemmas.Result.{err_from_is_err_and}
 use Rattle.bb_decide.specs.Fingerprint.{fingerprint}
+use Rattle.bb_decide.proofs.BlockPasses.{is_under_way, passed_again}
 use Rattle.bb_decide.proofs.Benches.{lent_at_first, lent_on, lent_on_bench, lent_uncounted}
 use Rattle.bb_decide.proofs.Counted.{cut_after_step, cut_at_step, few_steps, has_moved, taken_over}
 use Rattle.bb_decide.proofs.Cycles.{no_cycle_at_end}
@@ -11,6 +12,7 @@ use Rattle.bb_decide.proofs.SearchResults.{runs_to_stop, runs_until_cut}
 use Rattle.bb_decide.proofs.Translations.{IsTakenIn, goes_on, is_found, is_ready, looks_at_none, looks_at_one}
 use Rattle.bb_decide.proofs.Translations.{none_at_end, takes_in, tells_pair}
 use Rattle.bb_sim.specs.Runner.{steps_of}
+use Rattle.bb_sim.proofs.Facts.{head_inside, small_position}
 use Rattle.bb_sim.specs.Span.{Inside}
 use Rattle.bb_decide.specs.inside.Step.{HasMoved}
 use Rattle.bb_decide.proofs.Halting.{in_no_state, is_none, not_in_Z}
@@ -135,19 +137,88 @@ taken_in g c =
     c.position.ensures c.pass.ensures (search rules) c.position-in-loop-moved.ensures
     c.pass-in-loop-moved.ensures
 
--- a step that widens nothing makes no record
+-- a step that widens nothing makes no record, and the run goes on in a block
+pub block_for-requires-clause-low : goal.block_for-requires-clause-low
+block_for-requires-clause-low g c =
+    let step = step_made g (goal.at.block_for-requires-clause-low g c).After-update_fingerprint in
+    (small_position _ _ (g.met.T.Tape.sound c.advance.new.tape)
+    (head_inside _ _ _ step.0.stands step.0.running)).0
+
+pub block_for-requires-clause-high : goal.block_for-requires-clause-high
+block_for-requires-clause-high g c =
+    let step = step_made g (goal.at.block_for-requires-clause-high g c).After-update_fingerprint in
+    (small_position _ _ (g.met.T.Tape.sound c.advance.new.tape)
+    (head_inside _ _ _ step.0.stands step.0.running)).1
+
+pub loop-moved-preserved-in_default-block_for : goal.loop-moved-preserved-in_default-block_for
+loop-moved-preserved-in_default-block_for g c =
+    let here = c.loop-moved.invariant in
+    let step = step_made g (goal.at.loop-moved-preserved-in_default-block_for g c).After-update_fingerprint in
+    let taken = taken_in g (goal.at.loop-moved-preserved-in_default-block_for g c).After-widened_side in
+    let under = is_under_way here.search here.single_pass step.0 step.1
+    (looks_at_none taken (is_none _ c.in_default-widened_side.not-Some)) refl
+    (current g (goal.at.loop-moved-preserved-in_default-block_for g c).After-update_fingerprint)
+    (λ same. both_ways _ c.if-are_as_kept.false (c.are_as_kept.ensures.1 same)) c.keep_in_turn.ensures in
+    record {
+      search = under.search;
+      single_pass = under.single_pass;
+      lent = lent_on c.advance.ensures.limit refl refl here.lent;
+    }
+
+pub after_block-pass-requires-clause-can : goal.after_block-pass-requires-clause-can
+after_block-pass-requires-clause-can g c =
+    let here = c.loop-moved.invariant in
+    let step = step_made g (goal.at.after_block-pass-requires-clause-can g c).After-update_fingerprint in
+    let taken = taken_in g (goal.at.after_block-pass-requires-clause-can g c).After-widened_side in
+    let under = is_under_way here.search here.single_pass step.0 step.1
+    (looks_at_none taken (is_none _ c.in_default-widened_side.not-Some)) refl
+    (current g (goal.at.after_block-pass-requires-clause-can g c).After-update_fingerprint)
+    (λ same. both_ways _ c.if-are_as_kept.false (c.are_as_kept.ensures.1 same)) c.keep_in_turn.ensures in
+    record {
+      right = _;
+      left = _;
+      way = under;
+      limit = c.advance.ensures.limit ∙ here.lent.tapes.run;
+      right_passed = passed_again _ _ _ _ (search rules) c.position.ensures c.pass.ensures;
+      left_passed = passed_again _ _ _ _ (search rules) c.position-in-loop-moved.ensures c.pass-in-loop-moved.ensures;
+    }
+
+pub of_side-right-requires-in_default-widened_side : goal.of_side-right-requires-in_default-widened_side
+of_side-right-requires-in_default-widened_side g c =
+    let here = c.loop-moved.invariant in
+    let step = step_made g (goal.at.of_side-right-requires-in_default-widened_side g c).After-update_fingerprint in
+    let taken = taken_in g (goal.at.of_side-right-requires-in_default-widened_side g c).After-widened_side in
+    let under = is_under_way here.search here.single_pass step.0 step.1
+    (looks_at_none taken (is_none _ c.in_default-widened_side.not-Some)) refl
+    (current g (goal.at.of_side-right-requires-in_default-widened_side g c).After-update_fingerprint)
+    (λ same. both_ways _ c.if-are_as_kept.false (c.are_as_kept.ensures.1 same)) c.keep_in_turn.ensures in
+    record { side = (c.after_block-pass.ensures.pass _ _ under).search.searched.right_is }
+
+pub of_side-left-requires-in_default-widened_side : goal.of_side-left-requires-in_default-widened_side
+of_side-left-requires-in_default-widened_side g c =
+    let here = c.loop-moved.invariant in
+    let step = step_made g (goal.at.of_side-left-requires-in_default-widened_side g c).After-update_fingerprint in
+    let taken = taken_in g (goal.at.of_side-left-requires-in_default-widened_side g c).After-widened_side in
+    let under = is_under_way here.search here.single_pass step.0 step.1
+    (looks_at_none taken (is_none _ c.in_default-widened_side.not-Some)) refl
+    (current g (goal.at.of_side-left-requires-in_default-widened_side g c).After-update_fingerprint)
+    (λ same. both_ways _ c.if-are_as_kept.false (c.are_as_kept.ensures.1 same)) c.keep_in_turn.ensures in
+    record { side = (c.after_block-pass.ensures.pass _ _ under).search.searched.left_is }
+
 pub loop-moved-preserved-in_default-widened_side : goal.loop-moved-preserved-in_default-widened_side
 loop-moved-preserved-in_default-widened_side g c =
     let here = c.loop-moved.invariant in
     let step = step_made g (goal.at.loop-moved-preserved-in_default-widened_side g c).After-update_fingerprint in
     let taken = taken_in g (goal.at.loop-moved-preserved-in_default-widened_side g c).After-widened_side in
+    let under = is_under_way here.search here.single_pass step.0 step.1
+    (looks_at_none taken (is_none _ c.in_default-widened_side.not-Some)) refl
+    (current g (goal.at.loop-moved-preserved-in_default-widened_side g c).After-update_fingerprint)
+    (λ same. both_ways _ c.if-are_as_kept.false (c.are_as_kept.ensures.1 same)) c.keep_in_turn.ensures in
+    let after = c.after_block-pass.ensures.pass _ _ under in
     record {
-      search = goes_on here.search step.0 step.1
-          (looks_at_none taken (is_none _ c.in_default-widened_side.not-Some));
-      single_pass = single_pass_on here.single_pass step.0 step.1 refl
-          (current g (goal.at.loop-moved-preserved-in_default-widened_side g c).After-update_fingerprint)
-          (λ same. both_ways _ c.if-are_as_kept.false (c.are_as_kept.ensures.1 same)) c.keep_in_turn.ensures;
-      lent = lent_on c.advance.ensures.limit refl refl here.lent;
+      search = rw (c.of_side-right-in_default-widened_side.ensures, c.of_side-left-in_default-widened_side.ensures) after.search;
+      single_pass = after.single_pass;
+      lent = lent_on (c.after_block-pass.ensures.limit ∙ c.advance.ensures.limit) refl refl here.lent;
     }
 
 -- else the record that it makes is looked at
