@@ -68,8 +68,8 @@ impl BlockRun {
         true
     }
 
-    /// Makes the next step, if there is one inside the block, at most to this step, and not to this head in the
-    /// state of this entry. False if not.
+    /// Makes the next step, if there is one inside the block, at most to this step, and not to this head in
+    /// the state of this entry. False if not.
     #[inline(always)]
     pub fn advance_apart(
         &mut self,

@@ -1,4 +1,4 @@
--- The steps of a single-pass run inside a block of its tape, for its functions. No public contract cites them.
+-- The steps of a single-pass run inside a block of its tape. No public contract cites them.
 use Rattle.std.specs.Prelude.{◌≡◌, ℕ, ℤ, ◌-◌, ◌*◌, ◌<◌, ◌≤◌, ◌^◌, ◌⊎◌, Bool, false, pos, ◌+ℤ◌, ◌≤ℤ◌, ◌<ℤ◌, length}
 use Rattle.std.specs.Int.{bit_at}
 use Rattle.bb_machine.specs.declared.entry.Next.TheVariants as next
@@ -36,7 +36,8 @@ pub record CanPass (table : Table) (bounds : Bounds) (key : ℤ → ℕ) (begun 
   pub left_passed : passed begun.left (position_of begun.runner) ≡ begun.left
 
 -- up to this step no configuration is kept, and this head and state are those of the kept one
-pub record IsBarrier (bounds : Bounds) (from : ℤ) (fingerprints : Fingerprints) (barrier : Barrier) : Type 0 where
+pub record IsBarrier (bounds : Bounds) (from : ℤ) (fingerprints : Fingerprints) (barrier : Barrier)
+    : Type 0 where
   pub few : barrier.to ≤ bounds.steps
   pub before : barrier.to ≤ fingerprints.next - 1
   pub head : (k : ℕ) → k < 64 → position_of fingerprints.kept ≡ from +ℤ pos k → barrier.head ≡ 2 ^ k
