@@ -6,7 +6,8 @@ import subprocess
 import pytest
 from support import TOP, require
 from support.machines import machine, random_machines
-from support.program import PLANS, ROWS, SIMULATION, as_lines, build_peer, kind_of, options, run_command
+from support.program import PLANS, ROWS, SIMULATION, as_lines, build_peer, kind_of, options, replies
+from support.program import run_command
 from support.simulation import decide_confirmed
 
 KINDS = {"halt", "cycler", "translated", "backward", "undecided"}
@@ -102,6 +103,23 @@ def test_plain_program_for_speed_writes_the_same_bytes(
         kinds.update(map(kind_of, written))
     assert KINDS < kinds
     print("%d lines compared" % count)
+
+
+def test_plain_program_makes_the_same_long_runs(
+    bb: str, peer: str, four_states: list[str], rng: random.Random
+) -> None:
+    """On tapes of more than 64 cells, of machines of four states that few steps don't decide."""
+    few = replies([bb, "decide", "--steps", "300", "--cells", "300", "--depth", "20"], four_states)
+    machines = rng.sample([line.split()[0] for line in few if kind_of(line) == "undecided"], BATCH)
+    given = as_lines(machines)
+    for _ in range(20):
+        steps, cells = rng.randint(300, 30_000), rng.choice([65, 127, 200, rng.randint(100, 3_000)])
+        words = ["--steps", str(steps), "--cells", str(cells), "--depth", "10"]
+        words += [switch for switch in SIMULATION if rng.random() < 0.3]
+        ours, theirs = (run_command([program, "decide", *words], given) for program in (bb, peer))
+        in_one_run = run_command([peer, "decide", *words, "--one-run", "--weak-keys"], given)
+        assert ours[:2] == theirs[:2] == in_one_run[:2], words
+    print("%d lines compared" % (20 * len(machines)))
 
 
 @pytest.mark.slow
