@@ -106,8 +106,9 @@ impl BlockPass {
         true
     }
 
-    /// Makes all steps inside the block up to the barrier.
-    #[inline(always)]
+    /// Makes all steps inside the block up to the barrier. It isn't inlined, so its loop has the registers to
+    /// itself.
+    #[inline(never)]
     fn run(
         self,
         machine: &Machine,
