@@ -77,8 +77,8 @@ SHIMMED = {"clap": "rattle_clap", "linked_list_allocator": "rattle_heap"}
 ERASED = ("thiserror",)
 # Lints that the sources don't follow, since the prover prefers another form, or a contract fixes it.
 LINTS = """assign_op_pattern collapsible_if large_enum_variant legacy_numeric_constants manual_div_ceil
-    manual_find manual_is_multiple_of manual_map manual_range_contains needless_lifetimes new_without_default
-    question_mark single_match too_many_arguments type_complexity""".split()
+    manual_find manual_is_multiple_of manual_map manual_range_contains needless_lifetimes needless_range_loop
+    new_without_default question_mark single_match too_many_arguments type_complexity""".split()
 PROFILES = """
 [profile.release]
 lto = "fat"
