@@ -197,14 +197,24 @@ def least_time(command: Sequence[str], given: bytes) -> float:
 def unaligned_branches(built: str) -> tuple[int, int]:
     """How many branches of the single-pass run lie across a multiple of 32 bytes or end there, and how many lie
     elsewhere, by `objdump`: some processors are slow at the first."""
-    code = run_command(["objdump", "-d", "--no-show-raw-insn", built]).output.decode("utf-8", "replace")
     counts = [0, 0]
-    for function in re.findall(r"^\w+ <.*single_pass::\w*single_pass::(?s:.*?)\n\n", code, re.MULTILINE):
-        rows = re.findall(r"^ *(\w+):\t(\w+)", function, re.MULTILINE)
+    for rows in instructions(built, r"single_pass::\w*single_pass::"):
         for (begin, word), (end, _) in zip(rows, rows[1:]):
             if word.startswith("j"):
                 counts[int(begin, 16) // 32 == int(end, 16) // 32] += 1
     return counts[0], counts[1]
+
+
+def conditional_moves(built: str, function: str) -> int:
+    """How many instructions of a function choose between two values without a branch."""
+    return sum(word.startswith("cmov") for rows in instructions(built, function) for _, word in rows)
+
+
+def instructions(built: str, function: str) -> list[list[tuple[str, str]]]:
+    """The instructions of each function with such a name, by `objdump`: address and word."""
+    code = run_command(["objdump", "-d", "--no-show-raw-insn", built]).output.decode("utf-8", "replace")
+    bodies = re.findall(r"^\w+ <.*%s(?s:.*?)\n\n" % function, code, re.MULTILINE)
+    return [re.findall(r"^ *(\w+):\t(\w+)", body, re.MULTILINE) for body in bodies]
 
 
 def plan_of(words: list[str]) -> dict[str, Any]:

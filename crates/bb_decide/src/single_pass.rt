@@ -2,9 +2,11 @@
 ghost use Rattle.std.specs.Prelude.{◌≡◌, ◌+◌, ◌*◌, ◌<◌, ◌≤◌, ◌^◌, ℤ, IfOk, IfSome, IsTrue, OnErr, length};
 ghost use Rattle.bb_machine.specs.Machine.{symbols_of};
 ghost use Rattle.bb_sim.specs.Runner.{steps_of};
+ghost use Rattle.bb_narrow.specs.Registers.{FitsRegisters};
 ghost use Rattle.bb_cert.specs.verdict.Verdict.{HasNumbers};
 ghost use Rattle.bb_decide.specs.Bench.{BenchHasCells};
 ghost use Rattle.bb_decide.specs.inside.Follow.{ComparesRecord, IsReady, on_side};
+ghost use Rattle.bb_decide.specs.inside.NarrowPass.{IsInNarrowPass};
 ghost use Rattle.bb_decide.specs.inside.SearchResult.{RunsSinglePass};
 ghost use Rattle.bb_decide.specs.inside.Searching.{IsUnderWay};
 ghost use Rattle.bb_decide.specs.inside.Step.{TakesOver};
@@ -13,7 +15,7 @@ use crate::bench::Bench;
 use crate::block_pass::{after_block, block_for, block_table};
 use crate::fingerprint::update_fingerprint;
 use crate::keys::FingerprintKeys;
-use crate::narrow_pass::{NarrowResult, run_narrow_pass};
+use crate::narrow_pass::{NarrowPass, NarrowResult, run_narrow_pass};
 use crate::record_search::compare_record;
 use crate::search_result::{SearchResult, count_run, outcome_of};
 use bb_cert::records::{Records, widened_side};
@@ -132,6 +134,30 @@ pub fn run_single_pass<T: Tape, K: FingerprintKeys>(
     if fits_registers(machine) {
         return run_from_registers(machine, limits, keys, bench, meter);
     }
+    let Ok(search_result) = run_on_bench(machine, limits, keys, bench, meter) else {
+        return Err(Memory);
+    };
+    Ok(search_result)
+}
+
+/// The single-pass run of a machine that doesn't fit the registers.
+///
+/// Neither it nor `leave_registers` is inlined, nor do they write to the result of their caller: so the
+/// compiler keeps the result of a short run in registers, and clears no memory for the tapes' runs.
+#[inline(never)]
+fn run_on_bench<T: Tape, K: FingerprintKeys>(
+    machine: &Machine,
+    limits: &Limits,
+    keys: &K,
+    bench: &mut Bench<T>,
+    meter: &mut Meter,
+) -> Result<Option<SearchResult>, Memory>
+    requires wide { FitsRegisters machine.now 1 → ⊥ }
+    requires tapes { BenchHasCells T.view limits.now.cells bench.old }
+    requires room { meter.old.steps ≤ 2 * limits.now.steps }
+    ensures { RunsSinglePass T.GROWS T.view machine.now limits.now (K.key_of keys.now) bench.old bench.new
+        meter.old meter.new result }
+{
     let begun = SinglePass::start(machine, &mut bench.run);
     continue_single_pass(machine, limits, keys, begun, bench, meter)
 }
@@ -165,14 +191,42 @@ fn run_from_registers<T: Tape, K: FingerprintKeys>(
             Ok(Some(SearchResult::Ran(outcome)))
         }
         NarrowResult::Outside => {
-            let Ok(begun) = end.pass.move_to_bench(machine, limits, keys, bench) else {
-                run.count(run.steps, limits, meter);
-                bench.run.reset();
+            let pass = end.pass;
+            let Ok(search_result) = leave_registers(&pass, machine, limits, keys, bench, meter)
+            else {
                 return Err(Memory);
             };
-            continue_single_pass(machine, limits, keys, begun, bench, meter)
+            Ok(search_result)
         }
     }
+}
+
+/// Continues a single-pass run on the bench, from its last configuration in registers.
+#[inline(never)]
+fn leave_registers<T: Tape, K: FingerprintKeys>(
+    pass: &NarrowPass,
+    machine: &Machine,
+    limits: &Limits,
+    keys: &K,
+    bench: &mut Bench<T>,
+    meter: &mut Meter,
+) -> Result<Option<SearchResult>, Memory>
+    requires symbols { symbols_of machine.now ≡ 2 }
+    requires states { length machine.now ≤ 7 }
+    requires pass { IsInNarrowPass machine.now limits.now pass.now }
+    requires wide { FitsRegisters machine.now (pass.now.run.steps + 1) → ⊥ }
+    requires tapes { BenchHasCells T.view limits.now.cells bench.old }
+    requires room { meter.old.steps ≤ 2 * limits.now.steps }
+    ensures { RunsSinglePass T.GROWS T.view machine.now limits.now (K.key_of keys.now) bench.old bench.new
+        meter.old meter.new result }
+{
+    limits.show_accepted();
+    let Ok(begun) = pass.move_to_bench(machine, limits, keys, bench) else {
+        pass.run.count(pass.run.steps, limits, meter);
+        bench.run.reset();
+        return Err(Memory);
+    };
+    continue_single_pass(machine, limits, keys, begun, bench, meter)
 }
 
 /// A copy of the limits. It is a call, so that machine and limits aren't held in registers of the loop, which

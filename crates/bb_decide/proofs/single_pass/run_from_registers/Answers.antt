@@ -1,14 +1,10 @@
-use Rattle.std.proofs.Common.{◌+◌, ◌-◌, ◌≤◌, ◌∙◌, ap, arith, inr, refl, subst, sym}
-use Rattle.std.proofs.lemmas.Int.{ints}
-use Rattle.bb_tape.specs.TapeView.{TapeView}
+use Rattle.std.proofs.Common.{◌-◌, ◌∙◌, ap, arith, refl}
 use Rattle.bb_sim.specs.Meter.{counted}
 use Rattle.bb_sim.specs.Runner.{steps_of}
 use Rattle.bb_sim.specs.Span.{Inside}
 use Rattle.bb_sim.proofs.Facts.{count_is_within, inside_here}
-use Rattle.bb_narrow.specs.Registers.{FitsRegisters}
 use Rattle.bb_narrow.proofs.Facts.{counted_at_end, counted_so_far}
 use Rattle.bb_decide.proofs.NarrowEnds.{finds_in_registers, not_stopped_in_registers}
-use Rattle.bb_decide.proofs.NarrowHandover.{fits_so_far}
 use Rattle.bb_decide.proofs.single_pass.run_from_registers.Given as given
 use Rattle.bb_decide.proofs.single_pass.run_from_registers.Goals as goal
 use Rattle.bb_decide.proofs.single_pass.run_from_registers.Goals.{After-run_narrow_pass-end}
@@ -19,16 +15,6 @@ inside : (g : given.Over) (c : After-run_narrow_pass-end g)
 inside g c =
     let known = c.run_narrow_pass-end.ensures.run in
     inside_here _ known.runner known.view _ known.stands known.sound known.limit (omega (arith, known.steps_is, known.few))
-
-room : (g : given.Over) (c : After-run_narrow_pass-end g)
-    → c.run_narrow_pass-end.result.pass.run.room ≤ c.args.limits.now.cells
-room g c =
-    let known = c.run_narrow_pass-end.ensures.run in
-    omega (arith, ints, known.window_is.room_is, known.limit, known.sound.from_zero, known.sound.to_zero)
-
-pub count-requires-in_default-clause-cells : goal.count-requires-in_default-clause-cells
-count-requires-in_default-clause-cells g c =
-    room g (goal.at.count-requires-in_default-clause-cells g c).After-run_narrow_pass-end
 
 pub count-requires-in-Ran-clause-room : goal.count-requires-in-Ran-clause-room
 count-requires-in-Ran-clause-room g c =
@@ -83,34 +69,4 @@ returns-in-Ran g c =
       promised = record { claim = tt; numbers = tt; memory = tt };
       tapes = c.requires.tapes;
       path = refl;
-    }
-
--- no memory to put the configuration on the tapes
-pub returns-in_default : goal.returns-in_default
-returns-in_default g c =
-    let known = c.run_narrow_pass-end.ensures.run in
-    let ends = rw c.in-Outside.is at c.run_narrow_pass-end.ensures.ends in
-    let n = steps_of known.runner in
-    let here = inside g (goal.at.returns-in_default g c).After-run_narrow_pass-end in
-    let counts = counted_so_far known c.args.meter.now n refl c.count-in_default.ensures in
-    record {
-      single_pass = tt;
-      cut = inr (
-        n,
-        record {
-          inside = here;
-          fits = fits_so_far known c.requires.symbols c.requires.states n (omega arith);
-          leaves = λ fits. ends.1 (subst (λ k. FitsRegisters c.args.machine.now (k + 1)) (sym known.steps_is) fits);
-        },
-        counts,
-        ap (λ (s : TapeView). s.content) c.reset.ensures,
-      );
-      within = count_is_within _ _ _ _ _ here counts;
-      promised = record { claim = tt; numbers = tt; memory = c.in_default.ensures.memory };
-      tapes = record {
-        run = ap (λ (s : TapeView). s.limit) c.reset.ensures ∙ c.in_default.ensures.tapes.run;
-        right = c.in_default.ensures.tapes.right;
-        left = c.in_default.ensures.tapes.left;
-      };
-      path = c.in_default.ensures.path;
     }

@@ -1,4 +1,4 @@
-use Rattle.bb_decide.proofs.single_pass.run_single_pass.Goals as goal
+use Rattle.bb_decide.proofs.single_pass.run_on_bench.Goals as goal
 
 pub continue_single_pass-requires-clause-begun : goal.continue_single_pass-requires-clause-begun
 continue_single_pass-requires-clause-begun g c =
