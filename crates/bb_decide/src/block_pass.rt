@@ -260,18 +260,18 @@ pub(crate) fn block_for(table: &Option<NarrowTable>, runner: &Runner, before: i6
     block_start(runner, before)
 }
 
-/// The single-pass run after steps in a block around the head, if there is a table for it.
+/// As `pass_block`, not inlined.
 #[inline(never)]
 pub(crate) fn after_block<T: Tape, K: FingerprintKeys>(
     machine: &Machine,
-    table: &Option<NarrowTable>,
+    table: &NarrowTable,
     limits: &Limits,
     keys: &K,
     begun: SinglePass,
     tape: &mut T,
     from: i64,
 ) -> SinglePass
-    requires table { IfSome table.now (IsBlockTable T.GROWS machine.now) }
+    requires table { IsBlockTable T.GROWS machine.now table.now }
     requires block { IsBlockOf begun.runner from }
     requires can { CanPass machine.now limits.now (K.key_of keys.now) begun (T.view tape.old) }
     ensures pass { (right left : TapeView)
@@ -280,8 +280,5 @@ pub(crate) fn after_block<T: Tape, K: FingerprintKeys>(
     ensures limit { (T.view tape.new).limit ≡ (T.view tape.old).limit }
     ensures more { steps_of begun.runner ≤ steps_of result.runner }
 {
-    let Some(table) = table else {
-        return begun;
-    };
     pass_block(machine, table, limits, keys, begun, tape, from)
 }

@@ -5,6 +5,7 @@ ghost use Rattle.bb_sim.specs.Runner.{steps_of};
 ghost use Rattle.bb_narrow.specs.Registers.{FitsRegisters};
 ghost use Rattle.bb_cert.specs.verdict.Verdict.{HasNumbers};
 ghost use Rattle.bb_decide.specs.Bench.{BenchHasCells};
+ghost use Rattle.bb_decide.specs.inside.BlockPasses.{IsBlockTable};
 ghost use Rattle.bb_decide.specs.inside.Follow.{ComparesRecord, IsReady, on_side};
 ghost use Rattle.bb_decide.specs.inside.NarrowPass.{IsInNarrowPass};
 ghost use Rattle.bb_decide.specs.inside.SearchResult.{RunsSinglePass};
@@ -22,7 +23,7 @@ use bb_cert::records::{Records, widened_side};
 use bb_cert::{Side, Verdict};
 use bb_machine::{Limits, Machine};
 use bb_narrow::blocks::cells_before;
-use bb_narrow::fits_registers;
+use bb_narrow::{NarrowTable, fits_registers};
 use bb_sim::{Meter, Moved, Runner};
 use bb_tape::{Memory, Tape};
 
@@ -159,7 +160,7 @@ fn run_on_bench<T: Tape, K: FingerprintKeys>(
         meter.old meter.new result }
 {
     let begun = SinglePass::start(machine, &mut bench.run);
-    continue_single_pass(machine, limits, keys, begun, bench, meter)
+    continue_with(None, machine, limits, keys, begun, bench, meter)
 }
 
 /// The single-pass run of a machine that fits the registers: it begins there, and goes on on the bench where
@@ -289,7 +290,7 @@ fn compare_on_bench<T: Tape>(
     )
 }
 
-/// Continues a single-pass run on the tapes of a bench.
+/// Continues a single-pass run on the tapes of a bench, in blocks where that is possible.
 #[inline(never)]
 fn continue_single_pass<T: Tape, K: FingerprintKeys>(
     machine: &Machine,
@@ -306,18 +307,15 @@ fn continue_single_pass<T: Tape, K: FingerprintKeys>(
     ensures { RunsSinglePass T.GROWS T.view machine.now limits.now (K.key_of keys.now) bench.old bench.new
         meter.old meter.new result }
 {
-    let limits = copy_of(limits);
-    // The loop needn't ask for Z at its first step either.
-    let Some(_) = begun.runner.state() else {
-        unreachable!();
-    };
-    run_single_pass_inline(machine, &limits, keys, begun, bench, meter)
+    let table = block_table(machine, &bench.run);
+    continue_with(table, machine, limits, keys, begun, bench, meter)
 }
 
-/// The body of `continue_single_pass`, inlined there: the limits are its local and stay in registers. The
-/// runner counts its steps and cells, and the meter adds them at the end of the run.
+/// The same with the table for blocks, if any. It is inlined: without a table, the loop has no test for
+/// blocks.
 #[inline(always)]
-fn run_single_pass_inline<T: Tape, K: FingerprintKeys>(
+fn continue_with<T: Tape, K: FingerprintKeys>(
+    table: Option<NarrowTable>,
     machine: &Machine,
     limits: &Limits,
     keys: &K,
@@ -325,6 +323,35 @@ fn run_single_pass_inline<T: Tape, K: FingerprintKeys>(
     bench: &mut Bench<T>,
     meter: &mut Meter,
 ) -> Result<Option<SearchResult>, Memory>
+    requires table { IfSome table (IsBlockTable T.GROWS machine.now) }
+    requires begun { IsUnderWay machine.now limits.now (K.key_of keys.now) begun (T.view bench.old.run)
+        (T.view bench.old.right) (T.view bench.old.left) }
+    requires tapes { BenchHasCells T.view limits.now.cells bench.old }
+    requires room { meter.old.steps ≤ 2 * limits.now.steps }
+    ensures { RunsSinglePass T.GROWS T.view machine.now limits.now (K.key_of keys.now) bench.old bench.new
+        meter.old meter.new result }
+{
+    let limits = copy_of(limits);
+    // The loop needn't ask for Z at its first step either.
+    let Some(_) = begun.runner.state() else {
+        unreachable!();
+    };
+    run_single_pass_inline(machine, &limits, keys, begun, table, bench, meter)
+}
+
+/// The body of `continue_with`, inlined there: the limits are its local and stay in registers. The
+/// runner counts its steps and cells, and the meter adds them at the end of the run.
+#[inline(always)]
+fn run_single_pass_inline<T: Tape, K: FingerprintKeys>(
+    machine: &Machine,
+    limits: &Limits,
+    keys: &K,
+    begun: SinglePass,
+    table: Option<NarrowTable>,
+    bench: &mut Bench<T>,
+    meter: &mut Meter,
+) -> Result<Option<SearchResult>, Memory>
+    requires table { IfSome table (IsBlockTable T.GROWS machine.now) }
     requires begun { IsUnderWay machine.now limits.now (K.key_of keys.now) begun (T.view bench.old.run)
         (T.view bench.old.right) (T.view bench.old.left) }
     requires tapes { BenchHasCells T.view limits.now.cells bench.old }
@@ -337,7 +364,6 @@ fn run_single_pass_inline<T: Tape, K: FingerprintKeys>(
     let mut right = of_side(begun.right, Side::R);
     let mut left = of_side(begun.left, Side::L);
     let mut fingerprints = begun.fingerprints;
-    let table = block_table(machine, &bench.run);
     loop {
         let cells = runner.cells();
         let position = runner.position();
@@ -372,13 +398,18 @@ fn run_single_pass_inline<T: Tape, K: FingerprintKeys>(
             let Some(from) = block_for(&table, &runner, before) else {
                 continue;
             };
+            // A copy, so that without a table the compiler leaves out the test for blocks.
+            let Some(packed) = &table else {
+                continue;
+            };
+            let packed = *packed;
             let here = SinglePass {
                 runner,
                 right,
                 left,
                 fingerprints,
             };
-            let pass = after_block(machine, &table, limits, keys, here, &mut bench.run, from);
+            let pass = after_block(machine, &packed, limits, keys, here, &mut bench.run, from);
             runner = pass.runner;
             right = of_side(pass.right, Side::R);
             left = of_side(pass.left, Side::L);

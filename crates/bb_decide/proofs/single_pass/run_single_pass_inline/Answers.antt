@@ -1,5 +1,7 @@
 use Rattle.std.proofs.lemmas.Bool.{both_ways}
-use Rattle.std.proofs.Common.{refl, rules, ◌≡◌, ◌∙◌, ap, arith}
+use Rattle.std.proofs.Common.{refl, rules, ◌≡◌, ◌∙◌, ap, arith, subst}
+use Rattle.std.specs.Prelude.{IfSome}
+use Rattle.bb_decide.specs.inside.BlockPasses.{IsBlockTable}
 use Rattle.bb_sim.specs.declared.meter.Meter.{Meter}
 use Rattle.std.proofs.lemmas.Result.{err_from_is_err_and}
 use Rattle.bb_decide.specs.Fingerprint.{fingerprint}
@@ -164,6 +166,25 @@ loop-moved-preserved-in_default-block_for g c =
       single_pass = under.single_pass;
       lent = lent_on c.advance.ensures.limit refl refl here.lent;
     }
+
+pub loop-moved-preserved-in_default-table : goal.loop-moved-preserved-in_default-table
+loop-moved-preserved-in_default-table g c =
+    let here = c.loop-moved.invariant in
+    let step = step_made g (goal.at.loop-moved-preserved-in_default-table g c).After-update_fingerprint in
+    let taken = taken_in g (goal.at.loop-moved-preserved-in_default-table g c).After-widened_side in
+    let under = is_under_way here.search here.single_pass step.0 step.1
+    (looks_at_none taken (is_none _ c.in_default-widened_side.not-Some)) refl
+    (current g (goal.at.loop-moved-preserved-in_default-table g c).After-update_fingerprint)
+    (λ same. both_ways _ c.if-are_as_kept.false (c.are_as_kept.ensures.1 same)) c.keep_in_turn.ensures in
+    record {
+      search = under.search;
+      single_pass = under.single_pass;
+      lent = lent_on c.advance.ensures.limit refl refl here.lent;
+    }
+
+pub after_block-pass-requires-clause-table : goal.after_block-pass-requires-clause-table
+after_block-pass-requires-clause-table g c =
+    subst (λ table. IfSome table (IsBlockTable g.T.Tape.GROWS c.args.machine.now)) c.in-Some-table.is c.requires.table
 
 pub after_block-pass-requires-clause-can : goal.after_block-pass-requires-clause-can
 after_block-pass-requires-clause-can g c =
