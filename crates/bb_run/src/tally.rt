@@ -24,8 +24,8 @@ pub(crate) struct Tally<'a> {
     /// The steps and nodes of the last line; 0 before the first line and for a refused one.
     pub(crate) last_cost: u64,
     counts: &'a VerdictCounts,
-    // The words of the last reply. A new buffer for each line would be cleared whole.
-    words: ArrayVec<u8, LINE_BUFFER>,
+    // The last refusal. A new buffer for each one would be cleared whole.
+    refusal: ArrayVec<u8, LINE_BUFFER>,
 }
 
 impl<'a> Tally<'a> {
@@ -41,7 +41,7 @@ impl<'a> Tally<'a> {
             },
             last_cost: 0,
             counts,
-            words: ArrayVec::new(),
+            refusal: ArrayVec::new(),
         }
     }
 
@@ -62,9 +62,9 @@ impl<'a> Tally<'a> {
                 self.summary.clean = false;
                 self.last_cost = 0;
                 self.counts.add_refusal();
-                self.words.clear();
-                refusal_into(refused.column, &mut self.words);
-                text.try_extend_from_slice(self.words.as_slice()).unwrap();
+                self.refusal.clear();
+                refusal_into(refused.column, &mut self.refusal);
+                text.try_extend_from_slice(self.refusal.as_slice()).unwrap();
                 false
             }
         }
@@ -93,9 +93,7 @@ impl<'a> Tally<'a> {
         lines_are_short();
         // The line is the machine's text, so it isn't written anew.
         text.try_extend_from_slice(line).unwrap();
-        self.words.clear();
-        verdict_into(verdict, &mut self.words);
-        text.try_extend_from_slice(self.words.as_slice()).unwrap();
+        verdict_into(verdict, text);
         self.summary.peak = self.summary.peak.greatest(meter);
         self.last_cost = meter.steps + meter.nodes;
         self.counts.add(verdict);

@@ -31,8 +31,8 @@ pub fn line_into(machine: &Machine, verdict: &Verdict, out: &mut ArrayVec<u8, LI
 
 /// Appends the line of a machine and a verdict without the machine's text, from the space after it on.
 #[inline(always)]
-pub fn verdict_into(verdict: &Verdict, out: &mut ArrayVec<u8, LINE_BUFFER>)
-    requires { array_vec_len out.old + length (verdict_text verdict.now) ≤ LINE_BUFFER }
+pub fn verdict_into<const CAP: usize>(verdict: &Verdict, out: &mut ArrayVec<u8, CAP>)
+    requires { array_vec_len out.old + length (verdict_text verdict.now) ≤ CAP }
     ensures { out.new.items ≡ out.old.items ++ verdict_text verdict.now }
 {
     match *verdict {
@@ -66,15 +66,14 @@ pub fn refusal_into(column: u32, text: &mut ArrayVec<u8, LINE_BUFFER>)
     append(digits.format(column).as_bytes(), text);
 }
 
-fn records_into(
+fn records_into<const CAP: usize>(
     side: Side,
     first: u64,
     second: u64,
     extent: Option<Extent>,
-    out: &mut ArrayVec<u8, LINE_BUFFER>,
+    out: &mut ArrayVec<u8, CAP>,
 )
-    requires { array_vec_len out.old + length (side_text side ++ records_text first second extent)
-        ≤ LINE_BUFFER }
+    requires { array_vec_len out.old + length (side_text side ++ records_text first second extent) ≤ CAP }
     ensures { out.new.items ≡ out.old.items ++ (side_text side ++ records_text first second extent) }
 {
     pair_into(side_words(side), first, second, out);
@@ -93,8 +92,8 @@ fn side_words(side: Side) -> &'static [u8]
     }
 }
 
-fn pair_into(word: &[u8], first: u64, second: u64, out: &mut ArrayVec<u8, LINE_BUFFER>)
-    requires { array_vec_len out.old + length (word.now ++ pair_text first second) ≤ LINE_BUFFER }
+fn pair_into<const CAP: usize>(word: &[u8], first: u64, second: u64, out: &mut ArrayVec<u8, CAP>)
+    requires { array_vec_len out.old + length (word.now ++ pair_text first second) ≤ CAP }
     ensures { out.new.items ≡ out.old.items ++ (word.now ++ pair_text first second) }
 {
     let mut digits = Buffer::new();
@@ -104,8 +103,8 @@ fn pair_into(word: &[u8], first: u64, second: u64, out: &mut ArrayVec<u8, LINE_B
     append(digits.format(second).as_bytes(), out);
 }
 
-fn append(bytes: &[u8], out: &mut ArrayVec<u8, LINE_BUFFER>)
-    requires { array_vec_len out.old + length bytes.now ≤ LINE_BUFFER }
+fn append<const CAP: usize>(bytes: &[u8], out: &mut ArrayVec<u8, CAP>)
+    requires { array_vec_len out.old + length bytes.now ≤ CAP }
     ensures { out.new.items ≡ out.old.items ++ bytes.now }
 {
     let _room = out.try_extend_from_slice(bytes);

@@ -2,7 +2,7 @@ use Rattle.std.proofs.Common.{append_assoc}
 use Rattle.bb_cert.proofs.verdict.line.pair_into.Goals as goal
 
 pub returns : goal.returns
-returns c =
+returns g c =
     rw (
       c.append-3.ensures,
       c.push.ensures.items,

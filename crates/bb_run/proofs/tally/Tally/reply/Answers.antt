@@ -18,24 +18,6 @@ verdict_into-requires c =
     let long = c.lines_are_short.ensures c.args.self.now.machine c.args.verdict.now (omega (arith, short))
     c.requires.numbers in
     let whole = length-append (text c.args.self.now.machine) (verdict_text c.args.verdict.now) in
-    let none : array_vec_len c.clear.new.self ≡ 0 = search rules in
-    omega (arith, long, whole, none)
-
-pub unwrap-requires-2 : goal.unwrap-requires-2
-unwrap-requires-2 c =
-    let short = text_short MAX_STATES MAX_SYMBOLS c.args.self.now.machine c.requires.of.machine in
-    let long = c.lines_are_short.ensures c.args.self.now.machine c.args.verdict.now (omega (arith, short))
-    c.requires.numbers in
-    let whole = length-append (text c.args.self.now.machine) (verdict_text c.args.verdict.now) in
     let filled : array_vec_len c.try_extend_from_slice.new.self ≡ array_vec_len c.args.text.now + length
     c.args.line.now = search rules in
-    let words : length c.as_slice.result.now ≡ length (verdict_text c.args.verdict.now) = search rules in
-    c.try_extend_from_slice-2.ensures.variant.1 (omega (
-      arith,
-      long,
-      whole,
-      filled,
-      words,
-      ap length c.requires.of.is_text,
-      ap length c.requires.empty,
-    ))
+    omega (arith, long, whole, filled, ap length c.requires.of.is_text, ap length c.requires.empty)
