@@ -86,13 +86,15 @@ pub(crate) struct SinglePass {
 }
 
 impl SinglePass {
-    ghost use Rattle.std.specs.Prelude.{◌≡◌, ◌+◌, ◌<◌, ◌^◌, ℕ, ℤ, IfOk, IfSome, IsTrue, OnErr};
+    ghost use Rattle.std.specs.Prelude.{◌≡◌, ◌+◌, ◌*◌, ◌<◌, ◌^◌, ℕ, ℤ, IfOk, IfSome, IsTrue, OnErr};
     ghost use Rattle.bb_machine.specs.Limits.{Bounds};
     ghost use Rattle.bb_tape.specs.TapeView.{TapeView};
     ghost use Rattle.bb_sim.specs.Runner.{steps_of};
     ghost use Rattle.bb_narrow.specs.Registers.{FitsRegisters};
     ghost use Rattle.bb_cert.specs.declared.verdict.Side.TheVariants.{L, R};
     ghost use Rattle.bb_cert.specs.verdict.Verdict.{HasNumbers};
+    ghost use Rattle.bb_decide.specs.declared.single_pass.Fingerprints.{Fingerprints};
+    ghost use Rattle.bb_decide.specs.inside.Fingerprints.{KeepInTurn};
     ghost use Rattle.bb_decide.specs.inside.Follow.{ComparesRecord, IsReady, on_side};
     ghost use Rattle.bb_decide.specs.inside.Searching.{IsUnderWay};
     ghost use Rattle.bb_decide.specs.inside.Step.{TakesOver};
@@ -125,6 +127,16 @@ impl SinglePass {
         known.right.side = Side::R;
         known.left.side = Side::L;
         known
+    }
+
+    /// Keeps the runner's configuration, if it is its turn.
+    #[inline(always)]
+    fn keep_in_turn(&mut self)
+        requires { 2 * steps_of self.old.runner < 2 ^ 64 }
+        ensures { (kept : Fingerprints) × KeepInTurn self.old.runner self.old.fingerprints kept
+            × (self.new ≡ record self.old { fingerprints = kept }) }
+    {
+        self.fingerprints.keep_in_turn(&self.runner);
     }
 
     /// Compares the record that the last step made on a side, on the tapes of a bench. If there is no memory
@@ -376,30 +388,26 @@ fn run_single_pass_inline<T: Tape, K: FingerprintKeys>(
             return Ok(Some(SearchResult::Ran(outcome)));
         };
         let new = bench.run.read_inside(position);
-        let runner = pass.runner;
-        pass.fingerprints.current = update_fingerprint(
-            pass.fingerprints.current,
-            keys,
-            position,
-            old,
-            new,
-        );
-        if pass.fingerprints.are_as_kept(&runner) {
-            count_run(meter, runner);
+        let now = update_fingerprint(pass.fingerprints.current, keys, position, old, new);
+        pass.fingerprints.current = now;
+        if pass.fingerprints.are_as_kept(&pass.runner) {
+            count_run(meter, pass.runner);
             return Ok(None);
         }
-        pass.fingerprints.keep_in_turn(&runner);
-        pass.right.pass(runner.position());
-        pass.left.pass(runner.position());
+        let head = pass.runner.position();
+        pass.right.pass(head);
+        pass.left.pass(head);
         // A step makes a record exactly if it widens the window.
-        let Some(side) = widened_side(&runner, cells) else {
-            let before = cells_before(position < runner.position());
+        let widened = widened_side(&pass.runner, cells);
+        pass.keep_in_turn();
+        let Some(side) = widened else {
+            let before = cells_before(position < head);
             pass.go_on_in_block(machine, &table, limits, keys, &mut bench.run, before);
             continue;
         };
         match pass.compare_record(side, bench, meter)? {
             Some(verdict) => {
-                count_run(meter, runner);
+                count_run(meter, pass.runner);
                 return Ok(Some(SearchResult::Found(verdict)));
             }
             None => {}
