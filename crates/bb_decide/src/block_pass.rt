@@ -247,7 +247,7 @@ fn pass_block<T: Tape, K: FingerprintKeys>(
 
 /// Where a block begins that has so many cells before the head, if there is a table for it.
 #[inline(always)]
-fn block_for(table: &Option<NarrowTable>, runner: &Runner, before: i64) -> Option<i64>
+pub(crate) fn block_for(table: &Option<NarrowTable>, runner: &Runner, before: i64) -> Option<i64>
     requires low { neg_ℤ (pos MAX_CELLS) ≤ℤ position_of runner.now }
     requires high { position_of runner.now ≤ℤ pos MAX_CELLS }
     requires some { pos 0 ≤ℤ before }
@@ -262,7 +262,7 @@ fn block_for(table: &Option<NarrowTable>, runner: &Runner, before: i64) -> Optio
 
 /// As `pass_block`, not inlined.
 #[inline(never)]
-fn after_block<T: Tape, K: FingerprintKeys>(
+pub(crate) fn after_block<T: Tape, K: FingerprintKeys>(
     machine: &Machine,
     table: &NarrowTable,
     limits: &Limits,
@@ -281,46 +281,4 @@ fn after_block<T: Tape, K: FingerprintKeys>(
     ensures more { steps_of begun.runner ≤ steps_of result.runner }
 {
     pass_block(machine, table, limits, keys, begun, tape, from)
-}
-
-impl SinglePass {
-    ghost use Rattle.std.specs.Prelude.{◌≤◌, ℤ, pos, ◌≤ℤ◌, ◌<ℤ◌, ◌≡◌, IfSome};
-    ghost use Rattle.bb_tape.specs.TapeView.{TapeView};
-    ghost use Rattle.bb_sim.specs.Runner.{steps_of};
-    ghost use Rattle.bb_decide.specs.inside.BlockPasses.{CanPass, IsBlockTable};
-    ghost use Rattle.bb_decide.specs.inside.Searching.{IsUnderWay};
-
-    /// Makes steps in a block around the head, if there is a table for blocks and the window has one with so
-    /// many cells before the head.
-    #[inline(always)]
-    pub(crate) fn go_on_in_block<T: Tape, K: FingerprintKeys>(
-        &mut self,
-        machine: &Machine,
-        table: &Option<NarrowTable>,
-        limits: &Limits,
-        keys: &K,
-        tape: &mut T,
-        before: i64,
-    )
-        requires table { IfSome table.now (IsBlockTable T.GROWS machine.now) }
-        requires can { CanPass machine.now limits.now (K.key_of keys.now) self.old (T.view tape.old) }
-        requires some { pos 0 ≤ℤ before }
-        requires few { before <ℤ pos 64 }
-        ensures pass { (right left : TapeView)
-            → IsUnderWay machine.now limits.now (K.key_of keys.now) self.old (T.view tape.old) right left
-            → IsUnderWay machine.now limits.now (K.key_of keys.now) self.new (T.view tape.new) right left }
-        ensures limit { (T.view tape.new).limit ≡ (T.view tape.old).limit }
-        ensures more { steps_of self.old.runner ≤ steps_of self.new.runner }
-    {
-        let Some(from) = block_for(table, &self.runner, before) else {
-            return;
-        };
-        // A copy, so that without a table the compiler leaves out the test for blocks.
-        let Some(packed) = table else {
-            return;
-        };
-        let packed = *packed;
-        let pass = after_block(machine, &packed, limits, keys, *self, tape, from);
-        *self = pass.with_known_sides();
-    }
 }

@@ -1,20 +1,24 @@
 //! The single-pass run. It ends at a halt, at two agreeing records, or at a repeated fingerprint.
-ghost use Rattle.std.specs.Prelude.{◌≡◌, ◌+◌, ◌*◌, ◌≤◌, IfSome, length};
+ghost use Rattle.std.specs.Prelude.{◌≡◌, ◌+◌, ◌*◌, ◌<◌, ◌≤◌, ◌^◌, ℤ, IfOk, IfSome, IsTrue, OnErr, length};
 ghost use Rattle.bb_machine.specs.Machine.{symbols_of};
+ghost use Rattle.bb_sim.specs.Runner.{steps_of};
 ghost use Rattle.bb_narrow.specs.Registers.{FitsRegisters};
+ghost use Rattle.bb_cert.specs.verdict.Verdict.{HasNumbers};
 ghost use Rattle.bb_decide.specs.Bench.{BenchHasCells};
 ghost use Rattle.bb_decide.specs.inside.BlockPasses.{IsBlockTable};
+ghost use Rattle.bb_decide.specs.inside.Follow.{ComparesRecord, IsReady, on_side};
 ghost use Rattle.bb_decide.specs.inside.NarrowPass.{IsInNarrowPass};
 ghost use Rattle.bb_decide.specs.inside.SearchResult.{RunsSinglePass};
 ghost use Rattle.bb_decide.specs.inside.Searching.{IsUnderWay};
+ghost use Rattle.bb_decide.specs.inside.Step.{TakesOver};
 
 use crate::bench::Bench;
-use crate::block_pass::block_table;
+use crate::block_pass::{after_block, block_for, block_table};
 use crate::fingerprint::update_fingerprint;
 use crate::keys::FingerprintKeys;
 use crate::narrow_pass::{NarrowPass, NarrowResult, run_narrow_pass};
 use crate::record_search::compare_record;
-use crate::search_result::{SearchResult, count_run, outcome_of, step_on};
+use crate::search_result::{SearchResult, count_run, outcome_of};
 use bb_cert::records::{Records, widened_side};
 use bb_cert::{Side, Verdict};
 use bb_machine::{Limits, Machine};
@@ -86,18 +90,11 @@ pub(crate) struct SinglePass {
 }
 
 impl SinglePass {
-    ghost use Rattle.std.specs.Prelude.{◌≡◌, ◌+◌, ◌*◌, ◌<◌, ◌^◌, ℕ, ℤ, IfOk, IfSome, IsTrue, OnErr};
+    ghost use Rattle.std.specs.Prelude.{◌≡◌, ℕ, ℤ};
     ghost use Rattle.bb_machine.specs.Limits.{Bounds};
     ghost use Rattle.bb_tape.specs.TapeView.{TapeView};
-    ghost use Rattle.bb_sim.specs.Runner.{steps_of};
     ghost use Rattle.bb_narrow.specs.Registers.{FitsRegisters};
-    ghost use Rattle.bb_cert.specs.declared.verdict.Side.TheVariants.{L, R};
-    ghost use Rattle.bb_cert.specs.verdict.Verdict.{HasNumbers};
-    ghost use Rattle.bb_decide.specs.declared.single_pass.Fingerprints.{Fingerprints};
-    ghost use Rattle.bb_decide.specs.inside.Fingerprints.{KeepInTurn};
-    ghost use Rattle.bb_decide.specs.inside.Follow.{ComparesRecord, IsReady, on_side};
     ghost use Rattle.bb_decide.specs.inside.Searching.{IsUnderWay};
-    ghost use Rattle.bb_decide.specs.inside.Step.{TakesOver};
 
     /// The run at its start.
     #[inline(always)]
@@ -114,69 +111,6 @@ impl SinglePass {
             left: Records::new(Side::L, runner),
             fingerprints: Fingerprints::new(runner),
         }
-    }
-
-    /// The same run. Its sides are written out, so they are constants of the loop that goes on with it.
-    #[inline(always)]
-    pub(crate) fn with_known_sides(self) -> SinglePass
-        requires right { self.right.side ≡ R }
-        requires left { self.left.side ≡ L }
-        ensures { result ≡ self }
-    {
-        let mut known = self;
-        known.right.side = Side::R;
-        known.left.side = Side::L;
-        known
-    }
-
-    /// Keeps the runner's configuration, if it is its turn.
-    #[inline(always)]
-    fn keep_in_turn(&mut self)
-        requires { 2 * steps_of self.old.runner < 2 ^ 64 }
-        ensures { (kept : Fingerprints) × KeepInTurn self.old.runner self.old.fingerprints kept
-            × (self.new ≡ record self.old { fingerprints = kept }) }
-    {
-        self.fingerprints.keep_in_turn(&self.runner);
-    }
-
-    /// Compares the record that the last step made on a side, on the tapes of a bench. If there is no memory
-    /// to keep it, the meter adds the run.
-    #[inline(always)]
-    fn compare_record<T: Tape>(
-        &mut self,
-        side: Side,
-        bench: &mut Bench<T>,
-        meter: &mut Meter,
-    ) -> Result<Option<Verdict>, Memory>
-        requires right_limit { (T.view bench.old.right).limit ≡ (T.view bench.old.run).limit }
-        requires left_limit { (T.view bench.old.left).limit ≡ (T.view bench.old.run).limit }
-        requires ready { IsReady (on_side side self.old.right self.old.left) self.old.runner
-            (on_side side (T.view bench.old.right) (T.view bench.old.left)) (T.view bench.old.run) }
-        requires room { meter.old.steps + steps_of self.old.runner < 2 ^ 64 }
-        ensures looks { IfOk result (ComparesRecord side self.old.runner (T.view bench.old.run) self.old.right
-            self.old.left (T.view bench.old.right) (T.view bench.old.left) self.new.right self.new.left
-            (T.view bench.new.right) (T.view bench.new.left)) }
-        ensures numbers { IfOk result (λ found. IfSome found HasNumbers) }
-        ensures runner { self.new.runner ≡ self.old.runner }
-        ensures fingerprints { self.new.fingerprints ≡ self.old.fingerprints }
-        ensures run { bench.new.run ≡ bench.old.run }
-        ensures path { bench.new.path ≡ bench.old.path }
-        ensures right_limit { (T.view bench.new.right).limit ≡ (T.view bench.old.right).limit }
-        ensures left_limit { (T.view bench.new.left).limit ≡ (T.view bench.old.left).limit }
-        ensures memory { OnErr result (IsTrue T.GROWS) }
-        ensures uncounted { IfOk result (λ found. meter.new ≡ meter.old) }
-        ensures cut { OnErr result (TakesOver self.old.runner meter.old meter.new) }
-    {
-        compare_record(
-            side,
-            &mut self.right,
-            &mut self.left,
-            &self.runner,
-            &bench.run,
-            &mut bench.right,
-            &mut bench.left,
-            meter,
-        )
     }
 }
 
@@ -305,6 +239,57 @@ fn copy_of(limits: &Limits) -> Limits
     *limits
 }
 
+/// These records, whose side is known: written out by the caller, it is a constant of the loop.
+#[inline(always)]
+fn of_side(records: Records, side: Side) -> Records
+    requires side { records.side ≡ side }
+    ensures { result ≡ records }
+{
+    let mut known = records;
+    known.side = side;
+    known
+}
+
+/// Compares the record just made by the runner on a side, on the tapes of a bench. If there is no memory to
+/// keep it, the meter adds the run.
+#[inline(always)]
+fn compare_on_bench<T: Tape>(
+    side: Side,
+    right: &mut Records,
+    left: &mut Records,
+    runner: &Runner,
+    bench: &mut Bench<T>,
+    meter: &mut Meter,
+) -> Result<Option<Verdict>, Memory>
+    requires right_limit { (T.view bench.old.right).limit ≡ (T.view bench.old.run).limit }
+    requires left_limit { (T.view bench.old.left).limit ≡ (T.view bench.old.run).limit }
+    requires ready { IsReady (on_side side right.old left.old) runner.now
+        (on_side side (T.view bench.old.right) (T.view bench.old.left)) (T.view bench.old.run) }
+    requires room { meter.old.steps + steps_of runner.now < 2 ^ 64 }
+    ensures looks { IfOk result (ComparesRecord side runner.now (T.view bench.old.run) right.old left.old
+        (T.view bench.old.right) (T.view bench.old.left) right.new left.new
+        (T.view bench.new.right) (T.view bench.new.left)) }
+    ensures numbers { IfOk result (λ found. IfSome found HasNumbers) }
+    ensures run { bench.new.run ≡ bench.old.run }
+    ensures path { bench.new.path ≡ bench.old.path }
+    ensures right_limit { (T.view bench.new.right).limit ≡ (T.view bench.old.right).limit }
+    ensures left_limit { (T.view bench.new.left).limit ≡ (T.view bench.old.left).limit }
+    ensures memory { OnErr result (IsTrue T.GROWS) }
+    ensures uncounted { IfOk result (λ found. meter.new ≡ meter.old) }
+    ensures cut { OnErr result (TakesOver runner.now meter.old meter.new) }
+{
+    compare_record(
+        side,
+        right,
+        left,
+        runner,
+        &bench.run,
+        &mut bench.right,
+        &mut bench.left,
+        meter,
+    )
+}
+
 /// Continues a single-pass run on the tapes of a bench, in blocks where that is possible.
 #[inline(never)]
 fn continue_single_pass<T: Tape, K: FingerprintKeys>(
@@ -375,39 +360,65 @@ fn run_single_pass_inline<T: Tape, K: FingerprintKeys>(
         meter.old meter.new result }
 {
     limits.show_accepted();
-    let mut pass = begun.with_known_sides();
+    let mut runner = begun.runner;
+    let mut right = of_side(begun.right, Side::R);
+    let mut left = of_side(begun.left, Side::L);
+    let mut fingerprints = begun.fingerprints;
     loop {
-        let cells = pass.runner.cells();
-        let position = pass.runner.position();
+        let cells = runner.cells();
+        let position = runner.position();
         let old = bench.run.read_inside(position);
-        let Ok(moved) = step_on(machine, &mut pass.runner, &mut bench.run, limits, meter) else {
+        // The step is made here, and not by `step_on`: beside the read of the cell that costs less.
+        let mut uncounted = Meter::new();
+        let Ok(moved) = runner.advance(machine, &mut bench.run, limits, &mut uncounted) else {
+            count_run(meter, runner);
             return Err(Memory);
         };
         let Moved::Stepped = moved else {
-            let outcome = outcome_of(moved, pass.runner, &bench.run);
-            return Ok(Some(SearchResult::Ran(outcome)));
+            count_run(meter, runner);
+            return Ok(Some(SearchResult::Ran(outcome_of(moved, runner, &bench.run))));
+        };
+        // Z is never met twice, so this step can't be a repeat: the run ends.
+        let Some(_) = runner.state() else {
+            count_run(meter, runner);
+            return Ok(Some(SearchResult::Ran(outcome_of(Moved::Halted, runner, &bench.run))));
         };
         let new = bench.run.read_inside(position);
-        let now = update_fingerprint(pass.fingerprints.current, keys, position, old, new);
-        pass.fingerprints.current = now;
-        if pass.fingerprints.are_as_kept(&pass.runner) {
-            count_run(meter, pass.runner);
+        fingerprints.current = update_fingerprint(fingerprints.current, keys, position, old, new);
+        if fingerprints.are_as_kept(&runner) {
+            count_run(meter, runner);
             return Ok(None);
         }
-        let head = pass.runner.position();
-        pass.right.pass(head);
-        pass.left.pass(head);
+        fingerprints.keep_in_turn(&runner);
+        right.pass(runner.position());
+        left.pass(runner.position());
         // A step makes a record exactly if it widens the window.
-        let widened = widened_side(&pass.runner, cells);
-        pass.keep_in_turn();
-        let Some(side) = widened else {
-            let before = cells_before(position < head);
-            pass.go_on_in_block(machine, &table, limits, keys, &mut bench.run, before);
+        let Some(side) = widened_side(&runner, cells) else {
+            let before = cells_before(position < runner.position());
+            let Some(from) = block_for(&table, &runner, before) else {
+                continue;
+            };
+            // A copy, so that without a table the compiler leaves out the test for blocks.
+            let Some(packed) = &table else {
+                continue;
+            };
+            let packed = *packed;
+            let here = SinglePass {
+                runner,
+                right,
+                left,
+                fingerprints,
+            };
+            let pass = after_block(machine, &packed, limits, keys, here, &mut bench.run, from);
+            runner = pass.runner;
+            right = of_side(pass.right, Side::R);
+            left = of_side(pass.left, Side::L);
+            fingerprints = pass.fingerprints;
             continue;
         };
-        match pass.compare_record(side, bench, meter)? {
+        match compare_on_bench(side, &mut right, &mut left, &runner, bench, meter)? {
             Some(verdict) => {
-                count_run(meter, pass.runner);
+                count_run(meter, runner);
                 return Ok(Some(SearchResult::Found(verdict)));
             }
             None => {}
