@@ -10,4 +10,7 @@ pub mod Prefixes
 pub mod LawLemmas
 pub mod Filled
 pub mod Checked
+pub mod Lanes
+pub mod Places
+pub mod Links
 pub mod Facts

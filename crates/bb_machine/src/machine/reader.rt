@@ -1,10 +1,12 @@
 //! The reader of machine texts.
 ghost use Rattle.std.specs.Prelude.{◌≡◌, ◌≢◌, ◌+◌, ◌*◌, ◌≤◌, ◌<◌, ◌↔◌, List, [], ◌∷◌};
 ghost use Rattle.std.specs.Prelude.{◌++◌, ℕ, length, take, drop, IsTrue, IfOk, IfErr, IfSome, OnOk, OnErr};
-ghost use Rattle.std.specs.Prelude.{MatchOption, Some};
+ghost use Rattle.std.specs.Prelude.{MatchOption, Some, slice_index};
+ghost use Rattle.std.specs.Int.{bit_at};
 
 use crate::entry::Entry;
 use crate::machine::{LINE, MAX_STATES, MAX_SYMBOLS, Machine, Refused, SLOTS, STRIDE, Slot};
+use std::simd::prelude::*;
 
 /// The progress in a text: `states` counts the groups with the current one, `filled` the entries of the
 /// current one; `symbols` is the upper bound, until a `_` closes the first group. A machine with all these
@@ -118,7 +120,7 @@ impl Machine {
         Ok(())
     }
 
-    /// Whether `read` accepts the line. It costs two thirds of `read`.
+    /// Whether `read` accepts the line. For two symbols it costs two fifths of `read`.
     #[inline]
     pub fn can_read(line: &[u8]) -> bool
         ensures { IsTrue result ↔ ((machine : Table) × IsMachine machine × (text machine ≡ line.now)) }
@@ -131,6 +133,25 @@ ghost use Rattle.bb_machine.specs.declared.entry.Entry.{Entry};
 ghost use Rattle.bb_machine.specs.Machine.{IsMachine, IsGroup, group_text, symbols_of, text};
 ghost use Rattle.bb_machine.specs.Rows.{IsTable, entries_in, table_in};
 ghost use Rattle.bb_machine.specs.Column.{BeginsWith, IsViable, IsLongestPrefix};
+ghost use Rattle.bb_machine.specs.inside.Places.{HasEntry, HasLink};
+
+/// How many places a mask has.
+const LANES: usize = 16;
+
+/// How many bytes are looked at for a mask: an entry at the last place ends two bytes later.
+const SIGHT: usize = 18;
+
+/// The places of the first five entries of a line: 0, 3, 7, 10 and 14.
+const FIRST_ENTRIES: u64 = 0x4489;
+
+/// The places of each `_` between them: 6 and 13.
+const FIRST_BARS: u64 = 0x2040;
+
+/// The places of entries from the second of a row on, if that stands at 1: 1, 5, 8, 12 and 15.
+const NEXT_ENTRIES: u64 = 0x9122;
+
+/// The places of each `_` between them: 4 and 11.
+const NEXT_BARS: u64 = 0x0810;
 
 /// The number of states and symbols of the machine with this text, if there is one.
 ///
@@ -214,6 +235,110 @@ fn states_by_length(line: &[u8], symbols: usize) -> Option<usize>
 /// Whether the line, of the right length, is the text of a machine with so many states and symbols.
 #[inline(always)]
 fn is_table(line: &[u8], states: usize, symbols: usize) -> bool
+    requires some { 0 < states }
+    requires states { states ≤ MAX_STATES }
+    requires two { 2 ≤ symbols }
+    requires symbols { symbols ≤ MAX_SYMBOLS }
+    requires length { length line.now + 1 ≡ states * (3 * symbols + 1) }
+    ensures { IsTrue result
+        ↔ ((gs : List (List Entry)) × IsTable states symbols gs × (text gs ≡ line.now)) }
+{
+    if symbols == 2 && states >= 3 {
+        return is_table_by_masks(line, states);
+    }
+    is_table_by_entries(line, states, symbols)
+}
+
+/// As `is_table`, for two symbols: it looks at five entries at once.
+#[inline(always)]
+fn is_table_by_masks(line: &[u8], states: usize) -> bool
+    requires three { 3 ≤ states }
+    requires states { states ≤ MAX_STATES }
+    requires length { length line.now + 1 ≡ states * 7 }
+    ensures { IsTrue result ↔ ((gs : List (List Entry)) × IsTable states 2 gs × (text gs ≡ line.now)) }
+{
+    if !has_first_rows(line, states as u8) || !has_rows_after(line, states - 3, states as u8) {
+        return false;
+    }
+    for pair in 1..(states - 2) / 2 {
+        if !has_rows_after(line, 2 * pair, states as u8) {
+            return false;
+        }
+    }
+    true
+}
+
+/// Whether the line begins with two rows and the first entry of a third.
+#[inline(always)]
+fn has_first_rows(line: &[u8], states: u8) -> bool
+    requires some { 0 < states }
+    requires states { states ≤ MAX_STATES }
+    requires room { SIGHT ≤ length line.now }
+    ensures { IsTrue result
+        ↔ (HasEntry states line.now 0 × HasLink states line.now 0 × HasLink states line.now 1) }
+{
+    has_all(places_of_entries(line, states), FIRST_ENTRIES)
+        && has_all(places_of_bars(line), FIRST_BARS)
+}
+
+/// Whether the second entry of a row, with 0 for the first row, and two rows after it stand in the line.
+#[inline(always)]
+fn has_rows_after(line: &[u8], row: usize, states: u8) -> bool
+    requires some { 0 < states }
+    requires states { states ≤ MAX_STATES }
+    requires row { row < MAX_STATES }
+    requires room { 7 * row + 2 + SIGHT ≤ length line.now }
+    ensures { IsTrue result
+        ↔ (HasLink states line.now row × HasLink states line.now (row + 1)
+        × HasEntry states line.now (7 * row + 17)) }
+{
+    let bytes = &line[7 * row + 2..];
+    has_all(places_of_entries(bytes, states), NEXT_ENTRIES)
+        && has_all(places_of_bars(bytes), NEXT_BARS)
+}
+
+/// Whether a mask has all these places.
+#[inline(always)]
+fn has_all(mask: u64, places: u64) -> bool
+    ensures { IsTrue result ↔ ((k : ℕ) → bit_at places k ≡ 1 → bit_at mask k ≡ 1) }
+{
+    mask & places == places
+}
+
+/// At which of the first 16 places the text of an entry of a machine with two symbols begins.
+#[inline(always)]
+fn places_of_entries(bytes: &[u8], states: u8) -> u64
+    requires some { 0 < states }
+    requires states { states ≤ MAX_STATES }
+    requires room { SIGHT ≤ length bytes.now }
+    ensures { (k : ℕ) → k < LANES → (bit_at result k ≡ 1) ↔ HasEntry states bytes.now k }
+{
+    let third = u8x16::from_slice(&bytes[2..]);
+    let second = u8x16::from_slice(&bytes[1..]);
+    let first = u8x16::from_slice(bytes);
+    let dash = u8x16::splat(b'-');
+    let undefined = first.simd_eq(dash) & second.simd_eq(dash) & third.simd_eq(dash);
+    let digit = first.simd_eq(u8x16::splat(b'0')) | first.simd_eq(u8x16::splat(b'1'));
+    let dir = second.simd_eq(u8x16::splat(b'L')) | second.simd_eq(u8x16::splat(b'R'));
+    let state = (third - u8x16::splat(b'A')).simd_le(u8x16::splat(states - 1));
+    let next = state | third.simd_eq(u8x16::splat(b'Z'));
+    (undefined | digit & dir & next).to_bitmask()
+}
+
+/// At which of the first 16 places a `_` stands.
+#[inline(always)]
+fn places_of_bars(bytes: &[u8]) -> u64
+    requires room { LANES ≤ length bytes.now }
+    ensures { (k : ℕ) → k < LANES → (bit_at result k ≡ 1) ↔ (slice_index bytes.now k ≡ 95) }
+{
+    u8x16::from_slice(bytes)
+        .simd_eq(u8x16::splat(b'_'))
+        .to_bitmask()
+}
+
+/// As `is_table`, entry by entry.
+#[inline(always)]
+fn is_table_by_entries(line: &[u8], states: usize, symbols: usize) -> bool
     requires some { 0 < states }
     requires states { states ≤ MAX_STATES }
     requires two { 2 ≤ symbols }

@@ -1,7 +1,7 @@
 use Rattle.std.proofs.Common.{◌≡◌, ◌+◌, ◌-◌, ◌*◌, List, drop}
 use Rattle.bb_machine.specs.declared.entry.Entry.{Entry}
 use Rattle.bb_machine.proofs.Checked.{IsTableSoFar}
-use Rattle.bb_machine.proofs.machine.reader.is_table.Given as goal
+use Rattle.bb_machine.proofs.machine.reader.is_table_by_entries.Given as goal
 
 -- the bytes so far are those of the table's first groups
 abbrev pub invariant-loop-row : goal.invariant-loop-row

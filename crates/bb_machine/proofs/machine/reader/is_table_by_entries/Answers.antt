@@ -4,8 +4,8 @@ use Rattle.std.proofs.Math.Nat.{mul-le-mul}
 use Rattle.bb_machine.specs.Machine.{group_text}
 use Rattle.bb_machine.proofs.Checked.{bar_there, group_there, groups_grow, stands_by, begins_by}
 use Rattle.bb_machine.proofs.Checked.{first_by, rest_by, group_first, group_later}
-use Rattle.bb_machine.proofs.machine.reader.is_table.Goals as goal
-use Rattle.bb_machine.proofs.machine.reader.is_table.Goals.{then-row-gt0+else-rest-ne95, else-row-gt0}
+use Rattle.bb_machine.proofs.machine.reader.is_table_by_entries.Goals as goal
+use Rattle.bb_machine.proofs.machine.reader.is_table_by_entries.Goals.{then-row-gt0+else-rest-ne95, else-row-gt0}
 
 pub returns-then-rest-ne95 : goal.returns-then-rest-ne95
 returns-then-rest-ne95 c = (
