@@ -15,6 +15,7 @@ pub use Rattle.bb_sim.proofs.RunningOn.{conf-suc, runs_on}
 pub use Rattle.bb_sim.proofs.NamedRuns.{IsNamed, next_named, run_named}
 pub use Rattle.bb_sim.proofs.Outcomes.{cells_last, steps_last}
 pub use Rattle.bb_sim.proofs.Positions.{max-same}
+pub use Rattle.bb_sim.proofs.Parity.{position_has_parity_of_step}
 pub use Rattle.bb_sim.proofs.Standing.{Near, at_start, inside_fits, near_head}
 pub use Rattle.bb_sim.proofs.Stepping.{Stepped, fits_Z, halts_undefined, into_Z, made, moves_on, next-span}
 pub use Rattle.bb_sim.proofs.Stepping.{running}

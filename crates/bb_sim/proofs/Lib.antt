@@ -11,5 +11,6 @@ pub mod Pigeonhole
 pub mod Encoding
 pub mod FewCells
 pub mod RunningOn
+pub mod Parity
 pub mod Facts
 mod NamedRuns

@@ -1,5 +1,5 @@
 -- Laws of runs, with and without bounds.
-use Rattle.std.specs.Prelude.{◌≡◌, ◌≢◌, ℕ, ◌<◌, ◌≤◌, Some, ℤ, ◌≤ℤ◌}
+use Rattle.std.specs.Prelude.{◌≡◌, ◌≢◌, ℕ, ◌<◌, ◌≤◌, Some, ℤ, pos, ◌+ℤ◌, ◌≤ℤ◌}
 use Rattle.bb_machine.specs.declared.entry.Next.TheVariants.{Halt}
 use Rattle.bb_machine.specs.Limits.{Bounds}
 use Rattle.bb_machine.specs.Machine.{Table}
@@ -75,3 +75,8 @@ SpanIsReached = (table : Table) (n : ℕ) → SpanIsReachedAt table n
 abbrev pub CountIsWithin : Type 0
 CountIsWithin = (table : Table) (bounds : Bounds) (n : ℕ) (old new : Meter)
     → Inside table bounds n → CountsTo table n old new → IsWithinRun bounds old new
+
+-- each step moves the head by one cell, so its position is even at even steps and odd at odd ones
+abbrev pub PositionHasParityOfStep : Type 0
+PositionHasParityOfStep = (table : Table) (n : ℕ) (here : Configuration) → conf table n ≡ Some here
+    → (half : ℤ) × (here.head +ℤ pos n ≡ half +ℤ half)

@@ -2,7 +2,8 @@
 ghost use Rattle.bb_sim.specs.FewCells.{FewCellsRepeat};
 ghost use Rattle.bb_sim.specs.Laws.{CountIsWithin, EarlierExists, EarlierIsInside, HaltIsLast};
 ghost use Rattle.bb_sim.specs.Laws.{HaltIsUnique, LastStepExists, LastStepIsUnique};
-ghost use Rattle.bb_sim.specs.Laws.{OutcomeIsUnique, ScoreIsUnique, SpanGrows, SpanIsReached};
+ghost use Rattle.bb_sim.specs.Laws.{OutcomeIsUnique, PositionHasParityOfStep, ScoreIsUnique};
+ghost use Rattle.bb_sim.specs.Laws.{SpanGrows, SpanIsReached};
 
 /// A run within bounds has a last step.
 pub fn last_step_exists()
@@ -62,4 +63,9 @@ pub fn count_is_within()
 /// A run confined to few cells halts, or repeats one of its few configurations.
 pub fn few_cells_repeat()
     ensures { FewCellsRepeat }
+{}
+
+/// The head is at an even position at even steps, and at an odd one at odd steps.
+pub fn position_has_parity_of_step()
+    ensures { PositionHasParityOfStep }
 {}
