@@ -96,6 +96,40 @@ impl NarrowRun {
         NarrowMoved::Stepped
     }
 
+    /// Makes the next step if it goes to a state and stays in the window. Else the run stays as it is.
+    #[inline(always)]
+    pub fn advance_in_window(
+        &mut self,
+        machine: &Machine,
+        table: &NarrowTable,
+        limits: &Limits,
+    ) -> bool
+        requires symbols { symbols_of machine.now ≡ 2 }
+        requires table { IsTableOf machine.now table.now }
+        requires run { IsNarrowRun machine.now limits.now self.old }
+        requires more { self.old.steps < limits.now.steps }
+        ensures { MatchBool result (AdvancesNarrow machine.now limits.now self.old self.new Stepped
+            × (self.new.window ≡ self.old.window)) (self.new ≡ self.old) }
+    {
+        machine.show_machine();
+        limits.show_accepted();
+        let entry = table.entry(self.registers.entry, self.registers.reads_one());
+        if stops(entry) {
+            return false;
+        }
+        let head = self.registers.moved_head(entry);
+        if (self.window & head) == 0 {
+            return false;
+        }
+        self.registers = Registers {
+            bits: self.registers.flipped_bits(entry),
+            head,
+            entry,
+        };
+        self.steps += 1;
+        true
+    }
+
     /// Makes the next step of a run not at its end. False if the step would leave the 64 cells; it isn't made
     /// then. There is no branch by the window, as the next cell is often new.
     #[inline(always)]
