@@ -1,5 +1,5 @@
 -- What a run has counted, where the runner counts and a meter takes it over at the end.
-use Rattle.std.proofs.Common.{◌≡◌, ◌≢◌, ◌+◌, ◌≤◌, max, ap, ◌∙◌, arith, refl}
+use Rattle.std.proofs.Common.{◌≡◌, ◌≢◌, ℕ, ◌+◌, ◌≤◌, max, ap, ◌∙◌, arith, refl}
 use Rattle.bb_machine.specs.Limits.{Bounds}
 use Rattle.bb_machine.specs.Machine.{Table}
 use Rattle.bb_tape.specs.Content.{Content}
@@ -41,10 +41,12 @@ inside_where {runner = runner} {view = view} stands inside = record {
   within_cells = inside.within_cells;
 }
 
--- a run that was refused memory was counted up to where it stands, within bounds
-pub record HasCut (table : Table) (bounds : Bounds) (tape : Content) (first meter : Meter) : Type 0 where
-  pub part : CountsPart table bounds tape first meter
-  pub within : IsWithinRun bounds first meter
+-- a run that was refused memory was counted up to step n, where it stands, within bounds
+pub record HasCut (table : Table) (bounds : Bounds) (n : ℕ) (tape : Content) (first meter : Meter) : Type 0
+  where
+    pub part : CountsPart table bounds tape first meter
+    pub at : part.at ≡ n
+    pub within : IsWithinRun bounds first meter
 
 -- in a step that was to be made, for which the window was widened
 pub cut_at_step : {table : Table} {bounds : Bounds} {first meter : Meter} (old new : Runner)
@@ -53,7 +55,7 @@ pub cut_at_step : {table : Table} {bounds : Bounds} {first meter : Meter} (old n
     → steps_of new ≡ steps_of old
     → cells_between (low_of new) (high_of new) ≡ span table (steps_of old + 1)
     → {tape : Content} → tape ≡ view.content → TakesOver new first meter
-    → HasCut table bounds tape first meter
+    → HasCut table bounds (steps_of old) tape first meter
 cut_at_step {table} {bounds} {first} {meter} old new stands inside wanted unmade window kept is =
     let counts : meter ≡ counted first (steps_of old) (span table (steps_of old + 1)) =
     is ∙ ap (λ n. counted first n (cells_between (low_of new) (high_of new))) unmade
@@ -71,6 +73,7 @@ cut_at_step {table} {bounds} {first} {meter} old new stands inside wanted unmade
         cells = omega arith;
         few_cells = omega (arith, cells);
       };
+      at = refl;
       within = record {
         steps = omega (arith, steps, inside.within_steps);
         most_cells = omega (arith, cells, wanted.2);
@@ -82,7 +85,7 @@ cut_at_step {table} {bounds} {first} {meter} old new stands inside wanted unmade
 -- after a step that was made
 pub cut_after_step : {table : Table} {bounds : Bounds} {runner : Runner} {view : TapeView}
     {first meter : Meter} → Stands table runner view → Inside table bounds (steps_of runner)
-    → TakesOver runner first meter → HasCut table bounds view.content first meter
+    → TakesOver runner first meter → HasCut table bounds (steps_of runner) view.content first meter
 cut_after_step {table} {bounds} {runner} {first = first} {meter = meter} stands inside is =
     let counts = taken_over stands first is in
     let cells : meter.most_cells ≡ max first.most_cells (span table (steps_of runner)) =
@@ -98,6 +101,7 @@ cut_after_step {table} {bounds} {runner} {first = first} {meter = meter} stands 
             let grows = span_grows table (steps_of runner) (steps_of runner + 1) (omega arith) in
             omega (arith, cells, grows);
       };
+      at = refl;
       within = count_is_within table bounds (steps_of runner) first meter inside counts;
     }
 

@@ -1,6 +1,6 @@
 -- How the run of a search ends, as a simulation does or with what was found, and what is promised of it then.
 use Rattle.std.proofs.Common.{◌≡◌, ℕ, ◌+◌, ℤ, Bool, inl, inr, IsTrue, Ok, Err, Option, Some, None}
-use Rattle.std.proofs.Common.{refl, ap}
+use Rattle.std.proofs.Common.{refl, ap, subst}
 use Rattle.bb_machine.specs.declared.entry.Next.TheVariants.{Halt}
 use Rattle.bb_machine.specs.Limits.{Bounds}
 use Rattle.bb_machine.specs.Machine.{Table}
@@ -19,6 +19,7 @@ use Rattle.bb_sim.specs.Runner.{Answers, Moves, Reaches, Stands, Stays, state_of
 use Rattle.bb_sim.specs.Span.{Inside, IsLastInside}
 use Rattle.bb_sim.proofs.Facts.{count_is_within, halted_end, halts_in_Z, halts_last, no_halt_inside}
 use Rattle.bb_sim.proofs.Facts.{wide_at_end}
+use Rattle.bb_narrow.specs.Registers.{FitsRegisters}
 use Rattle.bb_cert.specs.declared.verdict.Verdict.{Verdict}
 use Rattle.bb_cert.specs.declared.verdict.Verdict.TheVariants.{Translated}
 use Rattle.bb_cert.specs.claims.Claim.{Claim}
@@ -87,7 +88,7 @@ module _ {grows : Bool} {table : Table} {bounds : Bounds} {old new : Runner} {vi
       → StepsOn grows table bounds old new view_old view first meter (Ok moved)
   step_goes_on moved on = record { goes_on = on; cut = tt; within = tt; memory = tt; limit = limit }
 
-  pub step_is_cut : {fault : Memory} → HasCut table bounds view.content first meter → IsTrue grows
+  pub step_is_cut : {fault : Memory} {n : ℕ} → HasCut table bounds n view.content first meter → IsTrue grows
       → StepsOn grows table bounds old new view_old view first meter (Err fault)
   step_is_cut cut memory =
       record { goes_on = tt; cut = cut.part; within = cut.within; memory = memory; limit = limit }
@@ -149,8 +150,8 @@ module _ {T : Type 0} {view : T → TapeView} {grows : Bool} {table : Table} {bo
         → Seeks Finds grows view table bounds old new first meter (Ok (Found verdict))
     seeks_and_finds found = let is = rw lent.meter at found in assumption
 
-    pub seeks_until_cut : {Finds : Option Verdict → Type 0} {fault : Memory}
-        → HasCut table bounds (view new.run).content here meter → IsTrue grows
+    pub seeks_until_cut : {Finds : Option Verdict → Type 0} {fault : Memory} {n : ℕ}
+        → HasCut table bounds n (view new.run).content here meter → IsTrue grows
         → Seeks Finds grows view table bounds old new first meter (Err fault)
     seeks_until_cut cut memory = let is = rw lent.meter at cut in assumption
 
@@ -192,14 +193,15 @@ module _ {T : Type 0} {view : T → TapeView} {grows : Bool} {table : Table} {bo
           path = lent.path;
         }
 
-    pub runs_until_cut : {key : ℤ → ℕ} {fault : Memory}
-        → HasCut table bounds (view new.run).content here meter → IsTrue grows
+    pub runs_until_cut : {key : ℤ → ℕ} {fault : Memory} {n : ℕ}
+        → HasCut table bounds n (view new.run).content here meter
+        → (FitsRegisters table (n + 1) → ⊥) → IsTrue grows
         → RunsSinglePass grows view table bounds key old new first meter (Err fault)
-    runs_until_cut cut memory =
+    runs_until_cut cut wide memory =
         let is = rw lent.meter at cut in
         record {
           single_pass = tt;
-          cut = inl is.part;
+          cut = inl (is.part, λ fits. wide (subst (λ m. FitsRegisters table (m + 1)) is.at fits));
           within = is.within;
           promised = record { claim = tt; numbers = tt; memory = memory };
           tapes = lent.tapes;

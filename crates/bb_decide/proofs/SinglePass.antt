@@ -132,6 +132,12 @@ module _ {table : Table} {before after : Runner} {view_before view_after : TapeV
       ∙ cell-with_cell-same view_before.content (position_of before) led.write in
       tape ∙ ap (λ v. with_cell view_before.content (position_of before) v) (sym symbol)
 
+-- a run that has left the registers has left them at the next step too
+pub still_wide : {table : Table} {before after : Runner} {view : TapeView}
+    → (FitsRegisters table (steps_of before + 1) → ⊥) → HasMoved table before after view
+    → FitsRegisters table (steps_of after + 1) → ⊥
+still_wide {table} wide moved fits = wide (subst (FitsRegisters table) moved.next (fits_before (omega arith) fits))
+
 -- the fingerprint after the write is that of the new tape
 module _ {table : Table} {bounds : Bounds} {key : ℤ → ℕ} {before after : Runner}
     {view_before view_after : TapeView} {old : Fingerprints}
@@ -198,12 +204,9 @@ module _ {table : Table} {bounds : Bounds} {key : ℤ → ℕ} {before after : R
         differs (as_kept (subst (λ m. MatchesPartner key table m (steps_of after))
         (is_kept_one here.search.partner moved.next now.0.partner) now.0)))
 
-    -- it has left the registers, and so has the next one
+    -- it has left the registers
     pub wide_here : FitsRegisters table (steps_of after) → ⊥
     wide_here fits = here.wide (subst (FitsRegisters table) moved.next fits)
-
-    pub wide_next : FitsRegisters table (steps_of after + 1) → ⊥
-    wide_next fits = wide_here (fits_before (omega arith) fits)
 
     -- and the configuration is kept in its turn
     pub single_pass_on : {new : Fingerprints} → (AreAsKept printed after → ⊥) → KeepInTurn after printed new
@@ -219,7 +222,7 @@ module _ {table : Table} {bounds : Bounds} {key : ℤ → ℕ} {before after : R
           next = here.next;
           none_alike = none_alike_next differs;
           running = moved.running;
-          wide = wide_next;
+          wide = still_wide here.wide moved;
         })
     single_pass_on differs (inr kept) =
         let same_next = ap (λ (p : Fingerprints). p.next) stays in
@@ -232,7 +235,7 @@ module _ {table : Table} {bounds : Bounds} {key : ℤ → ℕ} {before after : R
           next = refl;
           none_alike = none_alike_next differs;
           running = moved.running;
-          wide = wide_next;
+          wide = still_wide here.wide moved;
         })
 
     -- where they are the same, the run is stopped: what is kept is the partner, since the head moves at step

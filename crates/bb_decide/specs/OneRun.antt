@@ -85,22 +85,24 @@ pub record LeavesRegisters (table : Table) (bounds : Bounds) (s : ℕ) : Type 0 
   pub fits : FitsRegisters table s
   pub leaves : FitsRegisters table (s + 1) → ⊥
 
--- so many steps were made before the run that was refused memory, with both searches in use, the last of any
--- run being `latest`: none, if it is the single-pass run; those in registers, if there was no memory to put
--- its configuration on a tape; those up to its stop, if it is the search for cycles; and those of that search
--- too, without a find, if it is the one for records
-abbrev pub StepsBefore : (ℤ → ℕ) → Table → Bounds → ℕ → ℕ → Type 0
-StepsBefore key table bounds before latest = ((before ≡ 0) × (latest ≡ 0))
-    ⊎ (LeavesRegisters table bounds before × (latest ≡ before))
+-- so many steps were made before the run that was refused memory after `part` steps of its own, with both
+-- searches in use, the last of any run being `latest`: none, if it is the single-pass run, which has left the
+-- registers; those in registers, if there was no memory to put its configuration on a tape; those up to its
+-- stop, if it is the search for cycles; and those of that search too, without a find, if it is the one for
+-- records
+abbrev pub StepsBefore : (ℤ → ℕ) → Table → Bounds → ℕ → ℕ → ℕ → Type 0
+StepsBefore key table bounds before latest part =
+    ((before ≡ 0) × (latest ≡ 0) × (FitsRegisters table (part + 1) → ⊥))
+    ⊎ (LeavesRegisters table bounds before × (latest ≡ before) × (part ≡ 0))
     ⊎ (IsStoppedAt key table bounds before × (latest ≡ before))
     ⊎ ((stop cycles : ℕ) × IsStoppedAt key table bounds stop × HaltsNowhere table bounds
     × HasNoCycle table bounds
     × CycleSteps table bounds cycles × (before ≡ stop + cycles) × (latest ≡ max stop cycles))
 
 -- the same with these searches on: a run of one search alone is the first
-abbrev pub RunsBefore : (ℤ → ℕ) → Table → Bounds → (cyclers translated : Bool) → ℕ → ℕ → Type 0
-RunsBefore key table bounds true true before latest = StepsBefore key table bounds before latest
-RunsBefore key table bounds cyclers translated before latest = (before ≡ 0) × (latest ≡ 0)
+abbrev pub RunsBefore : (ℤ → ℕ) → Table → Bounds → (cyclers translated : Bool) → ℕ → ℕ → ℕ → Type 0
+RunsBefore key table bounds true true before latest part = StepsBefore key table bounds before latest part
+RunsBefore key table bounds cyclers translated before latest part = (before ≡ 0) × (latest ≡ 0)
 
 -- a run was refused memory: the tape has the cells of a configuration inside; the steps of the runs before it
 -- were counted, and its own up to there; the widest window that was counted is that of these runs, which may
@@ -109,8 +111,8 @@ pub record BreaksOff (key : ℤ → ℕ) (table : Table) (bounds : Bounds) (cycl
     (tape : Content) (old new : Meter) : Type 0 where
   pub before : ℕ
   pub latest : ℕ
-  pub runs : RunsBefore key table bounds cyclers translated before latest
   pub part : ℕ
+  pub runs : RunsBefore key table bounds cyclers translated before latest part
   pub inside : Inside table bounds part
   pub on_tape : tape ≡ inside.here.tape
   pub steps : new.steps ≡ old.steps + (before + part)

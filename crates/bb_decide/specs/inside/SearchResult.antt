@@ -65,10 +65,12 @@ MakesSinglePass table bounds key old new (Some (Ran outcome)) =
     HasNoTranslation table bounds × CountsRun table bounds old new × IsOutcome table bounds outcome
     × HasNoCycle table bounds × ((n : ℕ) → IsStoppedAt key table bounds n → ⊥)
 
--- the single-pass run was refused memory: for a step, with the configuration before it on the tape; or to put
--- its configuration on a tape, after steps in registers, which were counted; then the tape is blank
+-- the single-pass run was refused memory: after it left the registers, if it was ever there, with its
+-- configuration on the tape; or to put that on a tape, after steps in registers, which were counted; then the
+-- tape is blank
 abbrev pub CutsSinglePass : Table → Bounds → Content → Meter → Meter → Type 0
-CutsSinglePass table bounds tape old new = CountsPart table bounds tape old new
+CutsSinglePass table bounds tape old new =
+    ((part : CountsPart table bounds tape old new) × (FitsRegisters table (part.at + 1) → ⊥))
     ⊎ ((n : ℕ) × LeavesRegisters table bounds n × CountsTo table n old new × (tape ≡ blank))
 
 -- the promise of a search, for cycles or for agreeing records: its find, by `Finds`, or the outcome of its

@@ -1,9 +1,9 @@
 use Rattle.std.proofs.lemmas.Bool.{not-true, not-false}
 use Rattle.std.proofs.lemmas.Result.{err_from_is_err_and, on_err_weaker}
-use Rattle.std.proofs.Common.{arith}
+use Rattle.std.proofs.Common.{arith, inl, inr}
 use Rattle.bb_decide.proofs.Costs.{if_ok_both}
 use Rattle.bb_decide.proofs.OneRun.{both_on, cycle_costs, run_costs}
-use Rattle.bb_decide.proofs.Refused.{breaks_at_once}
+use Rattle.bb_decide.proofs.Refused.{breaks_alone}
 use Rattle.bb_decide.proofs.RunsMade.{cycles_add, no_search_adds, translations_add}
 use Rattle.bb_decide.proofs.one_run.search_by_plan.Goals as goal
 
@@ -39,16 +39,19 @@ returns-clause-costs g c =
 pub returns-in_err-outcome-clause-cut : goal.returns-in_err-outcome-clause-cut
 returns-in_err-outcome-clause-cut g c =
     let fault = err_from_is_err_and c.from_residual.result c.from_residual.ensures.1 in
-    rw fault.1 (breaks_at_once c.args.plan.cyclers c.args.plan.translated _ _ c.in_err-outcome.ensures.cut)
+    rw fault.1 (breaks_alone c.args.plan.cyclers c.args.plan.translated (inr (not-true _ c.if-not-plan.true)) _ _
+    c.in_err-outcome.ensures.cut)
 
 pub returns-then-not-plan-clause-cut : goal.returns-then-not-plan-clause-cut
 returns-then-not-plan-clause-cut g c =
-    on_err_weaker c.seek_cycle.result (breaks_at_once c.args.plan.cyclers c.args.plan.translated _ _)
+    on_err_weaker c.seek_cycle.result (breaks_alone c.args.plan.cyclers c.args.plan.translated
+    (inr (not-true _ c.if-not-plan.true)) _ _)
     c.seek_cycle.ensures.cut
 
 pub returns-then-not-plan-3-clause-cut : goal.returns-then-not-plan-3-clause-cut
 returns-then-not-plan-3-clause-cut g c =
-    on_err_weaker c.seek_translation.result (breaks_at_once c.args.plan.cyclers c.args.plan.translated _ _)
+    on_err_weaker c.seek_translation.result (breaks_alone c.args.plan.cyclers c.args.plan.translated
+    (inl (not-true _ c.if-not-plan-3.true)) _ _)
     c.seek_translation.ensures.cut
 
 pub returns-then-not-plan-2-clause-adds : goal.returns-then-not-plan-2-clause-adds

@@ -19,7 +19,7 @@ use Rattle.bb_sim.specs.Span.{Inside}
 use Rattle.bb_decide.specs.inside.Step.{HasMoved}
 use Rattle.bb_decide.proofs.Halting.{in_no_state, is_none, not_in_Z}
 use Rattle.bb_decide.proofs.SinglePass.{not_stopped_at_end, not_stopped_at_record}
-use Rattle.bb_decide.proofs.SinglePass.{current_known}
+use Rattle.bb_decide.proofs.SinglePass.{current_known, still_wide}
 use Rattle.bb_decide.proofs.SinglePass.{readable_here, still_inside, stopped, single_pass_on}
 use Rattle.bb_decide.proofs.single_pass.run_single_pass_inline.Given as given
 use Rattle.bb_decide.proofs.single_pass.run_single_pass_inline.Goals as goal
@@ -46,7 +46,7 @@ returns-in_default g c =
     runs_until_cut (lent_on c.advance.ensures.limit refl refl c.loop-moved.invariant.lent)
     (cut_at_step c.loop-moved.runner c.advance.new.self c.loop-moved.invariant.search.stands
     c.advance.ensures.before call.wanted call.unmade call.window call.unwritten c.count_run.ensures)
-    call.memory
+    c.loop-moved.invariant.single_pass.wide call.memory
 
 pub returns-in_default-moved : goal.returns-in_default-moved
 returns-in_default-moved g c =
@@ -263,7 +263,8 @@ returns-in_err-verdict g c =
     let fault = err_from_is_err_and c.from_residual.result c.from_residual.ensures.1 in
     rw fault.1 (runs_until_cut (lent_on_bench c.compare_on_bench.ensures.run c.compare_on_bench.ensures.path
     c.advance.ensures.limit c.compare_on_bench.ensures.right_limit c.compare_on_bench.ensures.left_limit here.lent)
-    (rw c.compare_on_bench.ensures.run (cut_after_step step.0.stands step.1 call.cut)) call.memory)
+    (rw c.compare_on_bench.ensures.run (cut_after_step step.0.stands step.1 call.cut))
+    (still_wide here.single_pass.wide step.0) call.memory)
 
 pub returns-in-Some-2 : goal.returns-in-Some-2
 returns-in-Some-2 g c =

@@ -26,7 +26,7 @@ pub returns-in_default : goal.returns-in_default
 returns-in_default g c =
     let call = c.in_default.ensures in
     seeks_until_cut (lent_on c.step_on.ensures.limit refl refl c.loop-moved.invariant.lent)
-    (record { part = call.cut; within = call.within }) call.memory
+    (record { part = call.cut; at = refl; within = call.within }) call.memory
 
 pub returns-in_default-moved : goal.returns-in_default-moved
 returns-in_default-moved g c =
