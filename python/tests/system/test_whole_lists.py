@@ -168,16 +168,22 @@ def test_sample(
     assert estimate(found, WRITTEN["sizes"])["All lines"] == "%.1f × 10^3" % (3 * len(part) / 1_000)
 
 
+def finished_shards(folder: pathlib.Path) -> dict[str, int]:
+    """Return the names of the shards that are finished, each with the time of its file in nanoseconds."""
+    files = (path for path in folder.glob("1*") if path.suffix != ".part")
+    return {path.name: path.stat().st_mtime_ns for path in files}
+
+
 def test_interruption(tmp_path: pathlib.Path) -> None:
     """It is ended by a signal after some shards, with all that it runs; the same command resumes it."""
     words = words_of("3x2")
     process, shards = start(tmp_path, *words), tmp_path / "3x2" / "walk" / "shards"
     until = time.monotonic() + 300
-    while len(list(shards.glob("1*"))) < 5 and process.poll() is None and time.monotonic() < until:
+    while len(finished_shards(shards)) < 5 and process.poll() is None and time.monotonic() < until:
         time.sleep(0.01)
     os.kill(process.pid, signal.SIGINT)
     require_end(process, 130, "resumes")
-    finished = {path.name: path.stat().st_mtime_ns for path in shards.glob("1*")}
+    finished = finished_shards(shards)
     for _ in range(50):
         try:
             os.killpg(process.pid, 0)
