@@ -102,7 +102,7 @@ $(plain)/target/release/bb: $(plain_sources) crates.txt
 .PHONY: plain-library
 plain-library: $(plain)/target/release/libbb.so ## link the library of that workspace: libbb.so and libbb.a in out/plain/target/release
 
-# The seven calls stay global; Rust's std becomes local, so that a Rust program has its own beside it.
+# The eight calls and bb_is_plain stay global; Rust's std becomes local, so that a Rust program has its own beside it.
 $(plain)/target/release/libbb.so: $(plain)/target/release/bb
 	@set -e; parts=$$(mktemp -d); trap 'rm -rf "$$parts"' EXIT; \
 	(cd $(plain) && MAKEFLAGS= cargo build --release --quiet -p bb_c); cd $(@D); \

@@ -4,12 +4,13 @@
     benchmarks/measure.py [PROGRAM] [--runs N] [--seed N] [--part PART]...
 
 It builds the two by `rustc -O` (1.65 or later): `peer`, written as one would by hand, and `limit`, written for
-speed alone. It makes its lists from a seed, requires that all write the same bytes and end with the same
-status, runs them in turn, and prints the least times and their ratios, of a search the spread of single runs
-too. The peer has two forms: in one run, and in turn. The lists of deciding are run 2 N - 1 times. The
-instructions are those that `valgrind --tool=callgrind` counts, which other work on the machine doesn't change.
-The part `plain` compares the program that `make plain` builds on the same lists, in processor time. All parts
-take some twenty minutes, with `--runs 1` about five. The status is 1 where a figure doesn't hold its bar.
+speed alone, though faster ones are possible. It makes its lists from a seed, requires that all write the same
+bytes and end with the same status, runs them in turn, and prints the least times and their ratios, of a search
+the spread of single runs too. The peer has two forms: in one run, and in turn. The lists of deciding are run
+2 N - 1 times. The instructions are those that `valgrind --tool=callgrind` counts, which other work on the machine
+doesn't change. The part `plain` compares the program that `make plain` builds on the same lists, in processor
+time. All parts take some twenty minutes, with `--runs 1` about five. The status is 1 where a figure doesn't hold
+its bar.
 """
 
 import functools
@@ -187,13 +188,13 @@ class Bench:
 def measure_peer(bench: Bench, seed: int) -> None:
     """Compare with the plain Rust programs."""
     program, peer, limit, table = bench.program, bench.peer, bench.limit, bench.table
-    table.head("Beside plain Rust, by the clock", ["Program", "Peer", "Ratio", "Limit", "Ratio"])
+    table.head("Beside plain Rust, by the clock", ["Program", "Peer", "Ratio", "benchmarks/limit", "Ratio"])
     for case in cases_in_turn(seed):
         commands = [[each, "decide", *case.options] for each in (program, peer, limit)]
         ours, *theirs = (min(row).clock for row in bench.costs(case.lines, commands, True))
         table.times(case.name, ours, theirs)
     decided = cases_in_one_run(program, random.Random(seed))
-    columns = ["Program", "Peer in one run", "Ratio", "Peer in turn", "Ratio", "Limit", "Ratio"]
+    columns = ["Program", "Peer in one run", "Ratio", "Peer in turn", "Ratio", "benchmarks/limit", "Ratio"]
     table.head("Deciding beside plain Rust, in processor time", columns)
     for case in decided:
         words = ["decide", *case.options]
@@ -207,7 +208,11 @@ def measure_peer(bench: Bench, seed: int) -> None:
             "unaligned and aligned branches of the single-pass run", "%d, %d" % unaligned_branches(program)
         )
     if has("instructions", "valgrind"):
-        forms = {"the program": [program], "the peer in one run": [peer, "--one-run"], "the limit": [limit]}
+        forms = {
+            "the program": [program],
+            "the peer in one run": [peer, "--one-run"],
+            "benchmarks/limit": [limit],
+        }
         counted = "".join(decided[0].lines.splitlines(keepends=True)[::COUNTED])
         for name, (built, *form) in forms.items():
             all_of_list = count_instructions([built, "decide", *decided[0].options, *form], counted)

@@ -18,7 +18,7 @@ Machine = list[list[str]]
 
 HEAD = """(** %(title)s *)
 From Coq Require Import NArith List String.
-From Budlarem Require Import Machines Answers Covers Cover Walks Theorems Covered.
+From Budlarem Require Import Machines Answers Texts Covers Walks Cover Theorems Covered.
 %(imports)sImport ListNotations.
 
 """
@@ -67,14 +67,14 @@ Qed.
 End Assumed.
 Print Assumptions covered.
 """
-SHARD = """Theorem covered : is_walk [first] lines /\\ have_totals lines %(counts)s /\\
+SHARD = """Theorem covered : is_walk [first] lines /\\ have_counts lines %(counts)s /\\
   are_undecided lines undecided.
 Proof. exact (shard_walks first lines undecided place leads eq_refl). Qed.
 Print Assumptions covered.
 """
 SHARD_SKELETON = """(** For any lines of the shards that are walks below their machines with these counts. *)
 Theorem covered : forall parts, Forall2 (stands_for true) lines parts ->
-  is_walk [first] (List.concat parts) /\\ have_totals (List.concat parts) %(counts)s.
+  is_walk [first] (List.concat parts) /\\ have_counts (List.concat parts) %(counts)s.
 Proof. exact (shard_skeleton_walks first lines undecided place leads eq_refl). Qed.
 Print Assumptions covered.
 """

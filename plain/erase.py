@@ -68,6 +68,14 @@ INNER = re.compile(r"(?:[ \t]*//![^\n]*\n|[ \t]*#!\[[^\n]*\n|[ \t]*\n)*")
 # Crates have no name `std` of Rust's own; the shim takes its place.
 ROOT = "#[macro_use]\nextern crate rattle_std as std;\n"
 PRELUDE = "#[allow(unused_imports)]\nuse std::prelude::*;\n"
+# A call that only this build of the library has, so that programs over it can tell it from the proved one.
+PLAIN = """
+/// 1: this library isn't proved.
+#[unsafe(no_mangle)]
+pub extern "C" fn bb_is_plain() -> u32 {
+    1
+}
+"""
 # Some calls, imports and parameters are there for clauses alone.
 ALLOWED = "#![allow(dead_code, unused_imports, unused_variables)]\n"
 NO_MAIN = "#![cfg_attr(all(unix, not(test)), no_main)]\n"
@@ -354,6 +362,8 @@ def write_crate(crate: Crate, known: List[str], out: pathlib.Path) -> None:
     root = '[[bin]]\nname = "%s"\npath = "src/main.rs"\n' % crate.name if is_program else "[lib]\n"
     if crate.is_static:
         root += 'crate-type = ["staticlib", "cdylib"]\n'
+        library = out / crate.name / "src" / "lib.rs"
+        library.write_text(library.read_text(encoding="utf-8") + PLAIN, encoding="utf-8")
     needs = "".join(dependency(name, known) for name in crate.needs if name not in ERASED)
     (out / crate.name / "Cargo.toml").write_text(
         '[package]\nname = "%s"\nversion = "%s"\nedition = "2024"\nrust-version = "1.87"\n\n%s\n[lints]\nworkspace = true\n\n[dependencies]\n'

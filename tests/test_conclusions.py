@@ -8,11 +8,11 @@ from __future__ import annotations
 
 import itertools
 import random
-from typing import Iterator, NamedTuple, Sequence
+from typing import Iterator, Sequence
 
 import pytest
-from support.machines import LETTERS, SWAPPED, all_machines, entries_of, join_groups, machine, table_of
-from support.machines import text_of
+from support.machines import Change, all_machines, entries_of, join_groups, machine, random_change
+from support.machines import table_of
 from support.program import PLANS, decide_machines, options, replies
 from support.simulation import compare_lines, simulate
 
@@ -39,35 +39,6 @@ def decide(bb: str, machines: Words, plan: Words = (), limits: Words = LIMITS) -
 def check(bb: str, machines: Words, claims: Words, limits: Words = LIMITS) -> list[str]:
     """Return the checker's answers to claims about these machines."""
     return replies([bb, "check", *limits], ["%s %s" % pair for pair in zip(machines, claims)])
-
-
-class Change(NamedTuple):
-    """Whether left and right are swapped, and the new name of each state and each symbol."""
-
-    mirrored: bool
-    states: Sequence[int]
-    symbols: Sequence[int]
-
-    def entry(self, entry: str) -> str:
-        if entry == "---":
-            return entry
-        move = entry[1].translate(SWAPPED) if self.mirrored else entry[1]
-        state = entry[2] if entry[2] == "Z" else LETTERS[self.states[LETTERS.index(entry[2])]]
-        return "%d%s%s" % (self.symbols[int(entry[0])], move, state)
-
-    def machine(self, text: str) -> str:
-        """Change a machine: each entry moves to the new names of its state and symbol."""
-        old = table_of(text)
-        new = [["---"] * len(group) for group in old]
-        for state, symbol in itertools.product(range(len(old)), range(len(old[0]))):
-            new[self.states[state]][self.symbols[symbol]] = self.entry(old[state][symbol])
-        return text_of(new)
-
-    def verdict(self, verdict: str) -> str:
-        """Change a verdict: the side of a translated cycler may be the other one."""
-        kind, _, rest = verdict.partition(" ")
-        turned = kind == "translated" and self.mirrored
-        return "%s %s%s" % (kind, rest[0].translate(SWAPPED), rest[1:]) if turned else verdict
 
 
 MIRROR = Change(True, (0, 1), (0, 1))
@@ -105,8 +76,7 @@ def test_random_machines_changed_at_random(bb: str, rng: random.Random, count: i
     for case in range(count // BATCH):
         plan, limits = PLANS[case % len(PLANS)], RANDOM_LIMITS[case // len(PLANS) % len(RANDOM_LIMITS)]
         sizes = [(rng.randint(1, 6), rng.randint(2, 5)) for _ in range(BATCH)]
-        names = [[(0, *rng.sample(range(1, n), n - 1)) for n in size] for size in sizes]
-        changes = [Change(rng.random() < 0.5, *pair) for pair in names]
+        changes = [random_change(rng, *size) for size in sizes]
         compare_changed(bb, [machine(rng, *size) for size in sizes], changes, plan, limits)
 
 

@@ -10,6 +10,10 @@ from support.program import LIST_LIMITS, CommandResult, Decide, as_lines, least_
 # States and symbols of whole lists.
 SIZES = [(1, 2), (2, 2), (3, 2), (1, 3), (2, 3), (1, 4), (1, 10)]
 LARGE = [pytest.param(*size, marks=pytest.mark.slow) for size in [(2, 4), (4, 2)]]
+# Counts of a shard that no walk has, the most lines of a list, and a digest.
+MOST_LINES = 2**64 - 1
+BROKEN_COUNTS = ["0 5 9", "1 %d 7" % MOST_LINES, "0 0 0", "1 2 0", "5 2 3", "%d 0 0" % (MOST_LINES + 1)]
+DIGEST = "0123456789abcdef" * 4
 # How many times as long as `bb check` `cover` may take on a quiet machine; how far above that is a failure.
 BAR, FAR = 1.5, 3
 Changed = tuple[list[str], int]
@@ -96,6 +100,42 @@ def test_what_is_wrong_with_a_list_is_named(cover: str, decide_all: Decide) -> N
     ]
     for given, sentence in rows:
         assert run_command([cover, *LIST_LIMITS], as_lines(given)) == (1, sentence.encode() + b"\n", b"")
+
+
+@pytest.mark.parametrize("counts", BROKEN_COUNTS)
+def test_shard_of_impossible_counts_is_no_shard(cover: str, counts: str) -> None:
+    for root in ("------_------", "---------"):
+        line = "%s below %s %s" % (root, counts, DIGEST)
+        expected = CommandResult(1, b"line 1: it is no verdict line and no shard\n", b"")
+        assert run_command([cover, "--skeleton"], as_lines([line])) == expected
+
+
+def test_shard_of_possible_counts_is_taken(cover: str) -> None:
+    line = "------_------ below %d 5 5 %s" % (MOST_LINES, DIGEST)
+    text = (
+        "covers 2 states 2 symbols, given 1 shard: %d lines, 5 undecided, 5 of them with more than one ---\n"
+    )
+    expected = CommandResult(0, (text % MOST_LINES).encode(), b"")
+    assert run_command([cover, "--skeleton"], as_lines([line])) == expected
+
+
+def test_total_past_64_bits_is_refused_at_its_line(cover: str, decide_all: Decide) -> None:
+    """At the shard's own line, or at a verdict line after it."""
+    lines = decide_all(2, 2)
+    start, end = (
+        next(at for at, line in enumerate(lines) if line.startswith(machine + " "))
+        for machine in ("0RB---_------", "1RA---_------")
+    )
+    before, after = lines[:start], lines[end:]
+    full = "line %%d: more than %d lines in all\n" % MOST_LINES
+    for count, status, text in [
+        (MOST_LINES - len(before) - len(after), 0, ", given 1 shard: %d lines, " % MOST_LINES),
+        (MOST_LINES - len(before), 1, full % (start + 2)),
+        (MOST_LINES, 1, full % (start + 1)),
+    ]:
+        shard = "0RB---_------ below %d %d 0 %s" % (count, count, DIGEST)
+        done = run_command([cover, "--skeleton"], as_lines([*before, shard, *after]))
+        assert done.status == status and text in done.output.decode()
 
 
 @pytest.mark.timing

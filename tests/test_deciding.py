@@ -1,6 +1,7 @@
 """Random machines: the checker confirms each verdict, larger limits lose none, and a plain program agrees."""
 
 import random
+import re
 import subprocess
 
 import pytest
@@ -31,6 +32,15 @@ def test_verdicts_are_confirmed_and_larger_limits_keep(bb: str, rng: random.Rand
                 assert [pair for pair in zip(before, lines) if not is_kept(*pair)] == [], (earlier, limits)
         runs.append(lines)
     assert any(kind_of(line) != "undecided" for lines in runs for line in lines)
+
+
+def test_examples_of_the_limits_are_the_programs(bb: str) -> None:
+    """Each command on the page prints the line below it."""
+    page = (TOP / "docs" / "limits.md").read_text(encoding="utf-8")
+    examples = re.findall(r"^    \$ echo (\S+) \| \./bb (.*)\n    (.+)$", page, flags=re.M)
+    assert len(examples) == page.count("    $ ")
+    for text, words, line in examples:
+        assert run_command([bb, *words.split(" ")], as_lines([text])).output == as_lines([line]), text
 
 
 @pytest.fixture(scope="session")

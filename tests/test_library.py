@@ -78,7 +78,8 @@ def limits(library: pathlib.Path, monkeypatch: pytest.MonkeyPatch) -> budlarem.L
 @pytest.mark.needs("nm")
 def test_library_exports_its_calls_alone(library: pathlib.Path) -> None:
     symbols = run_command(["nm", "-D", "--defined-only", str(library)]).output.decode().split()[2::3]
-    assert sorted(symbols) == CALLS
+    is_plain = library.parent.name == "release"
+    assert sorted(symbols) == sorted([*CALLS, *(["bb_is_plain"] if is_plain else [])])
 
 
 @pytest.mark.needs("objdump")

@@ -18,8 +18,8 @@ RECURRENCES = {
     "shift": "Cells of a shift",
     "quasihalts": "Steps before a quasihalt",
 }
-# The greatest known numbers of steps after which a machine of a size quasihalts.
-QUASIHALTS = {"2x2": (6,), "3x2": (55,), "2x3": (59,), "4x2": (66_349, 32_779_478)}
+# The greatest known number of steps after which a machine of a size quasihalts.
+QUASIHALTS = {"2x2": 6, "3x2": 55, "2x3": 59, "4x2": 32_779_478}
 NO_RECURRENCES = "This run has no recurrences: it was made before `tools/whole_lists` counted them."
 TREES = {"backward levels": "Levels of a tree", "backward nodes": "Nodes of a tree"}
 Fields = dict[str, Any]
@@ -54,10 +54,10 @@ def run_of(found: Fields) -> Iterator[str]:
 
 
 def counts_of(found: Fields) -> Rows:
-    yield "Size", "Lines", *("`%s`" % kind for kind in KINDS), "Holdouts", "Share"
+    yield "Size", "Lines", *("`%s`" % kind for kind in KINDS), "Holdouts", "Of these in `halt`", "Share"
     for name, one in found["sizes"].items():
         counts, share = [one["counts"][kind] for kind in KINDS], 100 * one["holdouts"] / one["lines"]
-        yield name, one["lines"], *counts, one["holdouts"], "%.2f %%" % share
+        yield name, one["lines"], *counts, one["holdouts"], one["late"], "%.2f %%" % share
 
 
 def passes_of(found: Fields) -> Rows:
@@ -108,12 +108,12 @@ def quasihalts_of(found: Fields) -> Rows:
     lists = recurrences_in(found)
     if lists:
         yield "Size", "Known", "Here", "Line"
-    for name, known in QUASIHALTS.items():
+    for name, most in QUASIHALTS.items():
         own = [lists[each] for each in (name, name + ", completed") if each in lists]
         lines = [one["greatest"]["quasihalts"] for one in own]
         for one in own:
             lines += [(int(line.split()[-1]), line) for line in one.get("known", {}).get("lines", ())]
-        for most in known if own else ():
+        if own:
             here = next((line for number, line in lines if number == most), None)
             yield name, most, "the same" if here else "not found", "`%s`" % here if here else ""
 

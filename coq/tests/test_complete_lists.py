@@ -3,7 +3,7 @@
 import pathlib
 import random
 import re
-from typing import Sequence
+from typing import Iterator, Sequence
 
 import pytest
 from support.claims import forge
@@ -18,13 +18,35 @@ WRONG = [
         ("asks for no order", "      if is_next t p M then", "      if true then"),
         ("leaves out an entry", "(S (used_states M)))) in\n  let root", "(used_states M))) in\n  let root"),
         ("leaves out moves to the left", "[] else to L w)\n    (seq", "[] else [])\n    (seq"),
-        ("counts an undecided line as decided", "(plus (undecided n) 1)", "(undecided n)"),
+        ("counts an undecided line as decided", "all (undecided n + 1) (if", "all (undecided n) (if"),
         ("takes a halt at any step", "if is_stop (zstep M z) then if N.eqb", "if true then if N.eqb"),
         ("takes another size", "| None => is_blank M end", "| None => true end"),
         ("ends before the walk", "Some _, [] => true", "Some _, _ => true"),
         ("goes on below the last undefined entry", "if has_another M q (under z) then", "if true then"),
     )
 ]
+
+
+WRONG_ON_SHARDS = [
+    Edit(name, "Cover.v", *change)
+    for name, *change in (
+        ("takes a shard of no line", "if N.leb 1 n then if", "if true then if"),
+        ("takes more undecided lines than lines", "if N.leb u n then", "if true then"),
+        ("takes more wide lines than undecided ones", "then N.leb g u else", "then true else"),
+        ("takes any total", "if has_room (counted p) c then", "if true then"),
+    )
+]
+MOST_LINES = 2**64 - 1
+DIGEST = "0123456789abcdef" * 4
+# Counts of a shard that no walk has.
+BROKEN_COUNTS = ("0 5 9", "1 %d 7" % MOST_LINES, "0 0 0", "1 2 0", "5 2 3", "%d 0 0" % 2**64)
+# The machines of two states and two symbols below the one without entries.
+FIRST_FOUR = ("0RA---_------", "0RB---_------", "1RA---_------", "1RB---_------")
+
+
+def recount(skeleton: Sequence[str], counts: str) -> list[str]:
+    """A skeleton with these counts in the line of its shard."""
+    return [re.sub(r"below \d+ \d+ \d+", "below " + counts, line) for line in skeleton]
 
 
 def compare(cover: str, coq_cover: str, words: Sequence[str], given: bytes) -> CommandResult:
@@ -50,6 +72,15 @@ def break_list(lines: Sequence[str], source: random.Random) -> list[str]:
     changed = [*lines[:at], break_line(lines[at], source), *lines[at + 1 :]]
     left_out, doubled = [*lines[:at], *lines[at + 1 :]], [*lines[: at + 1], *lines[at:]]
     return source.choice([left_out, doubled, swapped, [*lines[:at]], [*lines, lines[at]], *[changed] * 3])
+
+
+def earlier_halts(lines: Sequence[str]) -> Iterator[list[str]]:
+    """Yield lists in which one machine halts a step too early, with the same score."""
+    for at, line in enumerate(lines):
+        machine, kind, *numbers = line.split(" ")
+        if kind == "halt" and numbers[0] != "0":
+            claim = "%s halt %d %s" % (machine, int(numbers[0]) - 1, numbers[1])
+            yield [*lines[:at], claim, *lines[at + 1 :]]
 
 
 @pytest.mark.parametrize("states, symbols", SIZES)
@@ -126,8 +157,34 @@ def test_shards_and_skeletons_are_answered_alike(
         place = rng.randrange(len(line))
         changed = line[:place] + rng.choice("0189abgL -") + line[place + 1 :]
         compare(cover, coq_cover, ["--skeleton"], as_lines([changed if x == line else x for x in skeleton]))
-    most = re.sub(r"below \d+ \d+ \d+", "below %d %d %d" % ((2**64 - 1,) * 3), "\n".join(skeleton))
-    assert compare(cover, coq_cover, ["--skeleton"], most.encode()).status == 0
+    for counts in BROKEN_COUNTS:
+        assert compare(cover, coq_cover, ["--skeleton"], as_lines(recount(skeleton, counts))).status == 1
+    for extra in (0, 1):
+        most = recount(skeleton, "%d 0 0" % (MOST_LINES - (len(skeleton) - 1) + extra))
+        assert compare(cover, coq_cover, ["--skeleton"], as_lines(most)).status == extra
+
+
+@pytest.mark.parametrize("counts", BROKEN_COUNTS)
+def test_shard_of_impossible_counts_is_refused(coq_cover: str, counts: str) -> None:
+    for root in ("------_------", "---------"):
+        done = run_command([coq_cover, "--skeleton"], ("%s below %s %s\n" % (root, counts, DIGEST)).encode())
+        assert done == CommandResult(1, b"line 1: it is no verdict line and no shard\n", b"")
+
+
+def test_total_past_64_bits_is_refused(coq_cover: str, decide_all: Decide) -> None:
+    """Wherever it comes: at a verdict line behind the shard, or at the shard's own line."""
+    lines = decide_all(2, 2)
+    start = next(at for at, line in enumerate(lines) if line.startswith("0RB---_------ "))
+    end = next(at for at, line in enumerate(lines) if line.startswith("1RA---_------ "))
+    before, behind = lines[:start], lines[end:]
+    for count, status, text in [
+        (MOST_LINES - len(before) - len(behind), 0, ", given 1 shard: %d lines, " % MOST_LINES),
+        (MOST_LINES - len(before), 1, "line %d: more than %d lines in all\n" % (start + 2, MOST_LINES)),
+        (MOST_LINES, 1, "line %d: more than %d lines in all\n" % (start + 1, MOST_LINES)),
+    ]:
+        shard = "0RB---_------ below %d %d 0 %s" % (count, count, DIGEST)
+        done = run_command([coq_cover, "--skeleton"], as_lines([*before, shard, *behind]))
+        assert done.status == status and text in done.output.decode()
 
 
 def theorem(folder: pathlib.Path, lines: Sequence[str], words: Sequence[str] = ()) -> CommandResult:
@@ -203,6 +260,41 @@ def test_theorems_of_a_shard_and_a_skeleton(cover: str, decide_all: Decide, tmp_
     assert done.status == 1 and b"the list ends" in done.output
 
 
+@pytest.mark.usefixtures("coq_cover")
+@pytest.mark.parametrize("counts", BROKEN_COUNTS)
+def test_broken_skeleton_becomes_no_theorem(tmp_path: pathlib.Path, counts: str) -> None:
+    """Neither by `coq/theorem`, nor where its file of another skeleton is changed."""
+    done = theorem(tmp_path, ["------_------ below %s %s" % (counts, DIGEST)], ["--skeleton"])
+    assert done.status == 1 and b"no verdict line and no shard" in done.output
+    assert not (tmp_path / "Made.v").exists()
+    assert theorem(tmp_path, ["------_------ below 61 5 3 " + DIGEST], ["--skeleton"]).status == 0
+    text = (tmp_path / "Made.v").read_text()
+    for old, new in [
+        ("below 61 5 3 ", "below %s " % counts),
+        ("61%N 5%N 3%N)", "%N) ".join(counts.split(" ")).replace(") ", " ") + "%N)"),
+    ]:
+        assert text.count(old) == 1, old
+        text = text.replace(old, new)
+    (tmp_path / "Other.v").write_text(text)
+    assert check_again(tmp_path, "Other.v").status != 0
+
+
+@pytest.mark.slow
+@pytest.mark.needs("coqc", "ocamlfind")
+@pytest.mark.parametrize("edit", WRONG_ON_SHARDS, ids=[edit.name for edit in WRONG_ON_SHARDS])
+@pytest.mark.usefixtures("coq_cover")
+def test_wrong_checker_of_shards_is_noticed(tmp_path: pathlib.Path, edit: Edit) -> None:
+    """A proof fails; built without its proofs, it takes a skeleton that is to be refused."""
+    made = build_wrong(tmp_path, edit, "cover")
+    skeletons = ["------_------ below %s %s" % (counts, DIGEST) for counts in BROKEN_COUNTS]
+    lines = ["------_------ halt 0 0", *("%s below %d 0 0 %s" % (M, MOST_LINES, DIGEST) for M in FIRST_FOUR)]
+    taken = [
+        run_command([made, "--skeleton"], as_lines(given)).status == 0
+        for given in (*([line] for line in skeletons), lines)
+    ]
+    assert any(taken)
+
+
 @pytest.mark.slow
 @pytest.mark.needs("coqc", "ocamlfind")
 @pytest.mark.parametrize("edit", WRONG, ids=[edit.name for edit in WRONG])
@@ -213,9 +305,10 @@ def test_wrong_checker_of_lists_is_noticed(
     """A proof fails; built without its proofs, it answers some list otherwise."""
     made = build_wrong(tmp_path, edit, "cover")
     rng = random.Random(1)
+    lists = [decide_all(*size) for size in SIZES]
+    broken = [break_list(lists[k % 3], rng) for k in range(297)]
     wrong = 0
-    for k in range(300):
-        given = decide_all(*SIZES[k % 3]) if k < 3 else break_list(decide_all(*SIZES[k % 3]), rng)
+    for given in (*lists, *broken, *earlier_halts(lists[0])):
         data = "".join(line + "\n" for line in given).encode("latin-1")
         wrong += run_command([cover, *LIST_LIMITS], data) != run_command([made, *LIST_LIMITS], data)
     assert wrong > 0

@@ -33,6 +33,12 @@ WRONG = [
         ("takes the first use of the period for the last", "if N.ltb n s then", "if N.leb n s then"),
         ("counts no step to the quasihalt", "None => Some (n + 1)%N", "None => Some n"),
         ("looks at no entry", "then Nat.eqb (under z) r else false", "then true else false"),
+        ("answers over to what doesn't repeat", "| Some false => Bad", "| Some false => Over"),
+        (
+            "answers over to a wrong shift",
+            "(has_shift M s p (shift x)) then Bad",
+            "(has_shift M s p (shift x)) then Over",
+        ),
         ("prints nothing again", "if String.eqb s (recurrence_line M x) then", "if true then"),
     )
 ]

@@ -5,13 +5,13 @@ import random
 import re
 
 import pytest
-from support import ListMachines
+from support import TOP, ListMachines
 from support.program import run_command
 from support.second_checker import COQ, PROGRAMS, Claims, Edit, answer, build_wrong, copy_folder
 from support.second_checker import quick_claims, replace_once
 
 CLOSED = "Closed under the global context"
-UNPROVED = r"\b(Axioms?|Admitted|admit|Parameters?|Conjecture|Unset Guard Checking|bypass_check)\b"
+STATED = ("Statements", "Theorems", "Covered")
 # An environment in which nothing but the system's programs is found.
 PLAIN = {"PATH": "/usr/bin:/bin"}
 
@@ -22,6 +22,12 @@ WRONG = [
     Edit("forgets the start", "Check.v", "else if matches_start b then None", "else if false then None"),
     Edit("takes a record that is none", "Check.v", "if is_nil (ahead z) then if", "if true then if"),
     Edit("counts a node twice", "Check.v", "(N.pred k) (match h'", "(N.pred (N.pred k)) (match h'"),
+    Edit(
+        "answers over to a false claim",
+        "Lines.v",
+        "check M v then Ok else Bad",
+        "check M v then Ok else Over",
+    ),
     Edit("00 is a number", "Lines.v", "if String.eqb (decimal n) s then", "if true then"),
     Edit(
         "takes the score before the halting step",
@@ -34,32 +40,126 @@ WRONG = [
 ]
 
 
+def theorems_in(name: str) -> list[str]:
+    """The names of the theorems of a file, in its order."""
+    return re.findall(r"^Theorem (\w+)", (COQ / (name + ".v")).read_text(encoding="utf-8"), flags=re.M)
+
+
 def test_every_theorem_assumes_nothing(checker: str) -> None:
-    names = re.findall(r"^Theorem (\w+)", (COQ / "Statements.v").read_text(encoding="utf-8"), flags=re.M)
+    names = [name for file in STATED for name in theorems_in(file)]
     status, output, _ = run_command(["make", "-s", "--no-print-directory", "-C", str(COQ)])
     assert status == 0 and names
     programs = ["%s: %s" % (name, pathlib.Path(checker).with_name(name)) for name in PROGRAMS]
     assert output.decode().splitlines() == [CLOSED] * len(names) + programs
 
 
-@pytest.mark.parametrize("path", sorted(COQ.glob("**/*.v")), ids=lambda path: str(path.relative_to(COQ)))
-def test_source_leaves_nothing_unproved(path: pathlib.Path) -> None:
-    assert not re.search(UNPROVED, path.read_text(encoding="utf-8"))
+def test_document_names_the_theorems() -> None:
+    """Each theorem of `Statements.v`, and nothing else, is in the table of docs/coq.md."""
+    text = (TOP / "docs" / "coq.md").read_text(encoding="utf-8")
+    table = text.partition("\n## Theorems\n")[2].partition("\n## ")[0]
+    rows = [row.split("|")[1] for row in table.splitlines() if row.startswith("| `")]
+    assert sorted(re.findall(r"`(\w+)`", "".join(rows))) == sorted(theorems_in("Statements"))
+
+
+def require_failure(folder: pathlib.Path, reason: str, *goals: str) -> None:
+    """Require the build of a changed copy to fail, also a second time, and to leave no program."""
+    assert all((folder / "out" / name).exists() for name in PROGRAMS)
+    for _ in range(2):
+        done = run_command(["make", "-C", str(folder), *goals])
+        assert done.status != 0 and reason in done.error.decode()
+        assert not any((folder / "out" / name).exists() for name in PROGRAMS)
+    theorem = run_command([str(folder / "theorem"), "------ halt 0 0"])
+    assert theorem.status == 2 and b"aren't built" in theorem.error
+
+
+# A file, a text of it, and its change to something that is assumed or left unproved.
+WORDS = {
+    "an axiom": (
+        "Proofs/Settling.v",
+        "Import ListNotations.",
+        "Import ListNotations.\nAxiom planted : False.",
+    ),
+    "parameters": ("Check.v", "Import ListNotations.", "Import ListNotations.\nParameters planted : False."),
+    "an admitted theorem": ("Theorems.v", "  - now apply IH.\nQed.", "Admitted."),
+    "another": ("Covered.v", "Proof. apply flat_map_app. Qed.", "Proof. Admitted."),
+    "a goal given up": ("Statements.v", "Proof. exact (Claims.check_holds M v). Qed.", "Proof. admit. Qed."),
+    "a check left out": ("Cover.v", "Import ListNotations.", "Import ListNotations.\nUnset Guard Checking."),
+    "a context": ("Rows.v", "Import ListNotations.", "Import ListNotations.\nContext (planted : False)."),
+}
 
 
 @pytest.mark.usefixtures("checker")
-def test_assumed_theorem_fails_the_build(tmp_path: pathlib.Path) -> None:
-    """Also again, where all else is up to date."""
+@pytest.mark.parametrize("name", WORDS)
+def test_word_that_leaves_something_unproved_fails_the_build(tmp_path: pathlib.Path, name: str) -> None:
+    file, old, new = WORDS[name]
     folder = copy_folder(tmp_path, built=True)
-    source = folder / "Statements.v"
-    text = source.read_text(encoding="utf-8")
-    (proof,) = re.findall(r"Theorem reply_ok .*?\n(Proof\..*?Qed\.)", text, re.S)
-    replace_once(source, proof, "Admitted.")
-    (folder / "out" / "checker").unlink()
-    for _ in range(2):
-        done = run_command(["make", "-C", str(folder)])
-        assert done.status != 0 and b"assumes" in done.error
-        assert "Axioms:\nreply_ok" in (folder / "out" / "Statements.printed").read_text(encoding="utf-8")
+    replace_once(folder / file, old, new)
+    require_failure(folder, "assume something, or leave a proof unchecked")
+
+
+@pytest.mark.usefixtures("checker")
+def test_variable_of_no_section_fails_the_build(tmp_path: pathlib.Path) -> None:
+    folder = copy_folder(tmp_path, built=True)
+    replace_once(
+        folder / "Theorems.v", "Import ListNotations.", "Import ListNotations.\nVariable planted : False."
+    )
+    require_failure(folder, "local-declaration")
+
+
+def assume_in(path: pathlib.Path, proof: str) -> None:
+    """Have the proof that begins so use an axiom of Coq's library."""
+    replace_once(path, "Import ListNotations.", "From Coq Require Classical_Prop.\nImport ListNotations.")
+    replace_once(path, proof, "Proof.\n  pose proof (Classical_Prop.classic True) as Assumed.\n" + proof[6:])
+
+
+@pytest.mark.usefixtures("checker")
+@pytest.mark.parametrize(
+    "file, theorem, proof",
+    [
+        ("Theorems.v", "Theorems", "Proof.\n  induction lines as [|t lines IH]; simpl; [tauto|]."),
+        ("Covered.v", "Covered", "Proof. intros [A B] [C D]."),
+        pytest.param(
+            "Proofs/Settling.v",
+            "Statements",
+            "Proof.\n  intros W C U. destruct (covers_leave",
+            marks=pytest.mark.slow,
+        ),
+    ],
+)
+def test_assumed_axiom_fails_the_build(tmp_path: pathlib.Path, file: str, theorem: str, proof: str) -> None:
+    folder = copy_folder(tmp_path, built=True)
+    assume_in(folder / file, proof)
+    require_failure(folder, "a theorem of %s.v assumes something" % theorem)
+
+
+@pytest.mark.usefixtures("checker")
+@pytest.mark.parametrize(
+    "file, theorem, instead",
+    [("Covered", "covered_by", ""), ("Theorems", "all_hold", ""), ("Covered", "leads_on", "steps_app")],
+)
+def test_theorem_without_its_assumptions_fails_the_build(
+    tmp_path: pathlib.Path, file: str, theorem: str, instead: str
+) -> None:
+    """Where the line is removed, or one of another fact is in its place."""
+    folder = copy_folder(tmp_path, built=True)
+    line = "Print Assumptions %s.\n"
+    replace_once(folder / (file + ".v"), line % theorem, line % instead if instead else "")
+    require_failure(folder, "Print Assumptions isn't there for each theorem of %s.v" % file)
+
+
+@pytest.mark.slow
+@pytest.mark.usefixtures("checker")
+def test_axiom_that_no_theorem_uses_fails_the_check(tmp_path: pathlib.Path) -> None:
+    """The build can't see a context of a type and more; `coqchk` does."""
+    folder = copy_folder(tmp_path, built=True)
+    replace_once(
+        folder / "Theorems.v", "Import ListNotations.", "Import ListNotations.\nContext {A : Type} (a : A)."
+    )
+    assert run_command(["make", "-C", str(folder)]).status == 0
+    done = run_command(["make", "-C", str(folder), "check"])
+    assert done.status != 0 and b"coqchk finds an axiom" in done.error
+    assert b"Axioms:\n" in done.output and b"Budlarem.Theorems.a" in done.output
+    assert not any((folder / "out" / name).exists() for name in PROGRAMS)
 
 
 @pytest.mark.slow
@@ -69,7 +169,7 @@ def test_copy_is_built_and_checked_elsewhere(tmp_path: pathlib.Path) -> None:
     command = ["make", "-C", str(copy_folder(tmp_path)), "check"]
     status, output, error = run_command(command, cwd="/", env=PLAIN)
     assert status == 0, error.decode()
-    assert b"* Axioms: <none>" in output + error
+    assert b"* Axioms: <none>" in output
 
 
 @pytest.fixture(scope="module")

@@ -2,9 +2,11 @@
 
 import pathlib
 import random
+import re
 import subprocess
 
 import pytest
+from support import TOP
 from support.machines import CHAMPION, mixed_machines
 from support.program import kind_of
 from support.second_checker import COQ, LIMITS, decide
@@ -14,14 +16,17 @@ LINES = 1_000
 HOLDS, FAILS = "accepts that it holds", "accepts that it doesn't hold"
 
 
-def require_end(folder: pathlib.Path, words: list[str], status: int, sentence: str) -> None:
-    """Require `coq/theorem` to end with a status and a sentence; a file is kept where the claim holds."""
+def require_end(
+    folder: pathlib.Path, words: list[str], status: int, sentence: str, keep: bool = False
+) -> None:
+    """Require `coq/theorem` to end with a status and a sentence, and to write its file if the claim holds."""
     made = folder / "Made.v"
     command = [str(COQ / "theorem"), *words, str(made)]
     done = subprocess.run(command, capture_output=True, text=True, timeout=300)
     assert done.returncode == status and sentence in done.stdout + done.stderr, words
     assert made.exists() == (status == 0)
-    made.unlink(missing_ok=True)
+    if not keep:
+        made.unlink(missing_ok=True)
 
 
 @pytest.fixture(scope="module")
@@ -71,6 +76,55 @@ def test_theorem_of_a_recurs_line(tmp_path: pathlib.Path, line: str, status: int
 )
 def test_line_of_no_claim_is_refused(tmp_path: pathlib.Path, line: str) -> None:
     require_end(tmp_path, [line], 2, "claims nothing" if "undecided" in line else "no line of a claim")
+
+
+SHARD = "0RB---_0LA--- below 1 0 0 " + "0123456789abcdef" * 4
+# The words of `coq/theorem` for each row of the document's table; FILE has the line beside them.
+READ = {
+    "`coq/theorem LINE`, a verdict line": (["0RB---_0LA--- backward 2 4"], ""),
+    "`coq/theorem LINE`, a `recurs` line": (["1RA1RA recurs 0 1 1 *"], ""),
+    "`coq/theorem --list`": (["--list", "FILE"], "0RB---_0LA--- backward 2 4"),
+    "`coq/theorem --cover`, also with `--assume`": (
+        ["--cover", "--assume", "ASSUMED", "FILE"],
+        "------ halt 0 0\n0RA--- undecided steps\n1RA--- undecided steps",
+    ),
+    "`coq/theorem --cover --below`": (
+        ["--cover", "--below", "0RB---_0LA---", "FILE"],
+        "0RB---_0LA--- backward 2 4",
+    ),
+    "`coq/theorem --cover --skeleton`": (
+        ["--cover", "--skeleton", "--below", "0RB---_0LA---", "FILE"],
+        SHARD,
+    ),
+}
+
+
+@pytest.mark.usefixtures("coq_cover")
+@pytest.mark.parametrize("row", READ)
+def test_theorem_is_stated_by_the_definitions_to_read(tmp_path: pathlib.Path, row: str) -> None:
+    """Without its proof, its file needs only the files that the document names for it."""
+    words, lines = READ[row]
+    (tmp_path / "FILE").write_text(lines + "\n")
+    (tmp_path / "ASSUMED").write_text("1RA--- nonhalt\n")
+    paths = {name: str(tmp_path / name) for name in ("FILE", "ASSUMED")}
+    require_end(tmp_path, [paths.get(word, word) for word in words], 0, "accepts", keep=True)
+    text = (tmp_path / "Made.v").read_text()
+    library = re.findall(r"^From Coq .*\n", text, re.M)
+    stated = re.findall(
+        r"^((?:Definition (?:M|claimed|lines|undecided|first|open) .*?|Local Open Scope .*?"
+        r"|Hypothesis .*?|Theorem .*?))\.\n",
+        text,
+        flags=re.M | re.S,
+    )
+    document = (TOP / "docs" / "coq.md").read_text(encoding="utf-8")
+    (files,) = re.findall(r"^\| %s \| (.*?) \|" % re.escape(row), document, re.M)
+    modules = " ".join(re.findall(r"`(\w+)\.v`", files))
+    head = [*library, "From Budlarem Require Import %s.\n" % modules, "Import ListNotations.\n"]
+    statement = "".join(part + ".\n" for part in stated)
+    (tmp_path / "Stated.v").write_text("".join([*head, statement, "Abort.\n"]))
+    command = ["coqc", "-q", "-noglob", "-Q", str(COQ / "out"), "Budlarem", "Stated.v"]
+    done = subprocess.run(command, capture_output=True, text=True, cwd=tmp_path)
+    assert done.returncode == 0, done.stderr
 
 
 @pytest.mark.slow

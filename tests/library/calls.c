@@ -179,8 +179,9 @@ static bool costs(const char *list, uint64_t cells, uint32_t status, const uint6
 }
 
 static void require_costs(void) {
-    static const uint64_t NONE[4] = {0}, AS_IT_WAS[4] = {9, 9, 9, 9}, SUM[4] = {256, 250, 250, 1};
-    REQUIRE(costs("1RB1LB_1LA1RZ halt 6 4\n0RB---_0LA--- backward 3 250\n1RA1RA cycler 9 250", 64, BB_CLEAN, SUM));
+    static const uint64_t NONE[4] = {0}, AS_IT_WAS[4] = {9, 9, 9, 9}, SUM[4] = {506, 240, 250, 2};
+    REQUIRE(costs("1RB1LB_1LA1RZ halt 6 4\n0RB---_0LA--- backward 3 240\n"
+                  "1RA1RA cycler 9 250\n1RA1RA cycler 8 250", 64, BB_CLEAN, SUM));
     REQUIRE(costs("", 64, BB_CLEAN, NONE));
     REQUIRE(costs("refused 1\n1RA1RA undecided steps\n1RA1RA halt 1001 0\n1RA1RA cycler 7 7\n", 64, BB_CLEAN, NONE));
     REQUIRE(costs("1RA1RA cycler 1 2\n", 0, BB_LIMITS, AS_IT_WAS));

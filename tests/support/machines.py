@@ -2,7 +2,7 @@
 
 import itertools
 import random
-from typing import Iterable, Iterator, Sequence
+from typing import Iterable, Iterator, NamedTuple, Sequence
 
 LETTERS = "ABCDEFGHIJKLMNOPQRSTUVWXY"
 DIGITS = "0123456789"
@@ -30,6 +30,41 @@ def table_of(text: str) -> list[list[str]]:
 def join_groups(entries: Sequence[str], symbols: int) -> str:
     """A machine's text, from all its entries in a row."""
     return text_of(entries[k : k + symbols] for k in range(0, len(entries), symbols))
+
+
+class Change(NamedTuple):
+    """Whether left and right are swapped, and the new name of each state and each symbol."""
+
+    mirrored: bool
+    states: Sequence[int]
+    symbols: Sequence[int]
+
+    def entry(self, entry: str) -> str:
+        if entry == "---":
+            return entry
+        move = entry[1].translate(SWAPPED) if self.mirrored else entry[1]
+        state = entry[2] if entry[2] == "Z" else LETTERS[self.states[LETTERS.index(entry[2])]]
+        return "%d%s%s" % (self.symbols[int(entry[0])], move, state)
+
+    def machine(self, text: str) -> str:
+        """Change a machine: each entry moves to the new names of its state and symbol."""
+        old = table_of(text)
+        new = [["---"] * len(group) for group in old]
+        for state, symbol in itertools.product(range(len(old)), range(len(old[0]))):
+            new[self.states[state]][self.symbols[symbol]] = self.entry(old[state][symbol])
+        return text_of(new)
+
+    def verdict(self, verdict: str) -> str:
+        """Change a verdict: the side of a translated cycler may be the other one."""
+        kind, _, rest = verdict.partition(" ")
+        turned = kind == "translated" and self.mirrored
+        return "%s %s%s" % (kind, rest[0].translate(SWAPPED), rest[1:]) if turned else verdict
+
+
+def random_change(source: random.Random, states: int, symbols: int) -> Change:
+    """A random change of a machine of so many states and symbols, which leaves A and 0."""
+    names = [(0, *source.sample(range(1, count), count - 1)) for count in (states, symbols)]
+    return Change(source.random() < 0.5, *names)
 
 
 def entries_of(states: int, symbols: int) -> list[str]:

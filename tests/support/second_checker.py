@@ -34,7 +34,7 @@ PROGRAMS = {
     "checker": (OF_LINES, "checker.mli checker.ml answering.ml main.ml"),
     "recurrence": (OF_LINES, "checker.mli checker.ml answering.ml recurrence.ml"),
     "cover": (
-        "Machines Answers Covers Check Lines Cover CoverProgram ExtractCover",
+        "Machines Answers Covers Walks Check Lines Cover CoverProgram ExtractCover",
         "lists.mli lists.ml cover.ml",
     ),
 }

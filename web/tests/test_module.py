@@ -22,7 +22,7 @@ LISTS = list(read_examples("decide", "check"))
 slow = pytest.mark.slow
 each_way = pytest.mark.parametrize("same", ["engine", "tab"], indirect=True)
 # The size of the module; exact repetition is a fifth of it.
-MOST_BYTES = 104_448
+MOST_BYTES = 105_472
 SMALL = {"steps": 100, "cells": 64, "depth": 20, "nodes": 100}
 REFUSED_LIMITS = (
     "--steps 1000000000001, --cells 0, --cells 67108865, --depth 10001, --nodes 1000000000001, --cells 598, "

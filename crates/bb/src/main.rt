@@ -4,6 +4,7 @@
 ghost use Rattle.std.specs.Prelude.{◌≡◌, IfErr, IfOk, map};
 ghost use Rattle.std.specs.String.{string_bytes};
 ghost use Rattle.bb_command.specs.Command.{AreGivenBy, IsAskedBy, IsStopOf, words_meant};
+ghost use Rattle.bb_terminal.specs.Status.{IsStopStatus};
 
 mod hints;
 mod progress;
@@ -138,7 +139,9 @@ fn print_plain_numbers(rt: &HostRuntime, arguments: &[String]) -> io::Result<()>
 
 /// Prints the reason for doing no work, and returns the exit status: that of the stop, or 3 if help or the
 /// version can't be written.
-fn report_stop(rt: &HostRuntime, stop: &Stop, numbers: Option<Numbers>) -> u8 {
+fn report_stop(rt: &HostRuntime, stop: &Stop, numbers: Option<Numbers>) -> u8
+    ensures { IsStopStatus stop.now result }
+{
     match (print_stop(rt, stop, numbers), stop) {
         (Err(_), Stop::Help(_)) => {
             let _ = eprintln!(rt; "{}", Fault::Write);

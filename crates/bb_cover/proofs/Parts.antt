@@ -17,7 +17,7 @@ use Rattle.bb_cover.specs.declared.counts.Counts.{Counts}
 use Rattle.bb_cover.specs.declared.task.Task.{Task}
 use Rattle.bb_cover.specs.Claims.{AreTrueLines, IsTrueLine}
 use Rattle.bb_cover.specs.Content.{Item, line_of, lines_of}
-use Rattle.bb_cover.specs.Counts.{AreCounts, HasTotals, is_undecided, is_wide, lines_in, saturated, sum_of}
+use Rattle.bb_cover.specs.Counts.{AreCounts, HasTotals, is_undecided, is_wide, lines_in, sum_of}
 use Rattle.bb_cover.specs.Counts.{undecided_in, wide_in}
 use Rattle.bb_cover.specs.Covering.{AreParts, CoversRoot, DecidesSize, IsJoinedWalk, IsPart, IsWalkBelow}
 use Rattle.bb_cover.specs.Covering.{IsWholeWalk, joined, root_of}
@@ -104,10 +104,10 @@ all_true task (b ∷ bytes) (item ∷ items) (part ∷ parts) true_lines are lin
 module _ (f : Item → ℕ) (g : List VerdictLine → ℕ) (nothing : g [] ≡ 0)
     (adds : (a b : List VerdictLine) → g (a ++ b) ≡ g a + g b)
     (each : (item : Item) (part : List VerdictLine) → IsPart item.table item.content part
-    → saturated (f item) ≡ saturated (g part)) where
+    → f item ≡ g part) where
   same_total : (items : List Item) (parts : List (List VerdictLine)) → AreParts items parts
-      → saturated (sum_of f items) ≡ saturated (g (joined parts))
-  same_total [] [] are = ap saturated (sym nothing)
+      → sum_of f items ≡ g (joined parts)
+  same_total [] [] are = sym nothing
   same_total [] (part ∷ parts) are = absurd are
   same_total (item ∷ items) [] are = absurd are
   same_total (item ∷ items) (part ∷ parts) are =
@@ -116,41 +116,36 @@ module _ (f : Item → ℕ) (g : List VerdictLine → ℕ) (nothing : g [] ≡ 0
       let both = adds part (joined parts) in
       omega (arith, here, rest, both)
 
-saturated_twice : (n k : ℕ) → n ≡ saturated k → saturated n ≡ saturated k
-saturated_twice n k is = omega (arith, is)
-
 lines_each : (item : Item) (part : List VerdictLine) → IsPart item.table item.content part
-    → saturated (lines_in item.content) ≡ saturated (length part)
+    → lines_in item.content ≡ length part
 lines_each item part is = by item.content is
   where
-    by : (content : Content) → IsPart item.table content part
-        → saturated (lines_in content) ≡ saturated (length part)
-    by (Claim verdict) part_is = ap (λ (p : List VerdictLine). saturated (length p)) (sym part_is)
-    by (Shard shard) part_is = saturated_twice shard.lines (length part) part_is.totals.lines_are
+    by : (content : Content) → IsPart item.table content part → lines_in content ≡ length part
+    by (Claim verdict) part_is = ap (λ (p : List VerdictLine). length p) (sym part_is)
+    by (Shard shard) part_is = part_is.totals.lines_are
 
 abbrev count_undecided : List VerdictLine → ℕ
 count_undecided lines = count_by (λ (line : VerdictLine). is_undecided line.verdict) lines
 
 undecided_each : (item : Item) (part : List VerdictLine) → IsPart item.table item.content part
-    → saturated (undecided_in item.content) ≡ saturated (count_undecided part)
+    → undecided_in item.content ≡ count_undecided part
 undecided_each item part is = by item.content is
   where
     by : (content : Content) → IsPart item.table content part
-        → saturated (undecided_in content) ≡ saturated (count_undecided part)
+        → undecided_in content ≡ count_undecided part
     by (Claim verdict) part_is =
-        ap saturated (omega arith) ∙ ap (λ (p : List VerdictLine). saturated (count_undecided p)) (sym part_is)
-    by (Shard shard) part_is =
-        saturated_twice shard.undecided (count_undecided part) part_is.totals.undecided_are
+        omega arith ∙ ap (λ (p : List VerdictLine). count_undecided p) (sym part_is)
+    by (Shard shard) part_is = part_is.totals.undecided_are
 
 wide_each : (item : Item) (part : List VerdictLine) → IsPart item.table item.content part
-    → saturated (wide_in item.table item.content) ≡ saturated (count_by is_wide part)
+    → wide_in item.table item.content ≡ count_by is_wide part
 wide_each item part is = by item.content is
   where
     by : (content : Content) → IsPart item.table content part
-        → saturated (wide_in item.table content) ≡ saturated (count_by is_wide part)
+        → wide_in item.table content ≡ count_by is_wide part
     by (Claim verdict) part_is =
-        ap saturated (omega arith) ∙ ap (λ (p : List VerdictLine). saturated (count_by is_wide p)) (sym part_is)
-    by (Shard shard) part_is = saturated_twice shard.wide (count_by is_wide part) part_is.totals.wide_are
+        omega arith ∙ ap (λ (p : List VerdictLine). count_by is_wide p) (sym part_is)
+    by (Shard shard) part_is = part_is.totals.wide_are
 
 counts_add : (p : VerdictLine → Bool) (a b : List VerdictLine)
     → count_by p (a ++ b) ≡ count_by p a + count_by p b

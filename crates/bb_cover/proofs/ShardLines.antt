@@ -18,26 +18,38 @@ use Rattle.bb_cover.specs.declared.task.Form.{Form}
 use Rattle.bb_cover.specs.Content.{HasCounts, IsItemLine, IsShardLine, Item, shard_text}
 use Rattle.bb_cover.proofs.Spaces.{HasNoSpace, decimal_no_space, same_split, text_no_space}
 
+-- the counts are 64-bit numbers
+
+abbrev pub Fits : ShardCounts → Type 0
+Fits shard = (shard.lines < 2 ^ 64) × (shard.undecided < 2 ^ 64) × (shard.wide < 2 ^ 64)
+
+pub fits_all : (shard : ShardCounts) → HasCounts shard → Fits shard
+fits_all shard has =
+    let few = has.0 in
+    let undecided = has.1.undecided in
+    let wide = has.1.wide in
+    (few, omega (arith, few, undecided), omega (arith, few, undecided, wide))
+
 -- the words of a shard, split at their first three spaces
 
 abbrev pub two_counts : ShardCounts → List ℕ → List ℕ
 two_counts shard digest = decimal shard.undecided ++ (32 ∷ (decimal shard.wide ++ (32 ∷ digest)))
 
-pub first_split : (shard : ShardCounts) (digest prefix rest : List ℕ) → HasCounts shard → HasNoSpace prefix
+pub first_split : (shard : ShardCounts) (digest prefix rest : List ℕ) → Fits shard → HasNoSpace prefix
     → decimal shard.lines ++ (32 ∷ two_counts shard digest) ≡ prefix ++ 32 ∷ rest
     → (decimal shard.lines ≡ prefix) × (two_counts shard digest ≡ rest)
 first_split shard digest prefix rest few none is =
     same_split (decimal shard.lines) prefix (two_counts shard digest) rest
     (decimal_no_space shard.lines few.0) none is
 
-pub second_split : (shard : ShardCounts) (digest prefix rest : List ℕ) → HasCounts shard → HasNoSpace prefix
+pub second_split : (shard : ShardCounts) (digest prefix rest : List ℕ) → Fits shard → HasNoSpace prefix
     → two_counts shard digest ≡ prefix ++ 32 ∷ rest
     → (decimal shard.undecided ≡ prefix) × (decimal shard.wide ++ (32 ∷ digest) ≡ rest)
 second_split shard digest prefix rest few none is =
     same_split (decimal shard.undecided) prefix (decimal shard.wide ++ (32 ∷ digest)) rest
     (decimal_no_space shard.undecided few.1) none is
 
-pub third_split : (shard : ShardCounts) (digest prefix rest : List ℕ) → HasCounts shard → HasNoSpace prefix
+pub third_split : (shard : ShardCounts) (digest prefix rest : List ℕ) → Fits shard → HasNoSpace prefix
     → decimal shard.wide ++ (32 ∷ digest) ≡ prefix ++ 32 ∷ rest
     → (decimal shard.wide ≡ prefix) × (digest ≡ rest)
 third_split shard digest prefix rest few none is =
@@ -45,7 +57,7 @@ third_split shard digest prefix rest few none is =
 
 -- what stands behind the word, behind the first number, and behind the second
 
-module _ (shard : ShardCounts) (digest words counts : List ℕ) (few : HasCounts shard)
+module _ (shard : ShardCounts) (digest words counts : List ℕ) (few : Fits shard)
     (prefix : words ≡ codes "below " ++ counts) (is : shard_text shard digest ≡ words) where
   pub behind_below : decimal shard.lines ++ (32 ∷ two_counts shard digest) ≡ counts
   behind_below = append_cancel_left (codes "below ") (decimal shard.lines ++ (32 ∷ two_counts shard digest))
@@ -74,7 +86,7 @@ line_split table shard bytes is prefix rest none parts =
     same_split (text table) prefix (shard_text shard is.digest) rest (text_no_space table) none
     (is.whole ∙ sym parts)
 
-counts_apart : (a b : ShardCounts) (x y : List ℕ) → HasCounts a → HasCounts b → shard_text a x ≡ shard_text b y
+pub counts_apart : (a b : ShardCounts) (x y : List ℕ) → Fits a → Fits b → shard_text a x ≡ shard_text b y
     → a ≡ b
 counts_apart a b x y few few_too is =
     let numbers : decimal a.lines ++ (32 ∷ two_counts a x) ≡ decimal b.lines ++ (32 ∷ two_counts b y) = cc in
@@ -126,7 +138,8 @@ shards_apart : (s t : Table) (a b : ShardCounts) (bytes : List ℕ) → IsShardL
 shards_apart s t a b bytes one two =
     let split = line_split s a bytes one (text t) (shard_text b two.digest) (text_no_space t) two.whole in
     let tables = text_unique s t one.machine two.machine split.0 in
-    let counts = counts_apart a b one.digest two.digest one.numbers two.numbers split.1 in
+    let counts = counts_apart a b one.digest two.digest (fits_all a one.numbers)
+    (fits_all b two.numbers) split.1 in
     λ i. record { table = tables i; content = Shard (counts i) }
 
 pub one_item : (form : Form) (bytes : List ℕ) (a b : Item) → IsItemLine form a bytes → IsItemLine form b bytes

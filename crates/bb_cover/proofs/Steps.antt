@@ -106,7 +106,7 @@ took task old bytes new going did =
     subst (λ s. TookBy s task old bytes new) (sym none) (did none)
 
 pub stops : (task : Task) (old : CoverProgress) (bytes : List ℕ) (new : CoverProgress) (why : Why)
-    → is_some old.stop ≡ false → IsWrong task old.size old.walk bytes why
+    → is_some old.stop ≡ false → IsWrong task old.counts.lines old.size old.walk bytes why
     → new ≡ record old { stop = Some (record { line = saturated (old.counts.read + 1); why = why }) }
     → Took task old bytes new
 stops task old bytes new why going wrong is = took task old bytes new going (λ _. inr (record {

@@ -1,5 +1,5 @@
 -- No list comes to two things: where it stops, why, and what is counted up to there are settled by its bytes.
-use Rattle.std.proofs.Common.{◌≡◌, ◌≢◌, ℕ, ◌+◌, ◌⊎◌, List, [], ◌∷◌, ◌++◌, length, map, Option}
+use Rattle.std.proofs.Common.{◌≡◌, ◌≢◌, ℕ, ◌+◌, ◌<◌, ◌^◌, ◌⊎◌, List, [], ◌∷◌, ◌++◌, length, map, Option}
 use Rattle.std.proofs.Common.{Some, None, inl, inr, refl, ap, ap₂, sym, subst, ◌∙◌, arith, append_assoc}
 use Rattle.bb_machine.specs.Limits.{Bounds}
 use Rattle.bb_machine.specs.Machine.{Table}
@@ -15,7 +15,7 @@ use Rattle.bb_cover.specs.declared.found.Found.{Found}
 use Rattle.bb_cover.specs.declared.found.Found.TheVariants.{Covers, Stops}
 use Rattle.bb_cover.specs.declared.found.Stop.{Stop}
 use Rattle.bb_cover.specs.declared.found.Why.{Why}
-use Rattle.bb_cover.specs.declared.found.Why.TheVariants.{Unread, NotNext, Refused, TooSoon, Beyond}
+use Rattle.bb_cover.specs.declared.found.Why.TheVariants.{Unread, NotNext, Refused, TooMany, TooSoon, Beyond}
 use Rattle.bb_cover.specs.declared.list.Size.{Size}
 use Rattle.bb_cover.specs.declared.content.Content.{Content}
 use Rattle.bb_cover.specs.declared.content.Content.TheVariants.{Claim, Shard}
@@ -26,6 +26,7 @@ use Rattle.bb_cover.specs.Counts.{AreCounts, saturated}
 use Rattle.bb_cover.specs.CoverProgress.{Applies, IsWrong, rank}
 use Rattle.bb_cover.specs.Covering.{CoverIsUnique, HasLeft, IsFound, IsWholeWalk, IsWrongAt, StopsAt, root_of}
 use Rattle.bb_cover.proofs.ShardLines.{one_item}
+use Rattle.bb_cover.proofs.Tallies.{room_within}
 use Rattle.bb_cover.proofs.Wholes.{IsNextLine, behind, head_asked, lines-append, none_applies, root_starts, same_true}
 
 -- two ways to part a list
@@ -159,78 +160,90 @@ module _ (task : Task) (bytes : List (List ℕ)) where
       (walk_from task.below size second.left (lines_of second.items) has) in
       let next = next_line_of task.below first.size first.left (lines_of first.items) first.has_left size.states
       size.symbols (line_of there.item) (lines_of there.later ++ tail) walk in
-      let wrong : IsWrong task first.size first.left long.item one.why =
-      subst (λ a. IsWrongAt task first.size first.left a one.why) long.rest first.wrong in
-      none_applies task first.size first.left long.item there.item one.why there.is_true next wrong.applies
+      let wrong : IsWrong task c.lines first.size first.left long.item one.why =
+      subst (λ a. IsWrongAt task c.lines first.size first.left a one.why) long.rest first.wrong in
+      let room = room_within second.items first.items there.later there.item c first.counted there.whole
+      (subst (λ n. n < 2 ^ 64) second.counted.all second.counted.few) in
+      none_applies task c.lines first.size first.left long.item there.item one.why there.is_true room next
+      wrong.applies
 
   -- at one line there is one reason
 
-  same_why : (size : Option Size) (left : List Table) (line : List ℕ) (a b : Why)
-      → Applies task size left line a → Applies task size left line b → rank a ≡ rank b → a ≡ b
-  same_why size left line TooSoon b one two e = absurd one
-  same_why size left line a TooSoon one two e = absurd two
-  same_why size left line Beyond Beyond one two e = refl
-  same_why size left line Beyond Unread one two e = absurd (omega (arith, e))
-  same_why size left line Beyond NotNext one two e = absurd (omega (arith, e))
-  same_why size left line Beyond (Refused given) one two e = absurd (omega (arith, e))
-  same_why size left line Unread Beyond one two e = absurd (omega (arith, e))
-  same_why size left line Unread Unread one two e = refl
-  same_why size left line Unread NotNext one two e = absurd (omega (arith, e))
-  same_why size left line Unread (Refused given) one two e = absurd (omega (arith, e))
-  same_why size left line NotNext Beyond one two e = absurd (omega (arith, e))
-  same_why size left line NotNext Unread one two e = absurd (omega (arith, e))
-  same_why size left line NotNext NotNext one two e = refl
-  same_why size left line NotNext (Refused given) one two e = absurd (omega (arith, e))
-  same_why size left line (Refused given) Beyond one two e = absurd (omega (arith, e))
-  same_why size left line (Refused given) Unread one two e = absurd (omega (arith, e))
-  same_why size left line (Refused given) NotNext one two e = absurd (omega (arith, e))
-  same_why size left line (Refused given) (Refused other) one two e =
+  same_why : (past : ℕ) (size : Option Size) (left : List Table) (line : List ℕ) (a b : Why)
+      → Applies task past size left line a → Applies task past size left line b → rank a ≡ rank b → a ≡ b
+  same_why past size left line TooSoon b one two e = absurd one
+  same_why past size left line a TooSoon one two e = absurd two
+  same_why past size left line Beyond Beyond one two e = refl
+  same_why past size left line Beyond Unread one two e = absurd (omega (arith, e))
+  same_why past size left line Beyond NotNext one two e = absurd (omega (arith, e))
+  same_why past size left line Beyond (Refused given) one two e = absurd (omega (arith, e))
+  same_why past size left line Beyond TooMany one two e = absurd (omega (arith, e))
+  same_why past size left line Unread Beyond one two e = absurd (omega (arith, e))
+  same_why past size left line Unread Unread one two e = refl
+  same_why past size left line Unread NotNext one two e = absurd (omega (arith, e))
+  same_why past size left line Unread (Refused given) one two e = absurd (omega (arith, e))
+  same_why past size left line Unread TooMany one two e = absurd (omega (arith, e))
+  same_why past size left line NotNext Beyond one two e = absurd (omega (arith, e))
+  same_why past size left line NotNext Unread one two e = absurd (omega (arith, e))
+  same_why past size left line NotNext NotNext one two e = refl
+  same_why past size left line NotNext (Refused given) one two e = absurd (omega (arith, e))
+  same_why past size left line NotNext TooMany one two e = absurd (omega (arith, e))
+  same_why past size left line (Refused given) Beyond one two e = absurd (omega (arith, e))
+  same_why past size left line (Refused given) Unread one two e = absurd (omega (arith, e))
+  same_why past size left line (Refused given) NotNext one two e = absurd (omega (arith, e))
+  same_why past size left line (Refused given) TooMany one two e = absurd (omega (arith, e))
+  same_why past size left line (Refused given) (Refused other) one two e =
       let same : claim two.0 ≡ claim one.0 = one_item task.form line (claim two.0) (claim one.0) two.1 one.1 in
       ap Refused (answer_is_unique one.0.table task.limits one.0.verdict given other one.2.is_answer
       (subst (λ (item : Item). IsAnswerTo task.limits other item.table item.content) same two.2.is_answer))
+  same_why past size left line TooMany Beyond one two e = absurd (omega (arith, e))
+  same_why past size left line TooMany Unread one two e = absurd (omega (arith, e))
+  same_why past size left line TooMany NotNext one two e = absurd (omega (arith, e))
+  same_why past size left line TooMany (Refused given) one two e = absurd (omega (arith, e))
+  same_why past size left line TooMany TooMany one two e = refl
 
-  one_why : (size : Option Size) (left : List Table) (after : List (List ℕ)) (a b : Why)
-      → IsWrongAt task size left after a → IsWrongAt task size left after b → a ≡ b
-  one_why size left [] a b one two = one.0 ∙ sym two.0
-  one_why size left (line ∷ after) a b one two =
+  one_why : (past : ℕ) (size : Option Size) (left : List Table) (after : List (List ℕ)) (a b : Why)
+      → IsWrongAt task past size left after a → IsWrongAt task past size left after b → a ≡ b
+  one_why past size left [] a b one two = one.0 ∙ sym two.0
+  one_why past size left (line ∷ after) a b one two =
       let below = one.first b two.applies in
       let above = two.first a one.applies in
-      same_why size left line a b one.applies two.applies (omega (arith, below, above))
+      same_why past size left line a b one.applies two.applies (omega (arith, below, above))
 
   -- which size it is says nothing of the reason, but that there is one
 
-  any_size : (s t : Size) (left : List Table) (line : List ℕ) (why : Why)
-      → Applies task (Some s) left line why → Applies task (Some t) left line why
-  any_size s t left line Beyond applies = (λ none. cc, applies.1)
-  any_size s t left line why applies = applies
+  any_size : (past : ℕ) (s t : Size) (left : List Table) (line : List ℕ) (why : Why)
+      → Applies task past (Some s) left line why → Applies task past (Some t) left line why
+  any_size past s t left line Beyond applies = (λ none. cc, applies.1)
+  any_size past s t left line why applies = applies
 
-  wrong_any : (s t : Size) (left : List Table) (after : List (List ℕ)) (why : Why)
-      → IsWrongAt task (Some s) left after why → IsWrongAt task (Some t) left after why
-  wrong_any s t left [] why wrong = (wrong.0, λ some. wrong.1 (λ none. cc))
-  wrong_any s t left (line ∷ after) why wrong = record {
-    applies = any_size s t left line why wrong.applies;
-    first = λ other applies. wrong.first other (any_size t s left line other applies);
+  wrong_any : (past : ℕ) (s t : Size) (left : List Table) (after : List (List ℕ)) (why : Why)
+      → IsWrongAt task past (Some s) left after why → IsWrongAt task past (Some t) left after why
+  wrong_any past s t left [] why wrong = (wrong.0, λ some. wrong.1 (λ none. cc))
+  wrong_any past s t left (line ∷ after) why wrong = record {
+    applies = any_size past s t left line why wrong.applies;
+    first = λ other applies. wrong.first other (any_size past t s left line other applies);
   }
 
-  why_there : (size size_too : Option Size) (left left_too : List Table) (lines : List VerdictLine)
+  why_there : (past : ℕ) (size size_too : Option Size) (left left_too : List Table) (lines : List VerdictLine)
       (after : List (List ℕ)) (a b : Why) → HasLeft task.below size left lines
       → HasLeft task.below size_too left_too lines
-      → IsWrongAt task size left after a → IsWrongAt task size_too left_too after b → a ≡ b
-  why_there None None left left_too lines after a b has has_too wrong wrong_too =
-      one_why None left after a b wrong
-      (subst (λ l. IsWrongAt task None l after b) (has_too.1 ∙ sym has.1) wrong_too)
-  why_there None (Some t) left left_too lines after a b has has_too wrong wrong_too =
+      → IsWrongAt task past size left after a → IsWrongAt task past size_too left_too after b → a ≡ b
+  why_there past None None left left_too lines after a b has has_too wrong wrong_too =
+      one_why past None left after a b wrong
+      (subst (λ l. IsWrongAt task past None l after b) (has_too.1 ∙ sym has.1) wrong_too)
+  why_there past None (Some t) left left_too lines after a b has has_too wrong wrong_too =
       absurd (has_too.0 has.0)
-  why_there (Some s) None left left_too lines after a b has has_too wrong wrong_too =
+  why_there past (Some s) None left left_too lines after a b has has_too wrong wrong_too =
       absurd (has.0 has_too.0)
-  why_there (Some s) (Some t) left left_too lines after a b has has_too wrong wrong_too =
+  why_there past (Some s) (Some t) left left_too lines after a b has has_too wrong wrong_too =
       let walk = walk_from task.below s left lines has in
       let root = first_is_root task.below s.states s.symbols lines (map undecided left) has.0 walk t.states
       t.symbols (map undecided left_too) (walk_from task.below t left_too lines has_too) in
       let same : left_too ≡ left = walked_undecided left_too left ((has_too.1 (map undecided left)).1
       (subst (λ r. IsWalk (r ∷ []) (lines ++ map undecided left)) root walk)) in
-      one_why (Some s) left after a b wrong
-      (wrong_any t s left after b (subst (λ l. IsWrongAt task (Some t) l after b) same wrong_too))
+      one_why past (Some s) left after a b wrong
+      (wrong_any past t s left after b (subst (λ l. IsWrongAt task past (Some t) l after b) same wrong_too))
 
   -- so it stops once
 
@@ -256,14 +269,20 @@ module _ (task : Task) (bytes : List (List ℕ)) where
             subst (λ b. AreTrueLines task b second.items) (sym both.0) second.are_true in
             let items : second.items ≡ first.items =
             same_true task first.before second.items first.items true_too first.are_true in
-            let why = why_there first.size second.size first.left second.left (lines_of first.items) first.after
-            one.why two.why first.has_left
+            let counts : c ≡ d =
+            one_count first.items c d first.counted (subst (λ l. AreCounts l d) items second.counted) in
+            let wrong_too : IsWrongAt task c.lines second.size second.left first.after two.why =
+            subst (λ (x : Counts). IsWrongAt task x.lines second.size second.left first.after two.why)
+            (sym counts)
+            (subst (λ a. IsWrongAt task d.lines second.size second.left a two.why) (sym both.1) second.wrong) in
+            let why = why_there c.lines first.size second.size first.left second.left (lines_of first.items)
+            first.after one.why two.why first.has_left
             (subst (HasLeft task.below second.size second.left) (ap lines_of items) second.has_left) first.wrong
-            (subst (λ a. IsWrongAt task second.size second.left a two.why) (sym both.1) second.wrong) in
+            wrong_too in
             let line : one.line ≡ two.line =
             first.line ∙ ap (λ b. saturated (length b + 1)) both.0 ∙ sym second.line in (
               λ i. Stops (record { line = line i; why = why i }),
-              one_count first.items c d first.counted (subst (λ l. AreCounts l d) items second.counted),
+              counts,
             )
         | inr (inl long) ↦ absurd (not_sooner c d one two first second long second.size refl)
         | inr (inr long) ↦ absurd (not_sooner d c two one second first long first.size refl)

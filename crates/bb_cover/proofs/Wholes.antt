@@ -1,5 +1,5 @@
 -- What the lines of a list come to, from what each line did.
-use Rattle.std.proofs.Common.{◌≡◌, ◌≢◌, ℕ, zero, suc, ◌+◌, ◌<◌, List, [], ◌∷◌, ◌++◌}
+use Rattle.std.proofs.Common.{◌≡◌, ◌≢◌, ℕ, zero, suc, ◌+◌, ◌<◌, ◌^◌, List, [], ◌∷◌, ◌++◌}
 use Rattle.std.proofs.Common.{Option, Some, None, length, replicate, inl, inr, refl, ap, ap₂, sym, subst, ◌∙◌}
 use Rattle.std.proofs.Common.{arith, ◌↔◌}
 use Rattle.std.proofs.Common.{append_assoc}
@@ -17,7 +17,7 @@ use Rattle.bb_cover.specs.declared.found.Found.{Found}
 use Rattle.bb_cover.specs.declared.found.Found.TheVariants.{Covers, Stops}
 use Rattle.bb_cover.specs.declared.found.Stop.{Stop}
 use Rattle.bb_cover.specs.declared.found.Why.{Why}
-use Rattle.bb_cover.specs.declared.found.Why.TheVariants.{Unread, NotNext, Refused, TooSoon, Beyond}
+use Rattle.bb_cover.specs.declared.found.Why.TheVariants.{Unread, NotNext, Refused, TooMany, TooSoon, Beyond}
 use Rattle.bb_cover.specs.declared.list.CoverProgress.{CoverProgress}
 use Rattle.bb_cover.specs.declared.list.Cover.{Cover}
 use Rattle.bb_cover.specs.declared.list.Size.{Size}
@@ -29,7 +29,7 @@ use Rattle.bb_cover.specs.Claims.{AreTrueLines, IsFineContent, IsTrueLine}
 use Rattle.bb_cover.specs.Content.{IsItemLine, Item, line_of, lines_of}
 use Rattle.bb_cover.specs.Counts.{AreCounts, no_counts, saturated}
 use Rattle.bb_cover.specs.CoverProgress.{Applies, EndsTooSoon, IsAsked, IsFoundBy, IsWrong, Stopped, TookBy, Visited}
-use Rattle.bb_cover.specs.CoverProgress.{Starts, size_after}
+use Rattle.bb_cover.specs.CoverProgress.{HasRoom, Starts, size_after}
 use Rattle.bb_cover.specs.Covering.{CoversSize, HasLeft, HasSize, IsCover, IsFound, IsWholeWalk, root_of}
 use Rattle.bb_cover.specs.Covering.{IsWrongAt, StopsAt}
 use Rattle.bb_cover.proofs.Judging.{fine_or_not}
@@ -37,7 +37,7 @@ use Rattle.bb_cover.proofs.Parts.{joins}
 use Rattle.bb_cover.proofs.ShardLines.{one_item}
 use Rattle.bb_cover.proofs.Steps.{goes_on}
 use Rattle.bb_cover.proofs.Tables.{empty_is}
-use Rattle.bb_cover.proofs.Tallies.{next_line, none_counted, one_counted}
+use Rattle.bb_cover.proofs.Tallies.{countable, next_line, none_counted, one_counted, room_within}
 
 -- true lines
 
@@ -180,7 +180,7 @@ pub record Ended (task : Task) (past : List (List ℕ)) (counts : Counts) (stop 
   pub whole : past ≡ before ++ bytes ∷ after
   pub progress : CoverProgress
   pub going : Going task before progress
-  pub wrong : IsWrong task progress.size progress.walk bytes stop.why
+  pub wrong : IsWrong task progress.counts.lines progress.size progress.walk bytes stop.why
   pub line : stop.line ≡ saturated (progress.counts.read + 1)
   pub counts_are : counts ≡ progress.counts
 
@@ -261,9 +261,10 @@ module _ (task : Task) (past : List (List ℕ)) (bytes : List ℕ) (old new : Co
   visited_going : Visited task old bytes new → Going task (past ++ bytes ∷ []) new
   visited_going visited =
       let pushed = sym (lines-append going.items (visited.item ∷ [])) in
+      let all_true = true_push task past going.items bytes visited.item going.are_true visited.is_true in
       record {
         items = going.items ++ visited.item ∷ [];
-        are_true = true_push task past going.items bytes visited.item going.are_true visited.is_true;
+        are_true = all_true;
         has_left =
             subst (HasLeft task.below new.size new.walk) pushed
             (subst (λ s. HasLeft task.below s new.walk (past_lines ++ line_of visited.item ∷ []))
@@ -274,7 +275,9 @@ module _ (task : Task) (past : List (List ℕ)) (bytes : List ℕ) (old new : Co
         begun = λ s is. subst (λ l. Begins task.below l s) pushed
             (visited_begun visited old.size old.walk visited.goes.asked going.has_left going.begun s
             (sym visited.goes.size ∙ is));
-        counted = one_counted going.items visited.item old.counts new.counts going.counted visited.counts;
+        counted = one_counted going.items visited.item old.counts new.counts
+            (countable task (past ++ bytes ∷ []) (going.items ++ visited.item ∷ []) all_true) visited.room
+            going.counted visited.counts;
       }
 
   stopped_ended : (stopped : Stopped task old bytes new)
@@ -361,24 +364,27 @@ next_asked task past progress going line more n k sized walk (Some size) is =
     (walked_left task past progress going (line ∷ more) n k sized walk size is) size
 
 -- so no reason to stop applies to it
-pub none_applies : (task : Task) (size : Option Size) (left : List Table) (bytes : List ℕ) (item : Item)
-    (why : Why) → IsTrueLine task bytes item → IsNextLine task.below size left item.table
-    → Applies task size left bytes why → ⊥
-none_applies task size left bytes item Unread is next applies = applies item is.is_line
-none_applies task size left bytes item NotNext is next applies =
+pub none_applies : (task : Task) (past : ℕ) (size : Option Size) (left : List Table) (bytes : List ℕ)
+    (item : Item) (why : Why) → IsTrueLine task bytes item → HasRoom past item.content
+    → IsNextLine task.below size left item.table → Applies task past size left bytes why → ⊥
+none_applies task past size left bytes item Unread is room next applies = applies item is.is_line
+none_applies task past size left bytes item TooMany is room next applies =
+    let same = one_item task.form bytes item applies.0 is.is_line applies.1 in
+    applies.2 (subst (λ (i : Item). HasRoom past i.content) same room)
+none_applies task past size left bytes item NotNext is room next applies =
     let same = one_item task.form bytes item applies.0 is.is_line applies.1 in
     applies.2 next.rest
     (subst (λ (i : Item). IsAsked task.below size left i.table next.rest) same next.asked)
-none_applies task size left bytes item (Refused given) is next applies =
+none_applies task past size left bytes item (Refused given) is room next applies =
     let line = applies.0 in
     let same = one_item task.form bytes item (record { table = line.table; content = Claim line.verdict })
     is.is_line applies.1 in
     fine_or_not task.limits line.table line.verdict
     (subst (λ (i : Item). IsFineContent task.limits i.table i.content) same is.is_fine) given
     applies.2.is_answer applies.2.not_fine
-none_applies task size left bytes item TooSoon is next applies = applies
-none_applies task None left bytes item Beyond is next applies = applies.0 refl
-none_applies task (Some size) left bytes item Beyond is next applies =
+none_applies task past size left bytes item TooSoon is room next applies = applies
+none_applies task past None left bytes item Beyond is room next applies = applies.0 refl
+none_applies task past (Some size) left bytes item Beyond is room next applies =
     let some = next.asked in
     let none = applies.1 in
     let both : item.table ∷ next.rest ≡ [] = sym some ∙ none in
@@ -389,7 +395,7 @@ none_applies task (Some size) left bytes item Beyond is next applies =
 module _ (task : Task) (all : List (List ℕ)) (progress : CoverProgress) where
   -- where a list stops, by the walk up to there
   stops_after : (stop : Stop) (before after : List (List ℕ)) → all ≡ before ++ after → (here : CoverProgress)
-      (going : Going task before here) → IsWrongAt task here.size here.walk after stop.why
+      (going : Going task before here) → IsWrongAt task here.counts.lines here.size here.walk after stop.why
       → stop.line ≡ saturated (here.counts.read + 1) → StopsAt task all here.counts stop
   stops_after stop before after whole here going wrong line = record {
     before = before;
@@ -415,7 +421,10 @@ module _ (task : Task) (all : List (List ℕ)) (progress : CoverProgress) where
   no_whole stop ended n k whole =
       let there = behind task ended.before ended.bytes ended.after ended.going.items whole.items
       ended.going.are_true (subst (λ l. AreTrueLines task l whole.items) ended.whole whole.are_true) in
-      none_applies task ended.progress.size ended.progress.walk ended.bytes there.item stop.why there.is_true
+      none_applies task ended.progress.counts.lines ended.progress.size ended.progress.walk ended.bytes
+      there.item stop.why there.is_true
+      (room_within whole.items ended.going.items there.later there.item ended.progress.counts
+      ended.going.counted there.whole whole.few)
       (next_asked task ended.before ended.progress ended.going (line_of there.item) (lines_of there.later) n k
       whole.sized
       (subst (IsWalk (root_of task.below n k ∷ []))
@@ -482,6 +491,7 @@ module _ (task : Task) (all : List (List ℕ)) (progress : CoverProgress) where
       let whole : IsWholeWalk task all n k = record {
         items = going.items;
         are_true = going.are_true;
+        few = subst (λ n. n < 2 ^ 64) going.counted.all going.counted.few;
         sized = (going.begun _ size).sized;
         walk = walk_of n k going size done;
       } in

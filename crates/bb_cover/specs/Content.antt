@@ -38,8 +38,15 @@ IsHexDigit byte = ((48 ≤ byte) × (byte ≤ 57)) ⊎ ((97 ≤ byte) × (byte �
 abbrev pub IsDigest : List ℕ → Type 0
 IsDigest digest = (length digest ≡ 64) × All IsHexDigit digest
 
+-- a line or more, at most as many undecided ones, and at most as many of those with more than one `---`: so are
+-- the counts of every walk
+pub record ArePossible (shard : ShardCounts) : Type 0 where
+  pub some : 1 ≤ shard.lines
+  pub undecided : shard.undecided ≤ shard.lines
+  pub wide : shard.wide ≤ shard.undecided
+
 abbrev pub HasCounts : ShardCounts → Type 0
-HasCounts shard = (shard.lines < 2 ^ 64) × (shard.undecided < 2 ^ 64) × (shard.wide < 2 ^ 64)
+HasCounts shard = (shard.lines < 2 ^ 64) × ArePossible shard
 
 -- the words of a shard, as they stand after its machine and a space: `below N U G SHA256`
 abbrev pub shard_text : ShardCounts → List ℕ → List ℕ

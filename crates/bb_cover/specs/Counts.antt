@@ -1,5 +1,5 @@
 -- How many lines of each kind there are.
-use Rattle.std.specs.Prelude.{◌≡◌, ℕ, ◌+◌, ◌-◌, ◌^◌, min, Bool, true, false, cond, nat_lt, List, count_by}
+use Rattle.std.specs.Prelude.{◌≡◌, ℕ, ◌+◌, ◌-◌, ◌^◌, ◌<◌, min, Bool, true, false, cond, nat_lt, List, count_by}
 use Rattle.std.specs.Prelude.{length, [], ◌∷◌}
 use Rattle.bb_machine.specs.Machine.{Table}
 use Rattle.bb_cert.specs.declared.verdict.Verdict.{Verdict}
@@ -41,7 +41,7 @@ is_undecided = by_kind false false false false true
 abbrev pub is_wide : VerdictLine → Bool
 is_wide line = cond (is_undecided line.verdict) (nat_lt 1 (undefined_entries_of line.table)) false
 
--- a count stops here
+-- a number of 64 bits, which stops here
 abbrev pub saturated : ℕ → ℕ
 saturated n = min n (2 ^ 64 - 1)
 
@@ -120,21 +120,21 @@ abbrev pub sum_of : (Item → ℕ) → List Item → ℕ
 sum_of f [] = 0
 sum_of f (item ∷ items) = f item + sum_of f items
 
--- these are the counts of the items
+-- these are the counts of the items, whose lines are fewer than 2^64 in all
 pub record AreCounts (items : List Item) (counts : Counts) : Type 0 where
-  pub read : counts.read ≡ saturated (length items)
-  pub shards : counts.shards ≡ saturated (count_by (λ item. is_shard item.content) items)
-  pub all : counts.lines ≡ saturated (sum_of (λ item. lines_in item.content) items)
-  pub halt : counts.halt ≡ saturated (count_by (λ item. is_claim_of is_halt item.content) items)
-  pub cycler : counts.cycler ≡ saturated (count_by (λ item. is_claim_of is_cycler item.content) items)
-  pub translated : counts.translated
-      ≡ saturated (count_by (λ item. is_claim_of is_translated item.content) items)
-  pub backward : counts.backward ≡ saturated (count_by (λ item. is_claim_of is_backward item.content) items)
-  pub undecided : counts.undecided ≡ saturated (sum_of (λ item. undecided_in item.content) items)
-  pub wide : counts.wide ≡ saturated (sum_of (λ item. wide_in item.table item.content) items)
+  pub read : counts.read ≡ length items
+  pub shards : counts.shards ≡ count_by (λ item. is_shard item.content) items
+  pub all : counts.lines ≡ sum_of (λ item. lines_in item.content) items
+  pub halt : counts.halt ≡ count_by (λ item. is_claim_of is_halt item.content) items
+  pub cycler : counts.cycler ≡ count_by (λ item. is_claim_of is_cycler item.content) items
+  pub translated : counts.translated ≡ count_by (λ item. is_claim_of is_translated item.content) items
+  pub backward : counts.backward ≡ count_by (λ item. is_claim_of is_backward item.content) items
+  pub undecided : counts.undecided ≡ sum_of (λ item. undecided_in item.content) items
+  pub wide : counts.wide ≡ sum_of (λ item. wide_in item.table item.content) items
+  pub few : counts.lines < 2 ^ 64
 
 -- a list has so many lines, so many of them undecided, and so many of those with more than one `---`
 pub record HasTotals (verdicts : List VerdictLine) (lines undecided wide : ℕ) : Type 0 where
-  pub lines_are : lines ≡ saturated (length verdicts)
-  pub undecided_are : undecided ≡ saturated (count_by (λ line. is_undecided line.verdict) verdicts)
-  pub wide_are : wide ≡ saturated (count_by is_wide verdicts)
+  pub lines_are : lines ≡ length verdicts
+  pub undecided_are : undecided ≡ count_by (λ line. is_undecided line.verdict) verdicts
+  pub wide_are : wide ≡ count_by is_wide verdicts

@@ -1,5 +1,5 @@
 -- How a walk goes along a list, line by line.
-use Rattle.std.specs.Prelude.{◌≡◌, ◌≢◌, ◌⊎◌, ℕ, ◌+◌, ◌≤◌, List, [], ◌∷◌, ◌++◌, length, Option, Some, None}
+use Rattle.std.specs.Prelude.{◌≡◌, ◌≢◌, ◌⊎◌, ℕ, ◌+◌, ◌^◌, ◌<◌, ◌≤◌, List, [], ◌∷◌, ◌++◌, length, Option, Some, None}
 use Rattle.bb_machine.specs.Machine.{Table, symbols_of}
 use Rattle.bb_cert.specs.declared.verdict.reader.Line.TheVariants as said
 use Rattle.bb_cert.specs.verdict.Line.{IsLineOf}
@@ -9,14 +9,15 @@ use Rattle.bb_cover.specs.declared.found.Found.{Found}
 use Rattle.bb_cover.specs.declared.found.Found.TheVariants.{Covers, Stops}
 use Rattle.bb_cover.specs.declared.found.Stop.{Stop}
 use Rattle.bb_cover.specs.declared.found.Why.{Why}
-use Rattle.bb_cover.specs.declared.found.Why.TheVariants.{Unread, NotNext, Refused, TooSoon, Beyond}
+use Rattle.bb_cover.specs.declared.found.Why.TheVariants.{Unread, NotNext, Refused, TooMany, TooSoon, Beyond}
 use Rattle.bb_cover.specs.declared.undefined.UndefinedEntry.{UndefinedEntry}
 use Rattle.bb_cover.specs.declared.list.CoverProgress.{CoverProgress}
 use Rattle.bb_cover.specs.declared.list.Size.{Size}
 use Rattle.bb_cover.specs.Claims.{IsRefusedClaim, IsTrueLine}
 use Rattle.bb_cover.specs.declared.task.Task.{Task}
+use Rattle.bb_cover.specs.declared.content.Content.{Content}
 use Rattle.bb_cover.specs.Content.{IsItemLine, Item, line_of}
-use Rattle.bb_cover.specs.Counts.{counted, saturated}
+use Rattle.bb_cover.specs.Counts.{counted, lines_in, saturated}
 use Rattle.bb_cover.specs.UndefinedEntries.{IsToFill}
 use Rattle.bb_cover.specs.Left.{FillsAt}
 
@@ -46,25 +47,33 @@ pub record GoesOn (below : Option Table) (old : CoverProgress) (table : Table)
   pub walk : new.walk ≡ more ++ rest
   pub stop : new.stop ≡ old.stop
 
--- the line was that of the next machine, with a verdict that may stand there, or with the counts of its shard
+-- so many lines, and those of a content, are fewer than 2^64
+abbrev pub HasRoom : ℕ → Content → Type 0
+HasRoom lines content = lines + lines_in content < 2 ^ 64
+
+-- the line was that of the next machine, with a verdict that may stand there, or with the counts of its shard,
+-- and all lines so far can be counted
 pub record Visited (task : Task) (old : CoverProgress) (bytes : List ℕ) (new : CoverProgress) : Type 0 where
   pub item : Item
   pub is_true : IsTrueLine task bytes item
+  pub room : HasRoom old.counts.lines item.content
   pub undefined : Option UndefinedEntry
   pub to_fill : IsToFill (line_of item) undefined
   pub goes : GoesOn task.below old item.table undefined new
   pub counts : new.counts ≡ counted old.counts item
 
--- the condition of each reason to stop at a line, apart from the others
-abbrev pub Applies : Task → Option Size → List Table → List ℕ → Why → Type 0
-Applies task size left bytes Beyond = (size ≢ None) × (left ≡ [])
-Applies task size left bytes Unread = (item : Item) → IsItemLine task.form item bytes → ⊥
-Applies task size left bytes NotNext = (item : Item) × IsItemLine task.form item bytes
+-- the condition of each reason to stop at a line, apart from the others, after so many lines in all
+abbrev pub Applies : Task → ℕ → Option Size → List Table → List ℕ → Why → Type 0
+Applies task past size left bytes Beyond = (size ≢ None) × (left ≡ [])
+Applies task past size left bytes Unread = (item : Item) → IsItemLine task.form item bytes → ⊥
+Applies task past size left bytes NotNext = (item : Item) × IsItemLine task.form item bytes
     × ((rest : List Table) → IsAsked task.below size left item.table rest → ⊥)
-Applies task size left bytes (Refused given) = (line : VerdictLine)
+Applies task past size left bytes (Refused given) = (line : VerdictLine)
     × IsLineOf (said.Claim line.table line.verdict) bytes
     × IsRefusedClaim task.limits line.table line.verdict given
-Applies task size left bytes TooSoon = ⊥
+Applies task past size left bytes TooMany = (item : Item) × IsItemLine task.form item bytes
+    × (HasRoom past item.content → ⊥)
+Applies task past size left bytes TooSoon = ⊥
 
 -- in this order
 abbrev pub rank : Why → ℕ
@@ -72,18 +81,19 @@ rank Beyond = 1
 rank Unread = 2
 rank NotNext = 3
 rank (Refused given) = 4
-rank TooSoon = 5
+rank TooMany = 5
+rank TooSoon = 6
 
--- the first reason that applies, while the walk has still to visit these machines
-pub record IsWrong (task : Task) (size : Option Size) (left : List Table) (bytes : List ℕ) (why : Why)
+-- the first reason that applies, after so many lines in all, while the walk has still to visit these machines
+pub record IsWrong (task : Task) (past : ℕ) (size : Option Size) (left : List Table) (bytes : List ℕ) (why : Why)
     : Type 0 where
-  pub applies : Applies task size left bytes why
-  pub first : (other : Why) → Applies task size left bytes other → rank why ≤ rank other
+  pub applies : Applies task past size left bytes why
+  pub first : (other : Why) → Applies task past size left bytes other → rank why ≤ rank other
 
 -- the line isn't the one expected by the walk
 pub record Stopped (task : Task) (old : CoverProgress) (bytes : List ℕ) (new : CoverProgress) : Type 0 where
   pub why : Why
-  pub wrong : IsWrong task old.size old.walk bytes why
+  pub wrong : IsWrong task old.counts.lines old.size old.walk bytes why
   pub stop : new.stop ≡ Some (record { line = saturated (old.counts.read + 1); why = why })
   pub counts : new.counts ≡ old.counts
 

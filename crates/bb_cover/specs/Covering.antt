@@ -1,5 +1,5 @@
 -- The result for a list: it covers a size, or stops at a line. This project's own.
-use Rattle.std.specs.Prelude.{◌≡◌, ◌≢◌, ◌↔◌, ◌⊎◌, ℕ, ◌+◌, List, [], ◌∷◌, ◌++◌, length}
+use Rattle.std.specs.Prelude.{◌≡◌, ◌≢◌, ◌↔◌, ◌⊎◌, ℕ, ◌+◌, ◌^◌, ◌<◌, List, [], ◌∷◌, ◌++◌, length}
 use Rattle.std.specs.Prelude.{Option, Some, None, Result, IfOk, Contains}
 use Rattle.std.specs.Io.KnownBytes.{Consumes, IsAtEnd}
 use Rattle.bb_machine.specs.Machine.{Table, IsMachine, symbols_of}
@@ -24,7 +24,7 @@ use Rattle.bb_cover.specs.declared.content.Content.TheVariants.{Claim, Shard}
 use Rattle.bb_cover.specs.declared.content.ShardCounts.{ShardCounts}
 use Rattle.bb_cover.specs.declared.task.Task.{Task}
 use Rattle.bb_cover.specs.Content.{Item, line_of, lines_of}
-use Rattle.bb_cover.specs.Counts.{AreCounts, HasTotals, saturated}
+use Rattle.bb_cover.specs.Counts.{AreCounts, HasTotals, lines_in, saturated, sum_of}
 use Rattle.bb_cover.specs.CoverProgress.{IsWrong}
 
 -- the machine at which the walk begins, of so many states and symbols
@@ -39,10 +39,11 @@ HasSize (Some first) states symbols = (states ≡ length first) × (symbols ≡ 
 
 -- the bytes of these lines are those of a walk through all machines of a size, or through those below a
 -- machine, each with a verdict to which the checker answers `ok` or `open`; a shard stands for the walk below
--- its machine
+-- its machine. All lines are fewer than 2^64, with those of the shards
 pub record IsWholeWalk (task : Task) (bytes : List (List ℕ)) (states symbols : ℕ) : Type 0 where
   pub items : List Item
   pub are_true : AreTrueLines task bytes items
+  pub few : sum_of (λ item. lines_in item.content) items < 2 ^ 64
   pub sized : HasSize task.below states symbols
   pub walk : IsWalk (root_of task.below states symbols ∷ []) (lines_of items)
 
@@ -108,11 +109,11 @@ HasLeft below None left verdicts = (verdicts ≡ []) × (left ≡ [])
 HasLeft below (Some size) left verdicts = (verdicts ≢ []) × ((tail : List VerdictLine) → IsWalk left tail
     ↔ IsWalk (root_of below size.states size.symbols ∷ []) (verdicts ++ tail))
 
--- at a line, or at the end of all, the walk has still to visit these machines, and the line isn't the one
--- expected
-abbrev pub IsWrongAt : Task → Option Size → List Table → List (List ℕ) → Why → Type 0
-IsWrongAt task size left [] why = (why ≡ TooSoon) × (size ≢ None → left ≢ [])
-IsWrongAt task size left (bytes ∷ more) why = IsWrong task size left bytes why
+-- at a line, or at the end of all, after so many lines in all, the walk has still to visit these machines, and
+-- the line isn't the one expected
+abbrev pub IsWrongAt : Task → ℕ → Option Size → List Table → List (List ℕ) → Why → Type 0
+IsWrongAt task past size left [] why = (why ≡ TooSoon) × (size ≢ None → left ≢ [])
+IsWrongAt task past size left (bytes ∷ more) why = IsWrong task past size left bytes why
 
 -- the walk stops at this line: those before it are a beginning of a whole walk
 pub record StopsAt (task : Task) (bytes : List (List ℕ)) (counts : Counts) (stop : Stop) : Type 0 where
@@ -124,7 +125,7 @@ pub record StopsAt (task : Task) (bytes : List (List ℕ)) (counts : Counts) (st
   pub size : Option Size
   pub left : List Table
   pub has_left : HasLeft task.below size left (lines_of items)
-  pub wrong : IsWrongAt task size left after stop.why
+  pub wrong : IsWrongAt task counts.lines size left after stop.why
   pub line : stop.line ≡ saturated (length before + 1)
   pub counted : AreCounts items counts
 

@@ -20,7 +20,7 @@ use Rattle.bb_cover.specs.declared.task.Task.{Task}
 use Rattle.bb_cover.specs.Content.{IsItemLine, IsShardLine, Item, shard_text}
 use Rattle.bb_cover.specs.declared.found.Stop.{Stop}
 use Rattle.bb_cover.specs.declared.found.Why.{Why}
-use Rattle.bb_cover.specs.declared.found.Why.TheVariants.{Unread, NotNext, Refused}
+use Rattle.bb_cover.specs.declared.found.Why.TheVariants.{Unread, NotNext, Refused, TooMany}
 use Rattle.bb_cover.specs.declared.list.CoverProgress.{CoverProgress}
 use Rattle.bb_cover.specs.declared.list.Size.{Size}
 use Rattle.bb_cover.specs.CoverProgress.{Applies, IsWrong, TookBy}
@@ -35,8 +35,11 @@ shard_short : (table : Table) (shard : ShardCounts) (bytes : List ℕ) → IsSha
 shard_short table shard bytes is =
     let machine = text_short MAX_STATES MAX_SYMBOLS table is.machine in
     let lines = number shard.lines is.numbers.0 in
-    let undecided = number shard.undecided is.numbers.1 in
-    let wide = number shard.wide is.numbers.2 in
+    let few = is.numbers.0 in
+    let undecided_few = is.numbers.1.undecided in
+    let wide_few = is.numbers.1.wide in
+    let undecided = number shard.undecided (omega (arith, few, undecided_few)) in
+    let wide = number shard.wide (omega (arith, few, undecided_few, wide_few)) in
     let whole = length-append (text table) (32 ∷ shard_text shard is.digest) in
     let words = length-append (codes "below ")
     (decimal shard.lines ++ (32 ∷ (decimal shard.undecided
@@ -87,25 +90,28 @@ module _ (task : Task) (line : List ℕ) where
 
   -- a reason applies to the line where it does to the kept bytes, and the other way round
 
-  applies_to_line : (size : Option Size) (left : List Table) (why : Why) → IsTooLong line task.form
-      → Applies task size left kept_bytes why → Applies task size left line why
-  applies_to_line size left Unread long applies = λ item of. long.whole item of
-  applies_to_line size left NotNext long applies = absurd (long.kept applies.0 applies.1)
-  applies_to_line size left (Refused given) long applies = absurd (long.kept (claim applies.0) applies.1)
-  applies_to_line size left why long applies = applies
+  applies_to_line : (past : ℕ) (size : Option Size) (left : List Table) (why : Why) → IsTooLong line task.form
+      → Applies task past size left kept_bytes why → Applies task past size left line why
+  applies_to_line past size left Unread long applies = λ item of. long.whole item of
+  applies_to_line past size left NotNext long applies = absurd (long.kept applies.0 applies.1)
+  applies_to_line past size left TooMany long applies = absurd (long.kept applies.0 applies.1)
+  applies_to_line past size left (Refused given) long applies = absurd (long.kept (claim applies.0) applies.1)
+  applies_to_line past size left why long applies = applies
 
-  applies_to_kept : (size : Option Size) (left : List Table) (why : Why) → IsTooLong line task.form
-      → Applies task size left line why → Applies task size left kept_bytes why
-  applies_to_kept size left Unread long applies = λ item of. long.kept item of
-  applies_to_kept size left NotNext long applies = absurd (long.whole applies.0 applies.1)
-  applies_to_kept size left (Refused given) long applies = absurd (long.whole (claim applies.0) applies.1)
-  applies_to_kept size left why long applies = applies
+  applies_to_kept : (past : ℕ) (size : Option Size) (left : List Table) (why : Why) → IsTooLong line task.form
+      → Applies task past size left line why → Applies task past size left kept_bytes why
+  applies_to_kept past size left Unread long applies = λ item of. long.kept item of
+  applies_to_kept past size left NotNext long applies = absurd (long.whole applies.0 applies.1)
+  applies_to_kept past size left TooMany long applies = absurd (long.whole applies.0 applies.1)
+  applies_to_kept past size left (Refused given) long applies = absurd (long.whole (claim applies.0) applies.1)
+  applies_to_kept past size left why long applies = applies
 
   wrong_of_long : (old : CoverProgress) (why : Why) → IsTooLong line task.form
-      → IsWrong task old.size old.walk kept_bytes why → IsWrong task old.size old.walk line why
+      → IsWrong task old.counts.lines old.size old.walk kept_bytes why
+      → IsWrong task old.counts.lines old.size old.walk line why
   wrong_of_long old why long wrong = record {
-    applies = applies_to_line old.size old.walk why long wrong.applies;
-    first = λ other applies. wrong.first other (applies_to_kept old.size old.walk other long applies);
+    applies = applies_to_line old.counts.lines old.size old.walk why long wrong.applies;
+    first = λ other applies. wrong.first other (applies_to_kept old.counts.lines old.size old.walk other long applies);
   }
 
   took_of_long : (stop : Option Stop) (old new : CoverProgress) → IsTooLong line task.form

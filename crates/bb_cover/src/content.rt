@@ -5,7 +5,8 @@ ghost use Rattle.bb_machine.specs.Machine.{Table};
 ghost use Rattle.bb_cert.specs.declared.verdict.Verdict.{Verdict};
 ghost use Rattle.bb_cert.specs.declared.verdict.reader.Line.{Line};
 ghost use Rattle.bb_cert.specs.verdict.Line.{IsLineOf};
-ghost use Rattle.bb_cover.specs.Content.{HasCounts, IsDigest, IsHexDigit, IsItemLine, IsShardLine, Item, shard_text};
+ghost use Rattle.bb_cover.specs.Content.{ArePossible, HasCounts, IsDigest, IsHexDigit, IsItemLine, IsShardLine};
+ghost use Rattle.bb_cover.specs.Content.{Item, shard_text};
 
 use crate::task::Form;
 use bb_cert::{LineContent, Verdict, read_line_in_place};
@@ -15,7 +16,7 @@ use itoa::Buffer;
 /// The bytes of a digest: a SHA-256 in hexadecimal.
 const DIGEST: usize = 64;
 
-/// The counts of a shard, the lines of the walk below a machine. A count stops at 2^64 - 1.
+/// The counts of a shard, the lines of the walk below a machine.
 #[derive(Clone, Copy, Debug, PartialEq, Eq)]
 pub struct ShardCounts {
     /// Its lines.
@@ -94,11 +95,22 @@ fn read_counts(words: &[u8]) -> Option<ShardCounts>
     if !is_digest(digest) {
         return None;
     }
-    Some(ShardCounts {
+    let shard = ShardCounts {
         lines,
         undecided,
         wide,
-    })
+    };
+    if !are_possible(shard) {
+        return None;
+    }
+    Some(shard)
+}
+
+/// Whether a walk may have these counts.
+fn are_possible(shard: ShardCounts) -> bool
+    ensures { IsTrue result ↔ ArePossible shard }
+{
+    1 <= shard.lines && shard.undecided <= shard.lines && shard.wide <= shard.undecided
 }
 
 /// The number before the first space, and the bytes after it.

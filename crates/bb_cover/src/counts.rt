@@ -1,6 +1,7 @@
 //! How many lines of each kind a list has.
-ghost use Rattle.std.specs.Prelude.{◌≡◌, ◌+◌, nat_lt};
+ghost use Rattle.std.specs.Prelude.{◌≡◌, ◌↔◌, ◌+◌, IsTrue, nat_lt};
 ghost use Rattle.bb_cover.specs.Counts.{counted, counted_claim, counted_shard, more_if, no_counts, saturated};
+ghost use Rattle.bb_cover.specs.CoverProgress.{HasRoom};
 ghost use Rattle.bb_cover.specs.UndefinedEntries.{undefined_entries_of};
 
 use crate::content::{Content, ShardCounts};
@@ -8,7 +9,7 @@ use crate::table::count_undefined_entries;
 use bb_cert::Verdict;
 use bb_machine::Machine;
 
-/// How many lines were visited, and how many have each verdict. A count stops at 2^64 - 1.
+/// How many lines were visited, and how many have each verdict.
 #[derive(Clone, Copy, Debug, PartialEq, Eq)]
 pub struct Counts {
     /// The lines of the list itself.
@@ -47,6 +48,17 @@ impl Counts {
             undecided: 0,
             wide: 0,
         }
+    }
+
+    /// Whether all lines can still be counted with those of a content.
+    pub(crate) fn has_room(&self, content: &Content) -> bool
+        ensures { IsTrue result ↔ HasRoom self.now.lines content.now }
+    {
+        let lines = match content {
+            Content::Claim(_) => 1,
+            Content::Shard(shard) => shard.lines,
+        };
+        lines <= u64::MAX - self.lines
     }
 
     /// Counts a line.

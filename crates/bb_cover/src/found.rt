@@ -10,6 +10,8 @@ pub enum Why {
     NotNext,
     /// The checker's answer to its claim is this one, `bad` or `over`.
     Refused(Answer),
+    /// The lines up to it, with those of the shards, are 2^64 or more.
+    TooMany,
     /// The list ends, and machines are still to be visited.
     TooSoon,
     /// All machines were visited before it.

@@ -242,6 +242,10 @@ impl<T: Tape> LineSink for Checker<'_, T> {
             self.path,
         ) {
             Ok(Judged::Fine(undefined)) => {
+                if !self.progress.counts.has_room(&content) {
+                    self.progress.stop_for(Why::TooMany);
+                    return Ok(());
+                }
                 self.progress
                     .visit(&self.task.below, &mut self.machine, &content, undefined);
                 self.seen.set(self.progress.counts.read);

@@ -38,7 +38,8 @@ use bb_tape::{Memory, Tape};
 /// a halt costs the steps of its verdict, a pair at most twice its second step, an undecided machine one run
 /// and the tree. It costs more only if the fingerprints of two different configurations collide.
 ///
-/// After an error the meter has counted every step made; the next call resets all tapes.
+/// After an error the meter has counted steps of the runs made as `cut` says; by tests, all of them. The next
+/// call resets all tapes.
 #[inline(always)]
 pub fn decide_in_one_run<T: Tape, K: FingerprintKeys>(
     machine: &Machine,

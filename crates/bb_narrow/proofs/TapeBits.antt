@@ -1,5 +1,5 @@
 -- What the bits of a run in registers say of its window, its head and its cells.
-use Rattle.std.proofs.Common.{◌≡◌, ℕ, ◌+◌, ◌<◌, inl, inr, ℤ, pos, ◌+ℤ◌, ◌≤ℤ◌, ap, sym}
+use Rattle.std.proofs.Common.{◌≡◌, ℕ, ◌+◌, ◌<◌, ◌≤◌, inl, inr, ℤ, pos, ◌+ℤ◌, ◌≤ℤ◌, ap, sym}
 use Rattle.std.proofs.Common.{◌∙◌, add-one, arith}
 use Rattle.std.specs.Int.{bit_at}
 use Rattle.std.proofs.lemmas.Bool.{cases_eq, cases_lt}
@@ -13,6 +13,7 @@ use Rattle.bb_tape.proofs.Facts.{by_position, cell-with_cell-other, cell-with_ce
 use Rattle.bb_sim.specs.declared.runner.Runner.{Runner}
 use Rattle.bb_sim.specs.Runner.{Stands, high_of, low_of, position_of, state_of, steps_of}
 use Rattle.bb_sim.specs.Span.{counted_head, greatest, least}
+use Rattle.bb_sim.proofs.Facts.{span_is_reached}
 use Rattle.bb_narrow.specs.declared.run.NarrowRun.{NarrowRun}
 use Rattle.bb_narrow.specs.BitCells.{IsLowest, bits_from}
 use Rattle.bb_narrow.specs.Registers.{IsNarrowRun}
@@ -121,3 +122,17 @@ module _ {table : Table} {bounds : Bounds} {run : NarrowRun} (known : IsNarrowRu
       let is : cell known.view.content (at_bit i) ≡ 1 =
       ap (λ c. cell c (at_bit i)) known.at.content ∙ cell-in_word run.registers.bits i h ∙ set in
       omega (arith, none, is))
+
+-- the window of a later configuration has that of an earlier one in it
+pub window_grows : {table : Table} {bounds : Bounds} {earlier run : NarrowRun}
+    (a : IsNarrowRun table bounds earlier) (b : IsNarrowRun table bounds run) → earlier.steps ≤ run.steps
+    → (b.view.low ≤ℤ a.view.low) × (a.view.high ≤ℤ b.view.high)
+window_grows {table} a b order =
+    let old = span_is_reached table (steps_of a.runner) in
+    let new = span_is_reached table (steps_of b.runner) in
+    let few : steps_of a.runner ≤ steps_of b.runner = omega (arith, order, a.steps_is, b.steps_is) in
+    let low = new.between old.low_step _ (omega (arith, old.low_before, few)) old.low in
+    let high = new.between old.high_step _ (omega (arith, old.high_before, few)) old.high in (
+      omega (arith, ints, low.0, a.stands.low, a.stands.window_low, b.stands.low, b.stands.window_low),
+      omega (arith, ints, high.1, a.stands.high, a.stands.window_high, b.stands.high, b.stands.window_high),
+    )

@@ -1,7 +1,6 @@
 //! A run on leaving the registers: its cells and window on a tape, and the runner that continues it.
-ghost use Rattle.std.specs.Prelude.{◌≡◌, ◌<◌, ℕ, IfOk, IsTrue, OnErr, OnOk, pos, ◌-ℤ◌, ◌<ℤ◌, ◌≤ℤ◌};
+ghost use Rattle.std.specs.Prelude.{◌≡◌, ◌<◌, ◌≤◌, ℕ, IfOk, IsTrue, OnErr, OnOk, pos, ◌-ℤ◌, ◌<ℤ◌, ◌≤ℤ◌};
 ghost use Rattle.std.specs.Int.{bit_at};
-ghost use Rattle.bb_tape.specs.Content.{blank};
 ghost use Rattle.bb_tape.specs.TapeView.{IsInside};
 ghost use Rattle.bb_sim.specs.Runner.{Stands, steps_of};
 ghost use Rattle.bb_narrow.specs.BitCells.{IsLowest, bits_content};
@@ -47,12 +46,60 @@ impl NarrowRun {
             → OnOk result (T.view tape.new ≡ known.view) }
         ensures memory { OnErr result (IsTrue T.GROWS) }
     {
+        tape.reset();
+        self.replace_cells(machine, limits, 0, tape)
+    }
+
+    /// Moves the run onto a tape that has an earlier configuration of it: only cells that differ are written.
+    ///
+    /// After an error the contents of the tape are unspecified; reset it before its next use.
+    pub fn move_over<T: Tape>(
+        &self,
+        earlier: &NarrowRun,
+        machine: &Machine,
+        limits: &Limits,
+        tape: &mut T,
+    ) -> Result<Runner, Memory>
+        requires run { IsNarrowRun machine.now limits.now self.now }
+        requires earlier { IsNarrowRun machine.now limits.now earlier.now }
+        requires order { earlier.now.steps ≤ self.now.steps }
+        requires tape { (known : IsNarrowRun machine.now limits.now earlier.now)
+            → T.view tape.old ≡ known.view }
+        ensures stands { IfOk result (λ runner. Stands machine.now runner (T.view tape.new)) }
+        ensures steps { IfOk result (λ runner. steps_of runner ≡ self.now.steps) }
+        ensures limit { (T.view tape.new).limit ≡ (T.view tape.old).limit }
+        ensures same { (known : IsNarrowRun machine.now limits.now self.now)
+            → OnOk result (T.view tape.new ≡ known.view) }
+        ensures memory { OnErr result (IsTrue T.GROWS) }
+    {
+        self.replace_cells(machine, limits, earlier.registers.bits, tape)
+    }
+
+    /// Gives a tape the run's cells in place of those of a number, and the run's window.
+    fn replace_cells<T: Tape>(
+        &self,
+        machine: &Machine,
+        limits: &Limits,
+        bits: u64,
+        tape: &mut T,
+    ) -> Result<Runner, Memory>
+        requires run { IsNarrowRun machine.now limits.now self.now }
+        requires limit { (T.view tape.old).limit ≡ limits.now.cells }
+        requires content { (T.view tape.old).content ≡ bits_content bits }
+        requires window { (known : IsNarrowRun machine.now limits.now self.now)
+            → (known.view.low ≤ℤ (T.view tape.old).low) × ((T.view tape.old).high ≤ℤ known.view.high) }
+        ensures stands { IfOk result (λ runner. Stands machine.now runner (T.view tape.new)) }
+        ensures steps { IfOk result (λ runner. steps_of runner ≡ self.now.steps) }
+        ensures limit { (T.view tape.new).limit ≡ (T.view tape.old).limit }
+        ensures same { (known : IsNarrowRun machine.now limits.now self.now)
+            → OnOk result (T.view tape.new ≡ known.view) }
+        ensures memory { OnErr result (IsTrue T.GROWS) }
+    {
         limits.show_accepted();
         let low = lowest_position(self.window);
         let high = low + (limits.cells() - self.room - 1) as i64;
-        tape.reset();
         widen_window(tape, low, high);
-        let Ok(()) = write_bits(tape, self.registers.bits) else {
+        let Ok(()) = write_bits(tape, bits, self.registers.bits) else {
             return Err(Memory);
         };
         Ok(self.runner(machine, limits))
@@ -68,12 +115,10 @@ pub(crate) fn lowest_position(bits: u64) -> i64
     i64::from(bits.trailing_zeros()) - 32
 }
 
-/// Widens the window of a tape just reset.
+/// Widens the window of a tape to these ends.
 fn widen_window<T: Tape>(tape: &mut T, low: i64, high: i64)
-    requires at_low { (T.view tape.old).low ≡ pos 0 }
-    requires at_high { (T.view tape.old).high ≡ pos 0 }
-    requires from { low ≤ℤ pos 0 }
-    requires to { pos 0 ≤ℤ high }
+    requires from { low ≤ℤ (T.view tape.old).low }
+    requires to { (T.view tape.old).high ≤ℤ high }
     requires room { (high -ℤ low) <ℤ pos (T.view tape.old).limit }
     ensures { T.view tape.new ≡ record (T.view tape.old) { low = low; high = high } }
 {
@@ -85,19 +130,20 @@ fn widen_window<T: Tape>(tape: &mut T, low: i64, high: i64)
     };
 }
 
-/// Writes the cells of a number to a blank tape whose window has them.
-fn write_bits<T: Tape>(tape: &mut T, bits: u64) -> Result<(), Memory>
-    requires blank { (T.view tape.old).content ≡ blank }
+/// Writes the cells of a number to a tape that has those of another, and has both in its window.
+fn write_bits<T: Tape>(tape: &mut T, old: u64, bits: u64) -> Result<(), Memory>
+    requires content { (T.view tape.old).content ≡ bits_content old }
     requires inside { (i : ℕ) → i < 64 → bit_at bits i ≡ 1 → IsInside (T.view tape.old) (pos i -ℤ pos 32) }
     ensures ok { OnOk result (T.view tape.new ≡ record (T.view tape.old) { content = bits_content bits }) }
     ensures limit { (T.view tape.new).limit ≡ (T.view tape.old).limit }
     ensures memory { OnErr result (IsTrue T.GROWS) }
 {
     for place in 0..64u32 {
-        if (bits >> place) & 1 == 0 {
+        let symbol = (bits >> place) & 1;
+        if (old >> place) & 1 == symbol {
             continue;
         }
-        let Ok(()) = tape.write(i64::from(place) - 32, 1) else {
+        let Ok(()) = tape.write(i64::from(place) - 32, symbol as u8) else {
             return Err(Memory);
         };
     }

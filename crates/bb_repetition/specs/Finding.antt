@@ -8,7 +8,7 @@ use Rattle.bb_cert.specs.declared.checker.answer.Answer.TheVariants.{Ok}
 use Rattle.bb_cert.specs.declared.verdict.Verdict.{Verdict}
 use Rattle.bb_cert.specs.declared.verdict.Verdict.TheVariants.{Halt, Cycler, Translated, Backward, Undecided}
 use Rattle.bb_cert.specs.checker.Answer.{IsAnswer}
-use Rattle.bb_cert.specs.checker.ClaimMeter.{CountsWindow, IsWithinClaim}
+use Rattle.bb_cert.specs.checker.ClaimMeter.{CountsCheck, CountsWindow, IsWithinClaim}
 use Rattle.laws_of_repetition.specs.Repetition.{RepeatsExactly}
 use Rattle.laws_of_repetition.specs.Shift.{IsShift}
 use Rattle.bb_repetition.specs.declared.recurrence.Recurrence.{Recurrence}
@@ -66,9 +66,10 @@ pub record CountsPair (table : Table) (bounds : Bounds) (verdict : Verdict) (per
   pub no_levels : meter.most_levels ≡ 0
   pub no_nodes : meter.nodes ≡ 0
 
--- the cost of a pair that isn't confirmed: no more than it names
+-- the cost of a pair that isn't confirmed: that of its check
 pub record CountsAnswer (table : Table) (bounds : Bounds) (verdict : Verdict) (meter : Meter) : Type 0 where
   pub within : IsWithinClaim bounds verdict meter
+  pub checked : CountsCheck table bounds verdict meter
   pub window : CountsWindow table bounds verdict meter.most_cells
 
 -- the cost of a result

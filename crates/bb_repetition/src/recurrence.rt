@@ -63,8 +63,8 @@ impl<T> Tapes<T> {
 }
 
 /// Finds the exact recurrence of a run. It repeats from `first` on, and the distance to `second` is a period.
-/// `second` is inside the limits, and no step is made past it. Resets `uses`, and records there the last uses
-/// up to `second`.
+/// `second` is inside the limits; no other step needs to be. Resets `uses`, and records there the last uses up
+/// to `second`.
 ///
 /// The steps are counted in `meter`. A run of at most 4,096 steps is made once and recorded: it costs
 /// `second`, and `first` and the period more if the period is less than the distance. A longer one costs

@@ -7,7 +7,7 @@ use Rattle.std.proofs.lemmas.Bool.{and_from, and_parts}
 use Rattle.std.proofs.lemmas.Fn.{chained_keeps}
 use Rattle.bb_machine.specs.Limits.{Bounds}
 use Rattle.bb_sim.specs.declared.meter.Meter.{Meter}
-use Rattle.bb_sim.specs.Span.{span}
+use Rattle.bb_sim.specs.Span.{IsLastInside, span}
 use Rattle.bb_sim.proofs.Facts.{last_step_is_unique}
 use Rattle.bb_cert.specs.declared.checker.answer.Answer.{Answer}
 use Rattle.bb_cert.specs.declared.checker.answer.Answer.TheVariants as answer
@@ -19,7 +19,7 @@ use Rattle.bb_run.specs.declared.summary.Summary.{Summary}
 use Rattle.bb_run.specs.CheckReply.{IsCheckReply, unread_text}
 use Rattle.bb_run.specs.CheckSeen.{CheckSaw, SawAnswer, SawOpen, SawUnread}
 use Rattle.bb_run.specs.Seen.{none_seen}
-use Rattle.bb_run.specs.CheckSummary.{IsCheckSummary, IsFine, IsOkOf, IsWindowOf}
+use Rattle.bb_run.specs.CheckSummary.{IsCheckSummary, IsFine, IsOkOf, IsReplayOf, IsWindowOf}
 use Rattle.bb_run.proofs.Peaks.{IsPeak-over, IsPeak-past, all_more, clean_more}
 use Rattle.bb_run.proofs.CheckReplies.{answered, check_reply_is_unique, never_both, one_answer, one_table}
 use Rattle.bb_run.proofs.CheckReplies.{one_verdict, opened}
@@ -65,6 +65,12 @@ module _ (bounds : Bounds) (lines : List (List ℕ)) (line : List ℕ) (old new 
     oks = all_more (λ other within n l k ok. let few = within n l k ok in
         (omega (arith, few.0, steps), omega (arith, few.1, levels), omega (arith, few.2, nodes)))
         lines before.oks is_within;
+    steps = elim saw.window [
+      | inl window ↦ IsPeak-over (IsReplayOf bounds) before.steps (replay_of window.is_replayed)
+          (only_replay window.is_replayed) steps
+      | inr none ↦ IsPeak-past (IsReplayOf bounds) before.steps (no_replay none.0)
+          (let made = saw.checked.steps.not_replayed none.0 in omega (arith, steps, made))
+    ];
     cells = elim saw.window [
       | inl window ↦
           IsPeak-over (IsWindowOf bounds) before.cells (window_of window) (only_window window) cells
@@ -88,6 +94,30 @@ module _ (bounds : Bounds) (lines : List (List ℕ)) (line : List ℕ) (old new 
 
     cells : new.peak.most_cells ≡ max old.peak.most_cells saw.meter.most_cells
     cells = ap (λ (m : Meter). m.most_cells) saw.peak
+
+    replay_of : IsReplayed bounds saw.verdict → IsReplayOf bounds line saw.meter.steps
+    replay_of made = record {
+      table = saw.table;
+      verdict = saw.verdict;
+      of = saw.of;
+      is_replayed = made;
+      is_last = saw.checked.steps.replayed made;
+    }
+
+    only_replay : IsReplayed bounds saw.verdict → (n : ℕ) → IsReplayOf bounds line n → n ≡ saw.meter.steps
+    only_replay made n other =
+        let verdict = one_verdict line other.table saw.table other.verdict saw.verdict other.of saw.of in
+        let table = one_table line other.table saw.table other.verdict saw.verdict other.of saw.of in
+        let same : IsLastInside saw.table (replay_bounds bounds saw.verdict) n
+        = subst (λ v. IsLastInside saw.table (replay_bounds bounds v) n) verdict
+        (subst (λ t. IsLastInside t (replay_bounds bounds other.verdict) n) table other.is_last) in
+        last_step_is_unique saw.table (replay_bounds bounds saw.verdict) n saw.meter.steps same
+        (saw.checked.steps.replayed made)
+
+    no_replay : (IsReplayed bounds saw.verdict → ⊥) → (n : ℕ) → IsReplayOf bounds line n → ⊥
+    no_replay none n other =
+        let verdict = one_verdict line other.table saw.table other.verdict saw.verdict other.of saw.of in
+        none (subst (IsReplayed bounds) verdict other.is_replayed)
 
     window_of : IsReplaySpan saw.table bounds saw.verdict saw.meter.most_cells
         → IsWindowOf bounds line saw.meter.most_cells
@@ -138,6 +168,8 @@ module _ (bounds : Bounds) (lines : List (List ℕ)) (line : List ℕ) (old new 
     clean = clean_more (IsFine bounds) lines before.clean (λ e. (e, fine), λ are. are.0);
     oks = all_more (λ other within. within) lines before.oks
         (λ n l k ok. absurd (never_both line ok.table ok.verdict saw.column ok.of saw.of));
+    steps = IsPeak-past (IsReplayOf bounds) before.steps
+        (λ n other. never_both line other.table other.verdict saw.column other.of saw.of) refl;
     cells = IsPeak-past (IsWindowOf bounds) before.cells
         (λ n other. never_both line other.table other.verdict saw.column other.of saw.of) refl;
     within = before.within;
@@ -157,6 +189,9 @@ module _ (bounds : Bounds) (lines : List (List ℕ)) (line : List ℕ) (old new 
     );
     oks = rw saw.peak (all_more (λ other within. within) lines before.oks
         (λ n l k ok. absurd (saw.no_line (Claim ok.table ok.verdict) ok.of)));
+    steps = IsPeak-past (IsReplayOf bounds) before.steps
+        (λ n other. saw.no_line (Claim other.table other.verdict) other.of)
+        (ap (λ (m : Meter). m.steps) saw.peak);
     cells = IsPeak-past (IsWindowOf bounds) before.cells
         (λ n other. saw.no_line (Claim other.table other.verdict) other.of)
         (ap (λ (m : Meter). m.most_cells) saw.peak);
@@ -184,6 +219,7 @@ module _ {D : Type 0} (bounds : D → Bounds) (summary : D → Summary) (cost : 
       none = record {
         clean = (λ e. tt, λ all. refl);
         oks = tt;
+        steps = record { bound = tt; reached = inl refl };
         cells = record { bound = tt; reached = inl refl };
         within = grind arith;
       }

@@ -10,7 +10,7 @@ use Rattle.bb_cert.specs.declared.verdict.reader.Line.{Line}
 use Rattle.bb_cert.specs.declared.verdict.reader.Line.TheVariants.{Claim, Refusal}
 use Rattle.bb_cert.specs.declared.verdict.Verdict.{Verdict}
 use Rattle.bb_cert.specs.checker.Answer.{IsAnswer, is_fine}
-use Rattle.bb_cert.specs.checker.ClaimMeter.{CountsClaim, CountsWindow, IsWithinClaim}
+use Rattle.bb_cert.specs.checker.ClaimMeter.{CountsCheck, CountsClaim, CountsWindow, IsWithinClaim}
 use Rattle.bb_cert.specs.verdict.Line.{IsLineOf}
 use Rattle.bb_run.specs.declared.summary.Summary.{Summary}
 
@@ -25,6 +25,7 @@ pub record SawAnswer (bounds : Bounds) (old : Summary) (line : List ℕ) (new : 
   pub meter : Meter
   pub counted : given ≡ answer.Ok → CountsClaim verdict meter
   pub within : IsWithinClaim bounds verdict meter
+  pub checked : CountsCheck table bounds verdict meter
   pub window : CountsWindow table bounds verdict meter.most_cells
   pub clean : new.clean ≡ (old.clean && is_fine given)
   pub peak : new.peak ≡ greatest_of old.peak meter

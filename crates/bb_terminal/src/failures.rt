@@ -1,5 +1,6 @@
 //! The input of a program, and its reports of failures.
 ghost use Rattle.std.specs.Prelude.{◌≡◌};
+ghost use Rattle.bb_terminal.specs.Status.{IsStopStatus};
 
 use crate::messages::{FaultText, LimitText};
 use bb_command::Stop;
@@ -56,8 +57,19 @@ pub fn report_fault(
     3
 }
 
+/// Prints the reason for doing no work, and returns the exit status: that of the stop, or 3 if help or the
+/// version can't be written.
+pub fn report_stop(rt: &HostRuntime, program: &'static str, stop: &Stop) -> u8
+    ensures { IsStopStatus stop.now result }
+{
+    match (print_stop(rt, program, stop), stop) {
+        (Err(_), Stop::Help(_)) => report_fault(rt, program, None, Fault::Write, None),
+        _ => stop.status(),
+    }
+}
+
 /// Prints help to standard output, and any other cause to standard error.
-pub fn print_stop(rt: &HostRuntime, program: &'static str, stop: &Stop) -> io::Result<()> {
+fn print_stop(rt: &HostRuntime, program: &'static str, stop: &Stop) -> io::Result<()> {
     match stop {
         Stop::Help(text) => rt.print(text),
         Stop::Words(text) => rt.eprint(text),

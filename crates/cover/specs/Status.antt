@@ -1,10 +1,11 @@
 -- The program's exit status.
-use Rattle.std.specs.Prelude.{ℕ, Result, Ok, Err}
+use Rattle.std.specs.Prelude.{◌≡◌, ◌⊎◌, ℕ, Result, Ok, Err}
 use Rattle.bb_lines.specs.declared.fault.Fault.{Fault}
 use Rattle.bb_cover.specs.declared.found.Found.{Found}
 use Rattle.bb_cover.specs.declared.found.Found.TheVariants.{Covers, Stops}
 use Rattle.bb_cover.specs.declared.list.Cover.{Cover}
 use Rattle.bb_command.specs.Command.{stop_status}
+use Rattle.bb_terminal.specs.Status.{IsStopStatus}
 use Rattle.cover.specs.declared.command.Refusal.{Refusal}
 use Rattle.cover.specs.declared.command.Refusal.TheVariants.{Common, Machine}
 
@@ -21,3 +22,13 @@ end_status (Err fault) = 3
 abbrev pub refusal_status : Refusal → ℕ
 refusal_status (Common stop) = stop_status stop
 refusal_status (Machine refused) = 2
+
+-- that of the result; 3 also where its line can't be written
+abbrev pub IsReportStatus : Result Cover Fault → ℕ → Type 0
+IsReportStatus (Ok cover) status = (status ≡ found_status cover.found) ⊎ (status ≡ 3)
+IsReportStatus (Err fault) status = status ≡ 3
+
+-- that of the refusal; after help or the version also 3, if its text can't be written
+abbrev pub IsRefusalStatus : Refusal → ℕ → Type 0
+IsRefusalStatus (Common stop) status = IsStopStatus stop status
+IsRefusalStatus (Machine refused) status = status ≡ 2

@@ -2,20 +2,22 @@
 //! defined in `docs/cover.md`.
 #![tactic(auto)]
 
+ghost use Rattle.std.specs.Prelude.{◌≡◌};
+ghost use Rattle.cover.specs.Status.{IsRefusalStatus, IsReportStatus};
+
 mod command;
 mod report;
 mod serve;
 
-use bb_command::Stop;
 use bb_cover::Cover;
 use bb_lines::fault::Fault;
 use bb_lines::watched::Watched;
 use bb_terminal::arguments::{read_arguments, words_of};
-use bb_terminal::failures::{open_list, print_stop, report_fault};
+use bb_terminal::failures::{open_list, report_fault, report_stop};
 use bb_terminal::progress::Progress;
 use bb_terminal::streams::Observed;
 use command::{Asked, Refusal, ask};
-use report::{LineCount, MachineText, Report};
+use report::{LineCount, MachineText, write_report};
 use serve::{cover_list, status};
 use std::cell::Cell;
 use std::io;
@@ -40,7 +42,7 @@ fn parse_request(rt: &HostRuntime) -> Result<Asked, Refusal> {
     ask(rt.alloc(), words.as_slice())
 }
 
-/// Walks along the list, reports the result, and returns the exit status. A file that can't be opened is a
+/// Walks along the list, prints the result, and returns the exit status. A file that can't be opened is a
 /// failed read.
 fn answer_request(rt: &HostRuntime, asked: &Asked) -> u8 {
     let seen = Cell::new(0);
@@ -51,19 +53,30 @@ fn answer_request(rt: &HostRuntime, asked: &Asked) -> u8 {
         },
         None => cover_input(rt, asked, None, rt.stdin(), &seen),
     };
-    match &end {
-        Ok(cover) => {
-            let report = Report {
-                cover,
-                task: &asked.task,
-            };
-            if let Err(error) = rt.println(report) {
-                return report_list_fault(rt, asked, Fault::Write, Some(&error));
-            }
-        }
-        Err(fault) => return report_list_fault(rt, asked, *fault, error.as_ref()),
+    report_end(rt, asked, &end, error.as_ref())
+}
+
+/// Prints the line for a result, or reports a fault, and returns the exit status.
+fn report_end(
+    rt: &HostRuntime,
+    asked: &Asked,
+    end: &Result<Cover, Fault>,
+    error: Option<&io::Error>,
+) -> u8
+    ensures { IsReportStatus end.now result }
+{
+    let cover = match end {
+        Ok(cover) => cover,
+        Err(fault) => return report_list_fault(rt, asked, *fault, error),
+    };
+    let unshown: Option<&Progress<'_, LineCount<'_>>> = None;
+    let mut writer = Watched::new(Observed::new(rt.stdout(), unshown));
+    let written = write_report(rt.alloc(), &mut writer, &asked.task, cover);
+    let error = writer.into_inner().into_error();
+    match written {
+        Ok(()) => status(end),
+        Err(fault) => report_list_fault(rt, asked, fault, error.as_ref()),
     }
-    status(&end)
 }
 
 /// Walks along a list of `size` bytes, if known, and shows the progress. Returns the result with the error
@@ -92,33 +105,25 @@ fn cover_input<R: Read + Drop>(
 }
 
 /// Reports a fault, and returns the exit status.
-fn report_list_fault(
-    rt: &HostRuntime,
-    asked: &Asked,
-    fault: Fault,
-    error: Option<&io::Error>,
-) -> u8 {
+fn report_list_fault(rt: &HostRuntime, asked: &Asked, fault: Fault, error: Option<&io::Error>) -> u8
+    ensures { result ≡ 3 }
+{
     let file = asked.file.as_ref().map(|file| file.as_str());
     report_fault(rt, PROGRAM, file, fault, error)
 }
 
 /// Prints the reason for doing no work, and returns the exit status: that of the refusal, or 3 if help or the
 /// version can't be written.
-fn report_refusal(rt: &HostRuntime, refusal: &Refusal) -> u8 {
-    match (print_refusal(rt, refusal), refusal) {
-        (Err(_), Refusal::Common(Stop::Help(_))) => {
-            report_fault(rt, PROGRAM, None, Fault::Write, None)
-        }
-        _ => refusal.status(),
-    }
-}
-
-/// Prints help to standard output, and any other cause to standard error.
-fn print_refusal(rt: &HostRuntime, refusal: &Refusal) -> io::Result<()> {
+fn report_refusal(rt: &HostRuntime, refusal: &Refusal) -> u8
+    ensures { IsRefusalStatus refusal.now result }
+{
     match refusal {
-        Refusal::Common(stop) => print_stop(rt, PROGRAM, stop),
-        Refusal::Machine(refused) => rt.eprintln(MachineText {
-            column: refused.column,
-        }),
+        Refusal::Common(stop) => report_stop(rt, PROGRAM, stop),
+        Refusal::Machine(refused) => {
+            let _ = rt.eprintln(MachineText {
+                column: refused.column,
+            });
+            refusal.status()
+        }
     }
 }

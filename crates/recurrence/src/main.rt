@@ -2,6 +2,9 @@
 //! `docs/recurrence.md`.
 #![tactic(auto)]
 
+ghost use Rattle.std.specs.Prelude.{◌≡◌};
+ghost use Rattle.recurrence.specs.Status.{end_status};
+
 mod command;
 mod progress;
 mod serve;
@@ -12,7 +15,7 @@ use bb_lines::watched::Watched;
 use bb_repetition::RecurrenceCounts;
 use bb_run::Summary;
 use bb_terminal::arguments::{read_arguments, words_of};
-use bb_terminal::failures::{open_list, print_stop, report_fault};
+use bb_terminal::failures::{open_list, report_fault, report_stop};
 use bb_terminal::progress::Progress;
 use bb_terminal::streams::Observed;
 use command::{Asked, ask};
@@ -28,7 +31,7 @@ const PROGRAM: &str = "recurrence";
 fn main(rt: HostRuntime) -> ExitCode {
     let status = match parse_request(&rt) {
         Ok(asked) => answer_request(&rt, &asked),
-        Err(stop) => report_stop(&rt, &stop),
+        Err(stop) => report_stop(&rt, PROGRAM, &stop),
     };
     ExitCode::from(status)
 }
@@ -40,8 +43,7 @@ fn parse_request(rt: &HostRuntime) -> Result<Asked, Stop> {
     ask(rt.alloc(), words.as_slice())
 }
 
-/// Replies to the list, reports a fault, and returns the exit status. A file that can't be opened is a failed
-/// read.
+/// Replies to the list, and returns the exit status. A file that can't be opened is a failed read.
 fn answer_request(rt: &HostRuntime, asked: &Asked) -> u8 {
     let counts = RecurrenceCounts::default();
     let (end, error) = match &asked.file {
@@ -51,11 +53,23 @@ fn answer_request(rt: &HostRuntime, asked: &Asked) -> u8 {
         },
         None => reply_to_input(rt, asked, None, rt.stdin(), &counts),
     };
-    if let Err(fault) = &end {
+    report_end(rt, asked, &end, error.as_ref())
+}
+
+/// Reports a fault, and returns the exit status.
+fn report_end(
+    rt: &HostRuntime,
+    asked: &Asked,
+    end: &Result<Summary, Fault>,
+    error: Option<&io::Error>,
+) -> u8
+    ensures { result ≡ end_status end.now }
+{
+    if let Err(fault) = end {
         let file = asked.file.as_ref().map(|file| file.as_str());
-        return report_fault(rt, PROGRAM, file, *fault, error.as_ref());
+        return report_fault(rt, PROGRAM, file, *fault, error);
     }
-    status(&end)
+    status(end)
 }
 
 /// Replies to a list of `size` bytes, if known, and shows the progress. Returns the result with the error
@@ -83,13 +97,4 @@ fn reply_to_input<'a, R: Read + Drop>(
         _ => None,
     };
     (end, error)
-}
-
-/// Prints the reason for doing no work, and returns the exit status: that of the stop, or 3 if help or the
-/// version can't be written.
-fn report_stop(rt: &HostRuntime, stop: &Stop) -> u8 {
-    match (print_stop(rt, PROGRAM, stop), stop) {
-        (Err(_), Stop::Help(_)) => report_fault(rt, PROGRAM, None, Fault::Write, None),
-        _ => stop.status(),
-    }
 }

@@ -13,9 +13,17 @@ use bb_sim::Meter;
 use bb_tape::{MapTape, RingTape, Tape};
 use std::process::Abort;
 
-/// The limits, a machine of three symbols, and the most writes of deciding it, on all tapes together: one for
-/// each step, two for each node. Machines of two symbols would run in registers.
+/// The limits, a machine, and the most writes of deciding it, on all tapes together: one for each step, two for
+/// each node.
 static DECIDED: [(Four, &[u8], u64); 4] = [
+    (DEFAULTS, b"0RB---_0LA---", 1_000_004),
+    ([3, 65_536, 300, 1_000_000], b"0RB---_0LA---", 17),
+    (DEFAULTS, b"1RA1RA", 131_072),
+    ([1, 65_536, 300, 1_000_000], b"1RA1RA", 3),
+];
+
+/// The same for machines of three symbols, none of whose runs are in registers.
+static OF_THREE_SYMBOLS: [(Four, &[u8], u64); 4] = [
     (DEFAULTS, b"0RB------_0LA------", 1_000_004),
     ([3, 65_536, 300, 1_000_000], b"0RB------_0LA------", 25),
     (DEFAULTS, b"1RA1RA1RA", 131_072),
@@ -44,35 +52,37 @@ fn writes_of_deciding<T: Tape>(
     bench.run.writes.saturating_add(saved)
 }
 
-/// Decides a line by an engine, on rings and on maps, with at most so many writes.
-fn assert_few_writes(
+/// How often deciding a line writes, on rings and on maps.
+fn writes_on_both(
     rt: &(impl Abort + AllocGlobal),
     engine: Engine,
-    limits: &Limits,
+    four: &Four,
     line: &[u8],
-    most: u64,
-) {
+) -> (u64, u64) {
+    let limits = Limits::new(four[0], four[1], four[2], four[3]).expect(rt, "limits");
     let rings = (
         RingTape::new(rt.alloc(), limits.cells()).expect(rt, "memory"),
         RingTape::new(rt.alloc(), limits.cells()).expect(rt, "memory"),
         RingTape::new(rt.alloc(), limits.cells()).expect(rt, "memory"),
     );
-    let on_rings = writes_of_deciding(rt, engine, rings, limits, line);
+    let on_rings = writes_of_deciding(rt, engine, rings, &limits, line);
     let maps = (
         MapTape::new(rt.alloc(), limits.cells()),
         MapTape::new(rt.alloc(), limits.cells()),
         MapTape::new(rt.alloc(), limits.cells()),
     );
-    let on_maps = writes_of_deciding(rt, engine, maps, limits, line);
-    assert!(rt; (1..=most).contains(&on_rings), "{on_rings} on rings");
-    assert_eq!(rt; on_maps, on_rings);
+    (
+        on_rings,
+        writes_of_deciding(rt, engine, maps, &limits, line),
+    )
 }
 
 #[test]
 fn deciding_writes_once_a_step_and_twice_a_node(rt: HostRuntime) {
-    for (four, line, most) in &DECIDED {
-        let limits = Limits::new(four[0], four[1], four[2], four[3]).expect(&rt, "limits");
-        assert_few_writes(&rt, Engine::InTurn, &limits, line, *most);
+    for (four, line, most) in DECIDED.iter().chain(&OF_THREE_SYMBOLS) {
+        let (on_rings, on_maps) = writes_on_both(&rt, Engine::InTurn, four, line);
+        assert!(rt; (1..=*most).contains(&on_rings), "{on_rings} on rings");
+        assert_eq!(rt; on_maps, on_rings);
     }
 }
 
@@ -82,16 +92,41 @@ static IN_ONE_RUN: [u64; 4] = [8, 3 + 16, 2, 1];
 
 #[test]
 fn deciding_in_one_run_writes_once_a_step_and_twice_a_node(rt: HostRuntime) {
-    for ((four, line, _), most) in DECIDED.iter().zip(&IN_ONE_RUN) {
-        let limits = Limits::new(four[0], four[1], four[2], four[3]).expect(&rt, "limits");
-        assert_few_writes(&rt, Engine::InOneRun, &limits, line, *most);
+    for ((four, line, _), most) in OF_THREE_SYMBOLS.iter().zip(&IN_ONE_RUN) {
+        let (on_rings, on_maps) = writes_on_both(&rt, Engine::InOneRun, four, line);
+        assert!(rt; (1..=*most).contains(&on_rings), "{on_rings} on rings");
+        assert_eq!(rt; on_maps, on_rings);
+    }
+}
+
+/// Of machines of two symbols the same runs stay in registers, and only the tree is written.
+static IN_REGISTERS: [u64; 4] = [0, 8, 0, 0];
+
+#[test]
+fn deciding_in_registers_writes_only_the_tree(rt: HostRuntime) {
+    for ((four, line, _), most) in DECIDED.iter().zip(&IN_REGISTERS) {
+        let (on_rings, on_maps) = writes_on_both(&rt, Engine::InOneRun, four, line);
+        assert!(rt; on_rings <= *most, "{on_rings} on rings");
+        assert!(rt; on_maps <= *most, "{on_maps} on maps");
+    }
+}
+
+/// A machine whose run soon leaves the registers, and goes on in blocks. It has neither a pair nor a tree.
+const CHAMPION: &[u8] = b"1RB1LC_1RC1RB_1RD0LE_1LA1LD_1RZ0LA";
+
+#[test]
+fn a_block_changes_no_more_cells_than_its_steps(rt: HostRuntime) {
+    for steps in [10_000, 100_000, 1_000_000] {
+        let four = [steps, 65_536, 300, 1_000_000];
+        let (on_rings, _) = writes_on_both(&rt, Engine::InOneRun, &four, CHAMPION);
+        assert!(rt; (1..=steps).contains(&on_rings), "{on_rings} of {steps}");
     }
 }
 
 /// A claim, its answer, the least and the most steps and the most nodes of checking it, and the most writes
 /// on both tapes.
-static CHECKED: [(&[u8], &[u8], [u64; 2], u64, u64); 4] = [
-    (b"1RB1LB---_1LA1RZ--- halt 5 4", b"bad\n", [0, 5], 0, 5),
+static CHECKED: [(&[u8], &[u8], [u64; 2], u64, u64); 5] = [
+    (b"1RB1LB_1LA1RZ halt 5 4", b"bad\n", [0, 5], 0, 5),
     (
         b"1RA1RA translated R 1 65535",
         b"ok\n",
@@ -101,6 +136,7 @@ static CHECKED: [(&[u8], &[u8], [u64; 2], u64, u64); 4] = [
     ),
     (b"1RA1RA cycler 1 1000001", b"over\n", [0, 0], 0, 0),
     (b"0RB---_0LA--- backward 2 3", b"bad\n", [0, 0], 3, 6),
+    (b"1RB1LB---_1LA1RZ--- halt 5 4", b"bad\n", [0, 5], 0, 5),
 ];
 
 /// Checks a line on such tapes, and returns the output, the counts, and the number of writes.
@@ -138,7 +174,7 @@ fn checking_goes_no_further_than_the_claim(rt: HostRuntime) {
             assert_eq!(rt; written.as_slice(), *answer);
             assert!(rt; steps[0] <= peak.steps && peak.steps <= steps[1]);
             assert!(rt; peak.nodes <= *nodes);
-            assert!(rt; writes <= *most);
+            assert!(rt; writes <= *most, "{line:?}: {writes}");
         }
     }
 }

@@ -49,21 +49,55 @@ fn wanted_memory(
     false
 }
 
-/// Machines of three symbols, which run on tapes; those of two would run in registers. None reads a 2.
-const MACHINES: &[u8] = b"1RB1LB---_1LA1RZ---
+/// A list of three machines, and what is decided of it by each plan.
+struct List {
+    machines: &'static [u8],
+    by_pairs: &'static [u8],
+    by_trees: &'static [u8],
+}
+
+static OF_TWO_SYMBOLS: List = List {
+    machines: b"1RB1LB_1LA1RZ
+1RB0RA_1LA---
+0RB---_0LA---
+",
+    by_pairs: b"1RB1LB_1LA1RZ halt 6 4
+1RB0RA_1LA--- translated R 4 8 2 1
+0RB---_0LA--- cycler 2 4
+",
+    by_trees: b"1RB1LB_1LA1RZ halt 6 4
+1RB0RA_1LA--- undecided cells
+0RB---_0LA--- backward 2 4
+",
+};
+
+/// The same machines with a symbol that none of them reads: deciding in one run doesn't keep them in
+/// registers.
+static OF_THREE_SYMBOLS: List = List {
+    machines: b"1RB1LB---_1LA1RZ---
 1RB0RA---_1LA------
 0RB------_0LA------
-";
-
-const BY_PAIRS: &[u8] = b"1RB1LB---_1LA1RZ--- halt 6 4
+",
+    by_pairs: b"1RB1LB---_1LA1RZ--- halt 6 4
 1RB0RA---_1LA------ translated R 4 8 2 1
 0RB------_0LA------ cycler 2 4
-";
-
-const BY_TREES: &[u8] = b"1RB1LB---_1LA1RZ--- halt 6 4
+",
+    by_trees: b"1RB1LB---_1LA1RZ--- halt 6 4
 1RB0RA---_1LA------ undecided cells
 0RB------_0LA------ backward 2 8
-";
+",
+};
+
+impl List {
+    /// The output of a plan, that of pairs or that of trees.
+    fn output(&self, plan: Plan) -> &'static [u8] {
+        if plan.backward {
+            self.by_trees
+        } else {
+            self.by_pairs
+        }
+    }
+}
 
 /// Decides the list, with a reader and a writer over arrays.
 fn decided_over_arrays<T: Tape>(
@@ -71,6 +105,7 @@ fn decided_over_arrays<T: Tape>(
     bench: &mut Bench<T>,
     limits: &Limits,
     plan: Plan,
+    list: &List,
 ) -> (Result<Summary, Fault>, Sink)
     requires tapes { BenchHasCells T.view limits.now.cells bench.old }
     requires path { depth_of bench.old.path ≡ limits.now.depth }
@@ -78,7 +113,7 @@ fn decided_over_arrays<T: Tape>(
     ensures path { depth_of bench.new.path ≡ limits.now.depth }
 {
     let mut sink = Sink::of(128, 128);
-    let mut reader = Watched::new(MACHINES);
+    let mut reader = Watched::new(list.machines);
     let mut writer = Watched::new(&mut sink);
     let end = engine.decide(&mut reader, &mut writer, limits, plan, bench);
     (end, sink)
@@ -92,7 +127,7 @@ fn deciding_wants_more(
     heap: &LocalHeap,
     left: usize,
     plan: Plan,
-    output: &[u8],
+    list: &List,
 ) -> Result<bool, Fail>
     requires { left ≤ HEAP }
 {
@@ -102,11 +137,12 @@ fn deciding_wants_more(
     let left_tape = MapTape::new_in(heap, limits.cells());
     let mut bench = Bench::new(rt.alloc(), run, right, left_tape, &limits).expect(rt, "a bench");
     let rest: Vec<u8, &LocalHeap> = Vec::with_capacity(heap, HEAP - left)?;
-    let (end, sink) = decided_over_arrays(engine, &mut bench, &limits, plan);
+    let (end, sink) = decided_over_arrays(engine, &mut bench, &limits, plan, list);
     drop(rest);
+    let output = list.output(plan);
     let wanted = wanted_memory(rt, &end, sink.bytes.as_slice(), output);
     if wanted {
-        let (end, sink) = decided_over_arrays(engine, &mut bench, &limits, plan);
+        let (end, sink) = decided_over_arrays(engine, &mut bench, &limits, plan, list);
         assert!(rt; end.is_ok() && sink.bytes.as_slice() == output, "again");
     }
     Ok(wanted)
@@ -117,11 +153,11 @@ fn deciding_on_a_heap(
     rt: &(impl Abort + AllocGlobal),
     engine: Engine,
     plan: Plan,
-    output: &[u8],
+    list: &List,
 ) -> Result<(), Fail> {
     let heap = LocalHeap::new(rt.alloc(), HEAP)?;
     for left in 0..HEAP {
-        if !deciding_wants_more(rt, engine, &heap, left, plan, output)? {
+        if !deciding_wants_more(rt, engine, &heap, left, plan, list)? {
             assert!(rt; left > 0);
             return Ok(());
         }
@@ -131,9 +167,11 @@ fn deciding_on_a_heap(
 
 #[test]
 fn deciding_on_heaps_that_are_too_small(rt: HostRuntime) -> Result<(), Fail> {
-    for engine in Engine::BOTH {
-        deciding_on_a_heap(&rt, engine, PAIRS, BY_PAIRS)?;
-        deciding_on_a_heap(&rt, engine, TREES, BY_TREES)?;
+    for plan in [PAIRS, TREES] {
+        deciding_on_a_heap(&rt, Engine::InTurn, plan, &OF_TWO_SYMBOLS)?;
+        for engine in Engine::BOTH {
+            deciding_on_a_heap(&rt, engine, plan, &OF_THREE_SYMBOLS)?;
+        }
     }
     Ok(())
 }
@@ -166,16 +204,17 @@ fn deciding_is_refused(
     rt: &(impl Abort + AllocGlobal),
     engine: Engine,
     plan: Plan,
-    output: &[u8],
+    list: &List,
     before: [u64; 3],
 ) -> bool {
     let limits = Limits::new(1000, 64, 10, 100).expect(rt, "limits");
     let mut bench = refusing_bench(rt, &limits, before);
-    let (end, sink) = decided_over_arrays(engine, &mut bench, &limits, plan);
+    let (end, sink) = decided_over_arrays(engine, &mut bench, &limits, plan, list);
+    let output = list.output(plan);
     let refused = wanted_memory(rt, &end, sink.bytes.as_slice(), output);
     assert_eq!(rt; refused, !will_refuse(&bench));
     if refused {
-        let (end, sink) = decided_over_arrays(engine, &mut bench, &limits, plan);
+        let (end, sink) = decided_over_arrays(engine, &mut bench, &limits, plan, list);
         assert!(rt;
             !wanted_memory(rt, &end, sink.bytes.as_slice(), output),
             "again"
@@ -189,7 +228,7 @@ fn refusals_of_deciding(
     rt: &(impl Abort + AllocGlobal),
     engine: Engine,
     plan: Plan,
-    output: &[u8],
+    list: &List,
     tape: usize,
 ) -> usize {
     let before = |k| match tape {
@@ -198,32 +237,62 @@ fn refusals_of_deciding(
         _ => [NEVER, NEVER, k],
     };
     (0..MOST)
-        .position(|k| !deciding_is_refused(rt, engine, plan, output, before(k)))
+        .position(|k| !deciding_is_refused(rt, engine, plan, list, before(k)))
         .expect(rt, "a run that isn't refused")
 }
 
 /// The first machine writes a 1 into 4 cells. The second writes a 1 in two steps of four: 64 times in a whole
 /// run of 127 steps, and 4 times up to its records. Its whole run is compared with configurations 1, 2, 4 ..
 /// 64, its records with the first and the second. The third's run is compared with configurations 1 and 2;
-/// its tree has 8 nodes, each with a cell unknown before. In one run the second stops at its records; the
-/// third, without a 1, runs to its cycle and once more.
+/// its tree has 4 nodes, or 8 with three symbols, each with a cell unknown before.
 #[test]
 fn deciding_ends_at_each_refusal(rt: HostRuntime) {
-    for (engine, plan, output, changed, copied) in [
-        (Engine::InTurn, PAIRS, BY_PAIRS, 4 + 64 + 64 + 4, 7 + 2 + 2),
-        (Engine::InTurn, TREES, BY_TREES, 4 + 64 + 8, 0),
-        (Engine::InOneRun, PAIRS, BY_PAIRS, 4 + 4, 2 + 2),
-        (Engine::InOneRun, TREES, BY_TREES, 4 + 64 + 8, 0),
-    ] {
-        let while_running = refusals_of_deciding(&rt, engine, plan, output, 0);
-        let at_right = refusals_of_deciding(&rt, engine, plan, output, 1);
-        let at_left = refusals_of_deciding(&rt, engine, plan, output, 2);
-        assert!(rt; changed <= while_running, "{while_running}");
-        assert!(rt;
-            copied <= at_right.saturating_add(at_left),
-            "{at_right} {at_left}"
-        );
-    }
+    let list = &OF_TWO_SYMBOLS;
+    assert_refusals(&rt, Engine::InTurn, PAIRS, list, 4 + 64 + 64 + 4, 7 + 2 + 2);
+    assert_refusals(&rt, Engine::InTurn, TREES, list, 4 + 64 + 4, 0);
+}
+
+#[test]
+fn deciding_three_symbols_ends_at_each_refusal(rt: HostRuntime) {
+    let list = &OF_THREE_SYMBOLS;
+    assert_refusals(&rt, Engine::InTurn, PAIRS, list, 4 + 64 + 64 + 4, 7 + 2 + 2);
+    assert_refusals(&rt, Engine::InTurn, TREES, list, 4 + 64 + 8, 0);
+}
+
+/// In one run the second machine stops at its records; the third, without a 1, runs to its cycle and once
+/// more.
+#[test]
+fn deciding_in_one_run_ends_at_each_refusal(rt: HostRuntime) {
+    let list = &OF_THREE_SYMBOLS;
+    assert_refusals(&rt, Engine::InOneRun, PAIRS, list, 4 + 4, 2 + 2);
+    assert_refusals(&rt, Engine::InOneRun, TREES, list, 4 + 64 + 8, 0);
+}
+
+/// In registers no pair needs a tape. The tree does, and so do the second machine's steps past 32 cells.
+#[test]
+fn deciding_in_registers_ends_at_each_refusal(rt: HostRuntime) {
+    let list = &OF_TWO_SYMBOLS;
+    assert_refusals(&rt, Engine::InOneRun, PAIRS, list, 0, 0);
+    assert_refusals(&rt, Engine::InOneRun, TREES, list, 16 + 4, 0);
+}
+
+/// Deciding is stopped by a refusal at least so many times, on the tape of the run and on the saved ones.
+fn assert_refusals(
+    rt: &(impl Abort + AllocGlobal),
+    engine: Engine,
+    plan: Plan,
+    list: &List,
+    changed: usize,
+    copied: usize,
+) {
+    let while_running = refusals_of_deciding(rt, engine, plan, list, 0);
+    let at_right = refusals_of_deciding(rt, engine, plan, list, 1);
+    let at_left = refusals_of_deciding(rt, engine, plan, list, 2);
+    assert!(rt; changed <= while_running, "{while_running}");
+    assert!(rt;
+        copied <= at_right.saturating_add(at_left),
+        "{at_right} {at_left}"
+    );
 }
 
 const CLAIMS: &[u8] = b"1RB1LB_1LA1RZ halt 6 4

@@ -22,7 +22,12 @@ The calls, documented by `help(budlarem.decide)` and so on:
     publish                                 an archive of a list that others can check
 """
 
-import importlib
+from . import _signals
+
+if _signals.is_command():
+    _signals.handle_early()
+
+import importlib  # noqa: E402
 
 # It sees the forks from here on.
 from . import _fork as _fork

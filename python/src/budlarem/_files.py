@@ -10,6 +10,8 @@ import contextlib
 import dataclasses
 import errno
 import functools
+import json
+import math
 import os
 import stat
 import zlib
@@ -281,6 +283,24 @@ def write_whole(path: str, blocks: Iterable[bytes]) -> None:
     """Writes or replaces a file whole or not at all. Raises OSError; nothing is left then."""
     with contextlib.closing(FileTarget(path)) as target:
         target.write(lambda number: write_blocks(number, blocks))
+
+
+def _finite(text: str) -> float:
+    """The number of a text. Raises ValueError if it isn't finite."""
+    if not math.isfinite(number := float(text)):
+        raise ValueError("%s is no number there" % text)
+    return number
+
+
+def read_json(text: str) -> dict[str, Any]:
+    """The object of a JSON text. Raises ValueError, also for Infinity, NaN and deep nesting."""
+    try:
+        found = json.loads(text, parse_constant=_finite, parse_float=_finite)
+    except RecursionError:
+        raise ValueError("it is nested too deeply") from None
+    if not isinstance(found, dict):
+        raise ValueError("it is no object of JSON")
+    return found
 
 
 # The polynomial of CRC-32 in zlib's order of coefficients: x^0 is the highest bit.

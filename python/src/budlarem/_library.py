@@ -11,7 +11,7 @@ import pathlib
 import struct
 from typing import Any, BinaryIO, Callable, NamedTuple, Sequence
 
-from ._version import LIBRARY_BYTES
+from ._version import LIBRARY_BYTES, VERSION
 
 VARIABLE = "BB_LIBRARY"
 CLEAN, NOT_CLEAN, LIMITS, MEMORY, SHORT = range(5)
@@ -56,6 +56,16 @@ def load_library() -> ctypes.CDLL:
         return ctypes.CDLL(str(path))
     except OSError as error:
         raise LibraryError("%s can't be loaded as libbb.so: %s" % (path, error)) from error
+
+
+def is_plain() -> bool:
+    """Whether the library is the build without the kit, which isn't proved. Raises LibraryError."""
+    return hasattr(load_library(), "bb_is_plain")
+
+
+def version() -> str:
+    """The version, with ` (plain)` for a library that isn't proved. Raises LibraryError."""
+    return VERSION + (" (plain)" if is_plain() else "")
 
 
 def require_whole(path: pathlib.Path) -> None:

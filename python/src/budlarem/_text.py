@@ -61,11 +61,26 @@ def code_point(character: str) -> str:
     return "U+%04X" % ord(character)
 
 
+def escape_hidden(text: str) -> str:
+    r"""A text with each invisible character as `\x1b` or `U+200B`, as a name in a message.
+
+    >>> print(escape_hidden("a\x1b[31m \u202etxt.b \u2028"))
+    a\x1b[31m U+202Etxt.b U+2028
+    """
+    if text.isascii() and text.isprintable():
+        return text
+    pairs = ((one, escape_controls(one)) for one in text)
+    return "".join(code_point(one) if one == other and is_hidden(one) else other for one, other in pairs)
+
+
+def escape_message(text: str) -> str:
+    """A message with its invisible characters escaped, so that it is one line. Tabs stay."""
+    return "\t".join(map(escape_hidden, text.split("\t")))
+
+
 def quote(text: str) -> str:
     r"""A text for a message: invisible characters as `\x1b` or `U+200B`; a long text cut."""
-    if not (text.isascii() and text.isprintable()):
-        pairs = ((one, escape_controls(one)) for one in text)
-        text = "".join(code_point(one) if one == other and is_hidden(one) else other for one, other in pairs)
+    text = escape_hidden(text)
     return text if len(text) <= LONGEST_QUOTED else text[: LONGEST_QUOTED - 2] + ".."
 
 

@@ -3,12 +3,14 @@
 from __future__ import annotations
 
 import collections
+import contextlib
 import dataclasses
 import itertools
-from typing import Iterable, Iterator
+import tempfile
+from typing import Callable, Iterable, Iterator, NamedTuple
 
 from ._text import Words
-from .normal_forms import canonical_form, mirror_verdict
+from .normal_forms import CanonicalForm, canonical_form, mirror_verdict
 from .verdicts import Backward, Cycler, Halt, MachineVerdict, Refused, Translated, Undecided, Verdict
 from .verdicts import verdicts_of
 
@@ -75,11 +77,14 @@ def compare(
     """Compares two lists of verdicts, or verdict lines, by machine, in any order.
 
     Both are read side by side; verdicts for which the other list has none yet are held, so lists in about the
-    same order take little memory. The rest is compared up to the names of states and symbols and up to mirror
-    images. Machines of only one list come last. Refusals have no machine and are skipped, as are fields behind a
-    tab. `undefined_steps`: one of the lists counts a step for an undefined transition.
+    same order take little memory. Compared pairs are kept too, on the disk once they are many. The rest is
+    compared up to the names of states and symbols and up to mirror images. A list may have several verdicts on a
+    machine: each is compared, one too many with the first one of the other list. Machines of only one list come
+    last. Refusals have no machine and are skipped, as are fields behind a tab. `undefined_steps`: one of the lists
+    counts a step for an undefined transition.
 
-    Raises ValueError with its place for a text that is no verdict line, TypeError for an item that is no text.
+    Raises ValueError with its place for a text that is no verdict line, TypeError for an item that is no text;
+    OSError if the disk is full.
 
     >>> for found in compare(["1RB1LB_1LA1RZ halt 6 4"], ["1RA1RA cycler 1 2", "1RB1LB_1LA1RZ halt 5 4"]):
     ...     print(found.agreement, found.machine)
@@ -91,37 +96,104 @@ def compare(
     # The verdicts of each list for which the other one has none yet.
     waiting: list[dict[str, list[MachineVerdict]]] = [{}, {}]
     is_open = [True, True]
-    while any(is_open):
-        for here, side in enumerate(sides):
-            if (verdict := next(side, None)) is None:
-                is_open[here] = False
-                continue
-            if (others := waiting[1 - here].get(verdict.machine)) is None:
-                waiting[here].setdefault(verdict.machine, []).append(verdict)
-                continue
-            pair = (verdict, others.pop(0)) if here == 0 else (others.pop(0), verdict)
-            if not others:
-                del waiting[1 - here][verdict.machine]
-            yield Comparison(agreement(*pair, undefined_steps), verdict.machine, *pair)
-    left, right = ([*itertools.chain.from_iterable(one.values())] for one in waiting)
-    yield from _compare_by_form(left, right, undefined_steps)
+    with contextlib.closing(_ComparedPairs()) as compared:
+        while any(is_open):
+            for here, side in enumerate(sides):
+                if (verdict := next(side, None)) is None:
+                    is_open[here] = False
+                    continue
+                if (others := waiting[1 - here].get(verdict.machine)) is None:
+                    waiting[here].setdefault(verdict.machine, []).append(verdict)
+                    continue
+                pair = (verdict, others.pop(0)) if here == 0 else (others.pop(0), verdict)
+                if not others:
+                    del waiting[1 - here][verdict.machine]
+                compared.add(pair)
+                yield Comparison(agreement(*pair, undefined_steps), verdict.machine, *pair)
+        left, right = ([*itertools.chain.from_iterable(one.values())] for one in waiting)
+        yield from _compare_by_form(left, right, compared, undefined_steps)
+
+
+Pair = tuple[MachineVerdict, MachineVerdict]
+# The bytes of pairs that are held in memory.
+_HELD = 1 << 24
+
+
+class _ComparedPairs(Iterable[tuple[str, str]]):
+    """The pairs of verdicts that were compared, each with its machine and as a line, in a temporary file."""
+
+    def __init__(self) -> None:
+        self._file = tempfile.SpooledTemporaryFile(_HELD, "w+", encoding="ascii", newline="\n")
+        self.close = self._file.close
+
+    def add(self, pair: Pair) -> None:
+        self._file.write("%s\t%s\n" % pair)
+
+    def __iter__(self) -> Iterator[tuple[str, str]]:
+        self._file.seek(0)
+        return ((line.partition(" ")[0], line) for line in self._file)
+
+    def find(self, forms: dict[str, str]) -> dict[str, list[_Formed]]:
+        """The verdicts of the first pair of each form of some machines, if any."""
+        found: dict[str, list[_Formed]] = {}
+        # Most machines have the same text there.
+        ways: tuple[Callable[[str], str | None], ...] = (
+            forms.get,
+            lambda machine: canonical_form(machine).text,
+        )
+        for form_of in ways:
+            needed = {*forms.values()} - {*found}
+            for machine, line in self if needed else ():
+                if (form := form_of(machine)) in needed:
+                    found[form] = [
+                        _Formed.of(verdict) for verdict in verdicts_of(line[:-1].split("\t"), "pair")
+                    ]
+                    needed.remove(form)
+        return found
+
+
+class _Formed(NamedTuple):
+    """A verdict, and the canonical form of its machine."""
+
+    verdict: MachineVerdict
+    form: CanonicalForm
+
+    @classmethod
+    def of(cls, verdict: Verdict) -> _Formed:
+        assert not isinstance(verdict, Refused)
+        return cls(verdict, canonical_form(verdict.machine))
+
+    def compare(self, other: _Formed, undefined_steps: bool) -> Comparison:
+        is_mirrored = self.form.mirrored != other.form.mirrored
+        kind = agreement(self.verdict, mirror_verdict(other.verdict, is_mirrored), undefined_steps)
+        return Comparison(kind, self.verdict.machine, self.verdict, other.verdict)
 
 
 def _compare_by_form(
-    first: list[MachineVerdict], second: list[MachineVerdict], undefined_steps: bool
+    first: list[MachineVerdict], second: list[MachineVerdict], compared: _ComparedPairs, undefined_steps: bool
 ) -> Iterator[Comparison]:
-    """Compares verdicts on machines that the other list has in another form or not at all."""
-    waiting: dict[str, list[tuple[MachineVerdict, bool]]] = collections.defaultdict(list)
-    for other in second if first else []:
-        form = canonical_form(other.machine)
-        waiting[form.text].append((other, form.mirrored))
-    for verdict in first:
-        form = canonical_form(verdict.machine)
-        if not (found := waiting.get(form.text)):
-            yield Comparison(Agreement.ONLY_FIRST, verdict.machine, verdict, None)
+    """Compares verdicts on machines that the other list has in another form, in a pair or not at all."""
+    sides = [[_Formed.of(verdict) for verdict in one] for one in (first, second)]
+    waiting: dict[str, list[_Formed]] = collections.defaultdict(list)
+    for formed in sides[1]:
+        waiting[formed.form.text].append(formed)
+    partners: dict[str, list[_Formed]] = {}
+    rest: list[list[_Formed]] = [[], []]
+    for formed in sides[0]:
+        if not (found := waiting.get(formed.form.text)):
+            rest[0].append(formed)
             continue
-        other, mirrored = found.pop(0)
-        kind = agreement(verdict, mirror_verdict(other, mirrored != form.mirrored), undefined_steps)
-        yield Comparison(kind, verdict.machine, verdict, other)
-    rest = (other for pairs in waiting.values() for other, _ in pairs) if first else iter(second)
-    yield from (Comparison(Agreement.ONLY_SECOND, other.machine, None, other) for other in rest)
+        other = found.pop(0)
+        partners.setdefault(formed.form.text, [formed, other])
+        yield formed.compare(other, undefined_steps)
+    rest[1] = list(itertools.chain.from_iterable(waiting.values()))
+    more = [formed for formed in itertools.chain(*rest) if formed.form.text not in partners]
+    partners.update(compared.find({formed.verdict.machine: formed.form.text for formed in more}))
+    for formed in rest[0]:
+        pair = partners.get(formed.form.text)
+        only = Comparison(Agreement.ONLY_FIRST, formed.verdict.machine, formed.verdict, None)
+        yield only if pair is None else formed.compare(pair[1], undefined_steps)
+    for formed in rest[1]:
+        pair = partners.get(formed.form.text)
+        only = Comparison(Agreement.ONLY_SECOND, formed.verdict.machine, None, formed.verdict)
+        yield only if pair is None else pair[0].compare(formed, undefined_steps)

@@ -136,8 +136,9 @@ def judge(
 
     `undefined_steps`: they count a step for an undefined transition. By default their halts show it: each halt
     of theirs at such a transition is true of the machine with `1RZ` there, and there is one. `start_offset`: how
-    much later than the exact start they give each start of a repetition; by default the one difference of all
-    starts, if there are two or more. `missing` and `foreign` of the result compare with the machines `listed`.
+    much later than the exact start they give each start of a repetition. By default it is the one difference of
+    all starts, if that is above 0 and two different machines have it. Machines that are the same up to names and
+    sides count as one. `missing` and `foreign` of the result compare with the machines `listed`.
 
     Both lists are what `read` takes; `listed` may be its result. Their list is read twice; a long one that
     isn't a regular file is copied to the disk first. `progress` is called with a description of work other

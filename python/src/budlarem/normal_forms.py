@@ -1,8 +1,10 @@
 """The two normal forms of machines.
 
-`normal` runs a machine: states are named in the order of their first use in that run, and the first move is to
-the right, as machines are published. Symbols keep their names, and an unreached state keeps its place. Machines
-of one normal form behave alike for that many steps.
+`normal` runs a machine: its states and its symbols are named in the order in which that run meets them, and the
+first move is to the right, as machines are published. A and 0 stay; those that the run doesn't meet come behind,
+in their order. Entries that it doesn't use stay. Machines of one normal form are the same up to names and sides.
+Machines that are the same have one normal form if the run makes a step, and at most one state and one symbol are
+left that it doesn't meet.
 
 `canonical_form` runs nothing: states and symbols are named in the order in which they are met in the table.
 Machines of one form are the same up to names and sides, so the laws of verdicts give them one verdict: `compare`
@@ -15,61 +17,83 @@ import dataclasses
 from typing import Iterable, Iterator, NamedTuple
 
 from .engine import MachineError, trace
-from .verdicts import STATES, Translated, Verdict, is_machine
+from .verdicts import STATES, Translated, Verdict, is_machine, size_of
 
 _SAME_SIDE, _OTHER_SIDE = {"L": "L", "R": "R"}, {"L": "R", "R": "L"}
 
 
 @dataclasses.dataclass(frozen=True)
 class Normal:
-    """A machine in normal form. `states` has the state of the machine for each state of the form; `mirrored`:
-    left and right were exchanged."""
+    """A machine in normal form. `states` has the state of the machine for each state of the form, `symbols` the
+    symbol for each symbol; `mirrored`: left and right were exchanged."""
 
     machine: str
     normal: str
     states: str
     mirrored: bool
+    symbols: str
 
     def __str__(self) -> str:
-        return "%s\t%s\t%s\t%s" % (self.normal, self.machine, self.states, "L" if self.mirrored else "R")
+        side = "L" if self.mirrored else "R"
+        return "\t".join((self.normal, self.machine, self.states, side, self.symbols))
 
 
-def _first_uses(machine: str, count: int, steps: int, cells: int) -> str:
-    """The states in the order of their first use in a run of so many steps."""
-    upto = 64
-    while True:
-        upto = min(upto, steps)
-        states = [now.state for now in trace(machine, upto, cells)]
-        found = "".join(dict.fromkeys(state for state in states if state != "Z"))
-        if len(found) == count or upto == steps or len(states) <= upto:
-            return found or "A"
-        upto *= 8
+def _first_uses(machine: str, steps: int, cells: int) -> tuple[str, str]:
+    """The states and the symbols in the order in which a run of so many steps meets them: A and 0, then those that
+    a step enters or writes. The run ends early at a halt, at the limit of cells, or once all in the table are met.
+    """
+    size, texts = size_of(machine)[1], machine.replace("_", "")
+    entries = [texts[k : k + 3] for k in range(0, len(texts), 3)]
+    unmet = {part for entry in entries for part in entry[::2]} - {"A", "0", "Z", "-"}
+    met = dict.fromkeys("A0")
+    tape: dict[int, str] = {}
+    state, position, low, high = "A", 0, 0, 0
+    for _ in range(steps if unmet else 0):
+        entry = entries[size * STATES.index(state) + int(tape.get(position, "0"))]
+        if entry == "---":
+            break
+        tape[position] = entry[0]
+        position += 1 if entry[1] == "R" else -1
+        state = entry[2]
+        if state != "Z":
+            low, high = min(low, position), max(high, position)
+        if high - low >= cells:
+            break
+        met.update({entry[0]: None, state: None})
+        if state == "Z" or met.keys() >= unmet:
+            break
+    return "".join(name for name in met if name in STATES), "".join(filter(str.isdigit, met))
 
 
 def normal(machine: str, *, steps: int = 10_000, cells: int = 65_536) -> Normal:
-    """The normal form of a machine: states in the order of their first use in a run of `steps`, then the others
-    in their order; mirrored if the first move is to the left.
+    """The normal form of a machine: states and symbols in the order in which a run of `steps` meets them, then
+    the others in their order; mirrored if the first move is to the left.
 
     Raises what `trace` does.
 
     >>> print(normal("1LC1RZ_1RB---_1RA1LA").normal)
     1RB1LZ_1LA1RA_1LC---
+    >>> print(normal("2RB2RZ1LB_1LA2LB1RB").normal)
+    1RB2LB1RZ_2LA2RB1LB
     """
+    trace(machine, steps, cells)
     if not is_machine(machine):
         next(trace(machine, 0, cells))
-    groups = machine.split("_")
-    used = _first_uses(machine, len(groups), steps, cells)
-    order = used + "".join(state for state in STATES[: len(groups)] if state not in used)
+    state_count, symbol_count = size_of(machine)
+    states, symbols = _first_uses(machine, steps, cells)
+    states += "".join(state for state in STATES[:state_count] if state not in states)
+    symbols += "".join(symbol for symbol in map(str, range(symbol_count)) if symbol not in symbols)
     mirrored = machine[1] == "L"
-    names = {**{old: new for new, old in zip(STATES, order)}, "Z": "Z"}
     moves = _OTHER_SIDE if mirrored else _SAME_SIDE
+    names = {**{old: new for new, old in zip(STATES, states)}, "Z": "Z"}
 
-    def entry(text: str) -> str:
-        return text if text == "---" else text[0] + moves[text[1]] + names[text[2]]
+    def entry(state: str, symbol: str) -> str:
+        start = (3 * symbol_count + 1) * STATES.index(state) + 3 * int(symbol)
+        text = machine[start : start + 3]
+        return text if text == "---" else str(symbols.index(text[0])) + moves[text[1]] + names[text[2]]
 
-    ordered = (groups[STATES.index(old)] for old in order)
-    written = ("".join(entry(group[k : k + 3]) for k in range(0, len(group), 3)) for group in ordered)
-    return Normal(machine, "_".join(written), order, mirrored)
+    groups = ("".join(entry(state, symbol) for symbol in symbols) for state in states)
+    return Normal(machine, "_".join(groups), states, mirrored, symbols)
 
 
 def distinct(

@@ -2,6 +2,7 @@
 
 from __future__ import annotations
 
+import collections
 import dataclasses
 import functools
 import itertools
@@ -9,7 +10,7 @@ import math
 import os
 import struct
 import zlib
-from typing import Iterable, Sequence
+from typing import Callable, Iterable, Sequence
 
 from ._files import name_errors
 from .engine import Configuration, trace
@@ -25,6 +26,8 @@ UNVISITED, HEAD = 10, 11
 MOST_PIXELS = 100_000_000
 # A picture of more positions is scaled down unless a width is given.
 MOST_WIDE = 2_000
+# The most cells of a pixel whose colour is kept for others like it.
+_SHORT = 64
 _DIGITS = bytes(max(code - ord("0"), 0) if code < 58 else 0 for code in range(256))
 
 
@@ -117,14 +120,33 @@ def row_colours(row: Configuration, left: int, right: int, has_head: bool = True
 def mean_colours(row: bytes, across: int, is_rounded: bool = True) -> bytes:
     """The mean colours of each `across` places, rounded or cut off; three bytes a pixel: red, green, blue."""
     parts = (row[start : start + across] for start in range(0, len(row), across))
-    return b"".join(_mean(part, len(part) // 2 if is_rounded else 0) for part in parts)
+    mean = _cached_mean if across <= _SHORT else _mean
+    return b"".join(mean(part, len(part), is_rounded) for part in parts)
 
 
-@functools.lru_cache(maxsize=1 << 16)
-def _mean(part: bytes, more: int) -> bytes:
-    """The mean colour of places, with `more` added to each sum."""
-    sums = (sum(COLOURS[place][colour] for place in part) for colour in range(3))
-    return bytes((total + more) // len(part) for total in sums)
+def _scaled_row(row: Configuration, first: int, wide: int, across: int) -> bytes:
+    """The mean colours of `wide` times `across` positions from `first` on. Only visited cells take time."""
+    pixels = bytearray(bytes(COLOURS[UNVISITED]) * wide)
+    start, end = max(row.low, first), min(row.low + len(row.cells), first + wide * across)
+    cells = row.cells[start - row.low : max(end - row.low, 0)].encode().translate(_DIGITS)
+    mean = _cached_mean if across <= _SHORT else _mean
+    for pixel in range((start - first) // across, -(-(end - first) // across)):
+        begin = max(first + pixel * across - start, 0)
+        part = cells[begin : first + (pixel + 1) * across - start]
+        pixels[3 * pixel : 3 * pixel + 3] = mean(part, across, True)
+    return bytes(pixels)
+
+
+def _mean(part: bytes, size: int, is_rounded: bool) -> bytes:
+    """The mean colour of `size` places, unvisited ones behind `part`; rounded or cut off."""
+    counts = collections.Counter(part)
+    counts[UNVISITED] += size - len(part)
+    sums = (sum(COLOURS[place][colour] * count for place, count in counts.items()) for colour in range(3))
+    return bytes((total + (size // 2 if is_rounded else 0)) // size for total in sums)
+
+
+# Not for longer parts, which would take much memory.
+_cached_mean: Callable[[bytes, int, bool], bytes] = functools.lru_cache(maxsize=1 << 16)(_mean)
 
 
 def _png(wide: int, high: int, kind: int, palette: bytes, lines: bytes) -> bytes:
@@ -169,11 +191,10 @@ def _draw(
         size = f"{high:,} rows and {wide:,} columns at scale {scale:,} are {pixels:,} pixels"
         advice = f"lower scale to {largest} or less, or rows" if largest else "lower rows"
         raise PictureError(f"{size}, more than {MOST_PIXELS:,}; {advice} or columns")
-    rows = (row_colours(row, first, first + wide * across - 1, across == 1) for row in chosen)
     if across == 1:
-        data = png(list(rows), scale)
+        data = png([row_colours(row, first, last) for row in chosen], scale)
     else:
-        means = (mean_colours(row, across) for row in rows)
+        means = (_scaled_row(row, first, wide, across) for row in chosen)
         wider = (b"".join(row[k : k + 3] * scale for k in range(0, len(row), 3)) for row in means)
         scaled = (row for row in wider for _ in range(scale))
         data = png_of_colours(wide * scale, high * scale, scaled)

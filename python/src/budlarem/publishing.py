@@ -19,15 +19,16 @@ import textwrap
 from typing import Any, BinaryIO, Callable, Iterable, Iterator, NoReturn, Sequence, Union
 
 from ._calls import BatchPace, map_in_order
-from ._files import Checksum, FileTarget
+from ._files import Checksum, FileTarget, read_json
+from ._library import is_plain
 from ._text import LONGEST_SHOWN
-from .counts import VerdictCounts
+from .counts import UNDECIDED, VerdictCounts
 from .engine import check_call, decide_bytes
 from .limits import GREATEST, Limits, in_range, words_of
 from .reading.files import BlockReader
 from .runner.chunks import Identity, identity
 from .runner.errors import CheckError, FolderError
-from .runner.folder import FinishedRun
+from .runner.folder import FinishedRun, PassTotals
 from .runner.input import ListFile, StreamLines
 from .shards import PLAN, SUMMARY, Plan, cover_skeleton, read_plan
 from .verification import find_unconfirmed
@@ -53,6 +54,8 @@ LINES, _BYTES = 100_000, 1 << 22
 # The width of the page, and the digits of its sha256 in the name of the archive's folder.
 _WIDE, _DIGITS = 79, 16
 _CHANGED = "%s changed while it was read; publish it when it no longer does"
+_PROVED = "The checker is proved to confirm no false claim, whatever its origin."
+_PLAIN = "This build of the checker, by cargo, isn't proved."
 _HERE = pathlib.Path(__file__).parent
 # The page of an archive of all verdicts.
 _FULL_PAGE = "archive.txt"
@@ -175,7 +178,7 @@ def _full_archive(
     levels, nodes = most("backward levels"), most("backward nodes")
     first = "When this archive was made, Budlarem's checker confirmed each line that claims something"
     sentences = [f"{first}: {confirmed:,} of {total:,}."]
-    sentences.append("The checker is proved to confirm no false claim, whatever its origin.")
+    sentences.append(_PLAIN if is_plain() else _PROVED)
     if len(files) > 1:
         sentences.append("Each line of list.txt has its verdict on the same line of verdicts.txt.")
     if limits:
@@ -347,13 +350,12 @@ def publish(
         if os.path.exists(os.path.join(given, PLAN)):
             return _write_new(out, _archive_of_shards(given, listed))
         with contextlib.closing(FinishedRun(given)) as run:
-            run.require_journals()
+            totals = run.read_journals()
             if run.keep.only_holdouts:
                 lines = ArchivedFile(run.verdicts, HOLDOUTS)
                 _confirm_all(lines, limits, threads, progress)
-                return _write_new(out, _archive_of_holdouts(run, lines, listed))
-            decided = (one.limits for one in run.passes)
-            archive = archive_of(run.verdicts, decided, run.identity)
+                return _write_new(out, _archive_of_holdouts(run, totals, lines, listed))
+            archive = archive_of(run.verdicts, run.passes, run.identity)
             run.require_verdicts(archive.inputs[-1].checksum, archive.counts.kinds)
             return _write_new(out, archive)
     except FolderError as error:
@@ -364,20 +366,28 @@ def publish(
         raise PublishError("%s was made by another process meanwhile, and stays as it is" % out) from None
 
 
-def _archive_of_holdouts(run: FinishedRun, lines: ArchivedFile, listed: ArchivedFile | None) -> Archive:
-    """The archive of a run that kept its holdouts. Raises PublishError, FolderError, OSError."""
+def _archive_of_holdouts(
+    run: FinishedRun, totals: Sequence[PassTotals | None], lines: ArchivedFile, listed: ArchivedFile | None
+) -> Archive:
+    """The archive of a run that kept its holdouts; `totals` are of its passes. Raises PublishError, FolderError,
+    OSError."""
     folder = os.path.dirname(run.verdicts)
     if listed is None:
         advice = "give the list by --list, so that the rest can be made again"
         raise PublishError(f"{folder} has only the verdicts that --keep {run.keep} kept; {advice}")
-    if not all(one.is_checked for one in run.passes):
+    known = [one for one in totals if one is not None]
+    if len(known) < len(totals):
+        why = "has no journal of pass %d, and only that says what was dropped" % (totals.index(None) + 1)
+        raise PublishError(f"{folder} {why}; decide the list again")
+    if not all(one.is_checked for one in known):
         advice = "decide the list with --check, in another folder"
         raise PublishError(f"{folder} dropped verdicts that no checker confirmed; {advice}")
     if (count := _count_around(listed, lines)) != run.lines:
         raise PublishError(f"{listed.path} has {count} lines, and the run in {folder} had {run.lines}")
-    run.require_verdicts(lines.checksum, run.counts)
-    counts, passes = VerdictCounts(), tuple(one.limits for one in run.passes)
-    counts.kinds.update(run.counts)
+    counts = _counts_of(known)
+    run.require_verdicts(lines.checksum, counts.kinds)
+    _require_kept(lines, counts)
+    passes = tuple(run.passes)
     words = " ".join("--pass " + words_of(limits) for limits in passes)
     again = [
         "sha256sum LIST            # prints the sha256 of `list` in about.json",
@@ -392,6 +402,27 @@ def _archive_of_holdouts(run: FinishedRun, lines: ArchivedFile, listed: Archived
     confirmed = run.lines - counts.count_undecided() - counts.kinds["refused"]
     about, page = {"kept": str(run.keep), "list": listed.sha256}, _holdout_parts(counts, checked, again)
     return Archive(counts, confirmed, passes, run.identity, [lines], about, *page)
+
+
+def _counts_of(totals: Sequence[PassTotals]) -> VerdictCounts:
+    """The counts of a whole run: undecided lines are those of the last pass."""
+    counts = VerdictCounts()
+    for one in totals:
+        for kind in UNDECIDED:
+            counts.kinds[kind] = 0
+        counts.kinds.update(one.counts)
+    return counts
+
+
+def _require_kept(lines: ArchivedFile, counts: VerdictCounts) -> None:
+    """Raises PublishError unless the kept lines have all undecided and refused ones of the run."""
+    kept = VerdictCounts()
+    for line in lines.lines():
+        kept.add(line.decode())
+    for kind in (*UNDECIDED, "refused"):
+        if kept.kinds[kind] != counts.kinds[kind]:
+            why = f"has {kept.kinds[kind]} lines of {kind}, and the journals have {counts.kinds[kind]}"
+            raise PublishError(f"{lines.path} {why}; run that folder's command again")
 
 
 def _count_around(listed: ArchivedFile, lines: ArchivedFile) -> int:
@@ -416,12 +447,12 @@ def _archive_of_shards(folder: str, listed: ArchivedFile | None) -> Archive:
     plan, path = read_plan(folder), os.path.join(folder, SUMMARY)
     try:
         with open(path, encoding="utf-8") as file:
-            summary = json.load(file)
+            summary = read_json(file.read())
         counts, cover = VerdictCounts.of_fields(summary), str(summary["cover"])
         known = dict(summary["sha256"])
     except FileNotFoundError:
         raise PublishError("%s isn't finished; `budlarem shards %s` resumes" % (folder, folder)) from None
-    except (KeyError, TypeError, ValueError) as error:
+    except (AttributeError, KeyError, TypeError, ValueError) as error:
         raise PublishError("%s isn't as `budlarem shards` writes it: %s" % (path, error)) from None
     files = tuple(ArchivedFile(os.path.join(folder, name), name) for name in (SKELETON, HOLDOUTS))
     for given in files:

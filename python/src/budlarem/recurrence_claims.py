@@ -16,6 +16,7 @@ from ._text import Words
 from .claims import Claim
 from .engine import Configuration, decide, trace
 from .limits import Limits, Plan
+from .normal_forms import canonical_form
 from .verdicts import Answer, Cycler, Recurrence, RecurrenceReply, Translated, Verdict
 from .verification import FEW_CELLS, recurrences_of
 
@@ -166,16 +167,21 @@ def _rows(machine: str, start: int, upto: int, every: int, limits: Limits) -> li
 
 
 def find_start_offset(claims: Iterable[Claim], limits: Limits, plan: Plan, threads: int) -> int:
-    """How much later each of two or more starts is than the exact one; 0 unless it is the same for all."""
+    """How much later each start is than the exact one: the same number for all, above 0, on two or more machines
+    of different canonical forms; else 0."""
     given = (claim for claim in claims if claim.start is not None and claim.reading.machine is not None)
-    offsets: list[int] = []
+    offsets: set[int] = set()
+    forms: set[str] = set()
     while batch := list(itertools.islice(given, _TOGETHER)):
         verdicts = decide([str(claim.reading.machine) for claim in batch], limits, plan, threads=threads)
         pairs = [pair for pair in zip(batch, verdicts) if isinstance(pair[1], (Cycler, Translated))]
         found = recurrences_of([ours for _, ours in pairs], limits, threads)
         for (claim, _), exact in zip(pairs, found):
-            if isinstance(exact, Recurrence) and claim.start is not None:
-                offsets.append(claim.start - exact.start)
-        if len(set(offsets)) > 1 or offsets[:1] == [0]:
-            return 0
-    return offsets[0] if len(offsets) > 1 else 0
+            if not isinstance(exact, Recurrence) or claim.start is None:
+                continue
+            offsets.add(claim.start - exact.start)
+            if len(offsets) > 1 or min(offsets) <= 0:
+                return 0
+            if len(forms) < 2:
+                forms.add(canonical_form(exact.machine).text)
+    return offsets.pop() if len(forms) > 1 else 0

@@ -27,7 +27,7 @@ import subprocess
 import time
 from typing import IO, Any, Callable, Iterator, NamedTuple, Sequence
 
-from ._files import write_whole
+from ._files import read_json, write_whole
 from ._fork import forbid_fork
 from ._library import ReplyBuffer
 from .counts import RecurrenceCounts, VerdictCounts
@@ -148,10 +148,10 @@ def read_plan(folder: str) -> Plan:
     with open(os.path.join(folder, PLAN), encoding="utf-8") as file:
         text = file.read()
     try:
-        fields: dict[str, Any] = json.loads(text)
+        fields = read_json(text)
         fields["limits"] = Limits(**fields["limits"])
         return Plan(**fields)
-    except (KeyError, TypeError, ValueError) as error:
+    except (AttributeError, KeyError, TypeError, ValueError) as error:
         raise FolderError("plan.json is no plan of shards: %s" % error) from None
 
 
@@ -178,14 +178,14 @@ def read_shard(folder: str, machine: str) -> Shard:
     """A finished shard. Raises FolderError if its file was changed, OSError."""
     path = os.path.join(folder, "shards", machine)
     with open(path, "rb") as file:
-        line, text, holdouts = file.readline().decode("ascii"), file.readline(), file.read()
+        line, text, holdouts = file.readline().decode("ascii"), file.readline().decode("latin-1"), file.read()
     try:
-        fields = json.loads(text)
+        fields = read_json(text)
         numbers = int(fields["bytes"]), holdouts, float(fields["seconds"])
         recurrences = RecurrenceCounts.of_fields(fields.get("recurrences", {"counts": {}, "greatest": {}}))
         shard = Shard(line, VerdictCounts.of_fields(fields), *numbers, recurrences)
         lines, undecided = map(int, line.split()[2:4])
-    except (KeyError, TypeError, ValueError) as error:
+    except (AttributeError, KeyError, TypeError, ValueError) as error:
         raise FolderError("%s is no finished shard: %s; remove it, and resume" % (path, error)) from None
     found = sum(shard.counts.kinds.values()), shard.counts.count_undecided(), holdouts.count(b"\n")
     pairs = sum(shard.counts.kinds[kind] for kind in ("cycler", "translated"))

@@ -113,7 +113,7 @@ def test_empty_lines(tmp_path: pathlib.Path) -> None:
     """Five million empty lines cost `judge` and `compare` at most what `read` costs, beside the process."""
     path, single = tmp_path / "empty.txt", tmp_path / "single.txt"
     path.write_bytes(b"\n" * 5_000_000)
-    single.write_bytes(b"1RA1RA\n")
+    single.write_bytes(b"1RA1RA translated R 1 2 1 1\n")
     spent: dict[str, float] = {}
     commands: dict[str, list[str]] = {"read": [], "judge": [], "compare": [str(single)]}
     for name, others in commands.items():
@@ -355,3 +355,39 @@ def test_cost_over_blocks(tmp_path: pathlib.Path) -> None:
     result = command("check", "--cost", str(path))
     expected = "at most 720,142 steps and 0 nodes; the most on line 70,001: 77\n"
     assert (result.status, result.output.decode()) == (0, "%s: %s" % (path, expected))
+
+
+def run_budlarem(*words: str) -> tuple[int, str, str]:
+    """The status of a command, its output and its messages."""
+    done = run_command([sys.executable, "-m", "budlarem", *words])
+    return done.status, done.output.decode(), done.error.decode()
+
+
+def test_unreadable_lines_of_a_judged_list(tmp_path: pathlib.Path) -> None:
+    """They are on standard error with file and number, and in the status; a refusal is read, and no such line."""
+    path, halt = tmp_path / "claims.txt", "1RB1LB_1LA1RZ halt 6 4\n"
+    path.write_text(halt + "1RB1LB_1LA1R halt 6 4\nrefused 3\n")
+    status, output, error = run_budlarem("judge", str(path), "--form", "verdicts")
+    assert status == 1 and "unreadable 2" in error and output.count("\n") == 3
+    assert ["%s:2: refused: " % path in line for line in error.splitlines()].count(True) == 1
+    path.write_text(halt + "refused 3\n")
+    status, _, error = run_budlarem("judge", str(path), "--form", "verdicts")
+    assert status == 0 and "unreadable 1" in error and "refused" not in error
+
+
+@pytest.mark.parametrize(
+    "lines, sentence",
+    [
+        (["1RB1LB_1LA1RZ"] * 2_000, "has machines and no verdicts; `budlarem decide` makes them"),
+        (["machine,steps"] + ["1RB1LB_1LA1RZ,6"] * 2_000, "has no column of verdicts; name it by --verdict"),
+    ],
+)
+def test_a_list_without_verdicts_is_one_error(
+    tmp_path: pathlib.Path, lines: list[str], sentence: str
+) -> None:
+    path, page = tmp_path / "list.txt", tmp_path / "page.html"
+    path.write_text("".join(line + "\n" for line in lines))
+    for words in (["report", str(path), "--out", str(page)], ["compare", str(path), str(path)]):
+        status, output, error = run_budlarem(*words)
+        assert (status, output, page.exists()) == (2, "", False)
+        assert len(error.splitlines()) < 5 and sentence in error, error

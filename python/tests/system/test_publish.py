@@ -153,6 +153,31 @@ def test_archive(bb: str, tmp_path: pathlib.Path, rng: random.Random, count: int
     require_changes(ways, count, rng)
 
 
+@pytest.mark.needs("ar", "objcopy", "cc")
+def test_a_library_that_is_not_proved_is_named(
+    bb: str, plain_library: pathlib.Path, tmp_path: pathlib.Path, monkeypatch: pytest.MonkeyPatch
+) -> None:
+    """That of cargo has the call bb_is_plain. Without it, it stands for the proved one."""
+    folder = tmp_path / "proved"
+    folder.mkdir()
+    link = "ar x %s && objcopy --localize-symbol=bb_is_plain bb.o && cc -shared -o libbb.so bb.o"
+    subprocess.run(["sh", "-ec", link % plain_library.with_suffix(".a")], cwd=folder, check=True)
+    for library, name in ((plain_library, "plain"), (folder / "libbb.so", "proved one")):
+        monkeypatch.setenv("BB_LIBRARY", str(library))
+        version = run(sys.executable, "-m", "budlarem", "--version").stdout
+        assert version.endswith(" (plain)\n") == (name == "plain")
+        place = Place(bb, tmp_path / name, 60, 7)
+        place.publish()
+        with tarfile.open(place.out) as archive:
+            files = {os.path.basename(one.name): archive.extractfile(one) for one in archive}
+            about, page = (
+                file.read().decode() if (file := files[one]) else "" for one in ("about.json", "README.txt")
+            )
+        assert json.loads(about)["checked_by"]["version"] == version.split(" ", 1)[1].strip()
+        words = " ".join(page.split())
+        assert ("The checker is proved" in words) == (name != "plain") != ("by cargo, isn't proved" in words)
+
+
 def test_archive_by_coq(bb: str, tmp_path: pathlib.Path, checker: str) -> None:
     _, ways = archive_of(bb, tmp_path)
     (tmp_path / "programs" / "checker").symlink_to(checker)
@@ -379,6 +404,54 @@ def test_run_that_kept_its_holdouts() -> None:
     run_script([again + " || [ $? -eq 1 ]", compare], LIST="list.txt", FOLDER="again")
     run_script([publish_again], LIST="list.txt", FOLDER="again", ARCHIVE="again")
     assert unpack("again.tar")["holdouts.txt"] == files["holdouts.txt"]
+
+
+def edited_summaries(text: str) -> dict[str, str]:
+    """Changed texts of a summary, each with the sentence on it."""
+    fields = json.loads(text)
+    limits = {**fields["passes"][0]["limits"], "steps": 40_000_000}
+    passes = [{**fields["passes"][0], "limits": limits}, *fields["passes"][1:]]
+    return {
+        json.dumps({**fields, "passes": passes}): "doesn't match run.json: the limits of the passes differ",
+        json.dumps({**fields, "passes": fields["passes"][:1]}): "the limits of the passes differ",
+        json.dumps({**fields, "kept": "all"}): "the kept verdicts differ",
+        json.dumps({**fields, "lines": 7}): "the numbers of lines differ",
+        json.dumps({**fields, "counts": {**fields["counts"], "halt": 7}}): "doesn't match verdicts.txt",
+        json.dumps({**fields, "counts": None}): "isn't as a run writes it",
+        json.dumps(
+            {**fields, "lines": float("inf")}
+        ): "isn't as a run writes it: Infinity is no number there",
+        text.replace('"lines": ', '"lines": 1e999, "other": ', 1): "1e999 is no number there",
+        "[" * 100_000: "it is nested too deeply",
+        "null": "it is no object of JSON",
+        text[: len(text) // 2]: "isn't as a run writes it",
+    }
+
+
+@pytest.mark.usefixtures("work_in_folder")
+def test_an_edited_summary_is_not_believed() -> None:
+    """Limits, counts and what was checked come from sealed files."""
+    pathlib.Path("list.txt").write_bytes(as_lines([*mixed_machines(300, 12)]))
+    words = ["budlarem", "run", "list.txt", "--out", "run", "--keep", "left", *PASSES]
+    publish = ["budlarem", "publish", "out.tar", "--verdicts", "run", "--list", "list.txt"]
+    summary, journal = pathlib.Path("run/summary.json"), pathlib.Path("run/pass-1/journal")
+    run(*words)
+    summary.write_text(summary.read_text().replace('"checked": false', '"checked": true'))
+    run(*publish, status=2, sentence="dropped verdicts that no checker confirmed")
+    shutil.rmtree("run")
+    run(*words, "--check")
+    text = summary.read_text()
+    for edited, sentence in edited_summaries(text).items():
+        summary.write_text(edited)
+        done = run(*publish, status=2, sentence=sentence)
+        assert done.stderr.count("\n") == 1, done.stderr
+    summary.write_text(text)
+    run(*publish)
+    about = json.loads(unpack("out.tar")["about.json"])
+    assert about["passes"] == PASSES[1::2] and about["counts"]["halt"] == json.loads(text)["counts"]["halt"]
+    os.remove("out.tar")
+    journal.unlink()
+    run(*publish, status=2, sentence="run has no journal of pass 1, and only that says what was dropped")
 
 
 @pytest.mark.usefixtures("work_in_folder")

@@ -147,8 +147,29 @@ def test_offset_of_a_whole_list() -> None:
         mixed = budlarem.judge([HEADER, *(row % start for row, start in zip(rows, starts))], limits=SMALL)
         assert mixed.start_offset == 0
     assert budlarem.judge([HEADER, LEFT + ",5,1"], limits=SMALL).start_offset == 0
-    earlier = budlarem.judge([HEADER, LEFT + ",3,1", LEFT + ",3,2"], limits=SMALL)
-    assert [one.judgement for one in earlier] == [Judgement.CONFIRMED] * 2 and earlier.start_offset == -1
+
+
+# Machines with the same exact start, 4, that are the same up to names and sides.
+ALIKE = [[LEFT, LEFT], [LEFT, "1LB---_1RB0LB"], ["1RB---_1LB0RB_------", "1RC---_------_1LC0RC"]]
+
+
+@pytest.mark.parametrize("machines", ALIKE)
+def test_machines_that_are_alike_make_no_offset(machines: list[str]) -> None:
+    for start, judgement in ((2, Judgement.CONTRADICTED), (5, Judgement.CONFIRMED)):
+        judging = budlarem.judge([HEADER, *("%s,%d,1" % (one, start) for one in machines)], limits=SMALL)
+        assert judging.start_offset == 0
+        assert [one.judgement for one in judging] == [judgement] * 2
+    words = [sys.executable, *"-m budlarem judge - --machine 1 --start 2 --period 3".split()]
+    found = run_command(words, as_lines(["%s;2;1" % one for one in machines]))
+    assert found.status == 1 and b"offset" not in found.error + found.output
+
+
+def test_a_negative_offset_is_only_a_given_one() -> None:
+    given = [HEADER, LEFT + ",3,1", "0RB---_0LA0RB_------,-1,2", "1RB---_1RC---_1LC0RC,4,1"]
+    judging = budlarem.judge(given, limits=SMALL)
+    assert judging.start_offset == 0 and next(judging).judgement is Judgement.CONTRADICTED
+    given = [HEADER, LEFT + ",3,1", "1RC---_------_1LC0RC,3,1"]
+    assert next(budlarem.judge(given, limits=SMALL, start_offset=-1)).judgement is Judgement.CONFIRMED
 
 
 def test_the_command() -> None:

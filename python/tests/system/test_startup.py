@@ -10,6 +10,7 @@ import signal
 import subprocess
 import sys
 import time
+from typing import Any
 
 import pytest
 from support import restore_signals
@@ -92,6 +93,33 @@ def test_signals(tmp_path: pathlib.Path, name: str, number: signal.Signals, step
         assert status == _STATUSES[number] and re.fullmatch(_SENTENCES[name], said), (imports, seconds, said)
 
 
+# Interrupts the process as it imports the module AT.
+HOOK = """
+import os, signal, sys
+
+def end(event, words):
+    if event == "import" and words[0] == os.environ["AT"]:
+        os.kill(os.getpid(), signal.SIGINT)
+
+sys.addaudithook(end)
+"""
+# In the order of the imports.
+MODULES = "_fork _version __main__ commands _files judging runner.passes".split()
+
+
+@pytest.mark.parametrize("module", MODULES)
+def test_an_early_interruption_prints_no_traceback(tmp_path: pathlib.Path, module: str) -> None:
+    (tmp_path / "sitecustomize.py").write_text(HOOK)
+    paths = "%s:%s" % (tmp_path, os.environ.get("PYTHONPATH", ""))
+    variables = {**os.environ, "PYTHONPATH": paths, "AT": "budlarem." + module}
+    words = [sys.executable, "-m", "budlarem", "judge", "-"]
+    how: dict[str, Any] = {"input": b"1RA1RA cycler 1 2\n", "env": variables, "preexec_fn": restore_signals}
+    done = subprocess.run(words, capture_output=True, **how)
+    is_imported = done.returncode == 130
+    assert is_imported or module == "__main__", done.stderr
+    assert done.stderr == b"" or not is_imported, done.stderr
+
+
 def result_of(more: list[str], library: pathlib.Path | None = None) -> tuple[int, bytes]:
     variables = dict(os.environ) if library is None else {**os.environ, "BB_LIBRARY": str(library)}
     how = subprocess.run([sys.executable, "-m", "budlarem", *more], env=variables, capture_output=True)
@@ -143,3 +171,41 @@ def test_controls(tmp_path: pathlib.Path) -> None:
         raw = [byte for byte in said if byte < 32 and byte != 10 or byte == 127]
         raw += [ord(sign) for sign in said.decode("utf-8", "replace") if "\x80" <= sign <= "\x9f"]
         assert status in (1, 2, 3) and not raw and (b"\\x1b" in said or more[0] == "trace"), said
+
+
+# A name that hides, reverses or breaks the text behind it: ESC, C1 as a sign and as a byte, U+202E, U+2028.
+ODD_NAME = b"a\x1b[31mb\xc2\x9b\x9b1m\xe2\x80\xaetxt\xe2\x80\xa8c"
+
+
+@pytest.mark.parametrize(
+    "name", "read decide normal check recurrence compare report judge publish run".split()
+)
+def test_names_of_files_are_escaped_as_lines_are(tmp_path: pathlib.Path, name: str) -> None:
+    odd, none = (
+        os.fsdecode(os.path.join(os.fsencode(tmp_path), start + ODD_NAME)) for start in (b"", b"no-")
+    )
+    with open(odd, "wb") as file:
+        file.write(b"1RB1LB_1LA1RZ halt 6 4\n1RB1LB_1LA1R halt 6 4\n1RB1LB_1LA1RZ halt 7 4\n")
+    more = {
+        "compare": [[odd, odd], [odd, none]],
+        "judge": [[odd, "--list", odd], [none], [odd, "--words", none]],
+        "report": [
+            [odd, "--out", none + ".html"],
+            [none, "--out", odd],
+            [odd, "--out", odd],
+            [odd, odd, "--out", none],
+        ],
+        "publish": [
+            [none + ".tar", "--verdicts", odd],
+            [odd, "--verdicts", odd],
+            [none + ".tar", "--verdicts", none],
+        ],
+        "run": [[odd, "--out", none], [none, "--out", none], [odd, "--out", odd]],
+    }
+    for words in more.get(name, [[odd], [none], [odd, none]]):
+        done = subprocess.run([sys.executable, "-m", "budlarem", name, *words], capture_output=True)
+        error = done.stderr.decode()
+        hidden = [sign for sign in error.replace("\n", "") if not sign.isprintable()]
+        assert done.stderr and not hidden and b"\x9b" not in done.stderr, error
+        is_named = "\\x1b[31mb" in error and ("U+202Etxt" in error or "\\u202etxt" in error)
+        assert is_named, (words, error)

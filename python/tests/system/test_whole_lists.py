@@ -5,6 +5,7 @@ import hashlib
 import json
 import os
 import pathlib
+import re
 import runpy
 import signal
 import subprocess
@@ -208,6 +209,39 @@ def test_holdouts_are_those_of_the_document(tmp_path: pathlib.Path) -> None:
     require_end(start(tmp_path, *words_of("2x2")), 2, "was begun with other programs")
 
 
+def test_holdouts_and_results_that_were_changed(tmp_path: pathlib.Path) -> None:
+    words = ["--holdouts", "2x2", "--threads", "2"]
+    require_end(start(tmp_path, *words))
+    result, holdouts = tmp_path / "2x2" / "result.json", tmp_path / "2x2" / "holdouts.txt"
+    holdouts.write_bytes(holdouts.read_bytes() + b"1RA1RA\n")
+    output = require_end(start(tmp_path, *words), 1, "result.json has other holdouts, of sha256 ")
+    assert output == "%s  %s\n" % (hashlib.sha256(holdouts.read_bytes()).hexdigest(), holdouts)
+    text = result.read_text()
+    changed = [
+        text[: len(text) // 2],
+        "null",
+        "[" * 100_000,
+        "{}",
+        text.replace('"lines": ', '"lines": Infinity, "a": '),
+    ]
+    for one in (*changed, json.dumps({**json.loads(text), "sha256": None})):
+        result.write_text(one)
+        process = start(tmp_path, *words)
+        error = process.communicate(timeout=600)[1].decode()
+        assert process.returncode == 2 and "result.json was cut or changed: " in error, error
+        assert error.count("\n") == 1, error
+    for name, one in (("recurrences", "{}"), ("seconds", '{"walk": null}'), ("digests", "[")):
+        path = tmp_path / "2x2" / (name + ".json")
+        text = path.read_text()
+        path.write_text(one)
+        result.unlink(missing_ok=True)
+        process = start(tmp_path, *words)
+        error = process.communicate(timeout=600)[1].decode()
+        assert process.returncode == 2 and " was cut or changed: " in error.splitlines()[-1], error
+        assert "Traceback" not in error, error
+        path.write_text(text)
+
+
 def test_refusals(tmp_path: pathlib.Path) -> None:
     for words, sentence in (
         (["--states", "6"], "6x2 is none of the sizes 2x2, "),
@@ -227,6 +261,34 @@ def test_document_has_the_figures_of_the_run() -> None:
         fill(page.replace("<!-- counts -->", ""), WRITTEN)
 
 
+def test_columns_of_the_counts_add_up() -> None:
+    """A line has one kind or is a holdout; those that are both have a column."""
+    table = PAGE.read_text(encoding="utf-8").partition("<!-- counts -->\n")[2].partition("<!-- end -->")[0]
+    rows = [[cell.strip() for cell in row.split("|")[1:-1]] for row in table.splitlines()[2:]]
+    for _, *cells, _ in rows:
+        lines, *kinds, both = (int(cell.replace(",", "")) for cell in cells)
+        assert lines == sum(kinds) - both, cells
+    assert len(rows) == len(WRITTEN["sizes"])
+
+
+def test_later_records_are_those_of_the_programs(bb: str, recurrence: str) -> None:
+    """They are undecided at the limits of the table, and greater than its numbers."""
+    page = PAGE.read_text(encoding="utf-8")
+    block = page.partition("\n### Later records\n")[2].partition("\n## ")[0]
+    lines = re.findall("^    (.* recurs .*)$", block, flags=re.M)
+    machines = as_lines([line.split(" ")[0] for line in lines])
+    completed = WRITTEN["sizes"]["4x2"]["recurrences"]["completions"]
+    few, many = (
+        run_command([bb, "decide", "--no-backward", *options_of_pass(limits)], machines).output
+        for limits in (completed["passes"][-1], "steps=2000000,cells=65536")
+    )
+    assert few.count(b" undecided ") == len(lines) == 2
+    limits = ["--steps", "2000000", "--cells", "65536"]
+    assert run_command([recurrence, *limits], many).output == as_lines(lines)
+    for place, name, line in zip((2, 3), ("start", "period"), lines):
+        assert int(line.split(" ")[place]) > completed["greatest"][name][0]
+
+
 def test_figures_agree_with_published_ones() -> None:
     sizes = WRITTEN["sizes"]
     lines = {size: one["lines"] for size, one in sizes.items() if size in MACHINES}
@@ -237,6 +299,6 @@ def test_figures_agree_with_published_ones() -> None:
         more = sizes[size].get("recurrences", {})
         given = [line for _, line in more.get("completions", more).get("greatest", {}).values()]
         given += more.get("known", {}).get("lines", [])
-        assert not more or {int(line.split(" ")[-1]) for line in given if "quasi" in line} >= {*known}, size
+        assert not more or max(int(line.split(" ")[-1]) for line in given if "quasi" in line) == known, size
     if "5x2" in sizes:
         assert sizes["5x2"]["counts"]["halt"] == HALTS + LATER_HALTS

@@ -9,6 +9,7 @@ import pathlib
 import re
 import subprocess
 import sys
+import time
 from unittest import mock
 
 import budlarem
@@ -63,8 +64,37 @@ def test_any_order_and_what_one_lacks() -> None:
     second = ["1RZ--- halt 1 1", CHAMPION + " halt 6 4", "1RA1RA cycler 1 2"]
     found = [(str(one.agreement), one.machine) for one in budlarem.compare(first, second)]
     assert sorted(found[:2]) == [("agree", "1RA1RA"), ("agree", "1RZ---")]
-    only = [("only-first", "------"), ("only-first", "1RZ---"), ("only-second", CHAMPION)]
-    assert sorted(found[2:]) == only
+    rest = [("agree", "1RZ---"), ("only-first", "------"), ("only-second", CHAMPION)]
+    assert sorted(found[2:]) == rest
+
+
+MIRRORED = "1LB1RB_1RA1LZ"
+# Two lists, and what each of their lines comes to.
+SEVERAL: list[tuple[list[str], list[str], list[str]]] = [
+    ([CHAMPION + " halt 6 4", CHAMPION + " halt 7 4"], [CHAMPION + " halt 6 4"], ["agree", "contradict"]),
+    ([CHAMPION + " halt 7 4", CHAMPION + " halt 6 4"], [CHAMPION + " halt 6 4"], ["contradict", "agree"]),
+    ([CHAMPION + " halt 6 4", MIRRORED + " halt 7 4"], [CHAMPION + " halt 6 4"], ["agree", "contradict"]),
+    ([CHAMPION + " halt 6 4"] * 2, [MIRRORED + " halt 6 4"], ["agree", "agree"]),
+    (["1RA1RA translated R 1 2"] * 2, ["1LA1LA translated L 1 2"], ["agree", "agree"]),
+    (["1RA1RA translated R 1 2"] * 2, ["1LA1LA translated R 1 2"], ["contradict", "contradict"]),
+    ([CHAMPION + " halt 6 4"] * 2, ["1RA1RA cycler 1 2"], ["only-first", "only-first", "only-second"]),
+]
+
+
+def test_each_of_several_verdicts_on_a_machine_is_compared() -> None:
+    for first, second, expected in SEVERAL:
+        assert [str(one.agreement) for one in budlarem.compare(first, second)] == expected
+        other = [word.replace("first", "SECOND").replace("second", "first").lower() for word in expected]
+        assert sorted(str(one.agreement) for one in budlarem.compare(second, first)) == sorted(other)
+
+
+def test_a_second_verdict_that_is_false_is_contradicted(tmp_path: pathlib.Path) -> None:
+    names = [str(tmp_path / name) for name in ("a", "b")]
+    for name, lines in zip(names, SEVERAL[0]):
+        pathlib.Path(name).write_text("".join(line + "\n" for line in lines))
+    words = [sys.executable, "-m", "budlarem", "compare", *names]
+    done = subprocess.run(words, capture_output=True, text=True)
+    assert (done.returncode, done.stdout.partition("\t")[0]) == (1, "contradict")
 
 
 def test_machines_that_are_the_same() -> None:
@@ -155,6 +185,22 @@ def test_pictures_are_saved_scaled_or_cut(tmp_path: pathlib.Path) -> None:
 LINES = [CHAMPION + " halt 6 4", "1RA1RA translated R 1 2 1 1", UNDECIDED + " undecided steps", "refused 2"]
 
 
+def test_positions_far_beyond_the_visited_ones_take_no_time() -> None:
+    rows, _ = pictures.sample_rows(FOUR_STATES, 107, 1_000, 2_000)
+    for left, right in ((-3_000, 3_000), (-4_001, 7), (3, 5_000), (-2_999, -900), (20_000, 29_000)):
+        made = budlarem.picture(FOUR_STATES, 107, left=left, right=right)
+        wide = -(-(right - left + 1) // made.across)
+        plain = (pictures.row_colours(row, left, left + wide * made.across - 1, False) for row in rows)
+        expected = pictures.png_of_colours(
+            wide, len(rows), (pictures.mean_colours(row, made.across) for row in plain)
+        )
+        assert made.across > 1 and made.png == expected, (left, right)
+    began = time.process_time()
+    made = budlarem.picture(FOUR_STATES, 107, left=-(10**9), right=10**9)
+    assert (made.left, made.right, made.across) == (-(10**9), 10**9, 1_000_001)
+    assert time.process_time() - began < 5
+
+
 def test_bars() -> None:
     assert [reports.bin_of(number) for number in (0, 1, 10, 12, 13, 100)] == [0, 1, 10, 10, 11, 20]
 
@@ -213,7 +259,7 @@ def test_carried_fields_and_normal_forms() -> None:
     status, lines, _ = run_with("decide", given="1RZ---, a b\r\n%s\n# c\nx;y\n" % CHAMPION)
     assert (status, lines) == (1, ["1RZ--- halt 1 1\ta b", CHAMPION + " halt 6 4", "refused 1"])
     given = "%s\n1LB1RB_1RA1LZ\n" % CHAMPION
-    assert run_with("normal", "--distinct", given=given)[1] == ["%s\t%s\tAB\tR" % (CHAMPION, CHAMPION)]
+    assert run_with("normal", "--distinct", given=given)[1] == ["%s\t%s\tAB\tR\t01" % (CHAMPION, CHAMPION)]
 
 
 def test_a_refused_line_is_named_and_passed_over(tmp_path: pathlib.Path) -> None:

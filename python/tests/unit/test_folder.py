@@ -276,7 +276,7 @@ def test_a_summary_has_the_checksum_of_the_verdicts(case: RunCase) -> None:
         with contextlib.closing(folder.FinishedRun(str(case.out))) as found:
             assert found.checksum == _files.Checksum().add_bytes(case.verdicts())
             assert (found.identity, found.lines) == (chunks.identity(), 370)
-            found.require_journals()
+            assert all(found.read_journals())
 
 
 def test_a_summary_of_an_earlier_version(small: RunCase) -> None:

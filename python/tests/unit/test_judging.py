@@ -16,6 +16,7 @@ from budlarem.normal_forms import canonical_form
 from budlarem.numbers import number_of, numbers_in
 from budlarem.reading import ListForm, forms
 from budlarem.reading.files import Source
+from support.machines import machine, random_change
 
 CHAMPION = "1RB1LB_1LA1RZ"
 CYCLER = "0RB---_0LA---"
@@ -238,23 +239,6 @@ def test_the_form_is_the_machine_with_other_names() -> None:
 
 def draw_machine(source: random.Random) -> tuple[str, str, bool]:
     """A machine, the same with other names, and whether its left and right were exchanged."""
-    states, symbols = source.randint(1, 5), source.randint(2, 4)
-    names = [0, *source.sample(range(1, states), states - 1)]
-    marks = [0, *source.sample(range(1, symbols), symbols - 1)]
-    mirrored = source.random() < 0.5
-    old = [["---"] * symbols for _ in range(states)]
-    new = [["---"] * symbols for _ in range(states)]
-    for state in range(states):
-        for symbol in range(symbols):
-            if source.random() < 0.1:
-                continue
-            write, move, after = source.randrange(symbols), source.choice("LR"), source.randint(0, states)
-            side = {"L": "R", "R": "L"}[move] if mirrored else move
-            old[state][symbol] = "%d%s%s" % (write, move, letter(after, states))
-            into = states if after == states else names[after]
-            new[names[state]][marks[symbol]] = "%d%s%s" % (marks[write], side, letter(into, states))
-    return "_".join(map("".join, old)), "_".join(map("".join, new)), mirrored
-
-
-def letter(state: int, states: int) -> str:
-    return "Z" if state == states else "ABCDE"[state]
+    size = source.randint(1, 5), source.randint(2, 4)
+    drawn, change = machine(source, *size), random_change(source, *size)
+    return drawn, change.machine(drawn), change.mirrored

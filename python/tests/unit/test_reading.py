@@ -309,10 +309,10 @@ def run_endless(*given: str) -> subprocess.CompletedProcess[str]:
 
 def test_commands_over_a_line_that_never_ends(tmp_path: pathlib.Path) -> None:
     more = "line 301 has more than 268,435,456 bytes"
-    words = ["read", "decide", "normal", "judge -", "compare /dev/null -", "check --cells 1000"]
+    words = ["read", "decide", "normal", "judge -", "compare --form text /dev/null -", "check --cells 1000"]
     cases = {one: (2, "standard input: " + more) for one in words}
     if importlib.util.find_spec("matplotlib") is not None:
-        cases["report --out %s" % (tmp_path / "report.html")] = (2, "standard input: " + more)
+        cases["report --form text --out %s" % (tmp_path / "report.html")] = (2, "standard input: " + more)
     cases["run - --out %s" % (tmp_path / "out")] = (3, "a line of more than 268,435,456 bytes and no newline")
     for given, (status, sentence) in cases.items():
         ended = run_endless(*given.split(" "))

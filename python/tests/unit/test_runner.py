@@ -56,7 +56,7 @@ def test_the_summary(case: RunCase) -> None:
     assert (first["lines"], second["lines"]) == (370, left)
     assert (sum(first["counts"].values()), sum(second["counts"].values())) == (370, left)
     assert summary["counts"] == counts_of(case.verdicts())
-    assert (first["checked"], summary["version"]) == (True, budlarem.__version__)
+    assert (first["checked"], summary["version"]) == (True, chunks.identity().version)
     assert (summary["commit"], len(summary["library"])) == (budlarem.COMMIT, 64)
 
 

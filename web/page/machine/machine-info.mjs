@@ -4,11 +4,11 @@
  * @typedef {{machine: string, cells: number, steps: number, verdict: Verdict, isConfirmed: boolean}} About
  * @typedef {{growth: string, steps: number, visited: number[]}} Growth
  */
-import { formatCount, entryText, parseMachine, formatNumber } from "../../reader/machine.mjs";
+import { formatCount, formatNumber } from "../../reader/machine.mjs";
 import { byId, create, createFacts } from "../dom.mjs";
 import { WorkerClient } from "../worker-client.mjs";
+import { mirrorImage, normalForm } from "./normal-form.mjs";
 
-const NORMAL_STEPS = 10_000;
 const MOST_GROWTH_STEPS = 1_000_000;
 const FEWEST_GROWTH_STEPS = 100;
 const LATER = 10n ** 15n;
@@ -34,39 +34,6 @@ const client = new WorkerClient();
 const growthClient = new WorkerClient();
 // Replies for another machine are dropped.
 let current = /** @type {About | null} */ (null);
-
-export const mirrorImage = (/** @type {string} */ text) =>
-  text.replace(/[LR]/g, (move) => (move === "L" ? "R" : "L"));
-
-/** The states in the order of their first use. */
-function firstUses(/** @type {Machine} */ { symbols, rules }) {
-  const cells = new Uint8Array(2 * NORMAL_STEPS + 1);
-  const found = new Set([0]);
-  let [state, at] = [0, NORMAL_STEPS];
-  for (let step = 0; step < NORMAL_STEPS; step += 1) {
-    const { entry } = rules[state * symbols + cells[at]];
-    if (entry === null || entry.next < 0) break;
-    cells[at] = entry.write;
-    at += entry.move;
-    state = entry.next;
-    found.add(state);
-  }
-  return found;
-}
-
-/** The machine with states in the order of their first use, and the first move to the right. */
-export function normalForm(/** @type {string} */ text) {
-  const machine = parseMachine(text);
-  const { states, symbols, rules } = machine;
-  const order = [...new Set([...firstUses(machine), ...Array(states).keys()])];
-  const groups = order.map((state) =>
-    rules.slice(state * symbols, (state + 1) * symbols).map(({ entry }) => {
-      return entryText(entry && { ...entry, next: entry.next < 0 ? -1 : order.indexOf(entry.next) });
-    }),
-  );
-  const form = groups.map((entries) => entries.join("")).join("_");
-  return text[1] === "L" ? mirrorImage(form) : form;
-}
 
 /** @param {About} about @param {string} lastState the state of the run's last row */
 function completionsText({ machine, verdict: { kind } }, lastState) {

@@ -1,5 +1,5 @@
 -- Why each kind of claim is answered as it is.
-use Rattle.std.proofs.Common.{◌≡◌, ℕ, ◌+◌, ◌<◌, ◌≤◌, Some, inl, inr, ap, sym, subst, ◌∙◌, arith}
+use Rattle.std.proofs.Common.{◌≡◌, ℕ, ◌+◌, ◌<◌, ◌≤◌, max, Some, inl, inr, ap, sym, subst, ◌∙◌, arith}
 use Rattle.std.specs.Prelude.{◌≢◌}
 use Rattle.bb_machine.specs.Limits.{Bounds}
 use Rattle.bb_machine.specs.Machine.{Table}
@@ -9,18 +9,21 @@ use Rattle.bb_sim.specs.declared.runner.Runner.{Runner}
 use Rattle.bb_sim.specs.declared.simulation.Outcome.TheVariants.{Halt as Halts, NoSteps}
 use Rattle.bb_sim.specs.Meter.{CountsRun, CountsTo, zero_meter}
 use Rattle.bb_sim.specs.Outcome.{IsOutcome}
-use Rattle.bb_sim.specs.Span.{span}
+use Rattle.bb_sim.specs.Span.{IsLastInside, span}
 use Rattle.bb_sim.proofs.Facts.{fits_at_halt, halt_is_unique, halts_last, last_step_is_unique}
 use Rattle.bb_cert.specs.declared.checker.answer.Answer.{Answer}
 use Rattle.bb_cert.specs.declared.checker.answer.Answer.TheVariants as answer
 use Rattle.bb_cert.specs.declared.checker.pairs.RecordPair.{RecordPair}
 use Rattle.bb_cert.specs.declared.verdict.Verdict.{Verdict}
-use Rattle.bb_cert.specs.declared.verdict.Verdict.TheVariants.{Halt, Cycler}
+use Rattle.bb_cert.specs.declared.verdict.Verdict.TheVariants.{Halt, Cycler, Backward}
 use Rattle.bb_cert.specs.checker.Answer.{IsSettled}
 use Rattle.bb_cert.specs.inside.Checks.{Checks, IsAtStep, IsCut, Settles}
 use Rattle.bb_cert.specs.inside.NarrowChecks.{claim_of, claim_up_to}
-use Rattle.bb_cert.specs.checker.ClaimMeter.{CountsClaim, CountsWindow, IsReplayed, IsWithinClaim, last_step}
-use Rattle.bb_cert.specs.checker.ClaimMeter.{levels_of, nodes_of}
+use Rattle.bb_cert.specs.checker.ClaimMeter.{CountsCheck, CountsClaim, CountsWindow, IsOfTree, IsReplayed}
+use Rattle.bb_cert.specs.checker.ClaimMeter.{IsWithinClaim, last_step, levels_of, nodes_of, replay_bounds}
+use Rattle.bb_tree.specs.Tree.{EndsNowhere, EndsWithin}
+use Rattle.bb_tree.specs.WalkMeter.{walked}
+use Rattle.bb_tree.proofs.Facts.{tree_has_one_end}
 
 -- the bounds of a run that is to come to a step
 abbrev pub up_to : Bounds → ℕ → Bounds
@@ -135,3 +138,59 @@ settled_so bounds verdict answer.Open settles = inl settles
 settled_so bounds verdict answer.Over settles = inr (inl settles)
 settled_so bounds verdict answer.Bad settles = inr (inr settles.1)
 settled_so bounds verdict answer.Ok settles = absurd settles
+
+-- ---- the cost of any answer
+
+module _ (table : Table) (bounds : Bounds) (verdict : Verdict) (meter : Meter) where
+  -- nothing is run where a rule says so
+  pub settled_counts : IsSettled bounds verdict → meter ≡ zero_meter → CountsCheck table bounds verdict meter
+  settled_counts settled none = record {
+    steps = record { replayed = λ made. absurd (made.0 settled); not_replayed = λ not. ap (λ (m : Meter). m.steps) none };
+    tree = record {
+      ended = λ made. absurd (made.0 settled);
+      not_walked = λ not. (ap (λ (m : Meter). m.most_levels) none, ap (λ (m : Meter). m.nodes) none);
+    };
+  }
+
+  -- a replay counts its run
+  pub replay_counts : IsReplayed bounds verdict → (IsOfTree verdict → ⊥)
+      → CountsRun table (replay_bounds bounds verdict) zero_meter meter → CountsCheck table bounds verdict meter
+  replay_counts replayed no_tree run =
+      let steps_is : meter.steps ≡ 0 + run.last = ap (λ (m : Meter). m.steps) run.counts in
+      let last_is : run.last ≡ meter.steps = omega arith in
+      record {
+        steps = record {
+          replayed = λ made. subst (IsLastInside table (replay_bounds bounds verdict)) last_is run.is_last;
+          not_replayed = λ not. absurd (not replayed);
+        };
+        tree = record {
+          ended = λ made. absurd (no_tree made.1);
+          not_walked = λ not. (ap (λ (m : Meter). m.most_levels) run.counts, ap (λ (m : Meter). m.nodes) run.counts);
+        };
+      }
+
+module _ (table : Table) (levels nodes : ℕ) (meter : Meter) where
+  -- a tree that ends within the named numbers is the one that was walked
+  pub tree_counts : (bounds : Bounds) → (IsSettled bounds (Backward levels nodes) → ⊥)
+      → IsWithinClaim bounds (Backward levels nodes) meter
+      → ((h k : ℕ) → EndsWithin table levels nodes h k → (meter.most_levels ≡ h) × (meter.nodes ≡ k))
+      → CountsCheck table bounds (Backward levels nodes) meter
+  tree_counts bounds unsettled within ended = record {
+    steps = record {
+      replayed = λ made. absurd made.1;
+      not_replayed = λ not. (let few = within.named_steps in omega (arith, few));
+    };
+    tree = record { ended = λ made. ended; not_walked = λ not. absurd (not (unsettled, tt)) };
+  }
+
+  pub walk_counts : (a b : ℕ) → EndsWithin table levels nodes a b → meter ≡ walked zero_meter a b
+      → (h k : ℕ) → EndsWithin table levels nodes h k → (meter.most_levels ≡ h) × (meter.nodes ≡ k)
+  walk_counts a b found counts h k other =
+      let same = tree_has_one_end table a b h k found.ends other.ends in
+      let levels_is : meter.most_levels ≡ max 0 a = ap (λ (m : Meter). m.most_levels) counts in
+      let nodes_is : meter.nodes ≡ 0 + b = ap (λ (m : Meter). m.nodes) counts in
+      (omega (arith, levels_is, same.0), omega (arith, nodes_is, same.1))
+
+  pub no_tree_counts : EndsNowhere table levels nodes
+      → (h k : ℕ) → EndsWithin table levels nodes h k → (meter.most_levels ≡ h) × (meter.nodes ≡ k)
+  no_tree_counts none h k other = absurd (none.nowhere h k other)

@@ -7,6 +7,7 @@ use Rattle.bb_sim.specs.Span.{IsLastInside, span}
 use Rattle.bb_cert.specs.checker.Answer.{IsSettled}
 use Rattle.bb_cert.specs.declared.verdict.Verdict.{Verdict}
 use Rattle.bb_cert.specs.declared.verdict.Verdict.TheVariants.{Halt, Cycler, Translated, Backward, Undecided}
+use Rattle.bb_tree.specs.Tree.{EndsWithin}
 
 -- the last step named in a verdict, 0 if it names none
 abbrev pub last_step : Verdict → ℕ
@@ -75,3 +76,31 @@ pub record IsReplaySpan (table : Table) (bounds : Bounds) (verdict : Verdict) (w
 abbrev pub CountsWindow : Table → Bounds → Verdict → ℕ → Type 0
 CountsWindow table bounds verdict width = IsReplaySpan table bounds verdict width
     ⊎ ((IsReplayed bounds verdict → ⊥) × (width ≡ 0))
+
+-- a claim of a tree is walked through
+abbrev pub IsOfTree : Verdict → Type 0
+IsOfTree (Halt steps score) = ⊥
+IsOfTree (Cycler first second) = ⊥
+IsOfTree (Translated side first second extent) = ⊥
+IsOfTree (Backward levels nodes) = Unit {0}
+IsOfTree (Undecided why) = ⊥
+
+-- unless a rule applies for which nothing has to be run
+abbrev pub IsWalked : Bounds → Verdict → Type 0
+IsWalked bounds verdict = (IsSettled bounds verdict → ⊥) × IsOfTree verdict
+
+-- the steps counted by checking a claim: up to the last step of the replay, 0 without one
+pub record CountsSteps (table : Table) (bounds : Bounds) (verdict : Verdict) (steps : ℕ) : Type 0 where
+  pub replayed : IsReplayed bounds verdict → IsLastInside table (replay_bounds bounds verdict) steps
+  pub not_replayed : (IsReplayed bounds verdict → ⊥) → steps ≡ 0
+
+-- the levels and nodes counted by it: those of the tree, if it ends within the named ones; 0 without a walk
+pub record CountsTree (table : Table) (bounds : Bounds) (verdict : Verdict) (levels nodes : ℕ) : Type 0 where
+  pub ended : IsWalked bounds verdict → (h k : ℕ)
+      → EndsWithin table (levels_of verdict) (nodes_of verdict) h k → (levels ≡ h) × (nodes ≡ k)
+  pub not_walked : (IsWalked bounds verdict → ⊥) → (levels ≡ 0) × (nodes ≡ 0)
+
+-- the steps, levels and nodes of any answer
+pub record CountsCheck (table : Table) (bounds : Bounds) (verdict : Verdict) (meter : Meter) : Type 0 where
+  pub steps : CountsSteps table bounds verdict meter.steps
+  pub tree : CountsTree table bounds verdict meter.most_levels meter.nodes

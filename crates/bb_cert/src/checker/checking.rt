@@ -1,5 +1,5 @@
 //! The checker: whether a verdict's claim holds, from any source.
-ghost use Rattle.std.specs.Prelude.{◌≡◌, ◌<◌, ◌≤◌, ◌↔◌, IfOk, IfSome, IsTrue, OnErr};
+ghost use Rattle.std.specs.Prelude.{◌≡◌, ℕ, ◌<◌, ◌≤◌, ◌↔◌, IfOk, IfSome, IsTrue, OnErr};
 ghost use Rattle.bb_narrow.specs.Packed.{IsTableOf};
 ghost use Rattle.bb_sim.specs.Meter.{CountsRun, zero_meter};
 ghost use Rattle.bb_sim.specs.Run.{Never};
@@ -9,9 +9,11 @@ ghost use Rattle.bb_cert.specs.checker.Answer.{IsAnswer, IsSettled};
 ghost use Rattle.bb_cert.specs.inside.Checks.{Checks, Settles};
 ghost use Rattle.bb_cert.specs.inside.NarrowChecks.{claim_up_to};
 ghost use Rattle.bb_cert.specs.claims.Claim.{Claim, SaysNever};
-ghost use Rattle.bb_cert.specs.checker.ClaimMeter.{CountsClaim, CountsWindow, IsWithinClaim};
+ghost use Rattle.bb_cert.specs.checker.ClaimMeter.{CountsCheck, CountsClaim, CountsWindow};
+ghost use Rattle.bb_cert.specs.checker.ClaimMeter.{IsWithinClaim};
 ghost use Rattle.bb_cert.specs.checker.Pair.{PairHasCells};
 ghost use Rattle.bb_tree.specs.Path.{depth_of};
+ghost use Rattle.bb_tree.specs.Tree.{EndsWithin};
 
 use crate::checker::answer::Answer;
 use crate::checker::narrow_pairs::{check_cycler_to_limit, check_translated_to_limit};
@@ -52,6 +54,7 @@ pub fn check<T: Tape>(
     ensures counted { IfOk result (λ answer. answer ≡ Answer.Ok
         → CountsClaim verdict.now meter.new) }
     ensures within { IsWithinClaim limits.now verdict.now meter.new }
+    ensures cost { IfOk result (λ answer. CountsCheck machine.now limits.now verdict.now meter.new) }
     ensures window { IfOk result (λ answer.
         CountsWindow machine.now limits.now verdict.now meter.new.most_cells) }
     ensures settled { IsSettled limits.now verdict.now → meter.new ≡ zero_meter }
@@ -84,6 +87,7 @@ pub fn check_packed<T: Tape>(
     ensures counted { IfOk result (λ answer. answer ≡ Answer.Ok
         → CountsClaim verdict.now meter.new) }
     ensures within { IsWithinClaim limits.now verdict.now meter.new }
+    ensures cost { IfOk result (λ answer. CountsCheck machine.now limits.now verdict.now meter.new) }
     ensures window { IfOk result (λ answer.
         CountsWindow machine.now limits.now verdict.now meter.new.most_cells) }
     ensures settled { IsSettled limits.now verdict.now → meter.new ≡ zero_meter }
@@ -160,6 +164,7 @@ fn check_claim<T: Tape>(
     ensures counted { IfOk result (λ answer. answer ≡ Answer.Ok
         → CountsClaim verdict meter.new) }
     ensures within { IsWithinClaim limits.now verdict meter.new }
+    ensures cost { IfOk result (λ answer. CountsCheck machine.now limits.now verdict meter.new) }
     ensures window { IfOk result (λ answer.
         CountsWindow machine.now limits.now verdict meter.new.most_cells) }
     ensures tapes { PairHasCells T.view limits.now.cells pair.new }
@@ -321,6 +326,8 @@ fn check_backward<T: Tape>(
     ensures counted { IfOk result (λ answer. answer ≡ Answer.Ok
         → CountsClaim (Verdict.Backward levels nodes) meter.new) }
     ensures within { IsWithinClaim limits.now (Verdict.Backward levels nodes) meter.new }
+    ensures ended { IfOk result (λ answer. (h k : ℕ) → EndsWithin machine.now levels nodes h k
+        → (meter.new.most_levels ≡ h) × (meter.new.nodes ≡ k)) }
     ensures no_window { meter.new.most_cells ≡ 0 }
     ensures limit { (T.view tape.new).limit ≡ (T.view tape.old).limit }
     ensures depth { depth_of path.new ≡ depth_of path.old }

@@ -1,5 +1,5 @@
 //! The two kinds of pairs on a machine whose run begins in registers.
-ghost use Rattle.std.specs.Prelude.{◌≡◌, ◌<◌, ◌≤◌, IfOk, IfSome, IsTrue, OnErr, false, length};
+ghost use Rattle.std.specs.Prelude.{◌≡◌, ◌<◌, ◌≤◌, IfOk, IfSome, IsTrue, OnErr, OnOk, false, length};
 ghost use Rattle.bb_machine.specs.Machine.{symbols_of};
 ghost use Rattle.bb_narrow.specs.Packed.{IsTableOf};
 ghost use Rattle.bb_narrow.specs.Registers.{EndsWith, IsNarrowRun};
@@ -62,6 +62,40 @@ fn move_run<T: Tape>(
 {
     limits.show_accepted();
     let runner = run.move_to_tape(machine, limits, tape)?;
+    run.count(run.steps, limits, meter);
+    Ok(runner)
+}
+
+/// Moves a run onto the tapes of a pair, with an earlier configuration of it saved, and counts it so far. The
+/// saved tape is a copy of the run's, which then gets the cells that changed since.
+fn move_pair<T: Tape>(
+    machine: &Machine,
+    kept: &NarrowRun,
+    run: &NarrowRun,
+    limits: &Limits,
+    pair: &mut Pair<T>,
+    meter: &mut Meter,
+) -> Result<Runner, Memory>
+    requires kept { IsNarrowRun machine.now limits.now kept.now }
+    requires run { IsNarrowRun machine.now limits.now run.now }
+    requires order { kept.now.steps ≤ run.now.steps }
+    requires tapes { PairHasCells T.view limits.now.cells pair.old }
+    requires meter { meter.old ≡ zero_meter }
+    ensures under_way { IfOk result (λ runner.
+        IsUnderWay machine.now limits.now runner (T.view pair.new.run) meter.new) }
+    ensures steps { IfOk result (λ runner. steps_of runner ≡ run.now.steps) }
+    ensures saved { (known : IsNarrowRun machine.now limits.now kept.now)
+        → OnOk result (T.view pair.new.saved ≡ known.view) }
+    ensures within { IsWithinRun limits.now zero_meter meter.new }
+    ensures tapes { PairHasCells T.view limits.now.cells pair.new }
+    ensures memory { OnErr result (IsTrue T.GROWS) }
+{
+    limits.show_accepted();
+    kept.move_to_tape(machine, limits, &mut pair.run)?;
+    let Ok(()) = pair.saved.copy_from(&pair.run) else {
+        return Err(Memory);
+    };
+    let runner = run.move_over(kept, machine, limits, &mut pair.run)?;
     run.count(run.steps, limits, meter);
     Ok(runner)
 }
@@ -174,9 +208,9 @@ fn check_cycler_in_registers<T: Tape>(
             machine, &last.run, outcome, limits, meter,
         )),
         Stop::Outside => {
-            let saved = kept.run.move_to_tape(machine, limits, &mut pair.saved)?;
-            let runner = move_run(machine, &last.run, limits, &mut pair.run, meter)?;
-            return continue_to_second(machine, saved, runner, first, limits, pair, meter);
+            let runner = move_pair(machine, &kept.run, &last.run, limits, pair, meter)?;
+            let at_first = kept.run.runner(machine, limits);
+            return continue_to_second(machine, at_first, runner, first, limits, pair, meter);
         }
     }
     last.run.count(last.run.steps, limits, meter);
@@ -303,8 +337,7 @@ fn check_second_record<T: Tape>(
             meter,
         )),
         Stop::Outside => {
-            let _saved = saved.move_to_tape(machine, limits, &mut pair.saved)?;
-            let runner = move_run(machine, &second.run, limits, &mut pair.run, meter)?;
+            let runner = move_pair(machine, saved, &second.run, limits, pair, meter)?;
             return continue_from_record(machine, runner, second.replay, claim, limits, pair, meter);
         }
     }

@@ -52,6 +52,7 @@ pub(crate) fn run_registers_to(
     requires ahead { start.steps ≤ step }
     ensures run { IsNarrowRun machine.now limits.now result.run }
     ensures stop { IsStoppedBy machine.now limits.now step result.run result.stop }
+    ensures further { start.steps ≤ result.run.steps }
 {
     let mut run = start;
     while run.steps < step {
@@ -87,6 +88,7 @@ pub(crate) fn follow_registers_to(
     requires ahead { start.steps ≤ step }
     ensures run { IsNarrowRun machine.now limits.now result.run }
     ensures stop { IsStoppedBy machine.now limits.now step result.run result.stop }
+    ensures further { start.steps ≤ result.run.steps }
     ensures follows { GoesOn machine.now start.steps result.run.steps from result.replay }
 {
     let mut run = start;

@@ -1,9 +1,10 @@
 //! A tape that counts its writes, and refuses a call on request.
 ghost use Rattle.std.specs.Prelude.{◌≡◌};
 
-use bb_tape::{Tape, TapeFault};
+use bb_tape::{Memory, Tape, TapeFault};
 
-/// A tape that forwards each call to another. Copies of a whole tape and resets don't count as writes. A
+/// A tape that forwards each call to another, with the same answer to whether it grows. A block counts as the
+/// cells that it turns to 0 or away from it. Copies of a whole tape and resets don't count as writes. Of a tape that grows, a
 /// write of any symbol may be refused, a 0 too.
 #[derive(Drop)]
 pub(crate) struct CountingTape<T> {
@@ -49,13 +50,11 @@ impl<T> CountingTape<T> {
 }
 
 impl<T: Tape> Tape for CountingTape<T> {
-    ghost use Rattle.std.specs.Prelude.{true};
-
     ghost view = { λ t. T.view t.inner };
 
-    ghost GROWS = { true };
+    ghost GROWS = { T.GROWS };
 
-    const GROWS: bool = true;
+    const GROWS: bool = T::GROWS;
 
     ghost sound = { λ t. T.sound t.inner };
 
@@ -73,14 +72,14 @@ impl<T: Tape> Tape for CountingTape<T> {
 
     fn write(&mut self, p: i64, v: u8) -> Result<(), TapeFault> {
         self.writes = self.writes.saturating_add(1);
-        if self.refuses() {
+        if T::GROWS && self.refuses() {
             return Err(TapeFault::Memory);
         }
         self.inner.write(p, v)
     }
 
     fn copy_from(&mut self, other: &Self) -> Result<(), TapeFault> {
-        if self.refuses() {
+        if T::GROWS && self.refuses() {
             return Err(TapeFault::Memory);
         }
         self.inner.copy_from(&other.inner)
@@ -96,6 +95,19 @@ impl<T: Tape> Tape for CountingTape<T> {
 
     fn score(&self) -> u64 {
         self.inner.score()
+    }
+
+    fn block(&self, from: i64) -> u64 {
+        self.inner.block(from)
+    }
+
+    fn put_block(&mut self, from: i64, bits: u64) -> Result<(), Memory> {
+        let changed = (self.inner.block(from) ^ bits).count_ones();
+        self.writes = self.writes.saturating_add(u64::from(changed));
+        if T::GROWS && self.refuses() {
+            return Err(Memory);
+        }
+        self.inner.put_block(from, bits)
     }
 
     fn low(&self) -> i64 {

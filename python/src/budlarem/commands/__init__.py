@@ -14,7 +14,9 @@ import os
 import sys
 from typing import NoReturn
 
-from .._text import escape_controls
+from .._library import LibraryError, version
+from .._signals import handle_interrupts
+from .._text import escape_message
 from .._version import VERSION
 from ..publishing import UnconfirmedError
 from ..reports import ReportError
@@ -28,9 +30,32 @@ from .shards import add_shards
 _OUTPUT_ERRORS = (errno.ENOSPC, errno.EFBIG, errno.EDQUOT, errno.EIO)
 
 
+class _Parser(argparse.ArgumentParser):
+    """A parser with errors of one line."""
+
+    def error(self, message: str) -> NoReturn:
+        super().error(escape_message(message))
+
+
+class _VersionAction(argparse.Action):
+    """Prints the version; ` (plain)` follows for an unproved library."""
+
+    def __call__(self, parser: argparse.ArgumentParser, *rest: object) -> None:
+        try:
+            text = version()
+        except LibraryError as error:
+            text = "%s, without its library: %s" % (VERSION, error)
+        print("budlarem %s" % escape_message(text))
+        parser.exit()
+
+
 def build_parser() -> argparse.ArgumentParser:
-    parser = argparse.ArgumentParser(prog="budlarem", description="Works on lists of machines and verdicts.")
-    parser.add_argument("--version", action="version", version="budlarem " + VERSION)
+    parser: argparse.ArgumentParser = _Parser(
+        prog="budlarem", description="Works on lists of machines and verdicts."
+    )
+    parser.add_argument(
+        "--version", action=_VersionAction, nargs=0, help="print the version; (plain) if not proved"
+    )
     commands = parser.add_subparsers(required=True, metavar="COMMAND")
     for add in (add_machines, add_check, add_claims, add_judge, add_runs, add_publish, add_run, add_shards):
         add(commands)
@@ -62,13 +87,14 @@ def main(arguments: list[str] | None = None) -> int:
         text, status = "%s%s" % ("standard output: " if is_output else "", error), 3
     except (ReportError, RunError) as error:
         text, status = str(error), 3
-    print("budlarem: %s" % escape_controls(text), file=sys.stderr)
+    print("budlarem: %s" % escape_message(text), file=sys.stderr)
     return status
 
 
 def run_and_exit() -> NoReturn:
     """Runs a command and ends the process, with all its threads."""
     try:
+        handle_interrupts()
         status = main()
     except BrokenPipeError:
         status = 1

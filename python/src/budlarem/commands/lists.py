@@ -11,15 +11,16 @@ import os
 import signal
 import sys
 from types import FrameType
-from typing import BinaryIO, Iterator
+from typing import BinaryIO, Iterator, Mapping
 
-from .._text import escape_controls
+from .._text import escape_hidden, escape_message
 from ..claims import WORDS, Claims, read_words
 from ..comparison import Agreement, compare
 from ..engine import Call, answer_file, check_call, recurrence_call
-from ..judging import Judgement, judge, translation_in
+from ..judging import Judgement, Judging, judge, translation_in
 from ..limits import GREATEST, Limits, limits_of
 from ..publishing import publish
+from ..reading import Form, ListForm
 from ..reading.files import BytesFile
 from ..reading.forms import RereadableList
 from ..recurrence_claims import Exactness
@@ -59,7 +60,7 @@ def do_check(asked: argparse.Namespace) -> int:
     if not asked.cost:
         return _write_replies(asked, check_call(limits), limits, str(Answer.OK))
     with contextlib.closing(BytesFile(source_of(asked.file))) as file:
-        print(escape_controls(cost_of_file(file, limits).sentence(file.name)))
+        print(escape_message(cost_of_file(file, limits).sentence(file.name)))
     return 0
 
 
@@ -82,10 +83,10 @@ def _write_replies(asked: argparse.Namespace, call: Call, limits: Limits, confir
     sys.stdout.flush()
     counts = ["%s %d" % (names[answer], summary.counts[answer]) for answer in Answer]
     counts += [] if confirmed == str(Answer.OK) else ["quasihalts %d" % summary.quasihalts]
-    print(escape_controls("%s: %s" % (file.name, ", ".join(counts))), file=sys.stderr)
+    print(escape_message("%s: %s" % (file.name, ", ".join(counts))), file=sys.stderr)
     if summary.first is None:
         return 0
-    print(escape_controls(summary.first.sentence(file.name, limits)), file=sys.stderr)
+    print(escape_message(summary.first.sentence(file.name, limits)), file=sys.stderr)
     return 1
 
 
@@ -107,7 +108,8 @@ def add_check(commands: Subcommands) -> None:
 _CLAIMS = """A list has one of the forms of `budlarem help read`: verdict lines; a table with a column of
 verdicts, or of words for halting beside columns of steps and scores, by a translation that is printed first; a
 text with lines whose other words are one verdict. A line without a verdict is printed on standard error with
-file and number; status 1 then."""
+file and number; status 1 then. A list of machines, or a table without a column of verdicts, is refused whole;
+status 2 then."""
 _COMPARE = """Compares two lists of verdicts by machine, in any order. Each machine on which they don't agree gets
 a line; standard error gets the counts. Status 1 if two verdicts contradict each other.
 
@@ -130,6 +132,7 @@ class ClaimReader(ListReader):
         """The verdict of each line that has one. Raises OSError, ValueError."""
         source = RereadableList(self.source, self.form, self.columns)
         self.print_form(source.form)
+        _require_verdicts(self.name, source.form)
         try:
             translation = translation_in(source, self.words, lambda what, lines: None)
         except ValueError as error:
@@ -146,6 +149,14 @@ class ClaimReader(ListReader):
                 why = claim.trouble or "no verdict of %s" % claim.reading.machine
                 self.refuse(claim.reading.number, "refused: %s" % why)
         self.print_skips(claims.skips, claims.non_utf8_lines)
+
+
+def _require_verdicts(name: str, form: ListForm) -> None:
+    """Raises ValueError for a form without verdicts."""
+    if form.form is Form.MACHINES:
+        raise ValueError("%s has machines and no verdicts; `budlarem decide` makes them" % name)
+    if form.layout is not None and "verdict" not in form.layout.columns and not form.layout.doubts:
+        raise ValueError("%s has no column of verdicts; name it by --verdict" % name)
 
 
 def do_compare(asked: argparse.Namespace) -> int:
@@ -175,7 +186,7 @@ def do_report(asked: argparse.Namespace) -> int:
     reader = ClaimReader(asked.file, asked)
     require_other_file(asked.out, reader.source)
     numbers = {name: getattr(asked, name) for name in ("diagrams", "steps", "cells", "threads")}
-    title = asked.title or os.path.basename(asked.file or "Verdicts")
+    title = asked.title or escape_hidden(os.path.basename(asked.file or "Verdicts"))
     report(reader.verdicts(), asked.out, title=title, **numbers)
     return reader.status
 
@@ -205,8 +216,8 @@ _JUDGE = """Judges a list of the claims of others, by the form of the list (`bud
 line claims its verdict. table: the words of a column say whether a machine halts, by a translation that is
 printed first and that --words changes; for halting machines the columns of steps and score are judged too.
 text: a line makes a claim if its other words are one verdict. Nothing else is judged. Each machine is decided;
-a claim that our verdict doesn't settle is checked. Standard error gets the form, the counts, and the rewritten
-and skipped lines of THEIRS. Status 1 if a line is contradicted.
+a claim that our verdict doesn't settle is checked. Standard error gets the form, the counts, and the rewritten,
+unreadable and skipped lines of THEIRS. Status 1 if a line is contradicted or unreadable.
 
 confirmed: the checker confirms the claim, or our verdict agrees with the word. contradicted: the checker
 refutes the claim, or our verdict disagrees. not-judged: undecided here too, over the checker's limits, or the
@@ -219,12 +230,31 @@ a step for ---, and standard error says so. --undefined-steps sets it beforehand
 
 In a table, columns of the start and the period of a repetition are judged by the exact numbers (`budlarem help
 recurrence`): exact; true, but later or a multiple; or false, with the right numbers. If our verdict has no pair,
-theirs is checked as one. If all starts, two or more, are later than the exact ones by one number, that offset is
-printed and taken off. --start-offset sets it beforehand.
+theirs is checked as one. If all starts are later than the exact ones by one number, and are those of two machines
+or more, that offset is printed and taken off. Mirror images and machines in other names count as one there.
+--start-offset sets it beforehand.
 
 With --list, the refused lines of LIST are printed as by `budlarem read`, and lines follow at the end: no-line,
 for a machine of LIST without a line; not-listed, for a machine of THEIRS that isn't in LIST. Machines are the
 same there up to the names of states and symbols, and left and right."""
+
+
+def _print_counts(
+    reader: ListReader,
+    judging: Judging,
+    counts: Mapping[Judgement, int],
+    numbers: Mapping[Exactness | None, int],
+) -> None:
+    """Prints the findings on a judged list as a whole, and the counts."""
+    reader.print_skips(judging.theirs.skips, judging.theirs.non_utf8_lines)
+    if judging.undefined_steps:
+        print("%s: a step is counted for each ---" % reader.name, file=sys.stderr)
+    if judging.start_offset:
+        print("%s: an offset of %d in each start" % (reader.name, judging.start_offset), file=sys.stderr)
+    if parts := ", ".join("%s %d" % (kind, numbers[kind]) for kind in Exactness if numbers[kind]):
+        print("%s: starts and periods: %s" % (reader.name, parts), file=sys.stderr)
+    parts = ", ".join("%s %d" % (kind, counts[kind]) for kind in Judgement)
+    print("%s: %s" % (reader.name, parts), file=sys.stderr)
 
 
 def do_judge(asked: argparse.Namespace) -> int:
@@ -232,9 +262,10 @@ def do_judge(asked: argparse.Namespace) -> int:
         raise ValueError("THEIRS and LIST can't both be standard input")
     progress = TerminalLine()
     reader = ListReader(asked.theirs, asked, progress)
+    listed = None if asked.list is None else ListReader(asked.list, None, progress)
     judging = judge(
         reader.source,
-        None if asked.list is None else ListReader(asked.list, None, progress).readings(),
+        None if listed is None else listed.readings(),
         limits=limits_in(asked),
         checker=dataclasses.replace(GREATEST, steps=asked.check_steps),
         undefined_steps=True if asked.undefined_steps else None,
@@ -254,26 +285,20 @@ def do_judge(asked: argparse.Namespace) -> int:
         counts[judged.judgement] += 1
         numbers[judged.exactness] += 1
         reader.print_rewritten(judged.claim.reading)
+        if judged.claim.reading.reason is not None:
+            reader.refuse(judged.number, str(judged.claim.reading))
         sys.stdout.write("%s\n" % judged)
         progress.show(lambda: counts_text(counts, Judgement))
     others = {"no-line": judging.missing(), "not-listed": judging.foreign()}
     progress.clear()
-    if asked.list is not None:
+    if listed is not None:
         for word, numbered in others.items():
             sys.stdout.writelines("%s\t%d\t%s\n" % (word, *pair) for pair in numbered)
         parts = ", ".join("%s %d" % (word, len(numbered)) for word, numbered in others.items())
-        print("%s: %s" % (asked.list, parts), file=sys.stderr)
+        print("%s: %s" % (listed.name, parts), file=sys.stderr)
     sys.stdout.flush()
-    reader.print_skips(theirs.skips, theirs.non_utf8_lines)
-    if judging.undefined_steps:
-        print("%s: a step is counted for each ---" % reader.name, file=sys.stderr)
-    if judging.start_offset:
-        print("%s: an offset of %d in each start" % (reader.name, judging.start_offset), file=sys.stderr)
-    if parts := ", ".join("%s %d" % (kind, numbers[kind]) for kind in Exactness if numbers[kind]):
-        print("%s: starts and periods: %s" % (reader.name, parts), file=sys.stderr)
-    parts = ", ".join("%s %d" % (kind, counts[kind]) for kind in Judgement)
-    print("%s: %s" % (reader.name, parts), file=sys.stderr)
-    return 1 if counts[Judgement.CONTRADICTED] else 0
+    _print_counts(reader, judging, counts, numbers)
+    return 1 if counts[Judgement.CONTRADICTED] else max(one.status for one in (reader, listed) if one)
 
 
 def add_judge(commands: Subcommands) -> None:

@@ -16,8 +16,8 @@ _READ = "Writes the machine of each line of a list, as bb reads it.\n\n%s Status
 _DECIDE = """Decides the machine of each line of a list, and copies the other fields of the line.
 
 %s The verdict of a refused line is `refused` and the column at which bb refuses it; status 1 then."""
-_NORMAL = """Writes the normal form of each machine of a list: states in the order of their first use, and
-mirrored so that the first move is to the right.
+_NORMAL = """Writes the normal form of each machine of a list: states and symbols in the order in which a run
+meets them, and mirrored so that the first move is to the right.
 
 %s Status 1 if a line was refused."""
 
@@ -58,6 +58,7 @@ def add_machines(commands: Subcommands) -> None:
     columns = [("normal form", "of the machine"), ("machine", "as it was read")]
     columns += [("states", "the state of the machine for each state of the normal form")]
     columns += [("L or R", "L if left and right were exchanged")]
+    columns += [("symbols", "the symbol of the machine for each symbol of the normal form")]
     help = "machines in normal form"
     normal = add_command(commands, "normal", do_normal, help, _NORMAL % LIST_HELP, columns)
     for parser in (read, decide, normal):

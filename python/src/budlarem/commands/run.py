@@ -10,7 +10,7 @@ import contextlib
 import os
 import sys
 
-from .._text import escape_controls
+from .._text import escape_hidden
 from ..limits import Limits, limits_of
 from ..runner.chunks import identity, parse_retention
 from ..runner.errors import CheckError, FolderError, ListError, MovedError, RunError, UsageError
@@ -62,7 +62,7 @@ def add_command(commands: Subcommands) -> None:
 
 def install_signal_handlers(progress: Progress, folder: str) -> None:
     """Has SIGINT, SIGTERM and SIGHUP end the process at once, with a message; its chunks are stored."""
-    place = escape_controls(folder)
+    place = escape_hidden(folder)
     end_at_signals(lambda what: f"{progress.erase_sequence()}budlarem: {what}{_RESUME} in {place}\n")
 
 

@@ -15,7 +15,7 @@ import sys
 from concurrent.futures import FIRST_EXCEPTION, Executor, Future, ThreadPoolExecutor, wait
 from typing import Callable
 
-from .._text import escape_controls
+from .._text import escape_hidden
 from ..limits import Limits
 from ..runner.errors import FolderError, UsageError
 from ..runner.progress import TerminalLine
@@ -44,7 +44,7 @@ MACHINE below N U G SHA256. A finished shard isn't run again."""
 def do_shards(asked: argparse.Namespace) -> int:
     plan = _plan_of(asked)
     _require_one_use(asked)
-    resumes = "`budlarem shards %s` resumes\n" % escape_controls(asked.folder)
+    resumes = "`budlarem shards %s` resumes\n" % escape_hidden(asked.folder)
     end_at_signals(lambda what: "budlarem: %s; %s" % (what, resumes))
     if plan is not None:
         create(asked.folder, plan)

@@ -12,7 +12,7 @@ import textwrap
 from types import FrameType
 from typing import TYPE_CHECKING, BinaryIO, Callable, Iterable, Iterator, Mapping, TypeVar
 
-from .._text import escape_controls, pluralize
+from .._text import escape_hidden, escape_message, pluralize
 from ..claims import Translation
 from ..limits import GREATEST, Limits
 from ..numbers import option_number
@@ -80,7 +80,7 @@ class ListReader:
     def __init__(
         self, path: str | None, asked: argparse.Namespace | None, progress: TerminalLine | None = None
     ) -> None:
-        self.name = "standard input" if path is None or path == "-" else path
+        self.name = "standard input" if path is None or path == "-" else escape_hidden(path)
         self.source = source_of(path)
         self.form = None if asked is None or asked.form is None else Form(asked.form)
         self.columns = Columns(**{role: getattr(asked, "column_" + role, None) for role in _ROLES})
@@ -99,7 +99,7 @@ class ListReader:
         if self._progress is not None:
             self._progress.clear()
         place = "" if number is None else ":%d" % number
-        print("%s%s: %s" % (self.name, place, escape_controls(text)), file=sys.stderr)
+        print("%s%s: %s" % (self.name, place, escape_message(text)), file=sys.stderr)
 
     def print_form(self, form: ListForm) -> None:
         if form.is_found:

@@ -18,9 +18,9 @@ import zlib
 from concurrent.futures import Future
 from typing import Any, Callable, Sequence
 
-from .._library import ReplyBuffer, load_library, validate_replies
+from .._library import ReplyBuffer, load_library, validate_replies, version
 from .._text import LONGEST_OF_REPLY
-from .._version import COMMIT, VERSION
+from .._version import COMMIT
 from ..counts import KINDS, find_all
 from ..engine import Call, check_call, decide_call
 from ..limits import Limits, Plan
@@ -41,7 +41,8 @@ _thread_state = threading.local()
 
 @dataclasses.dataclass(frozen=True)
 class Identity:
-    """The version and commit of a package, and the sha256 of its library in hexadecimal digits."""
+    """The version and commit of a package, and the sha256 of its library in hexadecimal digits. The version of a
+    library that isn't proved ends in ` (plain)`."""
 
     version: str
     commit: str
@@ -58,7 +59,7 @@ class Identity:
 @functools.lru_cache(maxsize=None)
 def identity() -> Identity:
     with open(load_library()._name, "rb") as file:
-        return Identity(VERSION, COMMIT, hashlib.sha256(file.read()).hexdigest())
+        return Identity(version(), COMMIT, hashlib.sha256(file.read()).hexdigest())
 
 
 def hash_of(data: bytes) -> str:

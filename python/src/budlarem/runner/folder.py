@@ -17,10 +17,10 @@ import stat
 import string
 from typing import Any, Callable, Iterable, Iterator, Mapping, NamedTuple, Sequence
 
-from .._files import Checksum, Directory, FileId, KindError, Pin, id_of, kind_of, write_atomically
-from .._files import write_blocks
-from .._text import escape_controls
-from ..counts import KINDS
+from .._files import Checksum, Directory, FileId, KindError, Pin, id_of, kind_of, read_json
+from .._files import write_atomically, write_blocks
+from .._text import escape_hidden
+from ..counts import KINDS, UNDECIDED
 from ..limits import Limits, limits_of, words_of
 from .chunks import Counts, Identity, Retention, hash_of, parse_retention
 from .errors import FolderError, RunError
@@ -208,7 +208,7 @@ class RunConfig:
             words += ["--keep", str(self.keep)]
             verdicts = "the verdicts that are kept (%s), in order" % self.keep
         return string.Template(_PAGE.read_text(encoding="utf-8")).substitute(
-            list=escape_controls(self.list_name),
+            list=escape_hidden(self.list_name),
             same=",\nwith the same list on standard input" if is_piped else "",
             verdicts=verdicts,
             resume=shlex.join(words),
@@ -262,6 +262,20 @@ def key_of(passes: Sequence[Limits], keep: Retention, library: str) -> str:
     return hash_of(("%d %s %s %s" % (FORMAT, " ".join(map(words_of, passes)), keep, library)).encode())
 
 
+def _read_config(top: Directory) -> RunConfig | None:
+    """The configuration in a folder; None if missing or truncated. Raises FolderError if it was changed."""
+    require_regular(top, (RUN,))
+    try:
+        number = top.open_file(RUN, os.O_RDONLY)
+    except FileNotFoundError:
+        return None
+    with open(number, encoding="latin-1", newline="") as file:
+        try:
+            return RunConfig.read(file.read())
+        except FolderError as error:
+            raise FolderError("%s: %s" % (top.at(RUN), error)) from None
+
+
 class Folder:
     """The folder of a run, locked for this process, by the handle of the opened directory. `list_id` is the
     list's file, if it is one. Raises FolderError if another process has the lock, the folder has foreign
@@ -308,16 +322,7 @@ class Folder:
 
     def read_config(self) -> RunConfig | None:
         """Its configuration; None if missing or truncated. Raises FolderError if it was changed."""
-        require_regular(self._top, (RUN,))
-        try:
-            number = self._top.open_file(RUN, os.O_RDONLY)
-        except FileNotFoundError:
-            return None
-        with open(number, encoding="latin-1", newline="") as file:
-            try:
-                return RunConfig.read(file.read())
-            except FolderError as error:
-                raise FolderError("%s: %s" % (self._top.at(RUN), error)) from None
+        return _read_config(self._top)
 
     def require_free(self, numbers: Iterable[int]) -> None:
         """Raises FolderError if the folder of a new pass has foreign files."""
@@ -389,68 +394,108 @@ def _figures_of(fields: dict[str, Any]) -> tuple[int, Counts, Checksum | None]:
     return int(fields["lines"]), {kind: int(fields["counts"][kind]) for kind in KINDS}, checksum
 
 
-class PassSummary(NamedTuple):
-    """A pass in a summary. `checksum` covers the output of its chunks; `is_checked`: the checker confirmed it."""
+class _PassSummary(NamedTuple):
+    """A pass in a summary. `checksum` covers the output of its chunks."""
 
     limits: Limits
     chunks: int
-    is_checked: bool
     lines: int
     counts: Counts
     checksum: Checksum | None
 
 
+class PassTotals(NamedTuple):
+    """The sum of a pass's sealed records. `is_checked`: the checker confirmed each chunk."""
+
+    lines: int
+    counts: Counts
+    is_checked: bool
+
+    @property
+    def undecided(self) -> int:
+        return sum(self.counts[kind] for kind in UNDECIDED)
+
+
 class FinishedRun:
-    """The folder of a finished run, by the handle of the opened directory: the path of its verdicts, and its
-    summary, in which `checksum` covers the verdicts. Raises FolderError, OSError."""
+    """The folder of a finished run, by the handle of the opened directory. `verdicts` is the path of its verdicts;
+    `passes`, `keep`, `identity` and `lines` come from the sealed `run.json`. `summary.json` has no seal: it is only
+    compared. Raises FolderError, OSError."""
 
     def __init__(self, path: str) -> None:
         with contextlib.ExitStack() as stack:
             self._top = stack.enter_context(contextlib.closing(Directory.open(path)))
             self.verdicts = self._top.at(VERDICTS)
+            config = self._read_sealed()
+            self.passes, self.keep, self.identity = config.passes, config.keep, config.identity
+            self.lines: int = config.list_lines or 0
             self._read_summary()
             self.close = stack.pop_all().close
 
-    def _read_summary(self) -> None:
+    def _read_sealed(self) -> RunConfig:
         path = self._top.path
         if self._top.status(RUN) is None:
             raise FolderError(f"{path} is a folder, but not of `budlarem run`; give a file of verdict lines")
-        for name in (SUMMARY, VERDICTS):
-            if self._top.status(name) is None:
-                raise FolderError("%s has no %s: that run isn't finished; resume it" % (path, name))
+        missing = [name for name in (SUMMARY, VERDICTS) if self._top.status(name) is None]
+        config = _read_config(self._top)
+        if config is None or config.list_lines is None:
+            raise FolderError("%s has no whole %s: that run isn't finished; resume it" % (path, RUN))
+        if missing:
+            raise FolderError("%s has no %s: that run isn't finished; resume it" % (path, missing[0]))
+        return config
+
+    def _read_summary(self) -> None:
         try:
             os.close(self._top.open_file(VERDICTS, os.O_RDONLY))
             with open(self._top.open_file(SUMMARY, os.O_RDONLY), encoding="utf-8") as file:
-                fields = json.load(file)
-            pairs = ((Limits(**one["limits"]), one) for one in fields["passes"])
-            self.passes = [
-                PassSummary(limits, int(one["pieces"]), bool(one.get("checked", False)), *_figures_of(one))
-                for limits, one in pairs
+                fields = read_json(file.read())
+            self._passes = [
+                _PassSummary(Limits(**one["limits"]), int(one["pieces"]), *_figures_of(one))
+                for one in fields["passes"]
             ]
-            self.keep, self.identity = parse_retention([fields["kept"]]), Identity.of_fields(fields)
-            self.lines, self.counts, self.checksum = _figures_of(fields)
+            kept, lines, self._counts, self.checksum = str(fields["kept"]), *_figures_of(fields)
         except KindError as error:
             raise FolderError(str(error)) from None
         except (ValueError, KeyError, TypeError) as error:
             why = f"isn't as a run writes it: {error}; run its command again"
             raise FolderError(f"{self._top.at(SUMMARY)} {why}") from None
+        for what, found, sealed in (
+            (
+                "limits of the passes",
+                [words_of(one.limits) for one in self._passes],
+                [*map(words_of, self.passes)],
+            ),
+            ("kept verdicts", kept, str(self.keep)),
+            ("numbers of lines", lines, self.lines),
+        ):
+            if found != sealed:
+                raise self._mismatch_error(SUMMARY, RUN, "the %s differ, %s and %s" % (what, found, sealed))
 
-    def require_journals(self) -> None:
-        """Raises FolderError if the journal of a pass is there, and isn't of this run; OSError."""
-        for number, one in enumerate(self.passes, 1):
+    def read_journals(self) -> list[PassTotals | None]:
+        """The totals of each pass, None without its journal. Raises FolderError for a journal that isn't of this
+        run; OSError."""
+        found: list[PassTotals | None] = []
+        for number, one in enumerate(self._passes, 1):
             name = pass_name(number)
+            found.append(None)
             if self._top.status(name) is None:
                 continue
-            key = key_of([one.limits for one in self.passes[:number]], self.keep, self.identity.library)
+            key = key_of(self.passes[:number], self.keep, self.identity.library)
             with contextlib.closing(self._top.subdirectory(name)) as inside:
                 if inside.status(JOURNAL) is not None:
                     with contextlib.closing(Journal(inside, key, is_read_only=True)) as journal:
-                        self._require_records(number, one, journal)
+                        found[-1] = self._totals(number, one, journal)
+            before = None if number == 1 else found[-2]
+            given = self.lines if number == 1 else None if before is None else before.undecided
+            if given is not None and found[-1] is not None and found[-1].lines != given:
+                why = "it has %d lines, and the pass was given %d" % (found[-1].lines, given)
+                raise self._mismatch_error(os.path.join(name, JOURNAL), RUN, why)
+        return found
 
-    def _require_records(self, number: int, one: PassSummary, journal: Journal) -> None:
-        """Raises FolderError unless the records of a pass add up to its summary."""
+    def _totals(self, number: int, one: _PassSummary, journal: Journal) -> PassTotals:
+        """The totals of a pass. Raises FolderError unless its records add up to its summary."""
         name = os.path.join(pass_name(number), JOURNAL)
         lines, checksum, counts = 0, Checksum(), collections.Counter(dict.fromkeys(KINDS, 0))
+        is_checked = True
         for index in range(one.chunks):
             record = journal.read(index)
             if record is None or record.first != lines:
@@ -459,11 +504,13 @@ class FinishedRun:
             lines += record.lines
             checksum = checksum.add(Checksum(*record.kept))
             counts.update(record.counts_by_kind())
+            is_checked = is_checked and record.is_checked
         if (lines, dict(counts)) != (one.lines, one.counts):
             why = "it has %d lines, and the summary has %d" % (lines, one.lines)
             raise self._mismatch_error(name, SUMMARY, why)
         if one.checksum not in (None, checksum):
             raise self._mismatch_error(name, SUMMARY, "its chunks aren't those of the summary")
+        return PassTotals(lines, dict(counts), is_checked)
 
     def _mismatch_error(self, name: str, other: str, why: str) -> FolderError:
         text = "%s doesn't match %s: %s; run that folder's command again, which writes both"
@@ -471,7 +518,7 @@ class FinishedRun:
 
     def require_verdicts(self, checksum: Checksum, counts: Mapping[str, int]) -> None:
         """Raises FolderError unless verdicts with this checksum and these counts are those of the summary."""
-        for kind, known in self.counts.items():
+        for kind, known in self._counts.items():
             if known != counts[kind]:
                 why = "it counts %d %s, and there are %d" % (known, kind, counts[kind])
                 raise self._mismatch_error(SUMMARY, VERDICTS, why)

@@ -8,7 +8,7 @@ import sys
 import time
 from typing import Callable, TextIO
 
-from .._text import escape_controls
+from .._text import escape_message
 
 # Seconds between two lines, on a terminal and elsewhere.
 _OFTEN, _SELDOM = 0.5, 60.0
@@ -115,8 +115,8 @@ class Progress:
             self.print_line("pass %d takes about %s, by the pace of its first %s lines" % parts)
 
     def print_line(self, text: str) -> None:
-        """Prints a message on a line of its own, its control characters escaped."""
-        self._write(self.erase_sequence() + "budlarem: %s\n" % escape_controls(text))
+        """Prints a message on a line of its own, its invisible characters escaped."""
+        self._write(self.erase_sequence() + "budlarem: %s\n" % escape_message(text))
         self._is_open = False
 
     def erase_sequence(self) -> str:

@@ -7,7 +7,7 @@ use Rattle.bb_cert.specs.checker.Answer.{IsAnswer}
 use Rattle.bb_cert.specs.inside.Checks.{Checks}
 use Rattle.bb_cert.specs.claims.Claim.{SaysNever}
 use Rattle.bb_cert.proofs.checker_lemmas.AnswerRules.{checked_answer, settled_answer, where_ok}
-use Rattle.bb_cert.proofs.checker_lemmas.ClaimChecks.{no_window, settled_so}
+use Rattle.bb_cert.proofs.checker_lemmas.ClaimChecks.{no_window, settled_counts, settled_so}
 use Rattle.bb_cert.proofs.claim_lemmas.Claims.{claims_never_halt}
 use Rattle.bb_cert.proofs.checker.checking.check_packed.Goals as goal
 
@@ -22,6 +22,12 @@ returns-in-Some-clause-window g c =
     no_window c.args.machine.now c.args.limits.now c.args.verdict.now
     (λ made. made.0 (settled_so c.args.limits.now c.args.verdict.now c.in-Some.answer settled))
     (ap (λ (m : Meter). m.most_cells) c.new.ensures)
+
+pub returns-in-Some-clause-cost : goal.returns-in-Some-clause-cost
+returns-in-Some-clause-cost g c =
+    let settled = rw c.in-Some.is at c.settle.ensures in
+    settled_counts c.args.machine.now c.args.limits.now c.args.verdict.now _
+    (settled_so c.args.limits.now c.args.verdict.now c.in-Some.answer settled) c.new.ensures
 
 pub returns-in-None-clause-answer : goal.returns-in-None-clause-answer
 returns-in-None-clause-answer g c =

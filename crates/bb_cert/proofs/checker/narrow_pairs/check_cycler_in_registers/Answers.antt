@@ -1,5 +1,5 @@
-use Rattle.std.proofs.Common.{◌≡◌, ◌↔◌, sym, ◌∙◌}
-use Rattle.bb_sim.specs.Runner.{steps_of}
+use Rattle.std.proofs.Common.{◌≡◌, ◌↔◌, subst, sym, ◌∙◌}
+use Rattle.bb_sim.specs.Runner.{Stands, steps_of}
 use Rattle.bb_narrow.specs.Registers.{IsSameConfiguration}
 use Rattle.bb_cert.specs.claims.Repeat.{Same}
 use Rattle.bb_cert.specs.inside.Checks.{IsAtStep}
@@ -60,3 +60,10 @@ returns-clause-checks g c =
 pub returns-clause-replayed : goal.returns-clause-replayed
 returns-clause-replayed g c =
     counts_to_limit (came g (goal.at.returns-clause-replayed g c).After-has_same_configuration)
+
+-- the saved tape is that of the first step
+pub continue_to_second-requires-clause-kept : goal.continue_to_second-requires-clause-kept
+continue_to_second-requires-clause-kept g c =
+    let first = c.run_registers_to-kept.ensures.run in
+    subst (Stands c.args.machine.now c.runner-at_first.result)
+    (sym (c.in_ok-runner-in-Outside-stop.ensures.saved first)) (c.runner-at_first.ensures.stands first)

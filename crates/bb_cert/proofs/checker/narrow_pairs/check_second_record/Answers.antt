@@ -83,7 +83,7 @@ agreement_in_registers-requires g c =
 
 pub continue_from_record-requires-clause-kept : goal.continue_from_record-requires-clause-kept
 continue_from_record-requires-clause-kept g c =
-    let same = c.in_ok-_saved-in-Outside.ensures.same c.requires.kept.is_run in
+    let same = c.in_ok-runner-in-Outside.ensures.saved c.requires.kept.is_run in
     let steps = c.in_ok-runner-in-Outside.ensures.steps in
     record {
       old = c.args.kept;

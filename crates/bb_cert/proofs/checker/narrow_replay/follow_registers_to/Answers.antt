@@ -15,6 +15,7 @@ loop-run-preserved c =
     record {
       is_run = next.next;
       ahead = omega (arith, made.1, c.loop-run-test.true);
+      further = omega (arith, made.1, c.loop-run.invariant.further);
       goes_on = goes_in_registers here.is_run next here.goes_on (c.runner-runner.ensures.stands next.next)
           c.runner-runner.ensures.steps c.cells_of-cells.ensures c.pass.ensures;
     }

@@ -8,6 +8,7 @@ abbrev pub invariant-loop-run : goal.invariant-loop-run
 invariant-loop-run l = record {
   is_run : IsNarrowRun l.machine l.limits l.run;
   ahead : l.run.steps ≤ l.step;
+  further : l.fn.start.steps ≤ l.run.steps;
   goes_on : GoesOn l.machine l.fn.start.steps l.run.steps l.fn.from l.replay;
 }
 

@@ -9,6 +9,7 @@ loop-run-preserved c =
     record {
       is_run = (made.0 c.loop-run.invariant.is_run).next;
       ahead = omega (arith, made.1, c.loop-run-test.true);
+      further = omega (arith, made.1, c.loop-run.invariant.further);
     }
 
 pub returns-in-Ended-clause-stop : goal.returns-in-Ended-clause-stop

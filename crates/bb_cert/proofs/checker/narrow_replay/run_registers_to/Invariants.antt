@@ -7,6 +7,7 @@ abbrev pub invariant-loop-run : goal.invariant-loop-run
 invariant-loop-run l = record {
   is_run : IsNarrowRun l.machine l.limits l.run;
   ahead : l.run.steps ≤ l.step;
+  further : l.fn.start.steps ≤ l.run.steps;
 }
 
 abbrev pub decreases-loop-run : goal.decreases-loop-run

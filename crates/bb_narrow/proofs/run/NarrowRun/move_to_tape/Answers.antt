@@ -1,114 +1,14 @@
-use Rattle.std.proofs.Common.{◌≡◌, ◌∙◌, ap, arith, subst, sym}
+use Rattle.std.proofs.Common.{◌∙◌, ap, arith, sym}
 use Rattle.std.proofs.lemmas.Int.{ints}
 use Rattle.bb_tape.specs.TapeView.{TapeView}
-use Rattle.bb_sim.specs.Runner.{Stands}
-use Rattle.bb_narrow.specs.Registers.{IsNarrowRun}
-use Rattle.bb_narrow.proofs.TapeBits.{bits_inside, lowest_is_low, same_views}
-use Rattle.bb_narrow.proofs.TapeBits.{window_some}
-use Rattle.bb_narrow.proofs.run.NarrowRun.move_to_tape.Given as given
+use Rattle.bb_narrow.proofs.Bits.{bits-blank}
 use Rattle.bb_narrow.proofs.run.NarrowRun.move_to_tape.Goals as goal
-use Rattle.bb_narrow.proofs.run.NarrowRun.move_to_tape.Goals.{After-widen_window}
 
-pub lowest_position-low-requires : goal.lowest_position-low-requires
-lowest_position-low-requires g c = record { some = window_some c.requires.run }
+pub replace_cells-requires-clause-content : goal.replace_cells-requires-clause-content
+replace_cells-requires-clause-content g c = ap (λ (s : TapeView). s.content) c.reset.ensures ∙ sym bits-blank
 
-pub widen_window-requires-clause-from : goal.widen_window-requires-clause-from
-widen_window-requires-clause-from g c =
-    let known = c.requires.run in
-    let low = lowest_is_low known _ c.lowest_position-low.ensures in
-    omega (arith, ints, low, known.sound.from_zero)
-
-pub widen_window-requires-clause-to : goal.widen_window-requires-clause-to
-widen_window-requires-clause-to g c =
-    let known = c.requires.run in
-    let low = lowest_is_low known _ c.lowest_position-low.ensures in
-    omega (
-      arith,
-      ints,
-      low,
-      known.sound.to_zero,
-      known.window_is.room_is,
-      known.window_is.low_in_word,
-      known.window_is.high_in_word,
-      known.limit,
-      c.cells.ensures.value,
-    )
-
-pub widen_window-requires-clause-room : goal.widen_window-requires-clause-room
-widen_window-requires-clause-room g c =
-    let known = c.requires.run in
-    let low = lowest_is_low known _ c.lowest_position-low.ensures in
-    let limit = ap (λ (s : TapeView). s.limit) c.reset.ensures ∙ c.requires.limit in
-    omega (
-      arith,
-      ints,
-      low,
-      limit,
-      known.window_is.room_is,
-      known.window_is.low_in_word,
-      known.window_is.high_in_word,
-      known.limit,
-      c.cells.ensures.value,
-    )
-
--- the ends of the widened window
-low_is : (g : given.Over) (c : After-widen_window g)
-    (known : IsNarrowRun c.args.machine.now c.args.limits.now c.args.self.now)
-    → (g.T.Tape.view c.widen_window.new.tape).low ≡ known.view.low
-low_is g c known =
-    let low = lowest_is_low known _ c.lowest_position-low.ensures in
-    ap (λ (s : TapeView). s.low) c.widen_window.ensures
-    ∙ omega (arith, ints, low, known.window_is.low_in_word)
-
-high_is : (g : given.Over) (c : After-widen_window g)
-    (known : IsNarrowRun c.args.machine.now c.args.limits.now c.args.self.now)
-    → (g.T.Tape.view c.widen_window.new.tape).high ≡ known.view.high
-high_is g c known =
-    let low = lowest_is_low known _ c.lowest_position-low.ensures in
-    ap (λ (s : TapeView). s.high) c.widen_window.ensures
-    ∙ omega (
-      arith,
-      ints,
-      low,
-      known.window_is.room_is,
-      known.window_is.low_in_word,
-      known.window_is.high_in_word,
-      known.limit,
-      c.cells.ensures.value,
-    )
-
-pub write_bits-requires-clause-inside : goal.write_bits-requires-clause-inside
-write_bits-requires-clause-inside g c i h set =
-    let known = c.requires.run in
-    let after = (goal.at.write_bits-requires-clause-inside g c).After-widen_window in
-    let inside = bits_inside known i h set in
-    (rw (low_is g after known) inside.0, rw (high_is g after known) inside.1)
-
--- the tape is that of the run
-pub returns-clause-same : goal.returns-clause-same
-returns-clause-same g c known =
-    let after = (goal.at.returns-clause-same g c).After-widen_window in
-    let v = c.in-Ok.ensures.ok in
-    let w = c.widen_window.ensures in
-    let r = c.reset.ensures in
-    same_views _ _
-    (ap (λ (s : TapeView). s.content) v ∙ sym known.at.content)
-    (ap (λ (s : TapeView). s.low) v ∙ low_is g after known)
-    (ap (λ (s : TapeView). s.high) v ∙ high_is g after known)
-    (ap (λ (s : TapeView). s.limit) v ∙ ap (λ (s : TapeView). s.limit) w ∙ ap (λ (s : TapeView). s.limit) r
-    ∙ c.requires.limit ∙ sym known.limit)
-
-pub returns-clause-stands : goal.returns-clause-stands
-returns-clause-stands g c =
-    let known = c.requires.run in
-    let after = (goal.at.returns-clause-stands g c).After-widen_window in
-    let v = c.in-Ok.ensures.ok in
-    let w = c.widen_window.ensures in
-    let r = c.reset.ensures in
-    let view : g.T.Tape.view c.write_bits.new.tape ≡ known.view = same_views _ _
-    (ap (λ (s : TapeView). s.content) v ∙ sym known.at.content)
-    (ap (λ (s : TapeView). s.low) v ∙ low_is g after known)
-    (ap (λ (s : TapeView). s.high) v ∙ high_is g after known)
-    (ap (λ (s : TapeView). s.limit) v ∙ ap (λ (s : TapeView). s.limit) w ∙ ap (λ (s : TapeView). s.limit) r
-    ∙ c.requires.limit ∙ sym known.limit) in
-    subst (Stands c.args.machine.now c.runner.result) (sym view) (c.runner.ensures.stands known)
+pub replace_cells-requires-clause-window : goal.replace_cells-requires-clause-window
+replace_cells-requires-clause-window g c known =
+    let low = ap (λ (s : TapeView). s.low) c.reset.ensures in
+    let high = ap (λ (s : TapeView). s.high) c.reset.ensures in
+    (omega (arith, ints, low, known.sound.from_zero), omega (arith, ints, high, known.sound.to_zero))

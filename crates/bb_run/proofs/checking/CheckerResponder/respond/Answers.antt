@@ -20,6 +20,7 @@ returns-clause-saw g c = (
     meter = c.check.new.meter;
     counted = c.in-Ok.ensures.counted;
     within = c.check.ensures.within;
+    checked = c.in-Ok.ensures.cost;
     window = c.in-Ok.ensures.window;
     clean = rw c.is_fine.ensures refl;
     peak = c.greatest-self.ensures;

@@ -1,0 +1,37 @@
+use Rattle.bb_sim.specs.Meter.{CountsRun, zero_meter}
+use Rattle.bb_cert.specs.declared.checker.answer.Answer.{Answer}
+use Rattle.bb_cert.specs.declared.verdict.Verdict.{Verdict}
+use Rattle.bb_cert.specs.checker.Answer.{IsSettled}
+use Rattle.bb_cert.specs.checker.ClaimMeter.{CountsCheck, replay_bounds}
+use Rattle.bb_tree.specs.Tree.{EndsWithin}
+use Rattle.std.proofs.Common.{◌≡◌, ℕ, subst}
+use Rattle.bb_cert.specs.declared.verdict.Verdict.TheVariants.{Backward}
+use Rattle.bb_cert.proofs.checker_lemmas.AnswerRules.{where_ok}
+use Rattle.bb_cert.proofs.checker_lemmas.ClaimChecks.{replay_counts, tree_counts}
+use Rattle.bb_cert.proofs.checker.checking.check_claim.Goals as goal
+
+pub returns-in-Translated-clause-cost : goal.returns-in-Translated-clause-cost
+returns-in-Translated-clause-cost g c =
+    let table = c.args.machine.now in
+    let bounds = c.args.limits.now in
+    let meter = c.check_translated.new.meter in
+    where_ok (λ (given : Answer). CountsRun table (replay_bounds bounds c.args.verdict) zero_meter meter)
+    (λ (given : Answer). CountsCheck table bounds c.args.verdict meter) _
+    (λ given run. replay_counts table bounds c.args.verdict meter
+    (c.requires.open, rw c.in-Translated.is tt) (rw c.in-Translated.is (λ tree. tree)) run)
+    (rw c.in-Translated.is c.check_translated.ensures.replayed)
+
+pub returns-in-Backward-clause-cost : goal.returns-in-Backward-clause-cost
+returns-in-Backward-clause-cost g c =
+    let table = c.args.machine.now in
+    let bounds = c.args.limits.now in
+    let meter = c.check_backward.new.meter in
+    let levels = c.in-Backward.levels in
+    let nodes = c.in-Backward.nodes in
+    let unsettled : IsSettled bounds (Backward levels nodes) → ⊥
+    = subst (λ (v : Verdict). IsSettled bounds v → ⊥) c.in-Backward.is c.requires.open in
+    rw c.in-Backward.is (where_ok (λ (given : Answer). (h k : ℕ) → EndsWithin table levels nodes h k
+    → (meter.most_levels ≡ h) × (meter.nodes ≡ k))
+    (λ (given : Answer). CountsCheck table bounds (Backward levels nodes) meter) _
+    (λ given ended. tree_counts table levels nodes meter bounds unsettled c.check_backward.ensures.within ended)
+    c.check_backward.ensures.ended)

@@ -1,0 +1,71 @@
+"""`normal` over whole lists, machines in other names, and the command."""
+
+import random
+import sys
+
+import budlarem
+import pytest
+from budlarem.normal_forms import canonical_form
+from support import ListMachines
+from support.machines import LETTERS, Change, machine, random_change, seldom_halting
+from support.program import as_lines, run_command
+
+# One machine of two states and three symbols: the halting champion, and with 1 and 2 exchanged.
+SAME = ["1RB2LB1RZ_2LA2RB1LB", "2RB2RZ1LB_1LA2LB1RB"]
+STEPS = 500
+
+
+@pytest.mark.parametrize("states, symbols", [(2, 2), (2, 3), (3, 2)])
+def test_machines_in_tree_normal_form_are_their_own(
+    list_machines: ListMachines, states: int, symbols: int
+) -> None:
+    machines = list_machines(states, "--symbols", str(symbols), "--steps", str(STEPS))
+    forms = [budlarem.normal(one, steps=STEPS) for one in machines]
+    assert [form.normal for form in forms] == machines
+    names = LETTERS[:states], "".join(map(str, range(symbols)))
+    assert {(form.states, form.symbols, form.mirrored) for form in forms} == {(*names, False)}
+
+
+def test_machines_in_other_names_have_one_form(rng: random.Random, count: int = 3_000) -> None:
+    """If the run meets all states and symbols but one of each at most."""
+    alike = 0
+    for case in range(count):
+        size, cells = (rng.randint(1, 5), rng.randint(2, 5)), rng.choice((4, 1_000, 1_000))
+        drawn = (machine if case % 2 else seldom_halting)(rng, *size)
+        changed = random_change(rng, *size).machine(drawn)
+        first, second = (budlarem.normal(text, steps=STEPS, cells=cells) for text in (drawn, changed))
+        assert canonical_form(first.normal).text == canonical_form(drawn).text
+        assert budlarem.normal(first.normal, steps=STEPS, cells=cells).normal == first.normal
+        assert change_to(first).machine(drawn) == first.normal
+        states, symbols = met_by_run(drawn, cells)
+        assert first.states.startswith(states) and first.symbols.startswith(symbols), drawn
+        unmet = size[0] - len(states), size[1] - len(symbols)
+        if max(unmet) <= 1 and not drawn.startswith("---"):
+            assert first.normal == second.normal, drawn
+            alike += 1
+    print("%d machines, %d with all met" % (count, alike))
+    assert alike > count / 4
+
+
+def change_to(form: budlarem.Normal) -> Change:
+    """The change of a machine into its form."""
+    names = ([old.index(new) for new in sorted(old)] for old in (form.states, form.symbols))
+    return Change(form.mirrored, *names)
+
+
+def met_by_run(text: str, cells: int) -> tuple[str, str]:
+    """The states and the symbols that a run enters and writes, in this order."""
+    rows = list(budlarem.trace(text, STEPS, cells))
+    written = (then.cells[now.position - then.low] for now, then in zip(rows, rows[1:]))
+    states = dict.fromkeys(now.state for now in rows if now.state != "Z")
+    return "".join(states), "".join(dict.fromkeys(["0", *written]))
+
+
+def test_command_prints_the_first_of_each_form() -> None:
+    given = as_lines([*SAME, "1RA1RA", "2LB---------_------------"])
+    output = run_command([sys.executable, "-m", "budlarem", "normal", "--distinct"], given).output.decode()
+    assert output.splitlines() == [
+        "%s\t%s\tAB\tR\t012" % (SAME[0], SAME[0]),
+        "1RA1RA\t1RA1RA\tA\tR\t01",
+        "1RB---------_------------\t2LB---------_------------\tAB\tL\t0213",
+    ]
