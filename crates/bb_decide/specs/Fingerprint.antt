@@ -1,5 +1,5 @@
 -- The fingerprint of a tape: a number that two equal tapes share, and two others hardly ever do
--- (R. M. Karp and M. O. Rabin, "Efficient randomized pattern-matching algorithms", 1987).
+-- (A. L. Zobrist, "A new hashing method with application for game playing", 1970: a sum of keys).
 use Rattle.std.specs.Prelude.{◌≡◌, ℕ, zero, suc, ◌+◌, ◌*◌, ◌≤◌, ◌%◌, ◌^◌, Some, ℤ, pos, ◌-ℤ◌, IsTrue}
 use Rattle.bb_machine.specs.Limits.{Bounds}
 use Rattle.bb_machine.specs.Machine.{Table}

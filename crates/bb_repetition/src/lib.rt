@@ -11,8 +11,6 @@ mod period;
 pub mod recurrence;
 mod recurring;
 mod rings;
-#[cfg(test)]
-mod tests;
 mod text;
 pub mod uses;
 pub mod verdict;

@@ -1,4 +1,4 @@
-//! Tests of the engine of lines, of whole lists and of traces, from bytes to bytes.
+//! Tests of the engine of lines, of whole lists, of traces and of recurrences, from bytes to bytes.
 #![tactic(auto)]
 
 #[cfg(test)]
@@ -29,6 +29,8 @@ mod larger_limits;
 mod line_engine;
 #[cfg(test)]
 mod many_symbols;
+#[cfg(test)]
+mod recurrences;
 #[cfg(test)]
 mod support;
 #[cfg(test)]

@@ -1,11 +1,11 @@
 //! Exact recurrences of known machines. The numbers are those of a brute force over all periods, written
-//! apart from this crate.
+//! apart from the crate.
 
-use crate::{Finding, LastUses, RecurrenceCounts, find, ring_tapes, run_recurrence};
 use bb_cert::{Answer, Line, read_line};
 use bb_lines::fault::Fault;
 use bb_lines::watched::Watched;
 use bb_machine::Limits;
+use bb_repetition::{Finding, LastUses, RecurrenceCounts, find, ring_tapes, run_recurrence};
 use bb_run::Summary;
 use bb_sim::Meter;
 use bb_tape::Memory;
