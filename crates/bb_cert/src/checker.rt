@@ -2,7 +2,6 @@
 
 pub mod answer;
 pub mod checking;
-mod narrow_pairs;
-mod narrow_replay;
 mod pairs;
 mod replay;
+mod run;

@@ -3,13 +3,11 @@ use Rattle.std.proofs.Common.{◌≡◌, ℕ, ◌+◌, ◌<◌, ◌≤◌, max, 
 use Rattle.std.specs.Prelude.{◌≢◌}
 use Rattle.bb_machine.specs.Limits.{Bounds}
 use Rattle.bb_machine.specs.Machine.{Table}
-use Rattle.bb_tape.specs.TapeView.{TapeView}
 use Rattle.bb_sim.specs.declared.meter.Meter.{Meter}
-use Rattle.bb_sim.specs.declared.runner.Runner.{Runner}
 use Rattle.bb_sim.specs.declared.simulation.Outcome.TheVariants.{Halt as Halts, NoSteps}
 use Rattle.bb_sim.specs.Meter.{CountsRun, CountsTo, zero_meter}
 use Rattle.bb_sim.specs.Outcome.{IsOutcome}
-use Rattle.bb_sim.specs.Span.{IsLastInside, span}
+use Rattle.bb_sim.specs.Span.{Inside, IsLastInside, span}
 use Rattle.bb_sim.proofs.Facts.{fits_at_halt, halt_is_unique, halts_last, last_step_is_unique}
 use Rattle.bb_cert.specs.declared.checker.answer.Answer.{Answer}
 use Rattle.bb_cert.specs.declared.checker.answer.Answer.TheVariants as answer
@@ -17,8 +15,8 @@ use Rattle.bb_cert.specs.declared.checker.pairs.RecordPair.{RecordPair}
 use Rattle.bb_cert.specs.declared.verdict.Verdict.{Verdict}
 use Rattle.bb_cert.specs.declared.verdict.Verdict.TheVariants.{Halt, Cycler, Backward}
 use Rattle.bb_cert.specs.checker.Answer.{IsSettled}
-use Rattle.bb_cert.specs.inside.Checks.{Checks, IsAtStep, IsCut, Settles}
-use Rattle.bb_cert.specs.inside.NarrowChecks.{claim_of, claim_up_to}
+use Rattle.bb_cert.specs.inside.Checks.{Checks, IsCut, Settles}
+use Rattle.bb_cert.specs.inside.NarrowChecks.{AnswersPairs, claim_up_to}
 use Rattle.bb_cert.specs.checker.ClaimMeter.{CountsCheck, CountsClaim, CountsWindow, IsOfTree, IsReplayed}
 use Rattle.bb_cert.specs.checker.ClaimMeter.{IsWithinClaim, last_step, levels_of, nodes_of, replay_bounds}
 use Rattle.bb_tree.specs.Tree.{EndsNowhere, EndsWithin}
@@ -63,27 +61,21 @@ module _ (table : Table) (bounds : Bounds) (steps score : ℕ) where
 
 -- ---- pairs
 
-pub cycler_cut : (table : Table) (bounds : Bounds) (first : ℕ) (given : Answer) → IsCut table bounds given
-    → Checks table bounds (Cycler first bounds.steps) given
-cycler_cut table bounds first answer.Bad cut =
-    (not_wide _ _ cut.1, λ claim. cut.0 (record { here = _; exists = claim.1.at_second }))
-cycler_cut table bounds first answer.Over cut = cut
-cycler_cut table bounds first answer.Ok cut = absurd cut
-cycler_cut table bounds first answer.Open cut = absurd cut
+-- a run that can't reach its limit of steps answers each claim of a pair
+pub cut_answers : (table : Table) (bounds : Bounds) (given : Answer) → IsCut table bounds given
+    → AnswersPairs table bounds given
+cut_answers table bounds answer.Bad cut = (
+  cut.1,
+  λ first claim. cut.0 (record { here = _; exists = claim.1.at_second }),
+  λ side first extent said. cut.0 (record { here = _; exists = said.0.agree.at_second }),
+)
+cut_answers table bounds answer.Over cut = cut
+cut_answers table bounds answer.Ok cut = absurd cut
+cut_answers table bounds answer.Open cut = absurd cut
 
-pub translated_cut : (table : Table) (bounds : Bounds) (claim : RecordPair) (given : Answer)
-    → IsCut table bounds given → Checks table bounds (claim_of bounds claim) given
-translated_cut table bounds claim answer.Bad cut =
-    (not_wide _ _ cut.1, λ said. cut.0 (record { here = _; exists = said.0.agree.at_second }))
-translated_cut table bounds claim answer.Over cut = cut
-translated_cut table bounds claim answer.Ok cut = absurd cut
-translated_cut table bounds claim answer.Open cut = absurd cut
-
--- a run that came to its limit of steps fits
-pub fits_there : {table : Table} (bounds : Bounds) {runner : Runner} {view : TapeView} {meter : Meter}
-    → IsAtStep table bounds bounds.steps runner view meter → bounds.cells < span table bounds.steps → ⊥
-fits_there {table} bounds is =
-    not_wide _ _ (subst (λ k. span table k ≤ bounds.cells) is.at is.under_way.inside.within_cells)
+pub fits_inside : {table : Table} (bounds : Bounds) {n : ℕ} → Inside table bounds n → n ≡ bounds.steps
+    → bounds.cells < span table bounds.steps → ⊥
+fits_inside {table} bounds inside at = not_wide _ _ (subst (λ k. span table k ≤ bounds.cells) at inside.within_cells)
 
 -- what is answered up to a step is answered within bounds that have it
 pub cycler_up_to : (table : Table) (bounds : Bounds) (first second : ℕ) (given : Answer)

@@ -1,7 +1,7 @@
 -- The run of a claim in registers.
-use Rattle.std.proofs.Common.{◌≡◌, ℕ, ◌+◌, ◌-◌, ◌*◌, ◌^◌, ◌<◌, ◌≤◌, ◌≤ℤ◌, inl, inr, Option, ap, sym, subst, ◌∙◌}
+use Rattle.std.proofs.Common.{◌≡◌, ℕ, ◌+◌, ◌*◌, ◌^◌, ◌<◌, ◌≤◌, inl, inr, Option, ap, sym, subst, ◌∙◌}
 use Rattle.std.proofs.Common.{arith, w64}
-use Rattle.std.specs.Prelude.{◌↔◌}
+use Rattle.std.specs.Prelude.{◌↔◌, IsTrue, MatchOption, None, Some}
 use Rattle.std.specs.Int.{trailing_zeros}
 use Rattle.std.proofs.lemmas.Bool.{cases_eq}
 use Rattle.std.proofs.lemmas.Int.{ints}
@@ -13,91 +13,37 @@ use Rattle.bb_machine.specs.Limits.{Bounds}
 use Rattle.bb_machine.specs.Machine.{IsMachine, Table}
 use Rattle.bb_tape.specs.Content.{Content}
 use Rattle.bb_tape.specs.TapeView.{TapeView}
-use Rattle.bb_sim.specs.declared.meter.Meter.{Meter}
 use Rattle.bb_sim.specs.declared.runner.Runner.{Runner}
 use Rattle.bb_sim.specs.declared.simulation.Outcome.{Outcome}
 use Rattle.bb_sim.specs.declared.simulation.Outcome.TheVariants.{Halt, NoCells, NoSteps}
-use Rattle.bb_sim.specs.CellsBetween.{cells_between}
-use Rattle.bb_sim.specs.Meter.{counted, zero_meter}
 use Rattle.bb_sim.specs.Run.{HaltsAt}
-use Rattle.bb_sim.specs.Runner.{Stands, high_of, low_of, steps_of}
+use Rattle.bb_sim.specs.Runner.{Stands, steps_of}
 use Rattle.bb_sim.specs.Span.{Inside, span}
-use Rattle.bb_sim.proofs.Facts.{cells_between-is, fits_at_halt, inside_here, next_inside, span_grows}
+use Rattle.bb_sim.proofs.Facts.{fits_at_halt, inside_here, next_inside, span_grows}
 use Rattle.bb_narrow.specs.declared.registers.Registers.{Registers}
 use Rattle.bb_narrow.specs.declared.run.NarrowRun.{NarrowRun}
-use Rattle.bb_narrow.specs.BitCells.{bits_content}
-use Rattle.bb_narrow.specs.Registers.{ContinuesTo, EndsWith, IsNarrowRun, IsSameConfiguration, MatchesRunner}
-use Rattle.bb_narrow.proofs.Facts.{at_bit, bits_unique, counted_so_far}
-use Rattle.bb_cert.specs.declared.checker.answer.Answer.{Answer}
-use Rattle.bb_cert.specs.declared.checker.answer.Answer.TheVariants as answer
-use Rattle.bb_cert.specs.declared.checker.pairs.RecordPair.{RecordPair}
+use Rattle.bb_narrow.specs.declared.cells.BitCells.{BitCells}
+use Rattle.bb_narrow.specs.BitCells.{bits_content, content_of}
+use Rattle.bb_narrow.specs.Registers.{EndsWith, IsNarrowRun, IsSameConfiguration, MatchesRunner}
+use Rattle.bb_narrow.proofs.Facts.{at_bit, bits_unique}
 use Rattle.bb_cert.specs.declared.checker.replay.ReplayState.{ReplayState}
 use Rattle.bb_cert.specs.declared.records.Records.{Records}
 use Rattle.bb_cert.specs.declared.verdict.Extent.{Extent}
 use Rattle.bb_cert.specs.declared.verdict.Side.{Side}
 use Rattle.bb_cert.specs.declared.verdict.Verdict.TheVariants.{Cycler, Translated}
 use Rattle.bb_cert.specs.claims.Claim.{Claim}
-use Rattle.bb_cert.specs.inside.Checks.{Checks, GoesOn, IsAtStep, Passes}
-use Rattle.bb_cert.specs.inside.NarrowChecks.{AnswersPairs, answer_of, claim_of}
-use Rattle.bb_cert.specs.records.Follow.{HasSameCells}
+use Rattle.bb_cert.specs.inside.NarrowChecks.{AnswersPairs, answer_of}
+use Rattle.bb_cert.specs.records.Follow.{AgreesWithKept, HasSameCells, LiesAs}
+use Rattle.bb_cert.specs.records.Word.{AgreesInWord}
 use Rattle.bb_cert.proofs.claim_lemmas.Claims.{claims_never_halt}
 use Rattle.bb_cert.proofs.claim_lemmas.Standing.{AreAlike}
-use Rattle.bb_cert.proofs.record_lemmas.ReplayStates.{goes-next}
 
 module _ {table : Table} {bounds : Bounds} {run : NarrowRun} (known : IsNarrowRun table bounds run) where
-  -- what isn't room is the window
-  pub cells_are : (cells : ℕ) → cells + run.room ≡ bounds.cells
-      → cells ≡ cells_between (low_of known.runner) (high_of known.runner)
-  cells_are cells is =
-      let order : known.view.low ≤ℤ known.view.high = omega (arith, ints, known.sound.from_zero, known.sound.to_zero) in
-      let n = cells_between-is (low_of known.runner) (high_of known.runner)
-      (omega (arith, ints, order, known.stands.window_low, known.stands.window_high)) in
-      omega (
-        arith,
-        ints,
-        n,
-        is,
-        known.window_is.room_is,
-        known.limit,
-        known.stands.window_low,
-        known.stands.window_high,
-      )
-
-  -- records go on by a step in registers
-  pub goes_in_registers : {new : NarrowRun} (made : ContinuesTo known new) {from : ℕ} {first old passed : ReplayState}
-      {after : Runner} {cells : ℕ} → GoesOn table from run.steps first old → Stands table after made.next.view
-      → steps_of after ≡ new.steps → cells + run.room ≡ bounds.cells → Passes after cells old passed
-      → GoesOn table from new.steps first passed
-  goes_in_registers {new} made {from} {first} {old} {passed} {after} {cells} goes stands at is passes =
-      let next : steps_of after ≡ steps_of known.runner + 1 = at ∙ made.next.steps_is ∙ made.steps in
-      subst (λ n. GoesOn table from n first passed) at
-      (goes-next (subst (λ n. GoesOn table from n first old) known.steps_is goes) known.stands stands next
-      (cells_are cells is) passes)
-
   -- it is inside the bounds
   pub inside_in_registers : {runner : Runner} → Stands table runner known.view → steps_of runner ≡ run.steps
       → Inside table bounds (steps_of runner)
   inside_in_registers {runner} stands at = inside_here table runner known.view bounds stands known.sound known.limit
       (omega (arith, at, known.few))
-
-  -- counted so far, it is at its step
-  pub at_step_in_registers : {runner : Runner} {step : ℕ} {meter : Meter} → Stands table runner known.view
-      → steps_of runner ≡ run.steps → run.steps ≡ step
-      → meter ≡ counted zero_meter run.steps (bounds.cells - run.room)
-      → IsAtStep table bounds step runner known.view meter
-  at_step_in_registers stands at step is = record {
-    under_way = record {
-      stands = stands;
-      inside = inside_in_registers stands at;
-      limit = known.limit;
-      counts = counted_so_far known zero_meter _ (at ∙ known.steps_is) is;
-    };
-    at = at ∙ step;
-  }
-
-  pub room_is_less : run.room ≤ bounds.cells
-  room_is_less =
-      omega (arith, ints, known.sound.from_zero, known.sound.to_zero, known.window_is.room_is, known.limit)
 
   -- it doesn't end by the steps before their limit
   not_by_steps : EndsWith known NoSteps → run.steps < bounds.steps → ⊥
@@ -131,26 +77,6 @@ module _ {table : Table} {bounds : Bounds} {run : NarrowRun} (known : IsNarrowRu
       )
   answered machine NoSteps end before = absurd (not_by_steps end before)
   answered machine NoCells end before = end.is_outcome.1
-
--- such an answer is the one to a claim of a pair
-pub cycler_answered : (table : Table) (bounds : Bounds) (first : ℕ) (given : Answer) → AnswersPairs table bounds given
-    → Checks table bounds (Cycler first bounds.steps) given
-cycler_answered table bounds first answer.Bad is = (λ wide. omega (arith, is.0, wide), is.1 first)
-cycler_answered table bounds first answer.Over is = is
-cycler_answered table bounds first answer.Ok is = absurd is
-cycler_answered table bounds first answer.Open is = absurd is
-
-pub translated_answered : (table : Table) (bounds : Bounds) (claim : RecordPair) (given : Answer)
-    → AnswersPairs table bounds given → Checks table bounds (claim_of bounds claim) given
-translated_answered table bounds claim answer.Bad is =
-    (λ wide. omega (arith, is.0, wide), is.2 claim.side claim.first claim.extent)
-translated_answered table bounds claim answer.Over is = is
-translated_answered table bounds claim answer.Ok is = absurd is
-translated_answered table bounds claim answer.Open is = absurd is
-
-pub answered_isnt_ok : (table : Table) (bounds : Bounds) (given : Answer) → AnswersPairs table bounds given
-    → given ≡ answer.Ok → ⊥
-answered_isnt_ok table bounds given is ok = subst (AnswersPairs table bounds) ok is
 
 -- the same powers of two have the same places
 pub place_is : (k : ℕ) → k < 64 → trailing_zeros w64 (2 ^ k) ≡ k
@@ -198,3 +124,22 @@ pub same_cells_of : (records : Records) (runner : Runner) {a b other_a other_b :
     → HasSameCells records runner a b → HasSameCells records runner other_a other_b
 same_cells_of records runner {a} {b} {other_a} is_a is_b same =
     subst (λ c. HasSameCells records runner other_a c) is_b (subst (λ c. HasSameCells records runner c b) is_a same)
+
+-- what is found of records in registers is found of them on such tapes
+pub in_tapes : (replay : ReplayState) (runner : Runner) (saved_bits run_bits : BitCells) (saved run : TapeView)
+    (found : Option Extent) → saved.content ≡ content_of saved_bits → run.content ≡ content_of run_bits
+    → MatchOption found
+    (IsTrue replay.is_record → AgreesInWord replay.records runner saved_bits run_bits → ⊥)
+    (λ extent. IsTrue replay.is_record × AgreesInWord replay.records runner saved_bits run_bits
+    × LiesAs replay.records runner extent)
+    → MatchOption found
+    (IsTrue replay.is_record → AgreesWithKept replay.records runner saved run → ⊥)
+    (λ extent. IsTrue replay.is_record × AgreesWithKept replay.records runner saved run
+    × LiesAs replay.records runner extent)
+in_tapes replay runner saved_bits run_bits saved run None saved_is run_is none =
+    λ makes both. none makes (both.0, same_cells_of replay.records runner saved_is run_is both.1)
+in_tapes replay runner saved_bits run_bits saved run (Some extent) saved_is run_is agree = (
+  agree.0,
+  (agree.1.0, same_cells_of replay.records runner (sym saved_is) (sym run_is) agree.1.1),
+  agree.2,
+)

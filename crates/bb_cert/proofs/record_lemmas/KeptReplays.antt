@@ -1,20 +1,24 @@
 -- A course whose record is kept, and compared with a later one.
-use Rattle.std.proofs.Common.{◌≡◌, ℕ, ◌<◌, pos, IsTrue, Bool, true, false, refl, sym, subst, ap, ◌∙◌}
-use Rattle.std.specs.Prelude.{MatchBool}
-use Rattle.bb_machine.specs.Limits.{Bounds}
+use Rattle.std.proofs.Common.{◌≡◌, ℕ, ◌<◌, ℤ, pos, IsTrue, Bool, Option, None, Some, true, false, refl, sym}
+use Rattle.std.proofs.Common.{subst, ap, ◌∙◌}
+use Rattle.std.specs.Prelude.{MatchBool, MatchOption}
+use Rattle.bb_machine.specs.declared.entry.Next.{Next}
 use Rattle.bb_machine.specs.Machine.{Table}
+use Rattle.bb_tape.specs.Content.{Content}
 use Rattle.bb_tape.specs.TapeView.{TapeView}
-use Rattle.bb_sim.specs.declared.meter.Meter.{Meter}
 use Rattle.bb_sim.specs.declared.runner.Runner.{Runner}
+use Rattle.bb_sim.specs.Run.{conf}
+use Rattle.bb_sim.specs.Span.{counted_head, greatest, least}
 use Rattle.bb_sim.specs.Configuration.{Configuration}
 use Rattle.bb_sim.specs.Laws.{IsRunningAt}
-use Rattle.bb_sim.specs.Runner.{Stands, position_of, steps_of}
+use Rattle.bb_sim.specs.Runner.{Stands, position_of, state_of, steps_of}
 use Rattle.bb_cert.specs.declared.checker.replay.ReplayState.{ReplayState}
 use Rattle.bb_cert.specs.declared.records.Records.{Records}
-use Rattle.bb_cert.specs.records.Agree.{AgreeingRecords}
 use Rattle.bb_cert.specs.declared.verdict.Extent.{Extent}
 use Rattle.bb_cert.specs.declared.verdict.Side.{Side}
-use Rattle.bb_cert.specs.inside.Checks.{GoesOn, IsAtStep, IsReplay, KeepsStep, MakesRecord}
+use Rattle.bb_cert.specs.inside.Runs.{IsRunnerAt, IsViewAt, MatchExtent}
+use Rattle.bb_cert.specs.records.Agree.{AgreeingRecords}
+use Rattle.bb_cert.specs.inside.Checks.{GoesOn, IsReplay, KeepsStep, MakesRecord}
 use Rattle.bb_cert.specs.inside.NarrowChecks.{IsFollowedFromStart, IsKeptAt, IsKeptUpTo}
 use Rattle.bb_cert.specs.verdict.Extent.{IsExtent}
 use Rattle.bb_cert.specs.records.Follow.{AgreesWithKept, IsComparable, IsKeptInStateOf, LiesAs, with_kept}
@@ -23,7 +27,7 @@ use Rattle.bb_cert.proofs.record_lemmas.Comparing.{agree_of_cells, cells_of_agre
 use Rattle.bb_cert.proofs.record_lemmas.Comparing.{extent_of_records, keeps}
 use Rattle.bb_cert.proofs.record_lemmas.Comparing.{keeps_step}
 use Rattle.bb_cert.proofs.record_lemmas.Comparing.{numbered, numbered_at}
-use Rattle.bb_cert.proofs.record_lemmas.ReplayStates.{goes_nowhere, replay_at_first, keeps_on}
+use Rattle.bb_cert.proofs.record_lemmas.ReplayStates.{replay_at_first, keeps_on}
 use Rattle.bb_cert.proofs.record_lemmas.Heads.{runs_before}
 use Rattle.bb_cert.proofs.record_lemmas.Positions.{head_at-is, starts}
 
@@ -106,55 +110,33 @@ kept_there {table} {side} {step} {runner} {run} {old} {new} known stands at keep
     known.none_kept keep in
     rw (at, known.side_is) at kept
 
--- a kept record is kept for no step more
-pub kept_so_far : {table : Table} {side : Side} {step n : ℕ} {replay : ReplayState} {saved : TapeView}
-    → IsKeptAt table side step replay saved → n ≡ step → IsKeptUpTo table side step n replay saved
-kept_so_far {table} {step = step} {replay = replay} kept at =
-    record { old = replay; kept = kept; goes = subst (λ n. GoesOn table step n replay replay) (sym at) goes_nowhere }
-
--- courses that follow one another are one
-pub goes_further : {table : Table} {a b c : ℕ} {first second third : ReplayState} → GoesOn table a b first second
-    → GoesOn table b c second third → GoesOn table a c first third
-goes_further one other = record {
-  replay = λ saved known. other.replay saved (one.replay saved known);
-  same = record {
-    side = other.same.side ∙ one.same.side;
-    kept = other.same.kept ∙ one.same.kept;
-  };
-}
-
--- both steps of a pair are run to, and the record that the first makes is kept
-pub record IsPairRun (table : Table) (bounds : Bounds) (side : Side) (first second : ℕ) (replay : ReplayState)
+-- a runner stands at the second step of a pair, and the record that the first makes is kept
+pub record IsPairRun (table : Table) (side : Side) (first second : ℕ) (replay : ReplayState)
     (runner : Runner) (run saved : TapeView) : Type 0 where
-  pub old : ReplayState
-  pub meter : Meter
-  pub kept : IsKeptAt table side first old saved
-  pub goes : GoesOn table first second old replay
-  pub there : IsAtStep table bounds second runner run meter
+  pub kept : IsKeptUpTo table side first second replay saved
+  pub stands : Stands table runner run
+  pub at : steps_of runner ≡ second
   pub order : first < second
 
-module _ {table : Table} {bounds : Bounds} {side : Side} {first second : ℕ} {replay : ReplayState}
+module _ {table : Table} {side : Side} {first second : ℕ} {replay : ReplayState}
     {runner : Runner} {run saved : TapeView}
-    (is : IsPairRun table bounds side first second replay runner run saved) where
-  stands : Stands table runner run
-  stands = is.there.under_way.stands
-
+    (is : IsPairRun table side first second replay runner run saved) where
   known_on : IsReplay table (steps_of runner) replay saved
-  known_on = subst (λ n. IsReplay table n replay saved) (sym is.there.at) (is.goes.replay saved is.kept.known)
+  known_on = subst (λ n. IsReplay table n replay saved) (sym is.at) (is.kept.goes.replay saved is.kept.kept.known)
 
   keeps_first : KeepsStep table first replay.records
-  keeps_first = keeps_on table first is.old.records replay.records is.goes.same is.kept.keeps
+  keeps_first = keeps_on table first is.kept.old.records replay.records is.kept.goes.same is.kept.kept.keeps
 
   same_side : replay.records.side ≡ side
-  same_side = is.goes.same.side ∙ is.kept.side_is
+  same_side = is.kept.goes.same.side ∙ is.kept.kept.side_is
 
   less : first < steps_of runner
-  less = rw is.there.at is.order
+  less = rw is.at is.order
 
   pub comparable_at : IsTrue replay.is_record → IsKeptInStateOf replay.records runner
       → IsComparable replay.records runner saved run
   comparable_at makes =
-      comparable table runner run saved replay.records stands known_on.followed (known_on.claimed.0 makes).0
+      comparable table runner run saved replay.records is.stands known_on.followed (known_on.claimed.0 makes).0
 
   -- the second makes a record, which agrees with the kept one
   module _ (makes : IsTrue replay.is_record) (both : AgreesWithKept replay.records runner saved run) where
@@ -162,7 +144,7 @@ module _ {table : Table} {bounds : Bounds} {side : Side} {first second : ℕ} {r
     made = (known_on.claimed.0 makes).0
 
     some : 0 < known_on.followed.number
-    some = numbered table runner run saved replay.records stands known_on.followed made both.0
+    some = numbered table runner run saved replay.records is.stands known_on.followed made both.0
 
     at : steps_of replay.records.kept ≡ first
     at = keeps_first.at both.0.0
@@ -170,11 +152,11 @@ module _ {table : Table} {bounds : Bounds} {side : Side} {first second : ℕ} {r
     -- how the two lie is their extent
     pub extent_at : {found : Extent} → LiesAs replay.records runner found
         → IsExtent table side first second found
-    extent_at lies = rw (sym same_side, sym at, sym is.there.at) (extent_of_records table runner run saved
-        replay.records stands known_on.followed made some _ lies)
+    extent_at lies = rw (sym same_side, sym at, sym is.at) (extent_of_records table runner run saved
+        replay.records is.stands known_on.followed made some _ lies)
 
     pub pair_at : AgreeingRecords table side first second
-    pair_at = rw (sym same_side, sym is.there.at) (record {
+    pair_at = rw (sym same_side, sym is.at) (record {
       in_order = less;
       first_number = known_on.followed.number;
       second_number = made.0;
@@ -182,7 +164,7 @@ module _ {table : Table} {bounds : Bounds} {side : Side} {first second : ℕ} {r
           (known_on.followed.kept some).made;
       second_record = made.1;
       agree = rw (sym at)
-          (agree_of_cells table runner run saved replay.records stands known_on.followed made some both);
+          (agree_of_cells table runner run saved replay.records is.stands known_on.followed made some both);
     })
 
   -- where they agree, that was seen
@@ -190,12 +172,53 @@ module _ {table : Table} {bounds : Bounds} {side : Side} {first second : ℕ} {r
       → AgreeingRecords table side first second → ⊥
   no_pair_at none agreeing =
       let pair : AgreeingRecords table replay.records.side first (steps_of runner) =
-      rw (same_side, is.there.at) agreeing in
+      rw (same_side, is.at) agreeing in
       let runs = runs_at_pair table replay.records.side first (steps_of runner) pair in
       let apart = keeps_first.made ((pair.first_number, pair.first_record), runs.0) in
       let at = keeps_first.at apart in
       none (known_on.claimed.1 ((pair.second_number, pair.second_record), runs.1))
-      (cells_of_agree table runner run saved replay.records stands known_on.followed
+      (cells_of_agree table runner run saved replay.records is.stands known_on.followed
       (pair.second_number, pair.second_record)
       (numbered_at table replay.records saved (steps_of runner) known_on.followed apart)
       (rw at less) (rw at pair.agree))
+
+-- what was found of them
+pub found_at : {table : Table} {side : Side} {first second : ℕ} {replay : ReplayState}
+    {runner : Runner} {run saved : TapeView} (is : IsPairRun table side first second replay runner run saved)
+    (found : Option Extent)
+    → MatchOption found
+    (IsTrue replay.is_record → AgreesWithKept replay.records runner saved run → ⊥)
+    (λ extent. IsTrue replay.is_record × AgreesWithKept replay.records runner saved run
+    × LiesAs replay.records runner extent)
+    → MatchExtent table side first second found
+found_at is None none = no_pair_at is none
+found_at is (Some extent) agree = (pair_at is agree.0 agree.1, extent_at is agree.0 agree.1 agree.2)
+
+abbrev placed : Next → ℤ → Content → Configuration
+placed state head tape = record { state = state; head = head; tape = tape }
+
+-- a runner stands where another does at the same step
+pub stands_there : {table : Table} {n : ℕ} {runner : Runner} {view : TapeView} → IsRunnerAt table n runner
+    → IsViewAt table n view → Stands table runner view
+stands_there {table} {n} {runner} {view} one other =
+    let steps : steps_of runner ≡ steps_of other.runner = one.at ∙ sym other.at in
+    let here = one.stands.at in
+    let there = subst (λ k. conf table k ≡ Some (record {
+      state = state_of other.runner;
+      head = position_of other.runner;
+      tape = view.content;
+    })) (sym steps) other.stands.at in
+    let one_place : placed (state_of runner) (position_of runner) one.view.content
+    ≡ placed (state_of other.runner) (position_of other.runner) view.content = cc in
+    let content : one.view.content ≡ view.content = ap (λ (c : Configuration). c.tape) one_place in
+    record {
+      at = here ∙ ap (λ t. Some (placed (state_of runner) (position_of runner) t)) content;
+      low = one.stands.low;
+      high = one.stands.high;
+      window_low = other.stands.window_low ∙ other.stands.low ∙ ap (least (counted_head table)) (sym steps)
+          ∙ sym one.stands.low;
+      window_high = other.stands.window_high ∙ other.stands.high ∙ ap (greatest (counted_head table)) (sym steps)
+          ∙ sym one.stands.high;
+      state_named = one.stands.state_named;
+      symbols_named = other.stands.symbols_named;
+    }

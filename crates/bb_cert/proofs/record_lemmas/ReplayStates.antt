@@ -214,9 +214,6 @@ keeps_on table step old new same is = record {
   at = λ some. ap (λ r. steps_of r) same.kept ∙ is.at (λ none. some (ap position_of same.kept ∙ none));
 }
 
-pub goes_nowhere : {table : Table} {n : ℕ} {replay : ReplayState} → GoesOn table n n replay replay
-goes_nowhere = assumption
-
 pub goes-next : {table : Table} {from : ℕ} {first old new : ReplayState} {before after : Runner}
     {run_before run_after : TapeView} {cells : ℕ}
     → GoesOn table from (steps_of before) first old → Stands table before run_before

@@ -11,27 +11,24 @@ use Rattle.bb_sim.specs.Runner.{Stands, Stays, steps_of}
 use Rattle.bb_sim.specs.Span.{Inside, IsLastInside, span}
 use Rattle.bb_sim.proofs.Facts.{count_is_within, counts_start, fits_at_halt, halt_is_last, span-start}
 use Rattle.bb_cert.specs.declared.checker.answer.Answer.TheVariants as answer
-use Rattle.bb_cert.specs.inside.Checks.{IsAtStep, IsCut, IsUnderWay}
+use Rattle.bb_cert.specs.inside.Checks.{IsCut, IsUnderWay}
 
 pub begins : (table : Table) (bounds : Bounds) (runner : Runner) (view : TapeView) (old new : Meter)
     → Stands table runner view → steps_of runner ≡ 0 → view.limit ≡ bounds.cells → 1 ≤ bounds.cells
     → old ≡ zero_meter → new ≡ record old { most_cells = max old.most_cells 1 }
-    → IsAtStep table bounds 0 runner view new
+    → IsUnderWay table bounds runner view new
 begins table bounds runner view old new stands zeroth limit some first is = record {
-  under_way = record {
-    stands = stands;
-    inside = record {
-      here = _;
-      exists = stands.at;
-      within_steps = rw zeroth
-          (omega arith);
-      within_cells = fits;
-    };
-    limit = limit;
-    counts = subst (λ n. CountsTo table n zero_meter new) (sym zeroth)
-        (subst (λ m. CountsTo table 0 m new) first (counts_start table old new is));
+  stands = stands;
+  inside = record {
+    here = _;
+    exists = stands.at;
+    within_steps = rw zeroth
+        (omega arith);
+    within_cells = fits;
   };
-  at = zeroth;
+  limit = limit;
+  counts = subst (λ n. CountsTo table n zero_meter new) (sym zeroth)
+      (subst (λ m. CountsTo table 0 m new) first (counts_start table old new is));
 } where
   one : span table 0 ≡ 1
   one = span-start table
@@ -44,12 +41,6 @@ pub under_way_within : {table : Table} {bounds : Bounds} {runner : Runner} {view
     → IsUnderWay table bounds runner view meter → IsWithinRun bounds zero_meter meter
 under_way_within {table} {bounds} {runner} {meter = meter} is =
     count_is_within table bounds (steps_of runner) zero_meter meter is.inside is.counts
-
--- a run that has come no farther than to a step, and no less far
-pub comes_to : {table : Table} {bounds : Bounds} {runner : Runner} {view : TapeView} {meter : Meter}
-    {step steps : ℕ} → IsUnderWay table bounds runner view meter → steps_of runner ≤ step
-    → steps ≡ steps_of runner → step ≤ steps → IsAtStep table bounds step runner view meter
-comes_to is ahead same there = record { under_way = is; at = omega (arith, ahead, there, same) }
 
 -- a run that halts before the limit of steps can't come there
 pub cut_by_halt : {table : Table} {bounds : Bounds} {n : ℕ} → Inside table bounds n → HaltsAt table n
@@ -68,15 +59,3 @@ pub counts_whole : {table : Table} {bounds : Bounds} {old new : Runner} {view vi
 counts_whole {old = old} {new = new} is last stays =
     let same : steps_of new ≡ steps_of old = ap steps_of stays.runner in
     record { last = steps_of old; is_last = rw same at last; counts = stays.meter ∙ is.counts }
-
--- one that came to the limit of steps was counted whole too
-pub counts_to_limit : {table : Table} {bounds : Bounds} {runner : Runner} {view : TapeView} {meter : Meter}
-    → IsAtStep table bounds bounds.steps runner view meter → CountsRun table bounds zero_meter meter
-counts_to_limit {runner = runner} is = record {
-  last = steps_of runner;
-  is_last = record {
-    inside = is.under_way.inside;
-    greatest = λ m other. omega (arith, other.within_steps, is.at);
-  };
-  counts = is.under_way.counts;
-}

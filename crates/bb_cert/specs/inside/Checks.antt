@@ -1,8 +1,9 @@
 -- Definitions for the functions of the checker. No public contract cites them.
-use Rattle.std.specs.Prelude.{◌≡◌, ◌≢◌, ℕ, ◌+◌, ◌<◌, ◌≤◌, ◌↔◌, Option, Some, None, IsTrue, pos}
+use Rattle.std.specs.Prelude.{◌≡◌, ◌≢◌, ℕ, ◌<◌, ◌≤◌, ◌↔◌, Option, Some, None, IsTrue, pos}
+use Rattle.std.proofs.Common.{◌∙◌, refl}
 use Rattle.bb_machine.specs.Limits.{Bounds}
 use Rattle.bb_machine.specs.Machine.{Table}
-use Rattle.bb_tape.specs.TapeView.{TapeView, IsBeside}
+use Rattle.bb_tape.specs.TapeView.{TapeView}
 use Rattle.bb_sim.specs.declared.meter.Meter.{Meter}
 use Rattle.bb_sim.specs.declared.runner.Runner.{Runner}
 use Rattle.bb_sim.specs.Meter.{CountsTo, zero_meter}
@@ -53,19 +54,6 @@ pub record IsUnderWay (table : Table) (bounds : Bounds) (runner : Runner) (view 
   pub limit : view.limit ≡ bounds.cells
   pub counts : CountsTo table (steps_of runner) zero_meter meter
 
--- it has made a step, its head is in the window or next to it
-pub record IsOneOn (table : Table) (bounds : Bounds) (old new : Runner) (view : TapeView) (meter : Meter)
-    : Type 0 where
-  pub under_way : IsUnderWay table bounds new view meter
-  pub one_more : steps_of new ≡ steps_of old + 1
-  pub near : IsBeside view (position_of new)
-
--- it has reached this step
-pub record IsAtStep (table : Table) (bounds : Bounds) (step : ℕ) (runner : Runner) (view : TapeView)
-    (meter : Meter) : Type 0 where
-  pub under_way : IsUnderWay table bounds runner view meter
-  pub at : steps_of runner ≡ step
-
 -- step n makes a record of the side
 abbrev pub MakesRecord : Table → Side → ℕ → Type 0
 MakesRecord table side n = (j : ℕ) × IsRecord table side j n
@@ -95,6 +83,20 @@ pub record KeepsSame (old new : Records) : Type 0 where
 pub record GoesOn (table : Table) (from to : ℕ) (old new : ReplayState) : Type 0 where
   pub replay : (saved : TapeView) → IsReplay table from old saved → IsReplay table to new saved
   pub same : KeepsSame old.records new.records
+
+pub goes_nowhere : {table : Table} {n : ℕ} {replay : ReplayState} → GoesOn table n n replay replay
+goes_nowhere = record { replay = λ saved is. is; same = record { side = refl; kept = refl } }
+
+-- courses that follow one another are one
+pub goes_further : {table : Table} {a b c : ℕ} {first second third : ReplayState} → GoesOn table a b first second
+    → GoesOn table b c second third → GoesOn table a c first third
+goes_further one other = record {
+  replay = λ saved known. other.replay saved (one.replay saved known);
+  same = record {
+    side = other.same.side ∙ one.same.side;
+    kept = other.same.kept ∙ one.same.kept;
+  };
+}
 
 -- the record of this step is kept, just where it makes one outside Z
 pub record KeepsStep (table : Table) (step : ℕ) (records : Records) : Type 0 where

@@ -7,12 +7,8 @@ use Rattle.bb_sim.specs.declared.simulation.Outcome.{Outcome}
 use Rattle.bb_sim.specs.declared.simulation.Outcome.TheVariants.{Halt, NoCells, NoSteps}
 use Rattle.bb_sim.specs.Runner.{position_of}
 use Rattle.bb_sim.specs.Span.{span}
-use Rattle.bb_narrow.specs.declared.run.NarrowRun.{NarrowRun}
-use Rattle.bb_narrow.specs.Registers.{EndsWith, IsNarrowRun}
 use Rattle.bb_cert.specs.declared.checker.answer.Answer.{Answer}
 use Rattle.bb_cert.specs.declared.checker.answer.Answer.TheVariants as answer
-use Rattle.bb_cert.specs.declared.checker.narrow_replay.Stop.{Stop}
-use Rattle.bb_cert.specs.declared.checker.narrow_replay.Stop.TheVariants.{There, Ended, Outside}
 use Rattle.bb_cert.specs.declared.checker.pairs.RecordPair.{RecordPair}
 use Rattle.bb_cert.specs.declared.checker.replay.ReplayState.{ReplayState}
 use Rattle.bb_cert.specs.declared.verdict.Extent.{Extent}
@@ -21,13 +17,6 @@ use Rattle.bb_cert.specs.declared.verdict.Verdict.{Verdict}
 use Rattle.bb_cert.specs.declared.verdict.Verdict.TheVariants.{Cycler, Translated}
 use Rattle.bb_cert.specs.claims.Claim.{Claim}
 use Rattle.bb_cert.specs.inside.Checks.{GoesOn, IsReplay, KeepsStep}
-
--- how a run on its way to a step has stopped
-abbrev pub IsStoppedBy : Table → Bounds → ℕ → NarrowRun → Stop → Type 0
-IsStoppedBy table bounds step run There = run.steps ≡ step
-IsStoppedBy table bounds step run (Ended outcome) =
-    (run.steps < step) × ((known : IsNarrowRun table bounds run) → EndsWith known outcome)
-IsStoppedBy table bounds step run Outside = run.steps < step
 
 -- what a run that ends before its limit of steps answers to each claim of a pair up to there
 abbrev pub AnswersPairs : Table → Bounds → Answer → Type 0
@@ -72,10 +61,3 @@ claim_up_to second claim = Translated claim.side claim.first second claim.extent
 -- with the limit of steps as its second step
 abbrev pub claim_of : Bounds → RecordPair → Verdict
 claim_of bounds claim = claim_up_to bounds.steps claim
-
--- a run in registers is at this step, whose record is kept, if it makes one
-pub record IsKeptInRegisters (table : Table) (bounds : Bounds) (side : Side) (step : ℕ) (replay : ReplayState)
-    (saved : NarrowRun) : Type 0 where
-  pub is_run : IsNarrowRun table bounds saved
-  pub at : saved.steps ≡ step
-  pub kept : IsKeptAt table side step replay is_run.view

@@ -16,8 +16,7 @@ ghost use Rattle.bb_tree.specs.Path.{depth_of};
 ghost use Rattle.bb_tree.specs.Tree.{EndsWithin};
 
 use crate::checker::answer::Answer;
-use crate::checker::narrow_pairs::{check_cycler_to_limit, check_translated_to_limit};
-use crate::checker::pairs::RecordPair;
+use crate::checker::pairs::{RecordPair, check_cycler_to_limit, check_translated_to_limit};
 use crate::verdict::Verdict;
 use bb_machine::{Limits, Machine};
 use bb_narrow::{NarrowTable, simulate_narrow};

@@ -1,18 +1,26 @@
 //! The run of a claim, up to the steps named in it.
-ghost use Rattle.std.specs.Prelude.{◌≡◌, ◌<◌, ◌≤◌, IfOk, IfSome, IsTrue, MatchBool, MatchOption, OnErr};
-ghost use Rattle.bb_sim.specs.Meter.{CountsRun, IsWithinRun, zero_meter};
+ghost use Rattle.std.specs.Prelude.{◌≡◌, ℕ, ◌+◌, ◌≤◌, IfOk, IfSome, IsTrue, MatchBool, MatchOption};
+ghost use Rattle.std.specs.Prelude.{OnErr, OnOk};
+ghost use Rattle.bb_machine.specs.Machine.{Table};
+ghost use Rattle.bb_sim.specs.Meter.{IsWithinRun, zero_meter};
 ghost use Rattle.bb_sim.specs.Runner.{steps_of};
-ghost use Rattle.bb_cert.specs.inside.Checks.{GoesOn, IsAtStep, IsCut, IsOneOn, IsUnderWay, Passes};
+ghost use Rattle.bb_narrow.specs.Registers.{IsNarrowRun};
+ghost use Rattle.bb_cert.specs.checker.Pair.{PairHasCells};
+ghost use Rattle.bb_cert.specs.inside.Checks.{GoesOn, IsUnderWay, Passes, goes_further, goes_nowhere};
+ghost use Rattle.bb_cert.specs.inside.Runs.{IsAnswered, IsPackedPair, IsRun, IsRunnerAt, MatchProgress};
+ghost use Rattle.bb_cert.specs.inside.Runs.{StandsSaved, made_of, packed_steps, saved_steps};
 ghost use Rattle.bb_cert.specs.records.Follow.{AgreesWithKept, IsComparable, IsKeptInStateOf, LiesAs};
 ghost use Rattle.bb_cert.specs.records.Follow.{with_kept};
 ghost use Rattle.bb_cert.specs.records.Word.{AgreesInWord, IsComparableInWord};
 
 use crate::checker::answer::Answer;
+use crate::checker::checking::Pair;
+use crate::checker::run::{PackedRun, Progress, Run, Steps};
 use crate::records::{Records, widened_side};
 use crate::verdict::Extent;
 use bb_machine::{Limits, Machine};
-use bb_narrow::BitCells;
-use bb_sim::{Meter, Moved, Runner};
+use bb_narrow::{BitCells, NarrowRun};
+use bb_sim::{Meter, Runner};
 use bb_tape::{Memory, Tape};
 
 /// The records of a side of a run, and whether the last step makes one.
@@ -24,6 +32,7 @@ pub(crate) struct ReplayState {
 
 impl ReplayState {
     /// Records the runner's last step; `cells` is the width of its window before that step.
+    #[inline(always)]
     pub(crate) fn pass(&mut self, runner: &Runner, cells: u64)
         ensures { Passes runner.now cells self.old self.new }
     {
@@ -99,116 +108,174 @@ impl ReplayState {
     }
 }
 
-/// Starts the run of a claim, under a meter at zero.
-pub(crate) fn begin<T: Tape>(
-    machine: &Machine,
-    tape: &mut T,
-    limits: &Limits,
-    meter: &mut Meter,
-) -> Runner
-    requires limit { (T.view tape.old).limit ≡ limits.now.cells }
-    requires meter { meter.old ≡ zero_meter }
-    ensures at { IsAtStep machine.now limits.now 0 result (T.view tape.new) meter.new }
-{
-    limits.show_accepted();
-    meter.begin_run();
-    Runner::start(machine, tape)
+/// Something that is followed along a run, step by step.
+pub(crate) trait Course: Copy {
+    /// The relation between one step and a later one.
+    ghost goes_on: { Table → ℕ → ℕ → Self → Self → Type 0 };
+
+    /// Takes in a step, from the runner before it to the one after it.
+    fn take_in(&mut self, machine: &Machine, before: &Runner, after: &Runner)
+        requires before { IsRunnerAt machine.now (steps_of before.now) before.now }
+        requires after { IsRunnerAt machine.now (steps_of before.now + 1) after.now }
+        ensures { goes_on machine.now (steps_of before.now) (steps_of before.now + 1) self.old self.new };
+
+    ghost stays: { (table : Table) (n : ℕ) (course : Self) → goes_on table n n course course };
+
+    ghost goes_further: { (table : Table) (a b c : ℕ) (first second third : Self)
+        → goes_on table a b first second → goes_on table b c second third → goes_on table a c first third };
 }
 
-/// Makes one step of a run towards its limit of steps. Returns the answer if the run can't reach the limit.
+/// Nothing is followed: a cycler needs two configurations only.
+impl Course for () {
+    ghost goes_on = { λ table a b old new. Unit {0} };
+
+    ghost stays = { λ table n course. tt };
+
+    ghost goes_further = { λ table a b c first second third one other. tt };
+
+    #[inline(always)]
+    fn take_in(&mut self, _machine: &Machine, _before: &Runner, _after: &Runner) {}
+}
+
+impl Course for ReplayState {
+    ghost goes_on = { GoesOn };
+
+    ghost stays = { λ table n course. goes_nowhere };
+
+    ghost goes_further = { λ table a b c first second third one other. goes_further one other };
+
+    #[inline(always)]
+    fn take_in(&mut self, _machine: &Machine, before: &Runner, after: &Runner) {
+        self.pass(after, before.cells());
+    }
+}
+
+/// Continues a run in registers, or one on a tape, up to a step on the way to its limit of steps.
+#[inline(never)]
+fn go_on<R: Steps, C: Course, T: Tape>(
+    machine: &Machine,
+    start: &mut R,
+    tape: &mut T,
+    limits: &Limits,
+    step: u64,
+    from: &mut C,
+    meter: &mut Meter,
+) -> Result<Progress, Memory>
+    requires under_way { R.is_under_way machine.now limits.now start.old (T.view tape.old) meter.old }
+    requires counted { IsWithinRun limits.now zero_meter meter.old }
+    requires ahead { R.made start.old ≤ step }
+    requires within { step ≤ limits.now.steps }
+    ensures progress { IfOk result (λ progress. MatchProgress progress
+        (R.is_under_way machine.now limits.now start.new (T.view tape.new) meter.new
+        × (R.made start.new ≡ step) × C.goes_on machine.now (R.made start.old) step from.old from.new)
+        (IsAnswered machine.now limits.now meter.new)
+        (R.is_under_way machine.now limits.now start.new (T.view tape.new) meter.new
+        × (R.made start.old ≤ R.made start.new) × (R.made start.new ≤ step) × R.may_leave
+        × C.goes_on machine.now (R.made start.old) (R.made start.new) from.old from.new)) }
+    ensures within { IsWithinRun limits.now zero_meter meter.new }
+    ensures limit { (T.view tape.new).limit ≡ (T.view tape.old).limit }
+    ensures memory { OnErr result (IsTrue T.GROWS) }
+{
+    let mut run = *start;
+    let mut course = *from;
+    while run.steps() < step {
+        let before = run.runner(machine, limits);
+        let progress = run.advance(machine, tape, limits, meter)?;
+        match progress {
+            Progress::There => {}
+            Progress::Cut(answer) => return Ok(Progress::Cut(answer)),
+            Progress::Outside => {
+                *start = run;
+                *from = course;
+                return Ok(Progress::Outside);
+            }
+        }
+        let after = run.runner(machine, limits);
+        course.take_in(machine, &before, &after);
+    }
+    *start = run;
+    *from = course;
+    Ok(Progress::There)
+}
+
+/// Continues a run up to a step, on the way to its limit of steps, and leaves the registers once it needs more
+/// than 64 cells. Returns the answer if the run can't reach the limit.
 #[inline(always)]
-fn step_on<T: Tape>(
+pub(crate) fn run_to<C: Course, T: Tape>(
     machine: &Machine,
-    runner: &mut Runner,
-    tape: &mut T,
+    run: &mut Run,
+    pair: &mut Pair<T>,
     limits: &Limits,
+    step: u64,
+    course: &mut C,
     meter: &mut Meter,
 ) -> Result<Option<Answer>, Memory>
-    requires under_way { IsUnderWay machine.now limits.now runner.old (T.view tape.old) meter.old }
-    requires ahead { steps_of runner.old < limits.now.steps }
-    ensures steps { IfOk result (λ cut. MatchOption cut
-        (IsOneOn machine.now limits.now runner.old runner.new (T.view tape.new) meter.new)
-        (IsCut machine.now limits.now)) }
+    requires run { IsRun machine.now limits.now run.old (T.view pair.old.run) meter.old }
+    requires tapes { PairHasCells T.view limits.now.cells pair.old }
+    requires counted { IsWithinRun limits.now zero_meter meter.old }
+    requires ahead { made_of run.old ≤ step }
+    requires within { step ≤ limits.now.steps }
+    ensures runs { IfOk result (λ cut. MatchOption cut
+        (IsRun machine.now limits.now run.new (T.view pair.new.run) meter.new × (made_of run.new ≡ step)
+        × C.goes_on machine.now (made_of run.old) step course.old course.new)
+        (IsAnswered machine.now limits.now meter.new)) }
+    ensures saved { StandsSaved machine.now limits.now run.old (T.view pair.old.saved)
+        → OnOk result (StandsSaved machine.now limits.now run.new (T.view pair.new.saved)) }
+    ensures saved_steps { OnOk result (saved_steps run.new ≡ saved_steps run.old) }
     ensures within { IsWithinRun limits.now zero_meter meter.new }
-    ensures whole { IfOk result (λ cut. IfSome cut (λ answer.
-        CountsRun machine.now limits.now zero_meter meter.new)) }
-    ensures limit { (T.view tape.new).limit ≡ (T.view tape.old).limit }
+    ensures tapes { PairHasCells T.view limits.now.cells pair.new }
+    ensures memory { OnErr result (IsTrue T.GROWS) }
+{
+    if let Run::InRegisters { packed, saved } = run {
+        match go_on(machine, packed, &mut pair.run, limits, step, course, meter)? {
+            Progress::There => return Ok(None),
+            Progress::Cut(answer) => return Ok(Some(answer)),
+            Progress::Outside => {
+                let runner = leave(machine, packed, saved, limits, pair, meter)?;
+                let saved = saved.runner(machine, limits);
+                *run = Run::OnTape { runner, saved };
+            }
+        }
+    }
+    let Run::OnTape { runner, .. } = run else {
+        unreachable!();
+    };
+    match go_on(machine, runner, &mut pair.run, limits, step, course, meter)? {
+        Progress::There => Ok(None),
+        Progress::Cut(answer) => Ok(Some(answer)),
+        Progress::Outside => unreachable!(),
+    }
+}
+
+/// Moves a run and its saved configuration onto the tapes of a pair, and counts the run so far. The saved tape
+/// is a copy of the run's, which then gets the cells that changed since.
+#[cold]
+#[inline(never)]
+fn leave<T: Tape>(
+    machine: &Machine,
+    packed: &PackedRun,
+    saved: &NarrowRun,
+    limits: &Limits,
+    pair: &mut Pair<T>,
+    meter: &mut Meter,
+) -> Result<Runner, Memory>
+    requires run { IsPackedPair machine.now limits.now packed.now saved.now (T.view pair.old.run) meter.old }
+    requires tapes { PairHasCells T.view limits.now.cells pair.old }
+    ensures under_way { IfOk result (λ runner.
+        IsUnderWay machine.now limits.now runner (T.view pair.new.run) meter.new) }
+    ensures steps { IfOk result (λ runner. steps_of runner ≡ packed_steps packed.now) }
+    ensures saved { (known : IsNarrowRun machine.now limits.now saved.now)
+        → OnOk result (T.view pair.new.saved ≡ known.view) }
+    ensures within { IsWithinRun limits.now zero_meter meter.new }
+    ensures tapes { PairHasCells T.view limits.now.cells pair.new }
     ensures memory { OnErr result (IsTrue T.GROWS) }
 {
     limits.show_accepted();
-    match runner.advance(machine, tape, limits, meter)? {
-        Moved::Stepped => Ok(None),
-        Moved::Halted => Ok(Some(Answer::Bad)),
-        Moved::NoSteps => Ok(Some(Answer::Bad)),
-        Moved::NoCells => Ok(Some(Answer::Over)),
-    }
-}
-
-/// Continues the run up to a step, on the way to its limit of steps. Returns the answer if the run can't
-/// reach the limit.
-#[inline(never)]
-pub(crate) fn run_to<T: Tape>(
-    machine: &Machine,
-    runner: &mut Runner,
-    tape: &mut T,
-    limits: &Limits,
-    step: u64,
-    meter: &mut Meter,
-) -> Result<Option<Answer>, Memory>
-    requires under_way { IsUnderWay machine.now limits.now runner.old (T.view tape.old) meter.old }
-    requires ahead { steps_of runner.old ≤ step }
-    requires within { step ≤ limits.now.steps }
-    ensures runs { IfOk result (λ cut. MatchOption cut
-        (IsAtStep machine.now limits.now step runner.new (T.view tape.new) meter.new)
-        (IsCut machine.now limits.now)) }
-    ensures within { IsWithinRun limits.now zero_meter meter.new }
-    ensures whole { IfOk result (λ cut. IfSome cut (λ answer.
-        CountsRun machine.now limits.now zero_meter meter.new)) }
-    ensures limit { (T.view tape.new).limit ≡ (T.view tape.old).limit }
-    ensures memory { OnErr result (IsTrue T.GROWS) }
-{
-    while runner.steps() < step {
-        match step_on(machine, runner, tape, limits, meter)? {
-            Some(answer) => return Ok(Some(answer)),
-            None => {}
-        }
-    }
-    Ok(None)
-}
-
-/// Runs on up to a step, as `run_to`, and follows the records of a side.
-#[inline(never)]
-pub(crate) fn follow_to<T: Tape>(
-    machine: &Machine,
-    runner: &mut Runner,
-    tape: &mut T,
-    limits: &Limits,
-    step: u64,
-    replay: &mut ReplayState,
-    meter: &mut Meter,
-) -> Result<Option<Answer>, Memory>
-    requires under_way { IsUnderWay machine.now limits.now runner.old (T.view tape.old) meter.old }
-    requires ahead { steps_of runner.old ≤ step }
-    requires within { step ≤ limits.now.steps }
-    ensures runs { IfOk result (λ cut. MatchOption cut
-        (IsAtStep machine.now limits.now step runner.new (T.view tape.new) meter.new)
-        (IsCut machine.now limits.now)) }
-    ensures follows { IfOk result (λ cut. MatchOption cut
-        (GoesOn machine.now (steps_of runner.old) step replay.old replay.new)
-        (λ answer. Unit {0})) }
-    ensures within { IsWithinRun limits.now zero_meter meter.new }
-    ensures whole { IfOk result (λ cut. IfSome cut (λ answer.
-        CountsRun machine.now limits.now zero_meter meter.new)) }
-    ensures limit { (T.view tape.new).limit ≡ (T.view tape.old).limit }
-    ensures memory { OnErr result (IsTrue T.GROWS) }
-{
-    while runner.steps() < step {
-        let cells = runner.cells();
-        match step_on(machine, runner, tape, limits, meter)? {
-            Some(answer) => return Ok(Some(answer)),
-            None => {}
-        }
-        replay.pass(runner, cells);
-    }
-    Ok(None)
+    saved.move_to_tape(machine, limits, &mut pair.run)?;
+    let Ok(()) = pair.saved.copy_from(&pair.run) else {
+        return Err(Memory);
+    };
+    let runner = packed.run.move_over(saved, machine, limits, &mut pair.run)?;
+    packed.run.count(packed.run.steps, limits, meter);
+    Ok(runner)
 }

@@ -1,35 +1,54 @@
-use Rattle.std.proofs.Common.{refl, ◌∙◌, arith}
-use Rattle.bb_cert.proofs.record_lemmas.UnderWay.{comes_to, under_way_within}
+use Rattle.std.proofs.Common.{subst, sym}
+use Rattle.bb_sim.specs.Runner.{Stands}
+use Rattle.bb_cert.specs.inside.Runs.{IsRun, StandsSaved, made_of}
+use Rattle.bb_cert.proofs.checker.replay.run_to.Given as given
 use Rattle.bb_cert.proofs.checker.replay.run_to.Goals as goal
+use Rattle.bb_cert.proofs.checker.replay.run_to.Goals.{In-OnTape, in_default}
+use Rattle.bb_cert.proofs.checker.replay.run_to.Goals.{in-InRegisters+in_ok-go_on+in-Outside+in_ok-runner-in-Outside}
 
-pub loop-runner-init : goal.loop-runner-init
-loop-runner-init g c = record { under_way = c.requires.under_way; ahead = c.requires.ahead; limit = refl }
+-- the run on the tape, and what was taken in before
+module _ (g : given.Over) (c : In-OnTape g) where
+  on_tape : IsRun c.args.machine.now c.args.limits.now c.match-run.run (g.T.Tape.view c.match-run.pair.run)
+      c.match-run.meter
+  on_tape = elim c.match-run.branch [
+    | in-InRegisters+in_ok-go_on+in-Outside+in_ok-runner-in-Outside w ↦ rw (w.run-is, w.pair-is, w.meter-is)
+        w.in_ok-runner-in-Outside.ensures.under_way
+    | in_default w ↦ rw (w.run-is, w.pair-is, w.meter-is) c.requires.run
+  ]
 
-pub step_on-requires-clause-under_way : goal.step_on-requires-clause-under_way
-step_on-requires-clause-under_way g c = c.loop-runner.invariant.under_way
+  so_far : g.C.Course.goes_on c.args.machine.now (made_of c.args.run.now) (made_of c.match-run.run) c.args.course.now
+      c.match-run.course
+  so_far = elim c.match-run.branch [
+    | in-InRegisters+in_ok-go_on+in-Outside+in_ok-runner-in-Outside w ↦
+        let first = rw w.in-Outside.is at w.in_ok-go_on.ensures.progress in
+        rw (w.run-is, w.course-is, w.in-InRegisters.is, w.in_ok-runner-in-Outside.ensures.steps) first.4
+    | in_default w ↦ rw (w.run-is, w.course-is) (g.met.C.Course.stays _ _ _)
+  ]
 
-pub loop-runner-preserved : goal.loop-runner-preserved
-loop-runner-preserved g c =
-    let one_on = rw c.in-None.is at c.in_ok-answer.ensures.steps in
-    record {
-      under_way = one_on.under_way;
-      ahead = omega (arith, one_on.one_more, c.loop-runner-test.true, c.steps.ensures);
-      limit = c.step_on.ensures.limit ∙ c.loop-runner.invariant.limit;
-    }
+  saved_so_far : StandsSaved c.args.machine.now c.args.limits.now c.args.run.now (g.T.Tape.view c.args.pair.now.saved)
+      → StandsSaved c.args.machine.now c.args.limits.now c.match-run.run (g.T.Tape.view c.match-run.pair.saved)
+  saved_so_far before = elim c.match-run.branch [
+    | in-InRegisters+in_ok-go_on+in-Outside+in_ok-runner-in-Outside w ↦
+        let known = (rw w.in-InRegisters.is at c.requires.run).earlier in
+        rw (w.run-is, w.pair-is) (subst (Stands c.args.machine.now w.runner-saved.result)
+        (sym (w.in_ok-runner-in-Outside.ensures.saved known)) (w.runner-saved.ensures.stands known))
+    | in_default w ↦ rw (w.run-is, w.pair-is) before
+  ]
 
-pub returns-in_err-answer-clause-limit : goal.returns-in_err-answer-clause-limit
-returns-in_err-answer-clause-limit g c = c.step_on.ensures.limit ∙ c.loop-runner.invariant.limit
+pub go_on-requires-2-clause-under_way : goal.go_on-requires-2-clause-under_way
+go_on-requires-2-clause-under_way g c =
+    rw c.in-OnTape.is at (on_tape g (goal.at.go_on-requires-2-clause-under_way g c).In-OnTape)
 
-pub returns-in-Some-clause-limit : goal.returns-in-Some-clause-limit
-returns-in-Some-clause-limit g c = c.step_on.ensures.limit ∙ c.loop-runner.invariant.limit
+pub returns-in-There-2-clause-runs : goal.returns-in-There-2-clause-runs
+returns-in-There-2-clause-runs g c =
+    let progress = rw c.in-There-2.is at c.in_ok-go_on-2.ensures.progress in
+    let before = so_far g (goal.at.returns-in-There-2-clause-runs g c).In-OnTape in
+    (progress.0, progress.1, g.met.C.Course.goes_further _ _ _ _ _ _ _ (rw c.in-OnTape.is at before) progress.2)
 
-pub returns : goal.returns
-returns g c =
-    let here = c.loop-runner.invariant in
-    record {
-      runs = comes_to here.under_way here.ahead c.steps.ensures c.loop-runner-test.false;
-      within = under_way_within here.under_way;
-      whole = tt;
-      limit = here.limit;
-      memory = tt;
-    }
+pub returns-in-There-2-clause-saved : goal.returns-in-There-2-clause-saved
+returns-in-There-2-clause-saved g c before =
+    rw c.in-OnTape.is at (saved_so_far g (goal.at.returns-in-There-2-clause-saved g c).In-OnTape before)
+
+pub returns-in-Cut-2-clause-saved : goal.returns-in-Cut-2-clause-saved
+returns-in-Cut-2-clause-saved g c before =
+    rw c.in-OnTape.is at (saved_so_far g (goal.at.returns-in-Cut-2-clause-saved g c).In-OnTape before)
