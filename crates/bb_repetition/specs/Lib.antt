@@ -4,7 +4,6 @@ pub mod History
 pub mod LastUses
 pub mod Laws
 pub mod Lockstep
-pub mod Packed
 pub mod Parts
 pub mod Period
 pub mod Recurrence

@@ -12,7 +12,6 @@ ghost use Rattle.laws_of_repetition.specs.Shift.{IsShift};
 ghost use Rattle.bb_repetition.specs.History.{IsRecorded, KeepsRun};
 ghost use Rattle.bb_repetition.specs.LastUses.{AreSeen};
 ghost use Rattle.bb_repetition.specs.Lockstep.{HasCome, IsAt, IsNear, IsOpen};
-ghost use Rattle.bb_repetition.specs.Packed.{IsPacked};
 ghost use Rattle.bb_repetition.specs.Recurrence.{CountsAtMost, CountsRecurrence, CountsShift, CountsStart};
 ghost use Rattle.bb_repetition.specs.Tapes.{TapesHaveCells};
 
@@ -97,55 +96,9 @@ pub fn find_recurrence<T: Tape>(
     ensures tapes { TapesHaveCells T.view limits.now.cells tapes.new }
     ensures memory { OnErr result (IsTrue T.GROWS) }
 {
-    let packed = pack(machine);
-    find_packed(machine, packed, limits, first, second, tapes, uses, meter)
-}
-
-/// The table of a machine that fits into registers.
-#[inline(always)]
-pub(crate) fn pack(machine: &Machine) -> Option<NarrowTable>
-    ensures { IsPacked machine.now result }
-{
-    if fits_registers(machine) {
-        Some(NarrowTable::new(machine))
-    } else {
-        None
-    }
-}
-
-/// [`find_recurrence`] with the table packed.
-pub(crate) fn find_packed<T: Tape>(
-    machine: &Machine,
-    packed: Option<NarrowTable>,
-    limits: &Limits,
-    first: u64,
-    second: u64,
-    tapes: &mut Tapes<T>,
-    uses: &mut LastUses,
-    meter: &mut Meter,
-) -> Result<Recurrence, Memory>
-    requires packed { IsPacked machine.now packed }
-    requires tapes { TapesHaveCells T.view limits.now.cells tapes.old }
-    requires order { first < second }
-    requires pair { Repeats machine.now first (second - first) }
-    requires inside { Inside machine.now limits.now second }
-    requires room { meter.old.steps ≤ 10 ^ 12 }
-    ensures exact { IfOk result (λ found. RepeatsExactly machine.now found.start found.period) }
-    ensures shift { IfOk result (λ found. IsShift machine.now found.start found.period found.shift) }
-    ensures early { IfOk result (λ found. found.start ≤ first) }
-    ensures uses { OnOk result (AreSeen machine.now second uses.new) }
-    ensures whole { IfOk result (λ found. found.start + found.period ≤ second) }
-    ensures counted { IfOk result (λ found.
-        CountsRecurrence first second found.period meter.old.steps meter.new.steps) }
-    ensures few { CountsAtMost first second meter.old.steps meter.new.steps }
-    ensures tapes { TapesHaveCells T.view limits.now.cells tapes.new }
-    ensures memory { OnErr result (IsTrue T.GROWS) }
-{
     limits.show_accepted();
     uses.reset(machine);
-    let (start, saved, whole) = find_start(
-        machine, packed, limits, first, second, tapes, uses, meter,
-    )?;
+    let (start, saved, whole) = find_start(machine, limits, first, second, tapes, uses, meter)?;
     let period = least_period(machine, limits, saved, first, second, tapes, meter)?;
     let shift = find_shift(
         machine, limits, saved, first, period, second, whole, tapes, meter,
@@ -162,7 +115,6 @@ pub(crate) fn find_packed<T: Tape>(
 /// the pair. The last number tells how many cells the head is farther to the right at the second step.
 fn find_start<T: Tape>(
     machine: &Machine,
-    packed: Option<NarrowTable>,
     limits: &Limits,
     first: u64,
     second: u64,
@@ -170,7 +122,6 @@ fn find_start<T: Tape>(
     uses: &mut LastUses,
     meter: &mut Meter,
 ) -> Result<(u64, Runner, i64), Memory>
-    requires packed { IsPacked machine.now packed }
     requires goes_on { IsOpen machine.now limits.now second }
     requires tapes { TapesHaveCells T.view limits.now.cells tapes.old }
     requires order { first ≤ second }
@@ -188,7 +139,7 @@ fn find_start<T: Tape>(
     ensures memory { OnErr result (IsTrue T.GROWS) }
 {
     if second <= MAX_RECORDED {
-        start_of_short(machine, packed, limits, first, second, tapes, uses, meter)
+        start_of_short(machine, limits, first, second, tapes, uses, meter)
     } else {
         start_of_long(machine, limits, first, second, tapes, uses, meter)
     }
@@ -197,7 +148,6 @@ fn find_start<T: Tape>(
 /// Makes one run up to the second step of a pair, and records it.
 fn start_of_short<T: Tape>(
     machine: &Machine,
-    packed: Option<NarrowTable>,
     limits: &Limits,
     first: u64,
     second: u64,
@@ -205,7 +155,6 @@ fn start_of_short<T: Tape>(
     uses: &mut LastUses,
     meter: &mut Meter,
 ) -> Result<(u64, Runner, i64), Memory>
-    requires packed { IsPacked machine.now packed }
     requires goes_on { IsOpen machine.now limits.now second }
     requires tapes { TapesHaveCells T.view limits.now.cells tapes.old }
     requires order { first ≤ second }
@@ -222,7 +171,7 @@ fn start_of_short<T: Tape>(
     ensures tapes { TapesHaveCells T.view limits.now.cells tapes.new }
     ensures memory { OnErr result (IsTrue T.GROWS) }
 {
-    let (saved, runner) = record_run(machine, packed, limits, first, second, tapes, uses, meter)?;
+    let (saved, runner) = record_run(machine, limits, first, second, tapes, uses, meter)?;
     let start = tapes.history.start(first, second - first);
     Ok((start, saved, runner.position() - saved.position()))
 }
@@ -231,7 +180,6 @@ fn start_of_short<T: Tape>(
 /// machine fits there. Returns the runners at both steps.
 fn record_run<T: Tape>(
     machine: &Machine,
-    packed: Option<NarrowTable>,
     limits: &Limits,
     first: u64,
     second: u64,
@@ -239,7 +187,6 @@ fn record_run<T: Tape>(
     uses: &mut LastUses,
     meter: &mut Meter,
 ) -> Result<(Runner, Runner), Memory>
-    requires packed { IsPacked machine.now packed }
     requires goes_on { IsOpen machine.now limits.now second }
     requires tapes { TapesHaveCells T.view limits.now.cells tapes.old }
     requires order { first ≤ second }
@@ -255,7 +202,8 @@ fn record_run<T: Tape>(
     ensures tapes { TapesHaveCells T.view limits.now.cells tapes.new }
     ensures memory { OnErr result (IsTrue T.GROWS) }
 {
-    if let Some(table) = packed {
+    if fits_registers(machine) {
+        let table = NarrowTable::new(machine);
         return record_run_in_registers(machine, &table, limits, first, second, tapes, uses, meter);
     }
     let start = Runner::start(machine, &mut tapes.pair.run);

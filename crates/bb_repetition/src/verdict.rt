@@ -9,9 +9,9 @@ ghost use Rattle.laws_of_repetition.specs.Repetition.{Repeats};
 ghost use Rattle.bb_repetition.specs.Finding.{CountsFinding, IsFinding, NamesNone, NamesPair};
 ghost use Rattle.bb_repetition.specs.Tapes.{TapesHaveCells};
 
-use crate::recurrence::{Recurrence, Tapes, find_packed, pack};
+use crate::recurrence::{Recurrence, Tapes, find_recurrence};
 use crate::uses::LastUses;
-use bb_cert::{Answer, Path, Verdict, check_packed};
+use bb_cert::{Answer, Path, Verdict, check};
 use bb_machine::{Limits, Machine};
 use bb_sim::Meter;
 use bb_tape::{Memory, Tape};
@@ -58,24 +58,13 @@ pub fn find<T: Tape>(
         return Ok(Finding::NoPair);
     };
     limits.show_accepted();
-    let packed = pack(machine);
-    let answer = check_packed(
-        machine,
-        verdict,
-        packed,
-        limits,
-        &mut tapes.pair,
-        path,
-        meter,
-    )?;
+    let answer = check(machine, verdict, limits, &mut tapes.pair, path, meter)?;
     if answer != Answer::Ok {
         return Ok(Finding::Answered(answer));
     }
     show_repeats(machine, verdict, limits, first, second);
     let mut own = Meter::new();
-    let found = find_packed(
-        machine, packed, limits, first, second, tapes, uses, &mut own,
-    );
+    let found = find_recurrence(machine, limits, first, second, tapes, uses, &mut own);
     meter.steps += own.steps;
     Ok(Finding::Recurs(found?))
 }

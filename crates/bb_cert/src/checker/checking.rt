@@ -1,6 +1,5 @@
 //! The checker: whether a verdict's claim holds, from any source.
-ghost use Rattle.std.specs.Prelude.{◌≡◌, ℕ, ◌<◌, ◌≤◌, ◌↔◌, IfOk, IfSome, IsTrue, OnErr};
-ghost use Rattle.bb_narrow.specs.Packed.{IsTableOf};
+ghost use Rattle.std.specs.Prelude.{◌≡◌, ℕ, ◌<◌, ◌≤◌, ◌↔◌, IfOk, IsTrue, OnErr};
 ghost use Rattle.bb_sim.specs.Meter.{CountsRun, zero_meter};
 ghost use Rattle.bb_sim.specs.Run.{Never};
 ghost use Rattle.bb_cert.specs.declared.checker.answer.Answer.{Answer};
@@ -19,7 +18,7 @@ use crate::checker::answer::Answer;
 use crate::checker::pairs::{RecordPair, check_cycler_to_limit, check_translated_to_limit};
 use crate::verdict::Verdict;
 use bb_machine::{Limits, Machine};
-use bb_narrow::{NarrowTable, simulate_narrow};
+use bb_narrow::simulate_narrow;
 use bb_sim::{Meter, Outcome};
 use bb_tape::{Memory, Tape};
 use bb_tree::{Path, walk};
@@ -61,44 +60,11 @@ pub fn check<T: Tape>(
     ensures depth { depth_of path.new ≡ depth_of path.old }
     ensures memory { OnErr result (IsTrue T.GROWS) }
 {
-    check_packed(machine, verdict, None, limits, pair, path, meter)
-}
-
-/// [`check`] with the machine's table, if a caller has it packed already. The answer and the cost are the
-/// same: a pair in registers packs the table itself otherwise.
-///
-/// After an error the contents of the tapes are unspecified; the next call resets them.
-pub fn check_packed<T: Tape>(
-    machine: &Machine,
-    verdict: &Verdict,
-    packed: Option<NarrowTable>,
-    limits: &Limits,
-    pair: &mut Pair<T>,
-    path: &mut Path,
-    meter: &mut Meter,
-) -> Result<Answer, Memory>
-    requires packed { IfSome packed (IsTableOf machine.now) }
-    requires tapes { PairHasCells T.view limits.now.cells pair.old }
-    requires path { limits.now.depth ≤ depth_of path.old }
-    ensures answer { IfOk result (IsAnswer machine.now limits.now verdict.now) }
-    ensures claim { IfOk result (λ answer. answer ≡ Answer.Ok → Claim machine.now verdict.now) }
-    ensures never { IfOk result (λ answer. answer ≡ Answer.Ok → SaysNever verdict.now → Never machine.now) }
-    ensures counted { IfOk result (λ answer. answer ≡ Answer.Ok
-        → CountsClaim verdict.now meter.new) }
-    ensures within { IsWithinClaim limits.now verdict.now meter.new }
-    ensures cost { IfOk result (λ answer. CountsCheck machine.now limits.now verdict.now meter.new) }
-    ensures window { IfOk result (λ answer.
-        CountsWindow machine.now limits.now verdict.now meter.new.most_cells) }
-    ensures settled { IsSettled limits.now verdict.now → meter.new ≡ zero_meter }
-    ensures tapes { PairHasCells T.view limits.now.cells pair.new }
-    ensures depth { depth_of path.new ≡ depth_of path.old }
-    ensures memory { OnErr result (IsTrue T.GROWS) }
-{
     *meter = Meter::new();
     machine.show_machine();
     match settle(verdict, limits) {
         Some(answer) => Ok(answer),
-        None => check_claim(machine, *verdict, packed, limits, pair, path, meter),
+        None => check_claim(machine, *verdict, limits, pair, path, meter),
     }
 }
 
@@ -148,14 +114,12 @@ fn settle_pair(first: u64, second: u64, limits: &Limits) -> Option<Answer>
 fn check_claim<T: Tape>(
     machine: &Machine,
     verdict: Verdict,
-    packed: Option<NarrowTable>,
     limits: &Limits,
     pair: &mut Pair<T>,
     path: &mut Path,
     meter: &mut Meter,
 ) -> Result<Answer, Memory>
     requires open { IsSettled limits.now verdict → ⊥ }
-    requires packed { IfSome packed (IsTableOf machine.now) }
     requires tapes { PairHasCells T.view limits.now.cells pair.old }
     requires path { limits.now.depth ≤ depth_of path.old }
     requires meter { meter.old ≡ zero_meter }
@@ -175,7 +139,7 @@ fn check_claim<T: Tape>(
             check_halt(machine, steps, score, limits, &mut pair.run, meter)
         }
         Verdict::Cycler { first, second } => {
-            check_cycler(machine, packed, first, second, limits, pair, meter)
+            check_cycler(machine, first, second, limits, pair, meter)
         }
         Verdict::Translated {
             side,
@@ -188,7 +152,7 @@ fn check_claim<T: Tape>(
                 first,
                 extent,
             };
-            check_translated(machine, packed, claim, second, limits, pair, meter)
+            check_translated(machine, claim, second, limits, pair, meter)
         }
         Verdict::Backward { levels, nodes } => {
             check_backward(machine, levels, nodes, limits, &mut pair.run, path, meter)
@@ -251,14 +215,12 @@ fn check_halt<T: Tape>(
 /// Whether the configuration of one step comes again at another: one run, and a copy of its tape.
 fn check_cycler<T: Tape>(
     machine: &Machine,
-    packed: Option<NarrowTable>,
     first: u64,
     second: u64,
     limits: &Limits,
     pair: &mut Pair<T>,
     meter: &mut Meter,
 ) -> Result<Answer, Memory>
-    requires packed { IfSome packed (IsTableOf machine.now) }
     requires order { first < second }
     requires steps { second ≤ limits.now.steps }
     requires tapes { PairHasCells T.view limits.now.cells pair.old }
@@ -273,21 +235,19 @@ fn check_cycler<T: Tape>(
     ensures memory { OnErr result (IsTrue T.GROWS) }
 {
     let limits = with_steps(limits, second);
-    check_cycler_to_limit(machine, packed, first, &limits, pair, meter)
+    check_cycler_to_limit(machine, first, &limits, pair, meter)
 }
 
 /// Whether two steps make agreeing records of a side, with the claimed extent: by one run, and a copy of its
 /// tape.
 fn check_translated<T: Tape>(
     machine: &Machine,
-    packed: Option<NarrowTable>,
     claim: RecordPair,
     second: u64,
     limits: &Limits,
     pair: &mut Pair<T>,
     meter: &mut Meter,
 ) -> Result<Answer, Memory>
-    requires packed { IfSome packed (IsTableOf machine.now) }
     requires order { claim.first < second }
     requires steps { second ≤ limits.now.steps }
     requires tapes { PairHasCells T.view limits.now.cells pair.old }
@@ -302,7 +262,7 @@ fn check_translated<T: Tape>(
     ensures memory { OnErr result (IsTrue T.GROWS) }
 {
     let limits = with_steps(limits, second);
-    check_translated_to_limit(machine, packed, claim, &limits, pair, meter)
+    check_translated_to_limit(machine, claim, &limits, pair, meter)
 }
 
 /// Whether the backward tree ends in so many levels with so many nodes, none of them matched by the start: by

@@ -1,6 +1,5 @@
 //! The two kinds of pairs.
 ghost use Rattle.std.specs.Prelude.{◌≡◌, ◌<◌, ◌↔◌, IfOk, IfSome, IsTrue, OnErr};
-ghost use Rattle.bb_narrow.specs.Packed.{IsTableOf};
 ghost use Rattle.bb_sim.specs.Meter.{CountsRun, zero_meter};
 ghost use Rattle.bb_cert.specs.declared.checker.answer.Answer.{Answer};
 ghost use Rattle.bb_cert.specs.declared.verdict.Verdict.{Verdict};
@@ -18,7 +17,7 @@ use crate::checker::run::Run;
 use crate::records::Records;
 use crate::verdict::{Extent, Side, Verdict};
 use bb_machine::{Limits, Machine};
-use bb_narrow::{BitCells, NarrowTable};
+use bb_narrow::BitCells;
 use bb_sim::Meter;
 use bb_tape::{Memory, Tape};
 
@@ -34,13 +33,11 @@ pub(crate) struct RecordPair {
 /// tape.
 pub(crate) fn check_cycler_to_limit<T: Tape>(
     machine: &Machine,
-    packed: Option<NarrowTable>,
     first: u64,
     limits: &Limits,
     pair: &mut Pair<T>,
     meter: &mut Meter,
 ) -> Result<Answer, Memory>
-    requires packed { IfSome packed (IsTableOf machine.now) }
     requires order { first < limits.now.steps }
     requires tapes { PairHasCells T.view limits.now.cells pair.old }
     requires meter { meter.old ≡ zero_meter }
@@ -52,7 +49,7 @@ pub(crate) fn check_cycler_to_limit<T: Tape>(
     ensures tapes { PairHasCells T.view limits.now.cells pair.new }
     ensures memory { OnErr result (IsTrue T.GROWS) }
 {
-    let mut run = Run::begin(machine, packed, limits, &mut pair.run, meter);
+    let mut run = Run::begin(machine, limits, &mut pair.run, meter);
     match run_to(machine, &mut run, pair, limits, first, &mut (), meter)? {
         Some(answer) => return Ok(answer),
         None => {}
@@ -73,13 +70,11 @@ pub(crate) fn check_cycler_to_limit<T: Tape>(
 /// Whether two steps make agreeing records, with the claimed extent, the second at the limit of steps.
 pub(crate) fn check_translated_to_limit<T: Tape>(
     machine: &Machine,
-    packed: Option<NarrowTable>,
     claim: RecordPair,
     limits: &Limits,
     pair: &mut Pair<T>,
     meter: &mut Meter,
 ) -> Result<Answer, Memory>
-    requires packed { IfSome packed (IsTableOf machine.now) }
     requires order { claim.first < limits.now.steps }
     requires tapes { PairHasCells T.view limits.now.cells pair.old }
     requires meter { meter.old ≡ zero_meter }
@@ -91,7 +86,7 @@ pub(crate) fn check_translated_to_limit<T: Tape>(
     ensures tapes { PairHasCells T.view limits.now.cells pair.new }
     ensures memory { OnErr result (IsTrue T.GROWS) }
 {
-    let mut run = Run::begin(machine, packed, limits, &mut pair.run, meter);
+    let mut run = Run::begin(machine, limits, &mut pair.run, meter);
     let at_start = run.runner(machine, limits);
     let mut replay = ReplayState {
         records: Records::new(claim.side, at_start),

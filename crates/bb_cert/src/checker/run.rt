@@ -179,12 +179,10 @@ impl Run {
     #[inline(always)]
     pub(crate) fn begin<T: Tape>(
         machine: &Machine,
-        packed: Option<NarrowTable>,
         limits: &Limits,
         tape: &mut T,
         meter: &mut Meter,
     ) -> Run
-        requires packed { IfSome packed (IsTableOf machine.now) }
         requires limit { (T.view tape.old).limit ≡ limits.now.cells }
         requires meter { meter.old ≡ zero_meter }
         ensures run { IsRun machine.now limits.now result (T.view tape.new) meter.new }
@@ -195,7 +193,7 @@ impl Run {
         limits.show_accepted();
         if !T::GROWS {
             if fits_registers(machine) {
-                let table = table_of(machine, packed);
+                let table = NarrowTable::new(machine);
                 let run = NarrowRun::start(machine, limits);
                 let packed = PackedRun { run, table };
                 return Run::InRegisters { packed, saved: run };
@@ -283,19 +281,5 @@ impl Run {
             Run::InRegisters { packed, saved } => packed.run.has_same_configuration(saved),
             Run::OnTape { runner, saved } => is_same(runner, &pair.run, saved, &pair.saved),
         }
-    }
-}
-
-/// The table of a machine, packed here if it isn't already.
-#[inline(always)]
-fn table_of(machine: &Machine, packed: Option<NarrowTable>) -> NarrowTable
-    requires symbols { symbols_of machine.now ≡ 2 }
-    requires states { length machine.now ≤ 7 }
-    requires packed { IfSome packed (IsTableOf machine.now) }
-    ensures { IsTableOf machine.now result }
-{
-    match packed {
-        Some(table) => table,
-        None => NarrowTable::new(machine),
     }
 }

@@ -24,7 +24,7 @@ overflow_add-meter g c =
     let checked = c.in_ok-answer.ensures.within in
     let inside = c.show_repeats.ensures.inside in
     let accepted = c.show_accepted.ensures.accepted in
-    let few = few_steps _ _ _ _ c.find_packed-found.ensures.few c.show_repeats.ensures.order
+    let few = few_steps _ _ _ _ c.find_recurrence-found.ensures.few c.show_repeats.ensures.order
     (omega (arith, inside.within_steps, accepted.steps)) in
     let none = ap (λ (m : Meter). m.steps) c.new-own.ensures in
     omega (arith, checked.steps, few, none, inside.within_steps, accepted.steps)
@@ -40,7 +40,7 @@ returns-in_err-found-clause-few_steps g c =
     let checked = c.in_ok-answer.ensures.within in
     let inside = c.show_repeats.ensures.inside in
     let accepted = c.show_accepted.ensures.accepted in
-    let few = few_steps _ _ _ _ c.find_packed-found.ensures.few c.show_repeats.ensures.order
+    let few = few_steps _ _ _ _ c.find_recurrence-found.ensures.few c.show_repeats.ensures.order
     (omega (arith, inside.within_steps, accepted.steps)) in
     let none = ap (λ (m : Meter). m.steps) c.new-own.ensures in
     omega (arith, checked.steps, few, none, inside.within_steps)
@@ -50,7 +50,7 @@ returns-clause-few_steps g c =
     let checked = c.in_ok-answer.ensures.within in
     let inside = c.show_repeats.ensures.inside in
     let accepted = c.show_accepted.ensures.accepted in
-    let few = few_steps _ _ _ _ c.find_packed-found.ensures.few c.show_repeats.ensures.order
+    let few = few_steps _ _ _ _ c.find_recurrence-found.ensures.few c.show_repeats.ensures.order
     (omega (arith, inside.within_steps, accepted.steps)) in
     let none = ap (λ (m : Meter). m.steps) c.new-own.ensures in
     omega (arith, checked.steps, few, none, inside.within_steps)

@@ -9,7 +9,7 @@ use Rattle.bb_cert.specs.claims.Claim.{SaysNever}
 use Rattle.bb_cert.proofs.checker_lemmas.AnswerRules.{checked_answer, settled_answer, where_ok}
 use Rattle.bb_cert.proofs.checker_lemmas.ClaimChecks.{no_window, settled_counts, settled_so}
 use Rattle.bb_cert.proofs.claim_lemmas.Claims.{claims_never_halt}
-use Rattle.bb_cert.proofs.checker.checking.check_packed.Goals as goal
+use Rattle.bb_cert.proofs.checker.checking.check.Goals as goal
 
 pub returns-in-Some-clause-answer : goal.returns-in-Some-clause-answer
 returns-in-Some-clause-answer g c =

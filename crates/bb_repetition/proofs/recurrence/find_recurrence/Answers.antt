@@ -3,7 +3,7 @@ use Rattle.std.proofs.lemmas.Int.{ints}
 use Rattle.bb_repetition.proofs.Counting.{at_most}
 use Rattle.bb_repetition.proofs.Quotients.{exact_of_parts, shift_of_start}
 use Rattle.bb_repetition.proofs.Reductions.{room_after_tests}
-use Rattle.bb_repetition.proofs.recurrence.find_packed.Goals as goal
+use Rattle.bb_repetition.proofs.recurrence.find_recurrence.Goals as goal
 
 pub find_shift-requires-clause-room : goal.find_shift-requires-clause-room
 find_shift-requires-clause-room g c =
