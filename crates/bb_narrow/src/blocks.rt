@@ -35,39 +35,6 @@ pub struct BlockRun {
 }
 
 impl BlockRun {
-    /// Makes the next step, if there is one inside the block and the limit of steps. False if not.
-    #[inline(always)]
-    fn advance(&mut self, machine: &Machine, table: &NarrowTable, limits: &Limits) -> bool
-        requires symbols { symbols_of machine.now ≡ 2 }
-        requires table { IsTableOf machine.now table.now }
-        requires few { self.old.steps ≤ limits.now.steps }
-        ensures run { (from : ℤ) (tape : TapeView) → IsBlockRun machine.now limits.now from tape self.old
-            → IsBlockRun machine.now limits.now from tape self.new }
-        ensures few { self.new.steps ≤ limits.now.steps }
-        ensures more { self.old.steps ≤ self.new.steps }
-        ensures stepped { IsTrue result → self.new.steps ≡ self.old.steps + 1 }
-    {
-        machine.show_machine();
-        let entry = table.entry(self.registers.entry, self.registers.reads_one());
-        if stops(entry) {
-            return false;
-        }
-        let head = self.registers.moved_head(entry);
-        if head == 0 {
-            return false;
-        }
-        if self.steps == limits.steps() {
-            return false;
-        }
-        self.registers = Registers {
-            bits: self.registers.flipped_bits(entry),
-            head,
-            entry,
-        };
-        self.steps += 1;
-        true
-    }
-
     /// Makes the next step, if there is one inside the block, at most to this step, and not to this head in
     /// the state of this entry. False if not.
     #[inline(always)]
@@ -95,23 +62,15 @@ impl BlockRun {
         if self.steps >= to {
             return false;
         }
-        let next = table.entry(self.registers.entry, self.registers.reads_one());
-        if stops(next) {
+        let next = self.registers.next(table);
+        if stops(next.entry) || next.head == 0 {
             return false;
         }
-        let next_head = self.registers.moved_head(next);
-        if next_head == 0 {
-            return false;
-        }
-        if is_there(next_head, next, head, entry) {
+        if next.head == head && next.entry & 63 == entry {
             return false;
         }
         *self = BlockRun {
-            registers: Registers {
-                bits: self.registers.flipped_bits(next),
-                head: next_head,
-                entry: next,
-            },
+            registers: next,
             steps: self.steps + 1,
         };
         true
@@ -132,7 +91,7 @@ impl BlockRun {
         let table = *table;
         let limits = *limits;
         loop {
-            if !run.advance(machine, &table, &limits) {
+            if !run.advance_apart(machine, &table, &limits, limits.steps(), 0, 0) {
                 return run;
             }
         }
@@ -199,14 +158,6 @@ impl BlockRun {
             runner.cells(),
         );
     }
-}
-
-/// Whether a head and an entry are at this head, in the state of this entry.
-#[inline(always)]
-fn is_there(head: u64, entry: u64, kept_head: u64, kept_entry: u64) -> bool
-    ensures { IsTrue result ↔ ((head ≡ kept_head) × (entry % 64 ≡ kept_entry)) }
-{
-    head == kept_head && entry & 63 == kept_entry
 }
 
 /// How many cells a new block has to the left of the head, by its last move.

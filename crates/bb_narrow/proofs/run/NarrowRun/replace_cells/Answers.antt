@@ -3,8 +3,7 @@ use Rattle.std.proofs.lemmas.Int.{ints}
 use Rattle.bb_tape.specs.TapeView.{TapeView}
 use Rattle.bb_sim.specs.Runner.{Stands}
 use Rattle.bb_narrow.specs.Registers.{IsNarrowRun}
-use Rattle.bb_narrow.proofs.TapeBits.{bits_inside, lowest_is_low, same_views}
-use Rattle.bb_narrow.proofs.TapeBits.{window_some}
+use Rattle.bb_narrow.proofs.TapeBits.{bits_inside, lowest_is_low, same_views, window_ends, window_some}
 use Rattle.bb_narrow.proofs.run.NarrowRun.replace_cells.Given as given
 use Rattle.bb_narrow.proofs.run.NarrowRun.replace_cells.Goals as goal
 use Rattle.bb_narrow.proofs.run.NarrowRun.replace_cells.Goals.{After-widen_window}
@@ -22,34 +21,14 @@ pub widen_window-requires-clause-to : goal.widen_window-requires-clause-to
 widen_window-requires-clause-to g c =
     let known = c.requires.run in
     let low = lowest_is_low known _ c.lowest_position-low.ensures in
-    omega (
-      arith,
-      ints,
-      low,
-      (c.requires.window known).1,
-      known.window_is.room_is,
-      known.window_is.low_in_word,
-      known.window_is.high_in_word,
-      known.limit,
-      c.cells.ensures.value,
-    )
+    omega (arith, ints, low, (c.requires.window known).1, window_ends known, c.cells.ensures.value)
 
 pub widen_window-requires-clause-room : goal.widen_window-requires-clause-room
 widen_window-requires-clause-room g c =
     let known = c.requires.run in
     let low = lowest_is_low known _ c.lowest_position-low.ensures in
     let limit = c.requires.limit in
-    omega (
-      arith,
-      ints,
-      low,
-      limit,
-      known.window_is.room_is,
-      known.window_is.low_in_word,
-      known.window_is.high_in_word,
-      known.limit,
-      c.cells.ensures.value,
-    )
+    omega (arith, ints, low, limit, window_ends known, c.cells.ensures.value)
 
 -- the ends of the widened window
 low_is : (g : given.Over) (c : After-widen_window g)
@@ -66,16 +45,7 @@ high_is : (g : given.Over) (c : After-widen_window g)
 high_is g c known =
     let low = lowest_is_low known _ c.lowest_position-low.ensures in
     ap (λ (s : TapeView). s.high) c.widen_window.ensures
-    ∙ omega (
-      arith,
-      ints,
-      low,
-      known.window_is.room_is,
-      known.window_is.low_in_word,
-      known.window_is.high_in_word,
-      known.limit,
-      c.cells.ensures.value,
-    )
+    ∙ omega (arith, ints, low, window_ends known, c.cells.ensures.value)
 
 pub write_bits-requires-clause-inside : goal.write_bits-requires-clause-inside
 write_bits-requires-clause-inside g c i h set =
@@ -89,24 +59,14 @@ pub returns-clause-same : goal.returns-clause-same
 returns-clause-same g c known =
     let after = (goal.at.returns-clause-same g c).After-widen_window in
     let v = c.in-Ok.ensures.ok in
-    let w = c.widen_window.ensures in
     same_views _ _
     (ap (λ (s : TapeView). s.content) v ∙ sym known.at.content)
     (ap (λ (s : TapeView). s.low) v ∙ low_is g after known)
     (ap (λ (s : TapeView). s.high) v ∙ high_is g after known)
-    (ap (λ (s : TapeView). s.limit) v ∙ ap (λ (s : TapeView). s.limit) w ∙ c.requires.limit
+    (ap (λ (s : TapeView). s.limit) v ∙ ap (λ (s : TapeView). s.limit) c.widen_window.ensures ∙ c.requires.limit
     ∙ sym known.limit)
 
 pub returns-clause-stands : goal.returns-clause-stands
 returns-clause-stands g c =
     let known = c.requires.run in
-    let after = (goal.at.returns-clause-stands g c).After-widen_window in
-    let v = c.in-Ok.ensures.ok in
-    let w = c.widen_window.ensures in
-    let view : g.T.Tape.view c.write_bits.new.tape ≡ known.view = same_views _ _
-    (ap (λ (s : TapeView). s.content) v ∙ sym known.at.content)
-    (ap (λ (s : TapeView). s.low) v ∙ low_is g after known)
-    (ap (λ (s : TapeView). s.high) v ∙ high_is g after known)
-    (ap (λ (s : TapeView). s.limit) v ∙ ap (λ (s : TapeView). s.limit) w ∙ c.requires.limit
-    ∙ sym known.limit) in
-    subst (Stands c.args.machine.now c.runner.result) (sym view) (c.runner.ensures.stands known)
+    subst (Stands c.args.machine.now c.runner.result) (sym (returns-clause-same g c known)) (c.runner.ensures.stands known)
