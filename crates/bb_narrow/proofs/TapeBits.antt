@@ -8,11 +8,13 @@ use Rattle.std.proofs.lemmas.Nat.Bits.{bit_at-pow_other, bit_at-pow_same, bit_at
 use Rattle.bb_machine.specs.Limits.{Bounds}
 use Rattle.bb_machine.specs.Machine.{Table}
 use Rattle.bb_tape.specs.Content.{Content, cell, with_cell}
-use Rattle.bb_tape.specs.TapeView.{IsInside, TapeView}
+use Rattle.bb_tape.specs.TapeView.{IsInside, TapeView, fresh}
 use Rattle.bb_tape.proofs.Facts.{by_position, cell-with_cell-other, cell-with_cell-same, same_content}
 use Rattle.bb_sim.specs.declared.runner.Runner.{Runner}
+use Rattle.bb_sim.specs.Run.{conf}
 use Rattle.bb_sim.specs.Runner.{Stands, high_of, low_of, position_of, state_of, steps_of}
 use Rattle.bb_sim.specs.Span.{counted_head, greatest, least}
+use Rattle.bb_sim.specs.Configuration.{Configuration, start}
 use Rattle.bb_sim.proofs.Facts.{span_is_reached}
 use Rattle.bb_narrow.specs.declared.run.NarrowRun.{NarrowRun}
 use Rattle.bb_narrow.specs.BitCells.{IsInWord, IsLowest, bits_from}
@@ -129,6 +131,19 @@ module _ {table : Table} {bounds : Bounds} {run : NarrowRun} (known : IsNarrowRu
       let is : cell known.view.content (at_bit i) ≡ 1 =
       ap (λ c. cell c (at_bit i)) known.at.content ∙ cell-in_word run.registers.bits i h ∙ set in
       omega (arith, none, is))
+
+-- a run that has made no step has a blank tape
+pub view_first : {table : Table} {bounds : Bounds} {run : NarrowRun} (known : IsNarrowRun table bounds run)
+    → run.steps ≡ 0 → known.view ≡ fresh bounds.cells
+unfolding conf counted_head
+view_first {table} known none =
+    let zero : steps_of known.runner ≡ 0 = sym known.steps_is ∙ none in
+    let s = known.stands in
+    let at = rw zero at s.at in
+    let first : record { state = state_of known.runner; head = position_of known.runner; tape = known.view.content } ≡ start = cc in
+    let low = rw zero at (s.window_low ∙ s.low) in
+    let high = rw zero at (s.window_high ∙ s.high) in
+    same_views _ _ (ap (λ (c : Configuration). c.tape) first) low high known.limit
 
 -- the window of a later configuration has that of an earlier one in it
 pub window_grows : {table : Table} {bounds : Bounds} {earlier run : NarrowRun}
