@@ -18,12 +18,11 @@ use Rattle.bb_tape.specs.TapeView.{TapeView, IsInside, IsSound}
 use Rattle.bb_tape.proofs.Facts.{abs_is, cell-with_cell-other, cell-with_cell-same, same_content}
 use Rattle.bb_sim.specs.declared.runner.Runner.{Runner}
 use Rattle.bb_sim.specs.declared.runner.Moved.{Moved}
-use Rattle.bb_sim.specs.declared.runner.Moved.TheVariants.{Halted, NoCells, NoSteps}
 use Rattle.bb_sim.specs.declared.runner.Moved.TheVariants as moved
 use Rattle.bb_sim.specs.CellsBetween.{cells_between}
 use Rattle.bb_sim.specs.Configuration.{beside}
 use Rattle.bb_sim.specs.declared.meter.Meter.{Meter}
-use Rattle.bb_sim.specs.Runner.{Moves, Reaches, Stands, Stays, high_of, low_of, position_of, state_of, steps_of}
+use Rattle.bb_sim.specs.Runner.{Moves, Reaches, Stands, high_of, low_of, position_of, state_of, steps_of}
 use Rattle.bb_sim.proofs.Facts.{cells_between-is, counts_next, inside_fits, max-same, min-same}
 use Rattle.bb_narrow.specs.declared.blocks.BlockRun.{BlockRun}
 use Rattle.bb_narrow.specs.declared.registers.Registers.{Registers}
@@ -226,15 +225,6 @@ goes_on_again {table} {bounds} {first} {old} {new} before after = record {
   counts = λ begun counts. after.counts begun (before.counts begun counts);
 }
 
--- a call that doesn't step changes nothing
-pub stays_put : (table : Table) {old new : Runner} {view_old view_new : TapeView} {meter_old meter_new : Meter}
-    (answer : Moved) → (answer ≡ Halted) ⊎ ((answer ≡ NoSteps) ⊎ (answer ≡ NoCells))
-    → Moves table old new view_old view_new meter_old meter_new answer
-    → Stays old new view_old view_new meter_old meter_new
-stays_put table answer (inl is) moves = rw is at moves
-stays_put table answer (inr (inl is)) moves = rw is at moves
-stays_put table answer (inr (inr is)) moves = rw is at moves
-
 -- a step goes on
 pub goes_on_next : {table : Table} {bounds : Bounds} {old new : Runner} {view_old view_new : TapeView}
     {meter_old meter_new : Meter} (answer : Moved) → answer ≡ moved.Stepped
@@ -249,19 +239,4 @@ goes_on_next {table} {bounds} {old} answer is stands limit reaches moves =
       few = (rw is at reaches).0.within_steps;
       more = omega (arith, step.0);
       counts = λ begun counts. rw step.0 (counts_next table (steps_of old) begun counts step.1);
-    }
-
--- no step was made
-pub goes_on_still : {table : Table} {bounds : Bounds} {old new : Runner} {view_old view_new : TapeView}
-    {meter_old meter_new : Meter} → Stands table new view_new → view_new.limit ≡ view_old.limit
-    → steps_of old ≤ bounds.steps → Stays old new view_old view_new meter_old meter_new
-    → GoesOn table bounds old new view_old view_new meter_old meter_new
-goes_on_still {table} {bounds} {old} {new} stands limit few stays =
-    let same : steps_of new ≡ steps_of old = ap steps_of stays.runner in
-    record {
-      stands = stands;
-      limit = limit;
-      few = omega (arith, same, few);
-      more = omega (arith, same);
-      counts = λ begun counts. stays.meter ∙ rw same counts;
     }

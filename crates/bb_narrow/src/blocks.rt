@@ -76,27 +76,6 @@ impl BlockRun {
         true
     }
 
-    /// Makes all steps before a halt, the end of the block or the limit of steps.
-    #[inline(always)]
-    fn run(self, machine: &Machine, table: &NarrowTable, limits: &Limits) -> BlockRun
-        requires symbols { symbols_of machine.now ≡ 2 }
-        requires table { IsTableOf machine.now table.now }
-        requires few { self.steps ≤ limits.now.steps }
-        ensures run { (from : ℤ) (tape : TapeView) → IsBlockRun machine.now limits.now from tape self
-            → IsBlockRun machine.now limits.now from tape result }
-        ensures few { result.steps ≤ limits.now.steps }
-        ensures more { self.steps ≤ result.steps }
-    {
-        let mut run = self;
-        let table = *table;
-        let limits = *limits;
-        loop {
-            if !run.advance_apart(machine, &table, &limits, limits.steps(), 0, 0) {
-                return run;
-            }
-        }
-    }
-
     /// Takes the cells of a block from a tape, for the runner on it.
     #[inline(always)]
     pub fn take<T: Tape>(
@@ -223,14 +202,17 @@ fn run_block<T: Tape>(
     let Some(state) = runner.state() else {
         return;
     };
-    let start = BlockRun::take(machine, limits, runner, state, tape, from);
-    let end = start.run(machine, table, limits);
-    end.put(machine, limits, runner, tape, from);
-    meter.steps += end.steps - start.steps;
+    let table = *table;
+    let limits = *limits;
+    let start = BlockRun::take(machine, &limits, runner, state, tape, from);
+    let mut run = start;
+    while run.advance_apart(machine, &table, &limits, limits.steps(), 0, 0) {}
+    run.put(machine, &limits, runner, tape, from);
+    meter.steps += run.steps - start.steps;
 }
 
 /// Makes steps on the tape until there is a block around the head. None at a halt or a limit, before the
-/// step.
+/// step. Runner, limits and meter are copied, to stay in registers.
 fn find_block<T: Tape>(
     machine: &Machine,
     runner: &mut Runner,
@@ -252,46 +234,23 @@ fn find_block<T: Tape>(
     let limits = *limits;
     let mut here = *runner;
     let mut spent = *meter;
-    let from = step_to_block(machine, &mut here, tape, &limits, &mut spent);
-    *runner = here;
-    *meter = spent;
-    from
-}
-
-/// The body of `find_block`, inlined there: runner, limits and meter are its locals and stay in registers.
-#[inline(always)]
-fn step_to_block<T: Tape>(
-    machine: &Machine,
-    runner: &mut Runner,
-    tape: &mut T,
-    limits: &Limits,
-    meter: &mut Meter,
-) -> Option<i64>
-    requires fixed { T.GROWS ≡ false }
-    requires stands { Stands machine.now runner.old (T.view tape.old) }
-    requires limit { (T.view tape.old).limit ≡ limits.now.cells }
-    requires few { steps_of runner.old ≤ limits.now.steps }
-    requires counted { (begun : Meter) × CountsTo machine.now (steps_of runner.old) begun meter.old
-        × (begun.steps + limits.now.steps + 1 < 2 ^ 64) }
-    ensures goes { GoesOn machine.now limits.now runner.old runner.new (T.view tape.old) (T.view tape.new)
-        meter.old meter.new }
-    ensures block { IfSome result (λ from. IsBlockOf runner.new from) }
-    ensures stepped { IfSome result (λ from. steps_of runner.old < steps_of runner.new) }
-{
-    loop {
-        let position = runner.position();
-        let Ok(moved) = runner.advance(machine, tape, limits, meter) else {
+    let from = loop {
+        let position = here.position();
+        let Ok(moved) = here.advance(machine, tape, &limits, &mut spent) else {
             unreachable!();
         };
         match moved {
             Moved::Stepped => {}
-            Moved::Halted | Moved::NoSteps | Moved::NoCells => return None,
+            Moved::Halted | Moved::NoSteps | Moved::NoCells => break None,
         }
-        let before = cells_before(position < runner.position());
-        if let Some(from) = block_start(runner, before) {
-            return Some(from);
+        let before = cells_before(position < here.position());
+        if let Some(from) = block_start(&here, before) {
+            break Some(from);
         }
-    }
+    };
+    *runner = here;
+    *meter = spent;
+    from
 }
 
 /// Continues a run as [`simulate_from`] does, for a machine of two symbols and at most seven states. If
