@@ -1,5 +1,5 @@
 -- A step of a runner by a packed entry, and of a run in registers, whose runner and view are in the proof alone.
-use Rattle.std.proofs.Common.{◌≡◌, ◌≢◌, ℕ, zero, suc, ◌+◌, ◌%◌, ◌^◌, ◌<◌, ◌≤◌, ◌⊎◌, inl, inr, length}
+use Rattle.std.proofs.Common.{◌≡◌, ◌≢◌, ℕ, zero, suc, ◌+◌, ◌^◌, ◌<◌, ◌≤◌, ◌⊎◌, inl, inr, length}
 use Rattle.std.proofs.Common.{ℤ, pos, ◌+ℤ◌, ◌-ℤ◌, ◌≤ℤ◌, refl, ap, sym, subst, ◌∙◌, arith}
 use Rattle.std.proofs.Common.{bit_and, bit_or, Ok, true}
 use Rattle.std.specs.Prelude.{◌↔◌}
@@ -20,7 +20,6 @@ use Rattle.bb_machine.specs.Limits.{Bounds}
 use Rattle.bb_machine.specs.Machine.{IsMachine, Table, symbols_of}
 use Rattle.bb_machine.proofs.Facts.{entry_named}
 use Rattle.bb_tape.specs.declared.tape.TheConstants.{MAX_SYMBOL}
-use Rattle.bb_tape.specs.Content.{cell}
 use Rattle.bb_tape.specs.TapeView.{TapeView, visited, written, IsBeside, IsInside, IsSound}
 use Rattle.bb_tape.proofs.Facts.{by_position, cell-with_cell-other, cell-with_cell-same}
 use Rattle.bb_sim.specs.declared.runner.Runner.{Runner}

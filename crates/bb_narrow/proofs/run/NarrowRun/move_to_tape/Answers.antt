@@ -1,4 +1,4 @@
-use Rattle.std.proofs.Common.{◌∙◌, ap, arith, sym}
+use Rattle.std.proofs.Common.{◌∙◌, ap, sym}
 use Rattle.bb_tape.specs.TapeView.{fresh}
 use Rattle.bb_narrow.proofs.TapeBits.{view_first}
 use Rattle.bb_narrow.proofs.run.NarrowRun.move_to_tape.Goals as goal
