@@ -56,7 +56,7 @@ module _ {table : Table} {bounds : Bounds} {from : ℤ} {tape : TapeView} {run :
       (rw known.state_is at known.stands.state_named) known.entry)
 
   -- the entry goes to a state, and the head stays in the block
-  module _ (machine : IsMachine table) (two : symbols_of table ≡ 2) {packed : NarrowTable}
+  module _ (machine : IsMachine table) {packed : NarrowTable}
       (is_table : IsTableOf table packed) {next_registers : Registers} (by : StepsTo packed run.registers next_registers)
       (on : bit_at next_registers.entry 8 ≡ 1 → ⊥) (some : next_registers.head ≢ 0) (apart : run.steps ≢ bounds.steps) where
     abbrev old : Runner
@@ -74,7 +74,6 @@ module _ {table : Table} {bounds : Bounds} {from : ℤ} {tape : TapeView} {run :
     abbrev can : CanStep table bounds old view f
     can = record {
       machine = machine;
-      two = two;
       stands = known.stands;
       sound = known.sound;
       limit = known.cells;

@@ -39,7 +39,7 @@ module _ {table : Table} {bounds : Bounds} {run : NarrowRun} (machine : IsMachin
       ]
 
   can_step : CanStep table bounds known.runner known.view next.entry
-  can_step = can machine two is_table known by on
+  can_step = can machine is_table known by on
 
   -- a step more is within the limit
   apart : run.steps ≢ bounds.steps
@@ -49,12 +49,12 @@ module _ {table : Table} {bounds : Bounds} {run : NarrowRun} (machine : IsMachin
   some_room : bit_and run.window next.head ≡ 0 → run.room ≢ 0
   some_room unseen full =
       no_end known NoCells
-      (ends_by_cells known (goes_on can_step) apart (too_wide machine two is_table known by on unseen full))
+      (ends_by_cells known (goes_on can_step) apart (too_wide machine is_table known by on unseen full))
 
   pub goes_out : next.head ≡ 0 → StaysInWord table (steps_of known.runner + 1) → ⊥
   goes_out none =
       let unseen : bit_and run.window next.head ≡ 0 = ap (bit_and run.window) none ∙ and_zero_r run.window in
-      leaves machine two is_table known by on unseen none (some_room unseen) apart
+      leaves machine is_table known by on unseen none (some_room unseen) apart
 
   module _ (more : ℕ) (unseen : bit_and run.window next.head ≡ 0 → more ≡ 1)
       (seen : bit_and run.window next.head ≢ 0 → more ≡ 0) where
@@ -68,10 +68,10 @@ module _ {table : Table} {bounds : Bounds} {run : NarrowRun} (machine : IsMachin
         → ContinuesTo known (after run next (bit_or run.window next.head) (run.room - more))
     goes_inside some = elim (cases_eq (bit_and run.window next.head) 0) [
       | inl none ↦
-          goes_on_outside machine two is_table known by on none (some_room none) some apart (run.room - more)
+          goes_on_outside machine is_table known by on none (some_room none) some apart (run.room - more)
           (omega (arith, unseen none, some_room none))
       | inr visited ↦
           let same : run.room - more ≡ run.room = omega (arith, seen visited) in
-          rw (window_again machine two is_table known by on visited, same)
-          (goes_on_inside machine two is_table known by on visited apart)
+          rw (window_again machine is_table known by on visited, same)
+          (goes_on_inside machine is_table known by on visited apart)
     ]

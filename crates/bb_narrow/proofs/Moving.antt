@@ -48,7 +48,7 @@ use Rattle.bb_narrow.proofs.Entries.{GoesTo, MovesTo, applies, content_written, 
 use Rattle.bb_narrow.proofs.Entries.{symbol_at}
 
 -- the window that has taken in one position more, and its written cell, keep a view sound
-pub sound_next : (view : TapeView) (p q : ℤ) (write : ℕ) → IsSound view → IsInside view p → write ≤ MAX_SYMBOL
+sound_next : (view : TapeView) (p q : ℤ) (write : ℕ) → IsSound view → IsInside view p → write ≤ MAX_SYMBOL
     → cells_between (int_min view.low q) (int_max view.high q) ≤ view.limit
     → IsSound (written (visited view q) p write)
 sound_next view p q write sound inside small fits =
@@ -116,7 +116,7 @@ more_bits view p to bit is_bit there wide window order old i h = elim (cases_eq 
   )
 
 -- the entry that applies is one of the machine
-pub named_at : (table : Table) → IsMachine table → (state : Next) (q symbol : ℕ) → state ≡ State q → q < length table
+named_at : (table : Table) → IsMachine table → (state : Next) (q symbol : ℕ) → state ≡ State q → q < length table
     → symbol < symbols_of table → IsEntryOf (length table) (symbols_of table) (entry_at table state symbol)
 named_at table machine state q symbol is below small = rw is (entry_named _ _ table q symbol machine below small)
 
@@ -131,7 +131,6 @@ goes_left R p other = absurd (other refl)
 -- a runner on a tape within limits, at an entry that goes to a state
 pub record CanStep (table : Table) (bounds : Bounds) (runner : Runner) (view : TapeView) (f : ℕ) : Type 0 where
   pub machine : IsMachine table
-  pub two : symbols_of table ≡ 2
   pub stands : Stands table runner view
   pub sound : IsSound view
   pub limit : view.limit ≡ bounds.cells
@@ -215,7 +214,7 @@ abbrev pub after : NarrowRun → Registers → ℕ → ℕ → NarrowRun
 after run next window room = record { registers = next; window = window; room = room; steps = run.steps + 1 }
 
 -- a step of a run whose entry goes to a state
-module _ {table : Table} {bounds : Bounds} {run : NarrowRun} (machine : IsMachine table) (two : symbols_of table ≡ 2)
+module _ {table : Table} {bounds : Bounds} {run : NarrowRun} (machine : IsMachine table)
     {packed : NarrowTable} (is_table : IsTableOf table packed) (known : IsNarrowRun table bounds run)
     {next_registers : Registers} (by : StepsTo packed run.registers next_registers)
     (on : bit_at next_registers.entry 8 ≡ 1 → ⊥) where
@@ -237,7 +236,6 @@ module _ {table : Table} {bounds : Bounds} {run : NarrowRun} (machine : IsMachin
   abbrev pub can : CanStep table bounds old view f
   can = record {
     machine = machine;
-    two = two;
     stands = known.stands;
     sound = known.sound;
     limit = known.limit;

@@ -18,7 +18,7 @@ pub returns-then-self-steps : goal.returns-then-self-steps
 returns-then-self-steps c = (
   refl,
   λ known.
-      let go = can c.show_machine.ensures.machine c.requires.symbols c.requires.table known c.next-next.ensures
+      let go = can c.show_machine.ensures.machine c.requires.table known c.next-next.ensures
       (on (goal.at.returns-then-self-steps c).After-steps) in
       ends_by_steps known (goes_on go) (c.if-self-steps.true ∙ c.steps.ensures.value),
 )
@@ -29,9 +29,9 @@ returns-then-self-eq0 c = (
   λ known.
       let m = c.show_machine.ensures.machine in
       let goes = on (goal.at.returns-then-self-eq0 c).After-steps in
-      let go = can m c.requires.symbols c.requires.table known c.next-next.ensures goes in
+      let go = can m c.requires.table known c.next-next.ensures goes in
       ends_by_cells known (goes_on go) (λ e. c.if-self-steps.false cc)
-      (too_wide m c.requires.symbols c.requires.table known c.next-next.ensures goes
+      (too_wide m c.requires.table known c.next-next.ensures goes
       c.if-self-next-eq0.true c.if-self-eq0.true),
 )
 
@@ -39,7 +39,7 @@ pub returns-then-next-eq0 : goal.returns-then-next-eq0
 returns-then-next-eq0 c = (
   refl,
   λ known.
-      leaves c.show_machine.ensures.machine c.requires.symbols c.requires.table known c.next-next.ensures
+      leaves c.show_machine.ensures.machine c.requires.table known c.next-next.ensures
       (on (goal.at.returns-then-next-eq0 c).After-steps) c.if-self-next-eq0.true c.if-next-eq0.true
       c.if-self-eq0.false (λ e. c.if-self-steps.false cc),
 )
@@ -52,7 +52,7 @@ returns c =
       | then-self-next-eq0+else-self-eq0+else-next-eq0 w ↦
           rw w.self-is (
             λ known.
-                goes_on_outside m c.requires.symbols c.requires.table known c.next-next.ensures goes
+                goes_on_outside m c.requires.table known c.next-next.ensures goes
                 w.if-self-next-eq0.true w.if-self-eq0.false w.if-next-eq0.false (λ e. c.if-self-steps.false cc)
                 (c.args.self.now.room - 1) (omega (arith, w.if-self-eq0.false)),
             refl,
@@ -60,7 +60,7 @@ returns c =
       | else-self-next-eq0 w ↦
           rw w.self-is (
             λ known.
-                goes_on_inside m c.requires.symbols c.requires.table known c.next-next.ensures goes
+                goes_on_inside m c.requires.table known c.next-next.ensures goes
                 w.if-self-next-eq0.false (λ e. c.if-self-steps.false cc),
             refl,
           )

@@ -6,7 +6,7 @@ pub returns : goal.returns
 returns c = (
   (
     λ known.
-        goes_on_inside c.show_machine.ensures.machine c.requires.symbols c.requires.table known c.next-next.ensures
+        goes_on_inside c.show_machine.ensures.machine c.requires.table known c.next-next.ensures
         (λ one. let yes : IsTrue c.stops.result = c.stops.ensures.1 one in absurd cc)
         c.if-self-next-eq0.false (λ e. omega (arith, e, c.requires.more)),
     refl,
