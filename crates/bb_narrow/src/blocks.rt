@@ -161,16 +161,10 @@ pub fn block_start(runner: &Runner, before: i64) -> Option<i64>
         return None;
     }
     let from = runner.position() - before;
-    if from < runner.low() {
+    if from < runner.low() || runner.high() < from + 63 {
         return None;
     }
-    if runner.high() < from + 63 {
-        return None;
-    }
-    if from >= 0 {
-        return Some(from);
-    }
-    if from + 64 <= 0 {
+    if from >= 0 || from + 64 <= 0 {
         return Some(from);
     }
     None

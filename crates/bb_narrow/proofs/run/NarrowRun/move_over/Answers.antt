@@ -44,21 +44,16 @@ widen_window-requires-clause-room g c =
     omega (arith, ints, low, limit, window_ends known, c.cells.ensures.value)
 
 -- the ends of the widened window
-low_is : (g : given.Over) (c : After-widen_window g)
+ends_are : (g : given.Over) (c : After-widen_window g)
     (known : IsNarrowRun c.args.machine.now c.args.limits.now c.args.self.now)
-    → (g.T.Tape.view c.widen_window.new.tape).low ≡ known.view.low
-low_is g c known =
-    let low = lowest_is_low known _ c.lowest_position-low.ensures in
-    ap (λ (s : TapeView). s.low) c.widen_window.ensures
-    ∙ omega (arith, ints, low, known.window_is.low_in_word)
-
-high_is : (g : given.Over) (c : After-widen_window g)
-    (known : IsNarrowRun c.args.machine.now c.args.limits.now c.args.self.now)
-    → (g.T.Tape.view c.widen_window.new.tape).high ≡ known.view.high
-high_is g c known =
-    let low = lowest_is_low known _ c.lowest_position-low.ensures in
-    ap (λ (s : TapeView). s.high) c.widen_window.ensures
-    ∙ omega (arith, ints, low, window_ends known, c.cells.ensures.value)
+    → ((g.T.Tape.view c.widen_window.new.tape).low ≡ known.view.low)
+    × ((g.T.Tape.view c.widen_window.new.tape).high ≡ known.view.high)
+ends_are g c known =
+    let low = lowest_is_low known _ c.lowest_position-low.ensures in (
+      ap (λ (s : TapeView). s.low) c.widen_window.ensures ∙ omega (arith, ints, low, known.window_is.low_in_word),
+      ap (λ (s : TapeView). s.high) c.widen_window.ensures
+          ∙ omega (arith, ints, low, window_ends known, c.cells.ensures.value),
+    )
 
 pub write_bits-requires-clause-content : goal.write_bits-requires-clause-content
 write_bits-requires-clause-content g c =
@@ -70,17 +65,18 @@ write_bits-requires-clause-inside g c i h set =
     let known = c.requires.run in
     let after = (goal.at.write_bits-requires-clause-inside g c).After-widen_window in
     let inside = bits_inside known i h set in
-    (rw (low_is g after known) inside.0, rw (high_is g after known) inside.1)
+    let ends = ends_are g after known in
+    (rw ends.0 inside.0, rw ends.1 inside.1)
 
 -- the tape is that of the run
 pub returns-clause-same : goal.returns-clause-same
 returns-clause-same g c known =
-    let after = (goal.at.returns-clause-same g c).After-widen_window in
+    let ends = ends_are g (goal.at.returns-clause-same g c).After-widen_window known in
     let v = c.in-Ok.ensures.ok in
     same_views _ _
     (ap (λ (s : TapeView). s.content) v ∙ sym known.at.content)
-    (ap (λ (s : TapeView). s.low) v ∙ low_is g after known)
-    (ap (λ (s : TapeView). s.high) v ∙ high_is g after known)
+    (ap (λ (s : TapeView). s.low) v ∙ ends.0)
+    (ap (λ (s : TapeView). s.high) v ∙ ends.1)
     (ap (λ (s : TapeView). s.limit) v ∙ ap (λ (s : TapeView). s.limit) c.widen_window.ensures
     ∙ ap (λ (s : TapeView). s.limit) (c.requires.tape c.requires.earlier) ∙ c.requires.earlier.limit ∙ sym known.limit)
 
