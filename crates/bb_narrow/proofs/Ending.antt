@@ -7,19 +7,19 @@ use Rattle.std.proofs.lemmas.Nat.Bits.{bit_at-lt}
 use Rattle.bb_machine.specs.declared.entry.Next.TheVariants.{Halt}
 use Rattle.bb_machine.specs.Limits.{Bounds}
 use Rattle.bb_machine.specs.Machine.{Table, symbols_of}
-use Rattle.bb_tape.specs.Content.{cell, score}
+use Rattle.bb_tape.specs.Content.{score}
 use Rattle.bb_tape.specs.TapeView.{TapeView, written}
 use Rattle.bb_sim.specs.declared.runner.Runner.{Runner}
 use Rattle.bb_sim.specs.declared.runner.Moved.TheVariants as moved
 use Rattle.bb_sim.specs.CellsBetween.{cells_between}
-use Rattle.bb_sim.specs.Configuration.{beside, entry_at}
+use Rattle.bb_sim.specs.Configuration.{beside}
 use Rattle.bb_sim.specs.Meter.{stepped, zero_meter}
 use Rattle.bb_sim.specs.Outcome.{IsOutcome}
 use Rattle.bb_sim.specs.declared.simulation.Outcome.{Outcome}
 use Rattle.bb_sim.specs.declared.simulation.Outcome.TheVariants.{NoSteps, NoCells}
 use Rattle.bb_sim.specs.declared.simulation.Outcome.TheVariants as outcomes
 use Rattle.bb_sim.specs.Run.{HaltsAt}
-use Rattle.bb_sim.specs.Runner.{Stands, high_of, low_of, position_of, state_of, steps_of}
+use Rattle.bb_sim.specs.Runner.{Stands, high_of, low_of, position_of, steps_of}
 use Rattle.bb_sim.specs.Span.{Inside, IsLastInside, counted_head, greatest, span}
 use Rattle.bb_sim.proofs.Facts.{Advances}
 use Rattle.bb_sim.proofs.Facts.{cells_between-is, halts_in_Z}
@@ -29,7 +29,7 @@ use Rattle.bb_narrow.specs.declared.run.NarrowRun.{NarrowRun}
 use Rattle.bb_narrow.specs.Packed.{IsPackedEntry}
 use Rattle.bb_narrow.specs.Registers.{EndsWith, IsNarrowRun, flipped_bits, last_step}
 use Rattle.bb_narrow.proofs.Bits.{score-bits}
-use Rattle.bb_narrow.proofs.Entries.{GoesToZ, content_written, is_undefined}
+use Rattle.bb_narrow.proofs.Entries.{GoesToZ, applies, content_written, is_undefined, symbol_at}
 
 -- the span up to where a runner stands is that of its window
 pub span-window : {table : Table} {runner : Runner} {view : TapeView} → Stands table runner view
@@ -86,8 +86,7 @@ module _ {table : Table} {bounds : Bounds} {run : NarrowRun} (known : IsNarrowRu
 
   -- at an entry that isn't defined
   pub ends_undefined : (f ones_are : ℕ)
-      → IsPackedEntry f (cell known.view.content (position_of known.runner))
-      (entry_at table (state_of known.runner) (cell known.view.content (position_of known.runner)))
+      → IsPackedEntry f (symbol_at known.runner known.view) (applies table known.runner known.view)
       → bit_at f 8 ≡ 1 → (bit_at f 7 ≡ 1 → ⊥) → run.registers.bits < 2 ^ 64 → ones_are ≡ ones run.registers.bits
       → EndsWith known (outcomes.Halt run.steps ones_are)
   ends_undefined f ones_are packed stops apart fits counted =
@@ -97,8 +96,7 @@ module _ {table : Table} {bounds : Bounds} {run : NarrowRun} (known : IsNarrowRu
       (counted ∙ sym (score-bits run.registers.bits fits) ∙ ap score (sym known.at.content))) refl
 
   module _ (two : symbols_of table ≡ 2) {f : ℕ}
-      (goes : GoesToZ f (cell known.view.content (position_of known.runner))
-      (entry_at table (state_of known.runner) (cell known.view.content (position_of known.runner)))) where
+      (goes : GoesToZ f (symbol_at known.runner known.view) (applies table known.runner known.view)) where
     -- into Z
     pub goes_into_Z : HaltsAt table (steps_of known.runner) → ⊥
     goes_into_Z = moves_on known.stands goes.is
@@ -129,7 +127,7 @@ module _ {table : Table} {bounds : Bounds} {run : NarrowRun} (known : IsNarrowRu
         made known.stands goes.is bounds in_Z view_in_Z zero_meter
         (stepped zero_meter (cells_between (low_of in_Z) (high_of in_Z))) known.sound room.1 known.limit
         (omega (arith, known.steps_is, known.few)) (λ e. apart (known.steps_is ∙ e)) room.0 is refl in
-        let content = content_written known.stands known.at (bit_at f 6) goes.write (bit_at-lt f 6) goes.writes in
+        let content = content_written known (bit_at f 6) goes.write (bit_at-lt f 6) goes.writes in
         let halts = halts_in_Z table in_Z view_in_Z go.stands refl in
         record {
           runner = in_Z;

@@ -1,11 +1,10 @@
 -- What a packed entry says, where registers are at a configuration.
 use Rattle.std.proofs.Common.{◌≡◌, ◌≢◌, ℕ, zero, suc, ◌+◌, ◌*◌, ◌/◌, ◌%◌, ◌^◌, ◌<◌, ◌≤◌, inl, inr, length}
-use Rattle.std.proofs.Common.{ℤ, pos, ◌+ℤ◌, refl, ap, sym, ◌∙◌, arith}
-use Rattle.std.proofs.Common.{Bool, true, false, IsTrue, bit_and, bit_xor}
-use Rattle.std.specs.Prelude.{◌↔◌}
+use Rattle.std.proofs.Common.{refl, ap, sym, ◌∙◌, arith}
+use Rattle.std.proofs.Common.{bit_and}
 use Rattle.std.specs.Int.{bit_at}
 use Rattle.std.proofs.lemmas.Int.{ints}
-use Rattle.std.proofs.lemmas.Bool.{cases_lt}
+use Rattle.std.proofs.lemmas.Bool.{cases_eq, cases_lt}
 use Rattle.std.proofs.lemmas.Nat.{pow_pos, pow-add}
 use Rattle.std.proofs.lemmas.Nat.Bits.{bit_at-lt, bit_at_xor, bit_at-pow_same, bit_at-pow_other}
 use Rattle.std.proofs.Math.Nat.{pow-le-pow_right}
@@ -14,19 +13,21 @@ use Rattle.bb_machine.specs.declared.entry.Dir.TheVariants.{L, R}
 use Rattle.bb_machine.specs.declared.entry.Next.TheVariants.{State, Halt}
 use Rattle.bb_machine.specs.declared.entry.Entry.{Entry}
 use Rattle.bb_machine.specs.declared.entry.Entry.TheVariants.{Undefined, Go}
+use Rattle.bb_machine.specs.Limits.{Bounds}
 use Rattle.bb_machine.specs.Machine.{Table, entry_of}
 use Rattle.bb_tape.specs.Content.{cell, with_cell}
 use Rattle.bb_tape.specs.TapeView.{TapeView}
 use Rattle.bb_sim.specs.declared.runner.Runner.{Runner}
 use Rattle.bb_sim.specs.Configuration.{beside, entry_at}
-use Rattle.bb_sim.specs.Runner.{Stands, position_of, state_of}
+use Rattle.bb_sim.specs.Runner.{position_of, state_of}
 use Rattle.bb_narrow.specs.declared.registers.Registers.{Registers}
+use Rattle.bb_narrow.specs.declared.run.NarrowRun.{NarrowRun}
 use Rattle.bb_narrow.specs.declared.table.NarrowTable.{NarrowTable}
 use Rattle.bb_narrow.specs.BitCells.{IsInWord, bits_content}
 use Rattle.bb_narrow.specs.Packed.{ArePackedFrom, IsPackedEntry, IsTableOf, right_bit}
-use Rattle.bb_narrow.specs.Registers.{MatchesRunner, flipped_bits, moved_head}
+use Rattle.bb_narrow.specs.Registers.{IsNarrowRun, StepsTo, flipped_bits, moved_head}
 use Rattle.bb_narrow.proofs.Bits.{at_bit, bits_changed, cell-place}
-use Rattle.bb_narrow.proofs.OneBit.{and_set, bit_set, by_bit}
+use Rattle.bb_narrow.proofs.OneBit.{bit_clear, bit_set}
 
 -- an entry that goes to a state
 pub record GoesTo (f symbol : ℕ) (e : Entry) : Type 0 where
@@ -70,18 +71,22 @@ is_undefined f symbol Undefined packed stops apart = refl
 is_undefined f symbol (Go write dir Halt) packed stops apart = absurd (apart packed.1)
 is_undefined f symbol (Go write dir (State state)) packed stops apart = absurd (omega (arith, packed.0, stops))
 
-written : (bits place flip write : ℕ) (p : ℤ) → place < 64 → pos place ≡ p +ℤ pos 32 → flip < 2
-    → write ≡ (bit_at bits place + flip) % 2
-    → bits_content (flipped_bits bits (2 ^ place) flip) ≡ with_cell (bits_content bits) p write
-written bits place zero write p h e small is =
-    bits_changed bits bits place write p h e (omega (arith, is, bit_at-lt bits place)) (λ i low apart. refl)
-written bits place (suc zero) write p h e small is =
-    bits_changed bits (bit_xor bits (2 ^ place)) place write p h e
-    (bit_at_xor bits (2 ^ place) place ∙ ap (λ n. (bit_at bits place + n) % 2) (bit_at-pow_same place) ∙ sym is)
-    (λ i low apart.
-    bit_at_xor bits (2 ^ place) i ∙ ap (λ n. (bit_at bits i + n) % 2) (bit_at-pow_other place i apart)
+pub flipped_same : (bits head place flip : ℕ) → head ≡ 2 ^ place → flip < 2
+    → bit_at (flipped_bits bits head flip) place ≡ (bit_at bits place + flip) % 2
+flipped_same bits head place zero is h = omega (arith, bit_at-lt bits place)
+flipped_same bits head place (suc zero) is h =
+    rw is (bit_at_xor bits (2 ^ place) place ∙ ap (λ n. (bit_at bits place + n) % 2) (bit_at-pow_same place))
+flipped_same bits head place (suc (suc flip)) is h = absurd (omega arith)
+
+pub flipped_other : (bits head place flip i : ℕ) → head ≡ 2 ^ place → i ≢ place
+    → bit_at (flipped_bits bits head flip) i ≡ bit_at bits i
+flipped_other bits head place zero i is apart = refl
+flipped_other bits head place (suc flip) i is apart =
+    rw is (bit_at_xor bits (2 ^ place) i ∙ ap (λ n. (bit_at bits i + n) % 2) (bit_at-pow_other place i apart)
     ∙ omega (arith, bit_at-lt bits i))
-written bits place (suc (suc flip)) write p h e small is = absurd (omega arith)
+
+half : (k : ℕ) → 2 ^ suc k / 2 ≡ 2 ^ k
+half k = let more : suc k ≡ 1 + k = omega arith in rw (more, pow-add 2 1 k) (omega arith)
 
 -- where a head's bit is after a move that doesn't leave the 64 cells
 pub record MovesTo (place bit : ℕ) (dir : Dir) : Type 0 where
@@ -90,25 +95,23 @@ pub record MovesTo (place bit : ℕ) (dir : Dir) : Type 0 where
   pub is : bit ≡ 2 ^ to
   pub position : at_bit to ≡ beside dir (at_bit place)
 
-pub moves_to : (place : ℕ) (dir : Dir) → place < 64 → moved_head (2 ^ place) (right_bit dir) ≢ 0
-    → MovesTo place (moved_head (2 ^ place) (right_bit dir)) dir
-moves_to zero L within some = absurd (some (omega arith))
-moves_to (suc place) L within some = record {
+moves_to : (place bit : ℕ) (dir : Dir) → place < 64 → bit ≡ moved_head (2 ^ place) (right_bit dir) → bit ≢ 0
+    → MovesTo place bit dir
+moves_to zero bit L within is some = absurd (some (is ∙ omega arith))
+moves_to (suc place) bit L within is some = record {
   to = place;
   within = omega (arith, within);
-  is = half place;
+  is = is ∙ half place;
   position = omega (arith, ints);
-} where
-  half : (k : ℕ) → 2 ^ suc k / 2 ≡ 2 ^ k
-  half k = let more : suc k ≡ 1 + k = omega arith in rw (more, pow-add 2 1 k) (omega arith)
-moves_to place R within some = elim (cases_lt place 63) [
+}
+moves_to place bit R within is some = elim (cases_lt place 63) [
   | inl below ↦ record {
     to = place + 1;
     within = omega (arith, below);
-    is = twice place below;
+    is = is ∙ twice place below;
     position = omega (arith, ints);
   }
-  | inr last ↦ absurd (some (let is : place ≡ 63 = omega (arith, within, last) in rw is refl))
+  | inr last ↦ absurd (some (let top : place ≡ 63 = omega (arith, within, last) in is ∙ rw top refl))
 ] where
   twice : (k : ℕ) → k < 63 → 2 ^ k * 2 % 2 ^ 64 ≡ 2 ^ (k + 1)
   twice k h =
@@ -116,13 +119,10 @@ moves_to place R within some = elim (cases_lt place 63) [
       rw (pow-add 2 k 1) (omega (arith, least))
 
 -- a move that leaves them
-pub moves_out : (place : ℕ) (dir : Dir) → place < 64 → moved_head (2 ^ place) (right_bit dir) ≡ 0
+moves_out : (place : ℕ) (dir : Dir) → place < 64 → moved_head (2 ^ place) (right_bit dir) ≡ 0
     → IsInWord (beside dir (at_bit place)) → ⊥
 moves_out zero L within none near = omega (arith, ints, near.0)
-moves_out (suc place) L within none near = let h = half place in omega (arith, h, none, pow_pos place)
-  where
-    half : (k : ℕ) → 2 ^ suc k / 2 ≡ 2 ^ k
-    half k = let more : suc k ≡ 1 + k = omega arith in rw (more, pow-add 2 1 k) (omega arith)
+moves_out (suc place) L within none near = omega (arith, half place, none, pow_pos place)
 moves_out place R within none near = elim (cases_lt place 63) [
   | inl below ↦
       let least : 2 ^ place ≤ 2 ^ 62 =
@@ -139,57 +139,63 @@ packed_at table symbol n q f s all below shift is =
     rw first at (all q (omega (arith, below))) in
     rw (is, shift) there
 
+-- the head after a step
+module _ {packed : NarrowTable} {old new : Registers} (by : StepsTo packed old new) {symbol : ℕ} {e : Entry}
+    (goes : GoesTo new.entry symbol e) (place : ℕ) (within : place < 64) (head : old.head ≡ 2 ^ place) where
+  head_next : new.head ≡ moved_head (2 ^ place) (right_bit goes.dir)
+  head_next = by.head ∙ ap (λ h. moved_head h (bit_at new.entry 7)) head ∙ ap (moved_head (2 ^ place)) goes.right
+
+  pub goes_in : new.head ≢ 0 → MovesTo place new.head goes.dir
+  goes_in some = moves_to place new.head goes.dir within head_next some
+
+  pub goes_beyond : new.head ≡ 0 → IsInWord (beside goes.dir (at_bit place)) → ⊥
+  goes_beyond none = moves_out place goes.dir within (sym head_next ∙ none)
+
 -- the entry that a table tells for a state and the symbol at a place
-pub packed_entry : {table : Table} {packed : NarrowTable} (registers : Registers) (place state symbol : ℕ)
-    → registers.head ≡ 2 ^ place → symbol ≡ bit_at registers.bits place → state < length table
-    → registers.entry % 64 ≡ 9 * state → IsTableOf table packed
-    → (one : Bool) → (IsTrue one ↔ (bit_and registers.bits registers.head ≢ 0)) → (f : ℕ)
-    → (one ≡ false → f ≡ packed.zero / 2 ^ (registers.entry % 64))
-    → (one ≡ true → f ≡ packed.one / 2 ^ (registers.entry % 64))
-    → IsPackedEntry f symbol (entry_of table state symbol)
-packed_entry {table} {packed} registers place state symbol head_is symbol_is below shift is_table true tells f at_zero at_one =
-    let yes : IsTrue true = refl in
-    let some : bit_and registers.bits (2 ^ place) ≢ 0 = rw head_is at (tells.0 yes) in
-    let is : symbol ≡ 1 = symbol_is ∙ bit_set registers.bits place some in
-    rw is (packed_at table 1 packed.one state f (registers.entry % 64) is_table.one below shift (at_one refl))
-packed_entry {table} {packed} registers place state symbol head_is symbol_is below shift is_table false tells f at_zero at_one =
-    let none : bit_at registers.bits place ≡ 0 =
-    elim (by_bit (bit_at registers.bits place) (bit_at-lt registers.bits place)) [
-      | inl is ↦ is
-      | inr set ↦
-          let some : bit_and registers.bits registers.head ≢ 0 =
-          rw head_is (and_set registers.bits place set) in
-          let wrong : IsTrue false = tells.1 some in
-          absurd cc
-    ] in
-    let is : symbol ≡ 0 = symbol_is ∙ none in
-    rw is (packed_at table 0 packed.zero state f (registers.entry % 64) is_table.zero below shift (at_zero refl))
+pub packed_entry : {table : Table} {packed : NarrowTable} {old new : Registers} → IsTableOf table packed
+    → StepsTo packed old new → (place state symbol : ℕ) → old.head ≡ 2 ^ place → symbol ≡ bit_at old.bits place
+    → state < length table → old.entry % 64 ≡ 9 * state → IsPackedEntry new.entry symbol (entry_of table state symbol)
+packed_entry {table} {packed} {old} {new} is_table by place state symbol head_is symbol_is below shift =
+    elim (cases_eq (bit_and old.bits old.head) 0) [
+      | inl none ↦
+          let is : symbol ≡ 0 = symbol_is ∙ bit_clear old.bits place (rw head_is at none) in
+          rw is (packed_at table 0 packed.zero state new.entry (old.entry % 64) is_table.zero below shift (by.zero none))
+      | inr some ↦
+          let is : symbol ≡ 1 = symbol_is ∙ bit_set old.bits place (rw head_is at some) in
+          rw is (packed_at table 1 packed.one state new.entry (old.entry % 64) is_table.one below shift (by.one some))
+    ]
 
-module _ {table : Table} {registers : Registers} {runner : Runner} {view : TapeView}
-    (stands : Stands table runner view) (at : MatchesRunner registers runner view) where
-  symbol_is : cell view.content (position_of runner) ≡ bit_at registers.bits at.place
+abbrev pub symbol_at : Runner → TapeView → ℕ
+symbol_at runner view = cell view.content (position_of runner)
+
+abbrev pub applies : Table → Runner → TapeView → Entry
+applies table runner view = entry_at table (state_of runner) (symbol_at runner view)
+
+module _ {table : Table} {bounds : Bounds} {run : NarrowRun} (known : IsNarrowRun table bounds run) where
+  symbol_is : symbol_at known.runner known.view ≡ bit_at run.registers.bits known.at.place
   symbol_is =
-      ap (λ c. cell c (position_of runner)) at.content
-      ∙ cell-place registers.bits at.place (position_of runner) at.within (omega (arith, ints, at.position))
-
-  pub below : at.state < length table
-  below = rw at.state_is at stands.state_named
+      ap (λ c. cell c (position_of known.runner)) known.at.content
+      ∙ cell-place run.registers.bits known.at.place (position_of known.runner) known.at.within
+      (omega (arith, ints, known.at.position))
 
   -- the symbol is read, and the entry is looked up
-  pub entry_known : {packed : NarrowTable} → IsTableOf table packed → (one : Bool) → (IsTrue one ↔ (bit_and registers.bits registers.head ≢ 0)) → (f : ℕ)
-      → (one ≡ false → f ≡ packed.zero / 2 ^ (registers.entry % 64))
-      → (one ≡ true → f ≡ packed.one / 2 ^ (registers.entry % 64))
-      → IsPackedEntry f (cell view.content (position_of runner))
-      (entry_at table (state_of runner) (cell view.content (position_of runner)))
-  entry_known is_table one tells f at_zero at_one =
-      rw at.state_is
-      (packed_entry registers at.place at.state _ at.head symbol_is below at.entry is_table one tells f at_zero at_one)
+  pub entry_known : {packed : NarrowTable} {next : Registers} → IsTableOf table packed
+      → StepsTo packed run.registers next
+      → IsPackedEntry next.entry (symbol_at known.runner known.view) (applies table known.runner known.view)
+  entry_known is_table by =
+      rw known.at.state_is
+      (packed_entry is_table by known.at.place known.at.state _ known.at.head symbol_is
+      (rw known.at.state_is at known.stands.state_named) known.at.entry)
 
   -- what the bits are after the write
-  pub content_written : (flip write : ℕ) → flip < 2
-      → write ≡ (cell view.content (position_of runner) + flip) % 2
-      → with_cell view.content (position_of runner) write
-      ≡ bits_content (flipped_bits registers.bits registers.head flip)
+  pub content_written : (flip write : ℕ) → flip < 2 → write ≡ (symbol_at known.runner known.view + flip) % 2
+      → with_cell known.view.content (position_of known.runner) write
+      ≡ bits_content (flipped_bits run.registers.bits run.registers.head flip)
   content_written flip write small writes =
-      rw (at.content, at.head) (sym (written registers.bits at.place flip write (position_of runner) at.within
-      (omega (arith, ints, at.position)) small (writes ∙ ap (λ n. (n + flip) % 2) symbol_is)))
+      let bits = run.registers.bits in
+      let at = known.at in
+      rw at.content (sym (bits_changed bits (flipped_bits bits run.registers.head flip) at.place write
+      (position_of known.runner) at.within (omega (arith, ints, at.position))
+      (flipped_same bits run.registers.head at.place flip at.head small
+      ∙ sym (writes ∙ ap (λ n. (n + flip) % 2) symbol_is))
+      (λ i low apart. flipped_other bits run.registers.head at.place flip i at.head apart)))

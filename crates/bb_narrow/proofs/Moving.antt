@@ -1,5 +1,5 @@
--- A step of a run in registers, over a runner and a view that are in the proof alone.
-use Rattle.std.proofs.Common.{◌≡◌, ◌≢◌, ℕ, zero, suc, ◌+◌, ◌%◌, ◌^◌, ◌<◌, ◌≤◌, ◌⊎◌, inl, inr, length}
+-- A step of a runner by a packed entry, and of a run in registers, whose runner and view are in the proof alone.
+use Rattle.std.proofs.Common.{◌≡◌, ◌≢◌, ℕ, zero, suc, ◌+◌, ◌^◌, ◌<◌, ◌≤◌, ◌⊎◌, inl, inr, length}
 use Rattle.std.proofs.Common.{ℤ, pos, ◌+ℤ◌, ◌-ℤ◌, ◌≤ℤ◌, refl, ap, sym, subst, ◌∙◌, arith}
 use Rattle.std.proofs.Common.{bit_and, bit_or, Ok, true}
 use Rattle.std.specs.Prelude.{◌↔◌}
@@ -20,7 +20,6 @@ use Rattle.bb_machine.specs.Limits.{Bounds}
 use Rattle.bb_machine.specs.Machine.{IsMachine, Table, symbols_of}
 use Rattle.bb_machine.proofs.Facts.{entry_named}
 use Rattle.bb_tape.specs.declared.tape.TheConstants.{MAX_SYMBOL}
-use Rattle.bb_tape.specs.Content.{cell}
 use Rattle.bb_tape.specs.TapeView.{TapeView, visited, written, IsBeside, IsInside, IsSound}
 use Rattle.bb_tape.proofs.Facts.{by_position, cell-with_cell-other, cell-with_cell-same}
 use Rattle.bb_sim.specs.declared.runner.Runner.{Runner}
@@ -29,23 +28,27 @@ use Rattle.bb_sim.specs.CellsBetween.{cells_between}
 use Rattle.bb_sim.specs.Configuration.{beside, entry_at}
 use Rattle.bb_sim.specs.Meter.{stepped, zero_meter}
 use Rattle.bb_sim.specs.Run.{HaltsAt}
-use Rattle.bb_sim.specs.Runner.{high_of, low_of, position_of, state_of, steps_of}
-use Rattle.bb_sim.specs.Span.{Inside, counted_head, span}
+use Rattle.bb_sim.specs.Runner.{Stands, high_of, low_of, position_of, state_of, steps_of}
+use Rattle.bb_sim.specs.Span.{counted_head, span}
 use Rattle.bb_sim.proofs.Facts.{Advances}
-use Rattle.bb_sim.proofs.Facts.{counted_head-at, inside_here, next_inside}
+use Rattle.bb_sim.proofs.Facts.{counted_head-at}
 use Rattle.bb_sim.proofs.Facts.{cells_between-is, min-same, max-same}
 use Rattle.bb_sim.proofs.Facts.{Near, inside_fits, near_head}
 use Rattle.bb_sim.proofs.Facts.{Stepped, made, moves_on, next-span, running}
 use Rattle.bb_narrow.specs.declared.run.NarrowRun.{NarrowRun}
 use Rattle.bb_narrow.specs.BitCells.{IsInWord, bits_content}
-use Rattle.bb_narrow.specs.Packed.{right_bit}
-use Rattle.bb_narrow.specs.Registers.{ContinuesTo, IsNarrowRun, MatchesWindow, StaysInWord, flipped_bits, moved_head}
+use Rattle.bb_narrow.specs.declared.registers.Registers.{Registers}
+use Rattle.bb_narrow.specs.declared.table.NarrowTable.{NarrowTable}
+use Rattle.bb_narrow.specs.Packed.{IsTableOf, right_bit}
+use Rattle.bb_narrow.specs.Registers.{ContinuesTo, IsNarrowRun, MatchesRunner, MatchesWindow, StaysInWord, StepsTo}
+use Rattle.bb_narrow.specs.Registers.{flipped_bits}
 use Rattle.bb_narrow.proofs.Bits.{at_bit}
 use Rattle.bb_narrow.proofs.OneBit.{bit_clear, bit_set, or_set}
-use Rattle.bb_narrow.proofs.Entries.{GoesTo, MovesTo, below, content_written, moves_out, moves_to}
+use Rattle.bb_narrow.proofs.Entries.{GoesTo, MovesTo, applies, content_written, entry_known, goes_beyond, goes_in, goes_to}
+use Rattle.bb_narrow.proofs.Entries.{symbol_at}
 
 -- the window that has taken in one position more, and its written cell, keep a view sound
-pub sound_next : (view : TapeView) (p q : ℤ) (write : ℕ) → IsSound view → IsInside view p → write ≤ MAX_SYMBOL
+sound_next : (view : TapeView) (p q : ℤ) (write : ℕ) → IsSound view → IsInside view p → write ≤ MAX_SYMBOL
     → cells_between (int_min view.low q) (int_max view.high q) ≤ view.limit
     → IsSound (written (visited view q) p write)
 sound_next view p q write sound inside small fits =
@@ -74,9 +77,6 @@ pub flipped_fits : (bits head flip : ℕ) → bits < 2 ^ 64 → head < 2 ^ 64 �
 flipped_fits bits head zero p q = p
 flipped_fits bits head (suc flip) p q = xor_lt 64 bits head p q
 
-and_none : (n : ℕ) → bit_and n 0 ≡ 0
-and_none n = and_zero_r n
-
 -- a position beside a window and outside it is next to one of its ends
 outside_wide : (view : TapeView) (p : ℤ) → (IsInside view p → ⊥) → IsBeside view p
     → (p +ℤ pos 1 ≡ view.low) ⊎ (p ≡ view.high +ℤ pos 1)
@@ -85,19 +85,19 @@ outside_wide view p out near =
     (λ from. by_lt_z view.high p (λ above. inr (omega (arith, ints, above, near.1))) (λ to. absurd (out (from, to))))
 
 -- one more position of the window, one more bit
-more_bits : (view : TapeView) (p : ℤ) (to : ℕ) → p ≡ at_bit to → (p +ℤ pos 1 ≡ view.low) ⊎ (p ≡ view.high +ℤ pos 1)
+more_bits : (view : TapeView) (p : ℤ) (to bit : ℕ) → bit ≡ 2 ^ to → p ≡ at_bit to → (p +ℤ pos 1 ≡ view.low) ⊎ (p ≡ view.high +ℤ pos 1)
     → (window : ℕ) → view.low ≤ℤ view.high
     → ((i : ℕ) → i < 64 → (bit_at window i ≡ 1) ↔ ((view.low ≤ℤ at_bit i) × (at_bit i ≤ℤ view.high)))
-    → (i : ℕ) → i < 64 → (bit_at (bit_or window (2 ^ to)) i ≡ 1)
+    → (i : ℕ) → i < 64 → (bit_at (bit_or window bit) i ≡ 1)
     ↔ ((int_min view.low p ≤ℤ at_bit i) × (at_bit i ≤ℤ int_max view.high p))
-more_bits view p to there wide window order old i h = elim (cases_eq i to) [
+more_bits view p to bit is_bit there wide window order old i h = elim (cases_eq i to) [
   | inl same ↦
-      let set : bit_at (bit_or window (2 ^ to)) i ≡ 1 =
-      bit_at_or window (2 ^ to) i ∙ rw same (omega (arith, bit_at-pow_same to, bit_at-lt window to)) in
+      let set : bit_at (bit_or window bit) i ≡ 1 =
+      rw is_bit (bit_at_or window (2 ^ to) i ∙ rw same (omega (arith, bit_at-pow_same to, bit_at-lt window to))) in
       (λ b. (omega (arith, ints, clamps, there, same), omega (arith, ints, clamps, there, same)), λ b. set)
   | inr apart ↦
-      let is : bit_at (bit_or window (2 ^ to)) i ≡ bit_at window i =
-      bit_at_or window (2 ^ to) i ∙ omega (arith, bit_at-pow_other to i apart) in (
+      let is : bit_at (bit_or window bit) i ≡ bit_at window i =
+      rw is_bit (bit_at_or window (2 ^ to) i ∙ omega (arith, bit_at-pow_other to i apart)) in (
         λ b. let o = (old i h).0 (sym is ∙ b) in
             (omega (arith, ints, clamps, o.0), omega (arith, ints, clamps, o.1)),
         λ b. is ∙ (old i h).1 (narrower apart wide b),
@@ -116,7 +116,7 @@ more_bits view p to there wide window order old i h = elim (cases_eq i to) [
   )
 
 -- the entry that applies is one of the machine
-pub named_at : (table : Table) → IsMachine table → (state : Next) (q symbol : ℕ) → state ≡ State q → q < length table
+named_at : (table : Table) → IsMachine table → (state : Next) (q symbol : ℕ) → state ≡ State q → q < length table
     → symbol < symbols_of table → IsEntryOf (length table) (symbols_of table) (entry_at table state symbol)
 named_at table machine state q symbol is below small = rw is (entry_named _ _ table q symbol machine below small)
 
@@ -128,61 +128,60 @@ goes_left : (dir : Dir) (p : ℤ) → (right_bit dir ≡ 1 → ⊥) → beside d
 goes_left L p other = refl
 goes_left R p other = absurd (other refl)
 
--- where a run stands and its entry goes to a state
-module _ {table : Table} {bounds : Bounds} {run : NarrowRun} (machine : IsMachine table)
-    (two : symbols_of table ≡ 2) (known : IsNarrowRun table bounds run) {f symbol : ℕ}
-    (goes : GoesTo f symbol (entry_at table (state_of known.runner) (cell known.view.content (position_of known.runner))))
-    (symbol_is : symbol ≡ cell known.view.content (position_of known.runner)) where
-  abbrev old : Runner
-  old = known.runner
+-- a runner on a tape within limits, at an entry that goes to a state
+pub record CanStep (table : Table) (bounds : Bounds) (runner : Runner) (view : TapeView) (f : ℕ) : Type 0 where
+  pub machine : IsMachine table
+  pub stands : Stands table runner view
+  pub sound : IsSound view
+  pub limit : view.limit ≡ bounds.cells
+  pub few : steps_of runner ≤ bounds.steps
+  pub state : ℕ
+  pub state_is : state_of runner ≡ State state
+  pub goes : GoesTo f (symbol_at runner view) (applies table runner view)
 
-  abbrev view : TapeView
-  view = known.view
-
+module _ {table : Table} {bounds : Bounds} {runner : Runner} {view : TapeView} {f : ℕ}
+    (can : CanStep table bounds runner view f) where
   -- where the head goes
   abbrev pub there : ℤ
-  there = beside goes.dir (position_of old)
+  there = beside can.goes.dir (position_of runner)
 
-  here : Go goes.write goes.dir (State goes.state) ≡ entry_at table (state_of old) (cell view.content (position_of old))
-  here = goes.is
+  here : Go can.goes.write can.goes.dir (State can.goes.state) ≡ applies table runner view
+  here = can.goes.is
 
-  pub near : Near view (position_of old) goes.dir
-  near = near_head table old view goes.dir known.stands (running known.stands here) known.sound
+  pub near : Near view (position_of runner) can.goes.dir
+  near = near_head table runner view can.goes.dir can.stands (running can.stands here) can.sound
 
-  named : IsEntryOf (length table) (symbols_of table) (Go goes.write goes.dir (State goes.state))
+  named : IsEntryOf (length table) (symbols_of table) (Go can.goes.write can.goes.dir (State can.goes.state))
   named =
       subst (IsEntryOf (length table) (symbols_of table)) (sym here)
-      (named_at table machine (state_of old) known.at.state (cell view.content (position_of old)) known.at.state_is
-      (below known.stands known.at) (known.stands.symbols_named (position_of old)))
+      (named_at table can.machine (state_of runner) can.state (symbol_at runner view) can.state_is
+      (rw can.state_is at can.stands.state_named) (can.stands.symbols_named (position_of runner)))
 
-  pub goes_on : HaltsAt table (steps_of old) → ⊥
-  goes_on = moves_on known.stands here
-
-  pub inside_old : Inside table bounds (steps_of old)
-  inside_old = inside_here table old view bounds known.stands known.sound known.limit (omega (arith, known.steps_is, known.few))
+  pub goes_on : HaltsAt table (steps_of runner) → ⊥
+  goes_on = moves_on can.stands here
 
   -- the step needs no more cells than there are
   module _ (fits : cells_between (int_min view.low there) (int_max view.high there) ≤ view.limit) where
     order : int_min view.low there ≤ℤ int_max view.high there
-    order = omega (arith, ints, clamps, known.sound.from_zero, known.sound.to_zero)
+    order = omega (arith, ints, clamps, can.sound.from_zero, can.sound.to_zero)
 
-    pub next : Runner
+    unfoldable pub next : Runner
     next = record {
-      state = State goes.state;
+      state = State can.goes.state;
       position = there;
-      steps = steps_of old + 1;
+      steps = steps_of runner + 1;
       low = int_min view.low there;
       cells = cells_between (int_min view.low there) (int_max view.high there);
       some_cell = omega arith;
-      few_cells = omega (arith, fits, known.sound.limited);
-      low_to_zero = omega (arith, ints, clamps, known.sound.from_zero);
-      low_small = omega (arith, ints, clamps, near.here, near.small, known.sound.within, known.sound.limited, known.sound.to_zero);
+      few_cells = omega (arith, fits, can.sound.limited);
+      low_to_zero = omega (arith, ints, clamps, can.sound.from_zero);
+      low_small = omega (arith, ints, clamps, near.here, near.small, can.sound.within, can.sound.limited, can.sound.to_zero);
     }
 
     abbrev pub view_next : TapeView
-    view_next = written (visited view there) (position_of old) goes.write
+    view_next = written (visited view there) (position_of runner) can.goes.write
 
-    is_stepped : Stepped known.stands here next view_next
+    is_stepped : Stepped can.stands here next view_next
     unfolding next
     is_stepped =
         let n = cells_between-is (int_min view.low there) (int_max view.high there) order in
@@ -190,195 +189,205 @@ module _ {table : Table} {bounds : Bounds} {run : NarrowRun} (machine : IsMachin
           state = refl;
           head = refl;
           steps = refl;
-          low = ap (λ p. int_min p there) known.stands.window_low;
-          high = omega (arith, ints, clamps, n, known.stands.window_high);
+          low = ap (λ p. int_min p there) can.stands.window_low;
+          high = omega (arith, ints, clamps, n, can.stands.window_high);
           tape = refl;
         }
 
-    pub inside_next : run.steps ≢ bounds.steps → Inside table bounds (run.steps + 1)
-    inside_next apart =
-        let fits_span : span table (steps_of old + 1) ≤ bounds.cells =
-        omega (arith, next-span known.stands here, fits, known.limit) in
-        rw known.steps_is (next_inside table bounds (steps_of old) inside_old goes_on (λ e. apart (known.steps_is ∙ e)) fits_span)
+    small : can.goes.write < 2
+    small = omega (arith, can.goes.writes)
 
-    small : goes.write < 2
-    small = omega (arith, goes.writes)
+    pub sound_after : IsSound view_next
+    sound_after =
+        sound_next view (position_of runner) there can.goes.write can.sound near.here (omega (arith, small)) fits
 
-    pub moved_on : old.steps ≢ bounds.steps
-        → Advances true table bounds old next view view_next zero_meter
+    pub moved_on : steps_of runner ≢ bounds.steps
+        → Advances true table bounds runner next view view_next zero_meter
         (stepped zero_meter (cells_between (low_of next) (high_of next))) (Ok moved.Stepped)
     moved_on apart =
-        made known.stands here bounds next view_next zero_meter
-        (stepped zero_meter (cells_between (low_of next) (high_of next))) known.sound named known.limit
-        (omega (arith, known.steps_is, known.few)) apart fits is_stepped refl
+        made can.stands here bounds next view_next zero_meter
+        (stepped zero_meter (cells_between (low_of next) (high_of next))) can.sound named can.limit can.few apart fits
+        is_stepped refl
 
-    -- the registers after the step
-    pub is_run : (new : NarrowRun)
-        → new.registers.bits ≡ flipped_bits run.registers.bits run.registers.head (bit_at f 6)
-        → new.registers.head ≡ moved_head run.registers.head (bit_at f 7) → new.registers.entry ≡ f
-        → new.steps ≡ run.steps + 1 → new.registers.head ≢ 0 → run.steps ≢ bounds.steps
-        → MatchesWindow new.window new.room view_next → IsNarrowRun table bounds new
-    unfolding next
-    is_run new bits head entry steps some apart window =
-        let at = known.at in
-        let head_is : new.registers.head ≡ moved_head (2 ^ at.place) (right_bit goes.dir) =
-        head ∙ ap (λ h. moved_head h (bit_at f 7)) at.head ∙ ap (moved_head (2 ^ at.place)) goes.right in
-        let to = moves_to at.place goes.dir at.within (λ none. some (head_is ∙ none)) in
-        let go = moved_on (λ e. apart (known.steps_is ∙ e)) in
-        record {
-          runner = next;
-          view = view_next;
+-- a run after a step
+abbrev pub after : NarrowRun → Registers → ℕ → ℕ → NarrowRun
+after run next window room = record { registers = next; window = window; room = room; steps = run.steps + 1 }
+
+-- a step of a run whose entry goes to a state
+module _ {table : Table} {bounds : Bounds} {run : NarrowRun} (machine : IsMachine table)
+    {packed : NarrowTable} (is_table : IsTableOf table packed) (known : IsNarrowRun table bounds run)
+    {next_registers : Registers} (by : StepsTo packed run.registers next_registers)
+    (on : bit_at next_registers.entry 8 ≡ 1 → ⊥) where
+  abbrev old : Runner
+  old = known.runner
+
+  abbrev view : TapeView
+  view = known.view
+
+  abbrev f : ℕ
+  f = next_registers.entry
+
+  abbrev head : ℕ
+  head = next_registers.head
+
+  pub goes : GoesTo f (symbol_at old view) (applies table old view)
+  goes = goes_to f _ _ (entry_known known is_table by) on
+
+  abbrev pub can : CanStep table bounds old view f
+  can = record {
+    machine = machine;
+    stands = known.stands;
+    sound = known.sound;
+    limit = known.limit;
+    few = omega (arith, known.steps_is, known.few);
+    state = known.at.state;
+    state_is = known.at.state_is;
+    goes = goes;
+  }
+
+  abbrev there_now : ℤ
+  there_now = there can
+
+  abbrev NeedsNoMore : Type 0
+  NeedsNoMore = cells_between (int_min view.low there_now) (int_max view.high there_now) ≤ view.limit
+
+  to_place : head ≢ 0 → MovesTo known.at.place head goes.dir
+  to_place = goes_in by goes known.at.place known.at.within known.at.head
+
+  there_is : (some : head ≢ 0) → there_now ≡ at_bit (to_place some).to
+  there_is some = ap (beside goes.dir) known.at.position ∙ sym (to_place some).position
+
+  at_next : (fits : NeedsNoMore) → head ≢ 0 → MatchesRunner next_registers (next can fits) (view_next can fits)
+  unfolding next
+  at_next fits some =
+      let at = known.at in
+      let to = to_place some in
+      record {
+        place = to.to;
+        within = to.within;
+        head = to.is;
+        position = there_is some;
+        content = content_written known (bit_at f 6) goes.write (bit_at-lt f 6) goes.writes ∙ ap bits_content (sym by.bits);
+        state = goes.state;
+        state_is = refl;
+        entry = goes.shift;
+        fits = rw by.bits (flipped_fits run.registers.bits run.registers.head (bit_at f 6) at.fits
+            (rw at.head (pow_fits at.place at.within)));
+      }
+
+  goes_on_to : (fits : NeedsNoMore) → head ≢ 0 → run.steps ≢ bounds.steps → (window room : ℕ)
+      → MatchesWindow window room (view_next can fits) → ContinuesTo known (after run next_registers window room)
+  unfolding next
+  goes_on_to fits some apart window room window_is =
+      let go = moved_on can fits (λ e. apart (known.steps_is ∙ e)) in
+      record {
+        next = record {
+          runner = next can fits;
+          view = view_next can fits;
           stands = go.stands;
-          sound = sound_next view (position_of old) there goes.write known.sound near.here (omega (arith, small)) fits;
+          sound = sound_after can fits;
           limit = known.limit;
-          steps_is = steps ∙ ap (λ n. n + 1) known.steps_is;
-          few = omega (arith, steps, known.few, apart);
-          at = record {
-            place = to.to;
-            within = to.within;
-            head = head_is ∙ to.is;
-            position = ap (beside goes.dir) at.position ∙ sym to.position;
-            content = content_written known.stands at (bit_at f 6) goes.write (bit_at-lt f 6)
-                (goes.writes ∙ ap (λ n. (n + bit_at f 6) % 2) symbol_is)
-                ∙ ap bits_content (sym bits);
-            state = goes.state;
-            state_is = refl;
-            entry = ap (λ n. n % 64) entry ∙ goes.shift;
-            fits = rw bits (flipped_fits run.registers.bits run.registers.head (bit_at f 6) at.fits
-                (rw at.head (pow_fits at.place at.within)));
-          };
-          window_is = window;
-        }
+          steps_is = ap (λ n. n + 1) known.steps_is;
+          few = omega (arith, known.few, apart);
+          at = at_next fits some;
+          window_is = window_is;
+        };
+        steps = refl;
+        inside = go.reaches.0;
+        low = refl;
+        high = refl;
+        right = λ one. goes_right goes.dir (position_of old) (sym goes.right ∙ one);
+        left = λ other. goes_left goes.dir (position_of old) (λ one. other (goes.right ∙ one));
+      }
 
-    pub goes_on_to : (new : NarrowRun)
-        → new.registers.bits ≡ flipped_bits run.registers.bits run.registers.head (bit_at f 6)
-        → new.registers.head ≡ moved_head run.registers.head (bit_at f 7) → new.registers.entry ≡ f
-        → new.steps ≡ run.steps + 1 → new.registers.head ≢ 0 → run.steps ≢ bounds.steps
-        → MatchesWindow new.window new.room view_next → ContinuesTo known new
-    unfolding is_run next
-    goes_on_to new bits head entry steps some apart window = record {
-      next = is_run new bits head entry steps some apart window;
-      steps = refl;
-      inside = (moved_on (λ e. apart (known.steps_is ∙ e))).reaches.0;
-      low = refl;
-      high = refl;
-      right = λ one. goes_right goes.dir (position_of old) (sym goes.right ∙ ap (λ n. bit_at n 7) (sym entry) ∙ one);
-      left = λ other. goes_left goes.dir (position_of old)
-          (λ one. other (ap (λ n. bit_at n 7) entry ∙ goes.right ∙ one));
-    }
+  -- to a cell of the window
+  module _ (visited_there : bit_and run.window head ≢ 0) where
+    head_some : head ≢ 0
+    head_some none = visited_there (ap (bit_and run.window) none ∙ and_zero_r run.window)
 
-  -- which cells the window has then
-  head_at : moved_head run.registers.head (bit_at f 7) ≡ moved_head (2 ^ known.at.place) (right_bit goes.dir)
-  head_at = ap (λ h. moved_head h (bit_at f 7)) known.at.head ∙ ap (moved_head (2 ^ known.at.place)) goes.right
+    set : bit_at run.window (to_place head_some).to ≡ 1
+    set = bit_set run.window (to_place head_some).to
+        (λ e. visited_there (ap (bit_and run.window) (to_place head_some).is ∙ e))
 
-  -- a cell of the window
-  module _ (head : ℕ) (is : head ≡ moved_head run.registers.head (bit_at f 7)) (visited_there : bit_and run.window head ≢ 0) where
-    pub head_some : head ≢ 0
-    head_some none = visited_there (ap (bit_and run.window) none ∙ and_none run.window)
+    inside : IsInside view there_now
+    inside = rw (there_is head_some) ((known.window_is.bits (to_place head_some).to (to_place head_some).within).0 set)
 
-    to_window : MovesTo known.at.place (moved_head (2 ^ known.at.place) (right_bit goes.dir)) goes.dir
-    to_window = moves_to known.at.place goes.dir known.at.within (λ none. head_some (is ∙ head_at ∙ none))
+    pub window_again : bit_or run.window head ≡ run.window
+    window_again = ap (bit_or run.window) (to_place head_some).is ∙ or_set run.window (to_place head_some).to set
 
-    pub inside : IsInside view there
-    inside =
-        let to = to_window in
-        let at_to : head ≡ 2 ^ to.to = is ∙ head_at ∙ to.is in
-        let set : bit_at run.window to.to ≡ 1 = bit_set run.window to.to (λ e. visited_there (ap (bit_and run.window) at_to ∙ e)) in
-        let there_is : there ≡ at_bit to.to = ap (beside goes.dir) known.at.position ∙ sym to.position in
-        rw there_is ((known.window_is.bits to.to to.within).0 set)
-
-    pub fits_window : cells_between (int_min view.low there) (int_max view.high there) ≤ view.limit
-    fits_window = inside_fits view there known.sound inside
-
-    pub window_same : (fits : cells_between (int_min view.low there) (int_max view.high there) ≤ view.limit)
-        → MatchesWindow run.window run.room (view_next fits)
-    window_same fits =
-        let low : int_min view.low there ≡ view.low = min-same _ _ inside.0 in
-        let high : int_max view.high there ≡ view.high = max-same _ _ inside.1 in
-        record {
+    pub goes_on_inside : run.steps ≢ bounds.steps → ContinuesTo known (after run next_registers run.window run.room)
+    goes_on_inside apart =
+        let low : int_min view.low there_now ≡ view.low = min-same _ _ inside.0 in
+        let high : int_max view.high there_now ≡ view.high = max-same _ _ inside.1 in
+        goes_on_to (inside_fits view there_now known.sound inside) head_some apart run.window run.room (record {
           low_in_word = rw low known.window_is.low_in_word;
           high_in_word = rw high known.window_is.high_in_word;
           bits = λ i h. rw (low, high) (known.window_is.bits i h);
           fits = known.window_is.fits;
           room_is = rw (low, high) known.window_is.room_is;
-        }
+        })
 
-    -- it is taken in again
-    pub window_again : (fits : cells_between (int_min view.low there) (int_max view.high there) ≤ view.limit)
-        → MatchesWindow (bit_or run.window head) run.room (view_next fits)
-    window_again fits =
-        let to = to_window in
-        let at_to : head ≡ 2 ^ to.to = is ∙ head_at ∙ to.is in
-        let set : bit_at run.window to.to ≡ 1 = bit_set run.window to.to (λ e. visited_there (ap (bit_and run.window) at_to ∙ e)) in
-        subst (λ w. MatchesWindow w run.room (view_next fits))
-        (sym (ap (bit_or run.window) at_to ∙ or_set run.window to.to set)) (window_same fits)
-
-  -- a cell that wasn't
-  module _ (head : ℕ) (is : head ≡ moved_head run.registers.head (bit_at f 7)) (unseen : bit_and run.window head ≡ 0) where
-    pub outside : IsInside view there → ⊥
-    outside here = elim (cases_eq head 0) [
+  -- to a cell that isn't in it
+  module _ (unseen : bit_and run.window head ≡ 0) where
+    outside : IsInside view there_now → ⊥
+    outside taken = elim (cases_eq head 0) [
       | inl none ↦
-          moves_out known.at.place goes.dir known.at.within (sym head_at ∙ sym is ∙ none)
+          goes_beyond by goes known.at.place known.at.within known.at.head none
           (rw (← known.at.position) (
-            omega (arith, ints, known.window_is.low_in_word, here.0),
-            omega (arith, ints, known.window_is.high_in_word, here.1),
+            omega (arith, ints, known.window_is.low_in_word, taken.0),
+            omega (arith, ints, known.window_is.high_in_word, taken.1),
           ))
       | inr some ↦
-          let to = moves_to known.at.place goes.dir known.at.within (λ none. some (is ∙ head_at ∙ none)) in
-          let at_to : head ≡ 2 ^ to.to = is ∙ head_at ∙ to.is in
-          let clear : bit_at run.window to.to ≡ 0 = bit_clear run.window to.to (ap (bit_and run.window) (sym at_to) ∙ unseen) in
-          let there_is : there ≡ at_bit to.to = ap (beside goes.dir) known.at.position ∙ sym to.position in
-          let set = (known.window_is.bits to.to to.within).1 (rw there_is at here) in
+          let to = to_place some in
+          let clear : bit_at run.window to.to ≡ 0 = bit_clear run.window to.to (ap (bit_and run.window) (sym to.is) ∙ unseen) in
+          let set = (known.window_is.bits to.to to.within).1 (rw (there_is some) at taken) in
           omega (arith, clear, set)
     ]
 
-    beside_it : IsBeside view there
-    beside_it = near.near
+    wide : (there_now +ℤ pos 1 ≡ view.low) ⊎ (there_now ≡ view.high +ℤ pos 1)
+    wide = outside_wide view there_now outside (near can).near
+
+    cells_are : pos (cells_between (int_min view.low there_now) (int_max view.high there_now))
+        ≡ (int_max view.high there_now -ℤ int_min view.low there_now) +ℤ pos 1
+    cells_are = cells_between-is (int_min view.low there_now) (int_max view.high there_now)
+        (omega (arith, ints, clamps, known.sound.from_zero, known.sound.to_zero))
 
     -- there is no room for it
     pub too_wide : run.room ≡ 0 → bounds.cells < span table (steps_of old + 1)
     too_wide full =
-        let n = cells_between-is (int_min view.low there) (int_max view.high there)
-        (omega (arith, ints, clamps, known.sound.from_zero, known.sound.to_zero)) in
-        let spans = next-span known.stands here in
-        let wide = outside_wide view there outside beside_it in
-        omega (arith, ints, clamps, n, spans, known.limit, known.window_is.room_is, full, wide)
+        let spans = next-span known.stands goes.is in
+        omega (arith, ints, clamps, cells_are, spans, known.limit, known.window_is.room_is, full, wide)
 
-    pub fits_new : run.room ≢ 0 → cells_between (int_min view.low there) (int_max view.high there) ≤ view.limit
-    fits_new some =
-        let n = cells_between-is (int_min view.low there) (int_max view.high there)
-        (omega (arith, ints, clamps, known.sound.from_zero, known.sound.to_zero)) in
-        omega (arith, ints, clamps, n, known.window_is.room_is, some, beside_it.0, beside_it.1)
+    fits_new : run.room ≢ 0 → NeedsNoMore
+    fits_new some = omega (arith, ints, clamps, cells_are, known.window_is.room_is, some, wide)
 
     -- where it is none of the 64, the next step leaves them
     pub leaves : head ≡ 0 → run.room ≢ 0 → run.steps ≢ bounds.steps → StaysInWord table (steps_of old + 1) → ⊥
     unfolding next
     leaves none some apart stays =
-        let go = moved_on (fits_new some) (λ e. apart (known.steps_is ∙ e)) in
-        let head_is : counted_head table (steps_of old + 1) ≡ there =
+        let go = moved_on can (fits_new some) (λ e. apart (known.steps_is ∙ e)) in
+        let head_is : counted_head table (steps_of old + 1) ≡ there_now =
         counted_head-at table (steps_of old + 1) _ go.stands.at in
-        let near : IsInWord there = subst IsInWord head_is (stays (steps_of old + 1) (omega arith)) in
-        moves_out known.at.place goes.dir known.at.within (sym head_at ∙ sym is ∙ none)
+        let near : IsInWord there_now = subst IsInWord head_is (stays (steps_of old + 1) (omega arith)) in
+        goes_beyond by goes known.at.place known.at.within known.at.head none
         (subst IsInWord (ap (beside goes.dir) known.at.position) near)
 
-    pub window_more : (fits : cells_between (int_min view.low there) (int_max view.high there) ≤ view.limit)
-        → head ≢ 0 → (room : ℕ) → run.room ≡ room + 1
-        → MatchesWindow (bit_or run.window head) room (view_next fits)
-    window_more fits some room one =
-        let to = moves_to known.at.place goes.dir known.at.within (λ none. some (is ∙ head_at ∙ none)) in
-        let at_to : head ≡ 2 ^ to.to = is ∙ head_at ∙ to.is in
-        let there_is : there ≡ at_bit to.to = ap (beside goes.dir) known.at.position ∙ sym to.position in
-        let wide = outside_wide view there outside beside_it in
-        record {
+    pub goes_on_outside : run.room ≢ 0 → head ≢ 0 → run.steps ≢ bounds.steps → (room : ℕ) → run.room ≡ room + 1
+        → ContinuesTo known (after run next_registers (bit_or run.window head) room)
+    goes_on_outside free some apart room one =
+        let to = to_place some in
+        let is = there_is some in
+        goes_on_to (fits_new free) some apart (bit_or run.window head) room (record {
           low_in_word = (
-            omega (arith, ints, clamps, known.window_is.low_in_word, there_is),
-            omega (arith, ints, clamps, known.window_is.low_in_word, there_is),
+            omega (arith, ints, clamps, known.window_is.low_in_word, is),
+            omega (arith, ints, clamps, known.window_is.low_in_word, is),
           );
           high_in_word = (
-            omega (arith, ints, clamps, known.window_is.high_in_word, there_is, to.within),
-            omega (arith, ints, clamps, known.window_is.high_in_word, there_is, to.within),
+            omega (arith, ints, clamps, known.window_is.high_in_word, is, to.within),
+            omega (arith, ints, clamps, known.window_is.high_in_word, is, to.within),
           );
-          bits = λ i h. rw at_to (more_bits view there to.to there_is wide run.window (omega (arith, ints, known.sound.from_zero, known.sound.to_zero)) known.window_is.bits i h);
-          fits = or_lt 64 run.window head known.window_is.fits (rw at_to (pow_fits to.to to.within));
+          bits = λ i h. more_bits view there_now to.to head to.is is wide run.window
+              (omega (arith, ints, known.sound.from_zero, known.sound.to_zero)) known.window_is.bits i h;
+          fits = or_lt 64 run.window head known.window_is.fits (rw to.is (pow_fits to.to to.within));
           room_is = omega (arith, ints, clamps, known.window_is.room_is, one, wide);
-        }
+        })

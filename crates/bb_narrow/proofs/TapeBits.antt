@@ -1,5 +1,5 @@
 -- What the bits of a run in registers say of its window, its head and its cells.
-use Rattle.std.proofs.Common.{◌≡◌, ℕ, ◌+◌, ◌<◌, ◌≤◌, inl, inr, ℤ, pos, ◌+ℤ◌, ◌≤ℤ◌, ap, sym}
+use Rattle.std.proofs.Common.{◌≡◌, ℕ, ◌+◌, ◌<◌, ◌≤◌, ◌^◌, inl, inr, ℤ, pos, ◌+ℤ◌, ◌-ℤ◌, ◌≤ℤ◌, ap, sym}
 use Rattle.std.proofs.Common.{◌∙◌, add-one, arith}
 use Rattle.std.specs.Int.{bit_at}
 use Rattle.std.proofs.lemmas.Bool.{cases_eq, cases_lt}
@@ -8,14 +8,16 @@ use Rattle.std.proofs.lemmas.Nat.Bits.{bit_at-pow_other, bit_at-pow_same, bit_at
 use Rattle.bb_machine.specs.Limits.{Bounds}
 use Rattle.bb_machine.specs.Machine.{Table}
 use Rattle.bb_tape.specs.Content.{Content, cell, with_cell}
-use Rattle.bb_tape.specs.TapeView.{IsInside, TapeView}
+use Rattle.bb_tape.specs.TapeView.{IsInside, TapeView, fresh}
 use Rattle.bb_tape.proofs.Facts.{by_position, cell-with_cell-other, cell-with_cell-same, same_content}
 use Rattle.bb_sim.specs.declared.runner.Runner.{Runner}
+use Rattle.bb_sim.specs.Run.{conf}
 use Rattle.bb_sim.specs.Runner.{Stands, high_of, low_of, position_of, state_of, steps_of}
 use Rattle.bb_sim.specs.Span.{counted_head, greatest, least}
+use Rattle.bb_sim.specs.Configuration.{Configuration, start}
 use Rattle.bb_sim.proofs.Facts.{span_is_reached}
 use Rattle.bb_narrow.specs.declared.run.NarrowRun.{NarrowRun}
-use Rattle.bb_narrow.specs.BitCells.{IsLowest, bits_from}
+use Rattle.bb_narrow.specs.BitCells.{IsInWord, IsLowest, bits_from}
 use Rattle.bb_narrow.specs.Registers.{IsNarrowRun}
 use Rattle.bb_narrow.proofs.Bits.{at_bit, bit_of, cell-in_word, from_outside}
 
@@ -60,6 +62,19 @@ bit_passed n k clear =
     ap (λ v. with_cell (bits_from n k) (at_bit k) v) (sym (cell-next n k)) ∙ with_same (bits_from n k) (at_bit k) in
     rw add-one (sym same ∙ ap (λ b. with_cell (bits_from n k) (at_bit k) b) (sym clear))
 
+-- the only bit of a head
+pub lowest_is_head : (head place : ℕ) → head ≡ 2 ^ place → (p : ℤ) → IsLowest head p → p ≡ at_bit place
+lowest_is_head head place is p lowest = elim (cases_eq lowest.place place) [
+  | inl same ↦ omega (arith, ints, lowest.position, same)
+  | inr apart ↦
+      absurd (omega (
+        arith,
+        lowest.set,
+        ap (λ n. bit_at n lowest.place) is,
+        bit_at-pow_other place lowest.place apart,
+      ))
+]
+
 module _ {table : Table} {bounds : Bounds} {run : NarrowRun} (known : IsNarrowRun table bounds run) where
   -- the bit of the window's lowest position is set
   low_bit : (at : ℕ) × (at < 64) × (pos at ≡ known.view.low +ℤ pos 32) × (bit_at run.window at ≡ 1)
@@ -102,17 +117,11 @@ module _ {table : Table} {bounds : Bounds} {run : NarrowRun} (known : IsNarrowRu
     | inr some ↦ omega (arith, some)
   ]
 
-  pub lowest_is_head : (p : ℤ) → IsLowest run.registers.head p → p ≡ position_of known.runner
-  lowest_is_head p lowest = elim (cases_eq lowest.place known.at.place) [
-    | inl same ↦ omega (arith, ints, lowest.position, known.at.position, same)
-    | inr apart ↦
-        absurd (omega (
-          arith,
-          lowest.set,
-          ap (λ n. bit_at n lowest.place) known.at.head,
-          bit_at-pow_other known.at.place lowest.place apart,
-        ))
-  ]
+  -- its ends and its room
+  pub window_ends : (((known.view.high -ℤ known.view.low) +ℤ pos 1) +ℤ pos run.room ≡ pos bounds.cells)
+      × IsInWord known.view.low × IsInWord known.view.high
+  window_ends =
+      (known.window_is.room_is ∙ ap pos known.limit, known.window_is.low_in_word, known.window_is.high_in_word)
 
   -- the cells that aren't 0 are in the window
   pub bits_inside : (i : ℕ) → i < 64 → bit_at run.registers.bits i ≡ 1 → IsInside known.view (at_bit i)
@@ -122,6 +131,19 @@ module _ {table : Table} {bounds : Bounds} {run : NarrowRun} (known : IsNarrowRu
       let is : cell known.view.content (at_bit i) ≡ 1 =
       ap (λ c. cell c (at_bit i)) known.at.content ∙ cell-in_word run.registers.bits i h ∙ set in
       omega (arith, none, is))
+
+-- a run that has made no step has a blank tape
+pub view_first : {table : Table} {bounds : Bounds} {run : NarrowRun} (known : IsNarrowRun table bounds run)
+    → run.steps ≡ 0 → known.view ≡ fresh bounds.cells
+unfolding conf counted_head
+view_first {table} known none =
+    let zero : steps_of known.runner ≡ 0 = sym known.steps_is ∙ none in
+    let s = known.stands in
+    let at = rw zero at s.at in
+    let first : record { state = state_of known.runner; head = position_of known.runner; tape = known.view.content } ≡ start = cc in
+    let low = rw zero at (s.window_low ∙ s.low) in
+    let high = rw zero at (s.window_high ∙ s.high) in
+    same_views _ _ (ap (λ (c : Configuration). c.tape) first) low high known.limit
 
 -- the window of a later configuration has that of an earlier one in it
 pub window_grows : {table : Table} {bounds : Bounds} {earlier run : NarrowRun}

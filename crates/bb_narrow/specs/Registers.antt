@@ -1,6 +1,6 @@
 -- A run in registers: this project's own.
-use Rattle.std.specs.Prelude.{◌≡◌, ℕ, zero, suc, ◌+◌, ◌*◌, ◌/◌, ◌%◌, ◌^◌, ◌<◌, ◌≤◌, ◌↔◌, pos, ◌+ℤ◌, ◌-ℤ◌, ◌⊎◌}
-use Rattle.std.specs.Prelude.{bit_xor, length, ◌≤ℤ◌}
+use Rattle.std.specs.Prelude.{◌≡◌, ◌≢◌, ℕ, zero, suc, ◌+◌, ◌*◌, ◌/◌, ◌%◌, ◌^◌, ◌<◌, ◌≤◌, ◌↔◌, pos, ◌+ℤ◌}
+use Rattle.std.specs.Prelude.{◌-ℤ◌, ◌⊎◌, bit_and, bit_xor, length, ◌≤ℤ◌}
 use Rattle.std.specs.Int.{bit_at, int_max, int_min}
 use Rattle.bb_machine.specs.declared.entry.Next.TheVariants as next
 use Rattle.bb_machine.specs.Limits.{Bounds}
@@ -13,6 +13,7 @@ use Rattle.bb_sim.specs.Configuration.{entry_at}
 use Rattle.bb_sim.specs.Span.{Inside, IsLastInside, counted_head, span}
 use Rattle.bb_sim.specs.Outcome.{IsOutcome}
 use Rattle.bb_narrow.specs.declared.registers.Registers.{Registers}
+use Rattle.bb_narrow.specs.declared.table.NarrowTable.{NarrowTable}
 use Rattle.bb_narrow.specs.declared.run.NarrowRun.{NarrowRun}
 use Rattle.bb_narrow.specs.declared.run.NarrowMoved.{NarrowMoved}
 use Rattle.bb_narrow.specs.declared.run.NarrowMoved.TheVariants.{Stepped, Ended, Outside}
@@ -30,6 +31,13 @@ flipped_bits bits head (suc flip) = bit_xor bits head
 abbrev pub moved_head : ℕ → ℕ → ℕ
 moved_head head zero = head / 2
 moved_head head (suc right) = head * 2 % 2 ^ 64
+
+-- the registers after a step by a table, wherever its entry goes
+pub record StepsTo (packed : NarrowTable) (old new : Registers) : Type 0 where
+  pub zero : bit_and old.bits old.head ≡ 0 → new.entry ≡ packed.zero / 2 ^ (old.entry % 64)
+  pub one : bit_and old.bits old.head ≢ 0 → new.entry ≡ packed.one / 2 ^ (old.entry % 64)
+  pub bits : new.bits ≡ flipped_bits old.bits old.head (bit_at new.entry 6)
+  pub head : new.head ≡ moved_head old.head (bit_at new.entry 7)
 
 -- the registers are at the configuration at which a runner stands
 pub record MatchesRunner (registers : Registers) (runner : Runner) (view : TapeView) : Type 0 where

@@ -35,39 +35,6 @@ pub struct BlockRun {
 }
 
 impl BlockRun {
-    /// Makes the next step, if there is one inside the block and the limit of steps. False if not.
-    #[inline(always)]
-    fn advance(&mut self, machine: &Machine, table: &NarrowTable, limits: &Limits) -> bool
-        requires symbols { symbols_of machine.now ≡ 2 }
-        requires table { IsTableOf machine.now table.now }
-        requires few { self.old.steps ≤ limits.now.steps }
-        ensures run { (from : ℤ) (tape : TapeView) → IsBlockRun machine.now limits.now from tape self.old
-            → IsBlockRun machine.now limits.now from tape self.new }
-        ensures few { self.new.steps ≤ limits.now.steps }
-        ensures more { self.old.steps ≤ self.new.steps }
-        ensures stepped { IsTrue result → self.new.steps ≡ self.old.steps + 1 }
-    {
-        machine.show_machine();
-        let entry = table.entry(self.registers.entry, self.registers.reads_one());
-        if stops(entry) {
-            return false;
-        }
-        let head = self.registers.moved_head(entry);
-        if head == 0 {
-            return false;
-        }
-        if self.steps == limits.steps() {
-            return false;
-        }
-        self.registers = Registers {
-            bits: self.registers.flipped_bits(entry),
-            head,
-            entry,
-        };
-        self.steps += 1;
-        true
-    }
-
     /// Makes the next step, if there is one inside the block, at most to this step, and not to this head in
     /// the state of this entry. False if not.
     #[inline(always)]
@@ -95,47 +62,18 @@ impl BlockRun {
         if self.steps >= to {
             return false;
         }
-        let next = table.entry(self.registers.entry, self.registers.reads_one());
-        if stops(next) {
+        let next = self.registers.next(table);
+        if stops(next.entry) || next.head == 0 {
             return false;
         }
-        let next_head = self.registers.moved_head(next);
-        if next_head == 0 {
-            return false;
-        }
-        if is_there(next_head, next, head, entry) {
+        if next.head == head && next.entry & 63 == entry {
             return false;
         }
         *self = BlockRun {
-            registers: Registers {
-                bits: self.registers.flipped_bits(next),
-                head: next_head,
-                entry: next,
-            },
+            registers: next,
             steps: self.steps + 1,
         };
         true
-    }
-
-    /// Makes all steps before a halt, the end of the block or the limit of steps.
-    #[inline(always)]
-    fn run(self, machine: &Machine, table: &NarrowTable, limits: &Limits) -> BlockRun
-        requires symbols { symbols_of machine.now ≡ 2 }
-        requires table { IsTableOf machine.now table.now }
-        requires few { self.steps ≤ limits.now.steps }
-        ensures run { (from : ℤ) (tape : TapeView) → IsBlockRun machine.now limits.now from tape self
-            → IsBlockRun machine.now limits.now from tape result }
-        ensures few { result.steps ≤ limits.now.steps }
-        ensures more { self.steps ≤ result.steps }
-    {
-        let mut run = self;
-        let table = *table;
-        let limits = *limits;
-        loop {
-            if !run.advance(machine, &table, &limits) {
-                return run;
-            }
-        }
     }
 
     /// Takes the cells of a block from a tape, for the runner on it.
@@ -201,14 +139,6 @@ impl BlockRun {
     }
 }
 
-/// Whether a head and an entry are at this head, in the state of this entry.
-#[inline(always)]
-fn is_there(head: u64, entry: u64, kept_head: u64, kept_entry: u64) -> bool
-    ensures { IsTrue result ↔ ((head ≡ kept_head) × (entry % 64 ≡ kept_entry)) }
-{
-    head == kept_head && entry & 63 == kept_entry
-}
-
 /// How many cells a new block has to the left of the head, by its last move.
 #[inline(always)]
 pub fn cells_before(right: bool) -> i64
@@ -231,16 +161,10 @@ pub fn block_start(runner: &Runner, before: i64) -> Option<i64>
         return None;
     }
     let from = runner.position() - before;
-    if from < runner.low() {
+    if from < runner.low() || runner.high() < from + 63 {
         return None;
     }
-    if runner.high() < from + 63 {
-        return None;
-    }
-    if from >= 0 {
-        return Some(from);
-    }
-    if from + 64 <= 0 {
+    if from >= 0 || from + 64 <= 0 {
         return Some(from);
     }
     None
@@ -272,14 +196,17 @@ fn run_block<T: Tape>(
     let Some(state) = runner.state() else {
         return;
     };
-    let start = BlockRun::take(machine, limits, runner, state, tape, from);
-    let end = start.run(machine, table, limits);
-    end.put(machine, limits, runner, tape, from);
-    meter.steps += end.steps - start.steps;
+    let table = *table;
+    let limits = *limits;
+    let start = BlockRun::take(machine, &limits, runner, state, tape, from);
+    let mut run = start;
+    while run.advance_apart(machine, &table, &limits, limits.steps(), 0, 0) {}
+    run.put(machine, &limits, runner, tape, from);
+    meter.steps += run.steps - start.steps;
 }
 
 /// Makes steps on the tape until there is a block around the head. None at a halt or a limit, before the
-/// step.
+/// step. Runner, limits and meter are copied, to stay in registers.
 fn find_block<T: Tape>(
     machine: &Machine,
     runner: &mut Runner,
@@ -301,46 +228,23 @@ fn find_block<T: Tape>(
     let limits = *limits;
     let mut here = *runner;
     let mut spent = *meter;
-    let from = step_to_block(machine, &mut here, tape, &limits, &mut spent);
-    *runner = here;
-    *meter = spent;
-    from
-}
-
-/// The body of `find_block`, inlined there: runner, limits and meter are its locals and stay in registers.
-#[inline(always)]
-fn step_to_block<T: Tape>(
-    machine: &Machine,
-    runner: &mut Runner,
-    tape: &mut T,
-    limits: &Limits,
-    meter: &mut Meter,
-) -> Option<i64>
-    requires fixed { T.GROWS ≡ false }
-    requires stands { Stands machine.now runner.old (T.view tape.old) }
-    requires limit { (T.view tape.old).limit ≡ limits.now.cells }
-    requires few { steps_of runner.old ≤ limits.now.steps }
-    requires counted { (begun : Meter) × CountsTo machine.now (steps_of runner.old) begun meter.old
-        × (begun.steps + limits.now.steps + 1 < 2 ^ 64) }
-    ensures goes { GoesOn machine.now limits.now runner.old runner.new (T.view tape.old) (T.view tape.new)
-        meter.old meter.new }
-    ensures block { IfSome result (λ from. IsBlockOf runner.new from) }
-    ensures stepped { IfSome result (λ from. steps_of runner.old < steps_of runner.new) }
-{
-    loop {
-        let position = runner.position();
-        let Ok(moved) = runner.advance(machine, tape, limits, meter) else {
+    let from = loop {
+        let position = here.position();
+        let Ok(moved) = here.advance(machine, tape, &limits, &mut spent) else {
             unreachable!();
         };
         match moved {
             Moved::Stepped => {}
-            Moved::Halted | Moved::NoSteps | Moved::NoCells => return None,
+            Moved::Halted | Moved::NoSteps | Moved::NoCells => break None,
         }
-        let before = cells_before(position < runner.position());
-        if let Some(from) = block_start(runner, before) {
-            return Some(from);
+        let before = cells_before(position < here.position());
+        if let Some(from) = block_start(&here, before) {
+            break Some(from);
         }
-    }
+    };
+    *runner = here;
+    *meter = spent;
+    from
 }
 
 /// Continues a run as [`simulate_from`] does, for a machine of two symbols and at most seven states. If

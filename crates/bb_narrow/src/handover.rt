@@ -47,7 +47,8 @@ impl NarrowRun {
         ensures memory { OnErr result (IsTrue T.GROWS) }
     {
         tape.reset();
-        self.replace_cells(machine, limits, 0, tape)
+        let start = NarrowRun::start(machine, limits);
+        self.move_over(&start, machine, limits, tape)
     }
 
     /// Moves the run onto a tape that has an earlier configuration of it: only cells that differ are written.
@@ -72,34 +73,11 @@ impl NarrowRun {
             → OnOk result (T.view tape.new ≡ known.view) }
         ensures memory { OnErr result (IsTrue T.GROWS) }
     {
-        self.replace_cells(machine, limits, earlier.registers.bits, tape)
-    }
-
-    /// Gives a tape the run's cells in place of those of a number, and the run's window.
-    fn replace_cells<T: Tape>(
-        &self,
-        machine: &Machine,
-        limits: &Limits,
-        bits: u64,
-        tape: &mut T,
-    ) -> Result<Runner, Memory>
-        requires run { IsNarrowRun machine.now limits.now self.now }
-        requires limit { (T.view tape.old).limit ≡ limits.now.cells }
-        requires content { (T.view tape.old).content ≡ bits_content bits }
-        requires window { (known : IsNarrowRun machine.now limits.now self.now)
-            → (known.view.low ≤ℤ (T.view tape.old).low) × ((T.view tape.old).high ≤ℤ known.view.high) }
-        ensures stands { IfOk result (λ runner. Stands machine.now runner (T.view tape.new)) }
-        ensures steps { IfOk result (λ runner. steps_of runner ≡ self.now.steps) }
-        ensures limit { (T.view tape.new).limit ≡ (T.view tape.old).limit }
-        ensures same { (known : IsNarrowRun machine.now limits.now self.now)
-            → OnOk result (T.view tape.new ≡ known.view) }
-        ensures memory { OnErr result (IsTrue T.GROWS) }
-    {
         limits.show_accepted();
         let low = lowest_position(self.window);
         let high = low + (limits.cells() - self.room - 1) as i64;
         widen_window(tape, low, high);
-        let Ok(()) = write_bits(tape, bits, self.registers.bits) else {
+        let Ok(()) = write_bits(tape, earlier.registers.bits, self.registers.bits) else {
             return Err(Memory);
         };
         Ok(self.runner(machine, limits))

@@ -2,9 +2,9 @@
 ghost use Rattle.std.specs.Prelude.{◌≡◌, ◌≢◌, ◌*◌, ◌/◌, ◌%◌, ◌^◌, ◌↔◌, IsTrue, false, true};
 ghost use Rattle.std.specs.Prelude.{bit_and, bit_xor};
 ghost use Rattle.std.specs.Int.{bit_at};
-ghost use Rattle.bb_narrow.specs.Registers.{moved_head, flipped_bits};
+ghost use Rattle.bb_narrow.specs.Registers.{StepsTo, moved_head, flipped_bits};
 
-use crate::table::{FLIP, RIGHT, STOP};
+use crate::table::{FLIP, NarrowTable, RIGHT, STOP};
 
 /// A configuration within 64 cells.
 #[derive(Clone, Copy, Debug)]
@@ -43,6 +43,19 @@ impl Registers {
         ensures { IsTrue result ↔ (bit_and self.now.bits self.now.head ≢ 0) }
     {
         self.bits & self.head != 0
+    }
+
+    /// The registers after the next step, also where its entry goes to no state.
+    #[inline(always)]
+    pub(crate) fn next(&self, table: &NarrowTable) -> Registers
+        ensures { StepsTo table.now self.now result }
+    {
+        let entry = table.entry(self.entry, self.reads_one());
+        Registers {
+            bits: self.flipped_bits(entry),
+            head: self.moved_head(entry),
+            entry,
+        }
     }
 
     /// The cells after the write of an entry.

@@ -69,29 +69,24 @@ impl NarrowRun {
     {
         machine.show_machine();
         limits.show_accepted();
-        let entry = table.entry(self.registers.entry, self.registers.reads_one());
-        if stops(entry) {
-            return NarrowMoved::Ended(self.end(machine, limits, entry));
+        let next = self.registers.next(table);
+        if stops(next.entry) {
+            return NarrowMoved::Ended(self.end(machine, limits, next.entry));
         }
         if self.steps == limits.steps() {
             return NarrowMoved::Ended(Outcome::NoSteps);
         }
-        let head = self.registers.moved_head(entry);
-        if self.window & head == 0 {
+        if self.window & next.head == 0 {
             if self.room == 0 {
                 return NarrowMoved::Ended(Outcome::NoCells);
             }
-            if head == 0 {
+            if next.head == 0 {
                 return NarrowMoved::Outside;
             }
             self.room -= 1;
-            self.window |= head;
+            self.window |= next.head;
         }
-        self.registers = Registers {
-            bits: self.registers.flipped_bits(entry),
-            head,
-            entry,
-        };
+        self.registers = next;
         self.steps += 1;
         NarrowMoved::Stepped
     }
@@ -113,19 +108,11 @@ impl NarrowRun {
     {
         machine.show_machine();
         limits.show_accepted();
-        let entry = table.entry(self.registers.entry, self.registers.reads_one());
-        if stops(entry) {
+        let next = self.registers.next(table);
+        if stops(next.entry) || (self.window & next.head) == 0 {
             return false;
         }
-        let head = self.registers.moved_head(entry);
-        if (self.window & head) == 0 {
-            return false;
-        }
-        self.registers = Registers {
-            bits: self.registers.flipped_bits(entry),
-            head,
-            entry,
-        };
+        self.registers = next;
         self.steps += 1;
         true
     }
@@ -148,18 +135,13 @@ impl NarrowRun {
     {
         machine.show_machine();
         limits.show_accepted();
-        let entry = table.entry(self.registers.entry, self.registers.reads_one());
-        let head = self.registers.moved_head(entry);
-        if head == 0 {
+        let next = self.registers.next(table);
+        if next.head == 0 {
             return false;
         }
-        self.room -= self.new_cells(head);
-        self.window |= head;
-        self.registers = Registers {
-            bits: self.registers.flipped_bits(entry),
-            head,
-            entry,
-        };
+        self.room -= self.new_cells(next.head);
+        self.window |= next.head;
+        self.registers = next;
         self.steps += 1;
         true
     }

@@ -2,8 +2,8 @@ use Rattle.std.proofs.Common.{◌≡◌, ◌∙◌, ◌+ℤ◌, FitsSigned, ap, 
 use Rattle.std.proofs.lemmas.Int.{ints, to_z-of_z}
 use Rattle.bb_machine.specs.declared.entry.Next.TheVariants.{State}
 use Rattle.bb_sim.specs.Runner.{Stands, high_of, low_of}
-use Rattle.bb_narrow.proofs.InBlocks.{high_kept, lowest_is_place, order_kept, position_fits, tape_is}
-use Rattle.bb_narrow.proofs.TapeBits.{stands_as}
+use Rattle.bb_narrow.proofs.InBlocks.{high_kept, order_kept, position_fits, tape_is}
+use Rattle.bb_narrow.proofs.TapeBits.{lowest_is_head, stands_as}
 use Rattle.bb_narrow.proofs.blocks.BlockRun.put.Given as given
 use Rattle.bb_narrow.proofs.blocks.BlockRun.put.Goals as goal
 use Rattle.bb_narrow.proofs.blocks.BlockRun.put.Goals.{After-lowest_position}
@@ -16,7 +16,7 @@ position_is g c =
     omega (
       arith,
       ints,
-      lowest_is_place known _ c.lowest_position.ensures,
+      lowest_is_head _ _ known.head _ c.lowest_position.ensures,
       known.within,
       known.block.low,
       known.block.high,

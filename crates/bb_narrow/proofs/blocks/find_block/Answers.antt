@@ -1,8 +1,8 @@
 use Rattle.bb_narrow.specs.Blocks.{GoesOn}
-use Rattle.bb_narrow.proofs.InBlocks.{goes_on_again, goes_on_next, goes_on_still, stays_put}
-use Rattle.bb_narrow.proofs.blocks.step_to_block.Given as given
-use Rattle.bb_narrow.proofs.blocks.step_to_block.Goals as goal
-use Rattle.bb_narrow.proofs.blocks.step_to_block.Goals.{In-Stepped}
+use Rattle.bb_narrow.proofs.InBlocks.{goes_on_again, goes_on_next}
+use Rattle.bb_narrow.proofs.blocks.find_block.Given as given
+use Rattle.bb_narrow.proofs.blocks.find_block.Goals as goal
+use Rattle.bb_narrow.proofs.blocks.find_block.Goals.{In-Stepped}
 
 -- the step was made
 next : (g : given.Over) (c : In-Stepped g)
@@ -15,14 +15,6 @@ next g c =
 
 pub loop-moved-preserved : goal.loop-moved-preserved
 loop-moved-preserved g c = next g (goal.at.loop-moved-preserved g c).In-Stepped
-
-pub returns-in-Halted-clause-goes : goal.returns-in-Halted-clause-goes
-returns-in-Halted-clause-goes g c =
-    let call = c.in-Ok.ensures in
-    let here = c.loop-moved.invariant in
-    goes_on_again here
-    (goes_on_still call.stands call.limit here.few
-    (stays_put c.args.machine.now c.in-Ok.moved c.in-Halted.is call.moves))
 
 pub returns-in-Some-clause-goes : goal.returns-in-Some-clause-goes
 returns-in-Some-clause-goes g c = next g (goal.at.returns-in-Some-clause-goes g c).In-Stepped
