@@ -200,6 +200,7 @@ fn run_block<T: Tape>(
     let limits = *limits;
     let start = BlockRun::take(machine, &limits, runner, state, tape, from);
     let mut run = start;
+    // No step has the head 0, so none is refused for it.
     while run.advance_apart(machine, &table, &limits, limits.steps(), 0, 0) {}
     run.put(machine, &limits, runner, tape, from);
     meter.steps += run.steps - start.steps;
