@@ -13,21 +13,21 @@ type Results = import("./page/list/results.mjs").Results;
 
 // Lines of a list, as read.
 
-/** One bare machine a line; verdict lines; a table with a column of machines; any text with one machine a line. */
-type Form = "machines" | "verdicts" | "table" | "text";
-/** A word, with its offset in the line. */
-type Word = { begin: number; text: string };
-/** Words with only spaces between them. */
+/** One bare machine a line; verdict lines; any text with one machine a line. */
+type Form = "machines" | "verdicts" | "text";
+/** A word, with its offset in the line and the span of the address around it. */
+type Word = { begin: number; text: string; address?: number[] };
+/** Words with only spaces between them, or arrays. */
 interface EntryText {
   words: Word[];
+  /** The groups, and how the entries were written if each is a word. */
+  groups: Word[][];
+  kind: "entries" | "arrays" | undefined;
   /** They enclose the whole address. */
   begin: number;
   end: number;
-  isAddress: boolean;
-  /** Whether it is the last part of an address. */
-  isLast: boolean;
-  /** The entries of each group written as an array. */
-  arrays: Word[][];
+  /** The row of dashes beside the text that may be a group of it. */
+  row: Word | undefined;
 }
 /** A machine in the engine's format, and its rewritings. */
 type ParsedMachine = { machine: string; rewritten: string[] };
@@ -38,8 +38,6 @@ type Refusal = Reason & { kind: "refusal" };
 type Reading = MachineReading | Refusal | { kind: "nothing" };
 /** A text of a line, and its reading. */
 type Read = [EntryText, ParsedMachine | Reason];
-/** Entries, with their offsets in the line. */
-type Group = [number, string][];
 interface PreparedList {
   /** The engine's input. */
   bytes: Uint8Array;

@@ -1,16 +1,20 @@
-/** Parses a text of entries as a machine, or explains why it is none. */
-import { codePointName, findAll, findHidden } from "./tokens.mjs";
+/** Builds the machine of a text of entries, or explains why it is none. The package's `machines.py` is alike. */
+import { MOST_SYMBOLS, STATES, isMachine } from "../common/machine.mjs";
+import { codePointName, findHidden } from "../common/text.mjs";
+import { findAll } from "./tokens.mjs";
 
-const STATES = "ABCDEFGHIJKLMNOPQRSTUVWXY";
-const MOST_SYMBOLS = 10;
 // Machines with at most this many states have no state H, so H may mean the halting state.
 const MOST_BEFORE_H = STATES.indexOf("H");
 const ENTRY = /^(?:[0-9][LRlr][A-Za-z]|---|\.\.\.)$/;
 const LOST = /^[0-9][LRlr][-_]$/;
+// An entry that halts, where entries are words.
+const HALT = /^([0-9][LRlr])_$/;
+const GROUP = /(?<![^_])[^_]*/g;
 /** Descriptions of rewritings, in display order. */
 export const REWRITINGS = {
   "small-letters": "small letters read as capital ones",
   "halting-state": "H read as Z, the halting state",
+  "halting-entries": "_ read as Z, the halting state",
   "undefined-entries": "... read as ---, an undefined entry",
   spaces: "spaces between groups read as _",
   underscores: "_ put between the groups",
@@ -22,91 +26,50 @@ export const REWRITINGS = {
 /** @param {string} refusal @param {string} reason @param {number} place @returns {Reason} */
 export const reasonOf = (refusal, reason, place) => ({ refusal, reason, place });
 
-// By the numbers of states and symbols.
-const PATTERNS = /** @type {Map<number, RegExp>} */ (new Map());
-
-/** Whether the engine accepts a text as a machine. */
-export function isMachine(/** @type {string} */ text) {
-  const size = `${text}_`.indexOf("_");
-  const [symbols, states] = [size / 3, (text.length + 1) / (size + 1)];
-  const isWhole = Number.isInteger(symbols) && Number.isInteger(states);
-  if (!isWhole || symbols < 2 || symbols > MOST_SYMBOLS || states > STATES.length) return false;
-  const key = states * (MOST_SYMBOLS + 1) + symbols;
-  const pattern = PATTERNS.get(key) ?? patternOf(states, symbols);
-  PATTERNS.set(key, pattern);
-  return pattern.test(text);
-}
-
-function patternOf(/** @type {number} */ states, /** @type {number} */ symbols) {
-  const group = `(?:[0-${symbols - 1}][LR][A-${STATES[states - 1]}Z]|---){${symbols}}`;
-  return new RegExp(`^${group}(?:_${group}){${states - 1}}$`);
+/** @returns {ParsedMachine | Reason} of a word with `_` between its groups, or with one possible division */
+export function parseWord(/** @type {Word} */ word) {
+  if (word.text.includes("_") && isMachine(word.text)) return { machine: word.text, rewritten: [] };
+  return parseGroups(findAll(word, GROUP).map((part) => [part]));
 }
 
 /**
- * Several words are the groups. One word is split at `_`, or into groups if only one division is a machine.
- * @returns {ParsedMachine | Reason}
+ * The machine of these groups. A single one is divided, if one division makes a machine. `1R_` is read as `1RZ`
+ * if entries are words.
+ * @param {Word[][]} groups @param {string} [kind] a rewriting @returns {ParsedMachine | Reason}
  */
-export function parseWords(/** @type {Word[]} */ words) {
-  if (words.length === 1 && words[0].text.includes("_") && isMachine(words[0].text)) {
-    return { machine: words[0].text, rewritten: [] };
+export function parseGroups(groups, kind) {
+  const entries = /** @type {Word[][]} */ ([]);
+  const kinds = kind === undefined ? [] : [kind];
+  let count = 0;
+  for (const [k, group] of groups.entries()) {
+    if (group[0].text === "") return reasonOf("empty-group", `group ${k + 1} is empty`, group[0].begin + 1);
+    const given = group.flatMap((word) => findAll(word, /[^]{1,3}/gu));
+    const halts = kind === "entries" && given.some(({ text }) => HALT.test(text));
+    halts && kinds.push("halting-entries");
+    const cut = halts ? given.map(({ begin, text }) => ({ begin, text: text.replace(HALT, "$1Z") })) : given;
+    const wrong = cut.findIndex(({ text }) => !ENTRY.test(text));
+    if (wrong >= 0) return explainEntry(cut[wrong], count + wrong + 1, k + 1 < groups.length);
+    count += cut.length;
+    entries.push(cut);
   }
-  const groups = words.length > 1 ? words : findAll(words[0], /(?<![^_])[^_]*/g);
-  const entries = parseGroups(groups);
-  if (!Array.isArray(entries)) return entries;
-  const rewritten = letterRewritings(groups);
-  if (groups.length === 1) return divideEntries(entries[0], rewritten);
-  return buildMachine(entries, words.length > 1 ? [...rewritten, "spaces"] : rewritten);
+  const text = groups.flat().map((word) => word.text).join("");
+  text === text.toUpperCase() || kinds.push("small-letters");
+  text.includes("...") && kinds.push("undefined-entries");
+  return entries.length === 1 && kind !== "arrays" ? divide(entries[0], kinds) : buildMachine(entries, kinds);
 }
 
-/** @returns {ParsedMachine | Reason} the machine with these words as entries */
-export function parseEntries(/** @type {Word[]} */ words) {
-  const entries = parseGroups(words);
-  const rewritten = [...letterRewritings(words), "entries"];
-  return Array.isArray(entries) ? divideEntries(entries.flat(), rewritten) : entries;
-}
-
-/** The machine with these arrays as groups. */
-export function parseArrays(/** @type {Word[][]} */ groups) {
-  const entries = groups.map((group) => /** @type {Group} */ (group.map(({ begin, text }) => [begin, text])));
-  return buildMachine(entries, [...letterRewritings(groups.flat()), "arrays"]);
-}
-
-/** @returns {Group[] | Reason} */
-function parseGroups(/** @type {Word[]} */ groups) {
-  const parsed = /** @type {Group[]} */ ([]);
-  for (const [k, { begin, text }] of groups.entries()) {
-    if (text === "") return reasonOf("empty-group", `group ${k + 1} is empty`, begin + 1);
-    const entries = text.match(/[^]{1,3}/g) ?? [];
-    const wrong = entries.findIndex((entry) => !ENTRY.test(entry));
-    if (wrong >= 0) {
-      const characters = [...text.slice(3 * wrong, 3 * wrong + 6)].slice(0, 3).join("");
-      const number = parsed.flat().length + wrong + 1;
-      return explainEntry(characters, number, begin + 3 * wrong + 1, k + 1 < groups.length);
-    }
-    parsed.push(entries.map((entry, at) => [begin + 3 * at, entry]));
-  }
-  return parsed;
-}
-
-/** @param {string} text @param {number} number @param {number} place @param {boolean} isFollowed */
-function explainEntry(text, number, place, isFollowed) {
+/** @param {Word} entry @param {number} number @param {boolean} isFollowed by a `_` or a space behind its group */
+function explainEntry({ begin, text }, number, isFollowed) {
   const whole = text.length === 2 && isFollowed ? `${text}_` : text;
   if (LOST.test(whole)) {
     const sentence = `entry ${number} is ${whole}: the ${whole[0]} that it writes would be lost`;
-    return reasonOf("lost", sentence, place);
+    return reasonOf("lost", sentence, begin + 1);
   }
   const hidden = findHidden(text);
-  if (hidden >= 0) {
-    const name = codePointName(text.slice(hidden));
-    return reasonOf("hidden", `entry ${number} has ${name}, a character that doesn't show`, place + hidden);
-  }
-  return reasonOf("entry", `entry ${number} is no entry: ${text}`, place);
-}
-
-function letterRewritings(/** @type {Word[]} */ groups) {
-  const text = groups.map((group) => group.text).join("");
-  const kinds = text === text.toUpperCase() ? [] : ["small-letters"];
-  return text.includes("...") ? [...kinds, "undefined-entries"] : kinds;
+  const name = hidden < 0 ? "" : codePointName(text.slice(hidden));
+  return hidden < 0
+    ? reasonOf("entry", `entry ${number} is no entry: ${text}`, begin + 1)
+    : reasonOf("hidden", `entry ${number} has ${name}, a character that doesn't show`, begin + hidden + 1);
 }
 
 /** @template T @returns {T[][]} the items in groups of a size */
@@ -114,47 +77,47 @@ const chunk = (/** @type {T[]} */ items, /** @type {number} */ size) =>
   Array.from({ length: items.length / size }, (_, k) => items.slice(k * size, (k + 1) * size));
 
 /** @returns {ParsedMachine | Reason} the machine if exactly one division into groups makes one */
-function divideEntries(/** @type {Group} */ entries, /** @type {string[]} */ rewritten) {
+function divide(/** @type {Word[]} */ entries, /** @type {string[]} */ rewritten) {
   const count = entries.length;
-  const place = entries[0][0] + 1;
+  const place = entries[0].begin + 1;
   const all = count === 1 ? "1 entry" : `${count} entries`;
   const sizes = Array.from(STATES, (_, k) => count / (k + 1)).filter((size) => {
     return Number.isInteger(size) && size >= 2 && size <= MOST_SYMBOLS;
   });
-  if (sizes.length === 0) {
-    return reasonOf("division", `${all} can't be divided into 1 to 25 groups of 2 to 10`, place);
-  }
   const outcomes = sizes.map((size) => {
     return buildMachine(chunk(entries, size), size < count ? [...rewritten, "underscores"] : rewritten);
   });
   const found = outcomes.filter((outcome) => "machine" in outcome);
   if (found.length === 1 || outcomes.length === 1) return found[0] ?? outcomes[0];
+  if (outcomes.length === 0) {
+    return reasonOf("division", `${all} can't be divided into 1 to 25 groups of 2 to 10`, place);
+  }
   return found.length === 0
     ? reasonOf("division", `no way to divide ${all} into groups makes a machine`, place)
     : reasonOf("divisions", `${found.length} ways to divide ${all} into groups make a machine`, place);
 }
 
 /** @returns {ParsedMachine | Reason} */
-function buildMachine(/** @type {Group[]} */ groups, /** @type {string[]} */ rewritten) {
+function buildMachine(/** @type {Word[][]} */ groups, /** @type {string[]} */ rewritten) {
   const wrong = checkSizes(groups);
   if (wrong !== null) return wrong;
-  const capitals = groups.flat().map(([, entry]) => entry.toUpperCase().replace("...", "---"));
-  const letters = capitals.map((entry) => entry[2]);
+  const capitals = groups.flat().map(({ text }) => text.toUpperCase().replace("...", "---"));
+  const letters = capitals.map((text) => text[2]);
   const haltsByH = letters.includes("H") && !letters.includes("Z") && groups.length <= MOST_BEFORE_H;
-  const entries = haltsByH ? capitals.map((entry) => entry.replace("H", "Z")) : capitals;
-  for (const [k, [begin]] of groups.flat().entries()) {
-    const reason = checkEntry(entries[k], k + 1, begin, groups.length, groups[0].length);
+  const texts = haltsByH ? capitals.map((text) => text.replace("H", "Z")) : capitals;
+  for (const [k, { begin }] of groups.flat().entries()) {
+    const reason = checkEntry(texts[k], k + 1, begin, groups.length, groups[0].length);
     if (reason !== null) return reason;
   }
-  const texts = chunk(entries, groups[0].length).map((group) => group.join(""));
-  return { machine: texts.join("_"), rewritten: haltsByH ? [...rewritten, "halting-state"] : rewritten };
+  const machine = chunk(texts, groups[0].length).map((group) => group.join("")).join("_");
+  return { machine, rewritten: haltsByH ? [...rewritten, "halting-state"] : rewritten };
 }
 
 /** Explains why groups of these lengths make no machine; null if they can. */
-function checkSizes(/** @type {Group[]} */ groups) {
+function checkSizes(/** @type {Word[][]} */ groups) {
   const lengths = [...new Set(groups.map((group) => group.length))];
   const [size] = lengths;
-  const places = groups.map(([[begin]]) => begin + 1);
+  const places = groups.map(([{ begin }]) => begin + 1);
   if (lengths.length > 1) {
     const counts = `${lengths.slice(0, -1).join(", ")} and ${lengths[lengths.length - 1]}`;
     const other = groups.findIndex((group) => group.length !== size);

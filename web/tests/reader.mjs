@@ -5,7 +5,8 @@
 import { createInterface } from "node:readline";
 import { encodingOf } from "../page/input/files.mjs";
 import { detectForm } from "../reader/list-reader.mjs";
-import { ADVICE, readLine } from "../reader/line-reader.mjs";
+import { ADVICE } from "../page/input/input-notes.mjs";
+import { readLine } from "../reader/line-reader.mjs";
 import { REWRITINGS } from "../reader/machine-parser.mjs";
 
 function answerTo(asked) {

@@ -5,10 +5,12 @@ import json
 import pathlib
 import random
 import re
+import time
 from typing import Any
 
 import pytest
-from budlarem.reading import Form
+from budlarem._text import LONGEST_LINE
+from budlarem.reading import Form, Skipped
 from budlarem.reading.lines import read_line
 from support import TOP
 from support.browser import Page
@@ -21,7 +23,10 @@ DISGUISES = [
     "[%s](https://bbchallenge.org/{})", "https://bbchallenge.org/%s", "| %s | cycler |",
 ]  # fmt: skip
 # Texts that change a line.
-MORE = (*" \t_-.,;:|#*~`'\"[](){}<>!?\\/01LRABZHabr=\u200b\xa0\x1b\u00e9\u2013", "---", "1RB")
+MORE = (
+    *" \t_-.,;:|#*~`'\"[](){}<>!?\\/&01LRABZHabqr=\u200b\xa0\x1b\u00e9\u2013\u2192\U0001d4b3", "---", "...", "1RB",
+    "1R_", "  ", "{{TM|", "}}", "q_A: ", "https://x.org/", "tm,", "| machine |", "[[\"1RB\"", "1RB1LB_1LA1RZ",
+)  # fmt: skip
 SKIPPED = "3 skipped (empty lines, comments, code fences, rules and headers of tables)"
 
 
@@ -67,7 +72,7 @@ def change(line: str, source: random.Random) -> str:
 def read_by_package(line: str, form: str) -> dict[str, Any]:
     """Return the package's reading of a line in the page's form."""
     reading = read_line(1, line, Form(form))
-    if reading is None:
+    if isinstance(reading, Skipped):
         return {"kind": "nothing"}
     if reading.reason is not None:
         kind, text, place = reading.reason.kind, reading.reason.text, reading.reason.place
@@ -86,6 +91,27 @@ def test_package_and_page_read_alike(forms: Forms, rng: random.Random, count: in
     _, *found = read_by_page(asked)
     assert found == [read_by_package(*one) for one in asked]
     print("%d lines" % count)
+
+
+@pytest.mark.needs("node")
+def test_long_lines_are_read_alike() -> None:
+    """Up to the longest, in time proportional to the length; a character beyond, they are refused."""
+    texts = (
+        "`1RB`",
+        "1RB ",
+        "A: 1RA1LA ",
+        "1RA1RA,",
+        '[["1RB"',
+        "1RA1RA ... ",
+        "\U0001d4b3 ",
+        "1.-" + "." * 16_000,
+    )
+    lines = [(text * LONGEST_LINE)[:size] for text in texts for size in (LONGEST_LINE, LONGEST_LINE + 1)]
+    before = time.monotonic()
+    _, *found = read_by_page([[line] for line in lines])
+    assert time.monotonic() - before < 60
+    assert found == [read_by_package(line, "text") for line in lines]
+    assert [one.get("refusal") for one in found[1::2]] == ["long"] * len(texts)
 
 
 def disguise(machine: str, source: random.Random) -> str:
@@ -113,7 +139,7 @@ def test_disguised_machines_are_found(rng: random.Random, count: int) -> None:
 @pytest.mark.parametrize("change, status", [("", 0), ('"huge", ', 1)])
 def test_kinds_of_one_letter_are_refused(tmp_path: pathlib.Path, change: str, status: int) -> None:
     """When the module loads."""
-    for name in ("worker/replies.mjs", "reader/machine.mjs", "lib/memory.mjs"):
+    for name in ("worker/replies.mjs", "common/machine.mjs", "lib/memory.mjs"):
         text = (TOP / "web" / name).read_text(encoding="utf-8")
         path = tmp_path / name
         path.parent.mkdir()
@@ -145,7 +171,8 @@ def test_file_of_all_forms(tab: Page, forms: Forms) -> None:
         ("1RA1RA\n------\n", "a list of machines", ["1RA1RA", "------"]),
         ("1RA1RA\n17. 1RA1RA\n------\n", "text", ["1RA1RA", "1RA1RA", "------"]),
         ("1RB1LB_1LA1RZ halt 6 4\n", "verdict lines", ["1RB1LB_1LA1RZ"]),
-        ("machine,status\n1RA1RA,halt\n```\n|-\n", "a table", ["1RA1RA"]),
+        ("machine,status\n1RA1RA,halt\n```\n|-\n", "text", ["1RA1RA"]),
+        ("{{TM|1RA1RA|halt}}\n1RA1RA | tm\nTM,1RA1RA\n", "text", ["1RA1RA"] * 3),
     ],
 )
 def test_form_of_a_list_is_found(tab: Page, text: str, form: str, rows: list[str]) -> None:
@@ -154,7 +181,7 @@ def test_form_of_a_list_is_found(tab: Page, text: str, form: str, rows: list[str
     tab.open_list(*text.splitlines())
     assert tab.text("status").endswith("Read as %s." % form)
     assert [row[1].partition(" \u2190")[0] for row in tab.rows()] == rows
-    assert (SKIPPED in tab.text("status")) == (form == "a table")
+    assert (SKIPPED in tab.text("status")) == text.startswith("machine")
 
 
 def test_form_of_a_list_is_chosen(tab: Page) -> None:

@@ -1,6 +1,6 @@
 /** Parses the engine's replies from their bytes, without making strings. */
 import { newlineBits, wordsOf } from "../lib/memory.mjs";
-import { ANSWERS, KINDS } from "../reader/machine.mjs";
+import { ANSWERS, KINDS } from "../common/machine.mjs";
 
 const NEWLINE = 10;
 const SPACE = 32;

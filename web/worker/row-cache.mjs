@@ -5,7 +5,7 @@
  * @typedef {{closer: number, farther: number, beyond: number, most: number}} NextViews the row intervals of a
  *   closer and a farther view, the farther view's steps above and below this one, and the last step
  */
-import { parseMachine } from "../reader/machine.mjs";
+import { parseMachine } from "../common/machine.mjs";
 import { parseTrace, selectRows } from "./packed-rows.mjs";
 
 // The most bytes of a trace line besides its cells.

@@ -1,8 +1,9 @@
 /** The page's worker: decides and checks chunks of a list, traces machines, sorts rows. */
 import { load } from "../lib/bb.mjs";
-import { lineAt, prepareList, unchangedList } from "../reader/list-reader.mjs";
-import { ANSWERS, KINDS, markedSteps, parseRecurrence } from "../reader/machine.mjs";
-import { LONGEST_SHOWN } from "../reader/tokens.mjs";
+import { lineAt } from "../common/bytes.mjs";
+import { ANSWERS, KINDS, markedSteps, parseRecurrence } from "../common/machine.mjs";
+import { LONGEST_SHOWN } from "../common/text.mjs";
+import { prepareList, unchangedList } from "./prepared-list.mjs";
 import { countValues, readAnswers, readLines, startsOf } from "./replies.mjs";
 import { makePicture, measureGrowth, storeRows, traceAhead, traceRows } from "./trace.mjs";
 

@@ -2,6 +2,7 @@
 
 from ._library import LibraryError
 from .claims import Claim, WORDS, Word
+from .claim_tables import Columns
 from .engine import Configuration, MachineError, Trace, check, check_bytes, decide, decide_bytes
 from .engine import recurrences, trace
 from .judging import Judged, Judgement, Judging, judge
@@ -12,8 +13,8 @@ from .decide_list import DecidedLine, decide_lines
 from .normal_forms import Normal, distinct, normal
 from .pictures import Picture, PictureError, picture
 from .publishing import Published, PublishError, UnconfirmedError, publish
-from .reading import Columns, EncodingError, EndlessLineError, Form, Skipped, Reading, Readings, Reason
-from .reading import Rewriting, read
+from .reading import EncodingError, EndlessLineError, Form, Skipped, Reading, Readings, Reason, Rewriting
+from .reading import read
 from .recurrence_claims import Exactness
 from .reports import Report, ReportError, report
 from .verdicts import Answer, Backward, Cycler, Extent, Halt, LastUse, Recurrence, Refused, Translated

@@ -9,12 +9,12 @@ import dataclasses
 import re
 from typing import Iterable, Iterator
 
-from ._text import Words, quote
+from ._text import LONGEST_LINE, Words, quote
+from .claim_lists import ListForm, RereadableList
+from .claim_tables import Layout
 from .numbers import number_of, numbers_in
-from .reading import Form, ListForm, Reading, Skipped
-from .reading.forms import RereadableList, reading_of, skip_kind
-from .reading.tables import Layout
-from .reading.tokens import SPACES
+from .reading import Form, Reading, Skipped
+from .reading.lines import SPACES
 from .verdicts import Halt, Refused, Undecided, Verdict, parse, verdict_of, whole_number
 
 
@@ -44,8 +44,9 @@ WORDS: dict[str, Word] = {
 }
 # The kinds of our verdicts, and how many numbers each may have.
 _KINDS = {"halt": (2,), "cycler": (2,), "backward": (2,), "translated": (2, 4)}
-# Signs that may surround a verdict beside a machine: none that denies or compares.
-_MARKS = SPACES + ",;:|()[]`*\"'\u2013\u2014-"
+# Signs that may surround a verdict beside a machine: none that denies or compares. A dash has a space at its side.
+_MARKS = SPACES + ",;:|()[]`*\"'"
+_DASH = re.compile("^[-\u2013\u2014](?:\\s+|$)|(?:^|(?<!\\s)\\s+)[-\u2013\u2014]$")
 
 
 @dataclasses.dataclass(frozen=True)
@@ -93,22 +94,23 @@ class Claims(Iterable[Claim]):
 
     def __iter__(self) -> Iterator[Claim]:
         for number, line in self._lines:
-            if (claim := claim_of(number, line, self.form, self._words)) is not None:
-                yield claim
+            claim = claim_of(number, line, self.form, self._words)
+            if isinstance(claim, Skipped):
+                self._skips[claim] += 1
             else:
-                self._skips[skip_kind(line)] += 1
+                yield claim
 
 
-def claim_of(number: int, line: str, form: ListForm, words: dict[str, Word]) -> Claim | None:
-    """The claim of a line; None for a skipped line."""
-    if form.form in (Form.VERDICTS, Form.TEXT):
+def claim_of(number: int, line: str, form: ListForm, words: dict[str, Word]) -> Claim | Skipped:
+    """The claim of a line, or why it is skipped."""
+    if form.form in (Form.VERDICTS, Form.TEXT) and len(line) <= LONGEST_LINE:
         claim = _of_verdict_line(number, line)
         is_rule = form.form is Form.TEXT and not line.partition(" ")[0].strip("-")
         if claim is not None and not is_rule:
             return claim
-    reading = reading_of(number, line, form)
-    if reading is None or reading.machine is None:
-        return None if reading is None else Claim(reading)
+    reading = form.read(number, line)
+    if isinstance(reading, Skipped) or reading.machine is None:
+        return reading if isinstance(reading, Skipped) else Claim(reading)
     if form.layout is not None:
         return _of_row(reading, form.layout, words)
     if form.form is Form.MACHINES:
@@ -142,7 +144,8 @@ def _two_statements(first: str, second: str) -> str:
 def _of_text(reading: Reading) -> Claim:
     """The claim of a line of a text: the rest of the line, if that is one verdict."""
     assert reading.machine is not None
-    rest = list(filter(None, (part.strip(_MARKS) for part in (reading.before, reading.behind))))
+    rest = [_DASH.sub("", part.strip(_MARKS)).strip(_MARKS) for part in (reading.before, reading.behind)]
+    rest = list(filter(None, rest))
     if not rest:
         return Claim(reading, trouble="nothing is said of the machine")
     with contextlib.suppress(ValueError):
@@ -166,6 +169,9 @@ def _verdict_in(machine: str, text: str) -> Verdict:
 
 def _of_row(reading: Reading, layout: Layout, words: dict[str, Word]) -> Claim:
     assert reading.row is not None
+    if reading.fields:
+        beside = " and ".join(quote(part) for part in (reading.before, reading.behind) if part)
+        return Claim(reading, trouble="the cell of the machine has more: %s" % beside)
     cells = {role: reading.row[place] for role, place in layout.columns.items()}
     texts = {role: cells[role] for role in ("start", "period") if cells.get(role)}
     claim = _of_verdict_cell(reading, cells, words)
@@ -220,14 +226,16 @@ def _of_halt(reading: Reading, halt: Halt | None, steps: int | None, score: int 
 
 
 def plain_word(text: str) -> str:
-    """A word in small letters, without spaces, hyphens and marks."""
-    return re.sub(r"[\s_-]", "", text.lower()).rstrip(".!")
+    """A word in small letters, without hyphens and spaces inside, and without marks at its end."""
+    return re.sub(r"(?<=\w)[\s_-]+(?=\w)", "", text.lower().strip()).rstrip(".!")
 
 
 # The names of the meanings in a file of words.
 MEANINGS = {"halting": Word.HALTS, "never halting": Word.NEVER_HALTS, "nothing": Word.UNDECIDED}
 # The most words printed of a meaning, and the most different words counted.
 _MOST_PRINTED, _MOST_COUNTED = 20, 100_000
+# The most characters of a file of words.
+_MOST_READ = 1_000_000
 
 
 def read_words(path: str) -> dict[str, Word]:
@@ -236,20 +244,23 @@ def read_words(path: str) -> dict[str, Word]:
     words = dict(WORDS)
     given: dict[str, str] = {}
     with open(path, encoding="utf-8") as file:
-        for number, line in enumerate(file, 1):
-            if not line.strip() or line.startswith("#"):
-                continue
-            name, colon, texts = line.partition(":")
-            meaning = name.strip().lower()
-            if not colon or meaning not in MEANINGS:
-                names = ", ".join(MEANINGS)
-                raise ValueError("%s:%d: a line begins with one of %s, and a colon" % (path, number, names))
-            for text in texts.split(","):
-                word = plain_word(text)
-                if given.setdefault(word, meaning) != meaning:
-                    raise ValueError("%s:%d: %s has two meanings" % (path, number, quote(text.strip())))
-                if word:
-                    words[word] = MEANINGS[meaning]
+        text = file.read(_MOST_READ + 1)
+    if len(text) > _MOST_READ:
+        raise ValueError(f"{path} has more than {_MOST_READ:,} characters, and is no file of words")
+    for number, line in enumerate(text.split("\n"), 1):
+        if not line.strip() or line.startswith("#"):
+            continue
+        name, colon, texts = line.partition(":")
+        meaning = name.strip().lower()
+        if not colon or meaning not in MEANINGS:
+            names = ", ".join(MEANINGS)
+            raise ValueError("%s:%d: a line begins with one of %s, and a colon" % (path, number, names))
+        for text in texts.split(","):
+            word = plain_word(text)
+            if given.setdefault(word, meaning) != meaning:
+                raise ValueError("%s:%d: %s has two meanings" % (path, number, quote(text.strip())))
+            if word:
+                words[word] = MEANINGS[meaning]
     return words
 
 
@@ -280,7 +291,7 @@ def translation_of(claims: Iterable[Claim], layout: Layout, words: dict[str, Wor
     counts: dict[str, collections.Counter[str]] = {name: collections.Counter() for name in MEANINGS}
     for claim in claims:
         row = claim.reading.row
-        if row is None or claim.reading.machine is None or not row[column]:
+        if row is None or claim.reading.machine is None or claim.reading.fields or not row[column]:
             continue
         word = words.get(plain_word(row[column]))
         if word is not None or claim.verdict is None:

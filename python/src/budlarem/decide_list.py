@@ -9,8 +9,8 @@ from typing import Iterable, Iterator
 from ._text import escape_controls
 from .engine import decide
 from .limits import Limits, Plan
-from .reading import Columns, Form, Reading, read
-from .reading.files import Source
+from .reading import Form, Reading, read
+from .list_files import Source
 from .verdicts import Verdict, is_machine
 
 
@@ -39,7 +39,6 @@ def decide_lines(
     *,
     threads: int = 1,
     form: Form | None = None,
-    columns: Columns = Columns(),
 ) -> Iterator[DecidedLine]:
     """Decides the machine of each line, as `read` finds it, and keeps the other fields. A line without a machine
     gets `Refused`, with the column at which `bb` refuses it.
@@ -49,7 +48,7 @@ def decide_lines(
     >>> [str(line) for line in decide_lines(["1RB1LB_1LA1RZ, the champion", "1RA1RA", "x"])]
     ['1RB1LB_1LA1RZ halt 6 4\\tthe champion', '1RA1RA translated R 1 2 1 1', 'refused 1']
     """
-    return decide_readings(read(lines, form, columns), limits, plan, threads=threads)
+    return decide_readings(read(lines, form), limits, plan, threads=threads)
 
 
 def decide_readings(

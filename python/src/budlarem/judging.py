@@ -9,14 +9,15 @@ import time
 from typing import Callable, Iterable, Iterator, TypeVar
 
 from ._text import Words, escape_controls, quote
+from .claim_lists import RereadableList
+from .claim_tables import Columns
 from .claims import WORDS, Claim, Claims, Translation, Word, translation_of
 from .comparison import Agreement, agreement
 from .engine import decide
 from .limits import GREATEST, Limits, Plan
 from .normal_forms import canonical_form
-from .reading import Columns, Form, Reading, Readings, read
-from .reading.files import Source
-from .reading.forms import RereadableList
+from .reading import Form, Reading, Readings, read
+from .list_files import Source
 from .recurrence_claims import Exactness, Finding, NumbersJudge, find_start_offset
 from .verdicts import Answer, Halt, Recurrence, Refused, Undecided, Verdict
 from .verification import answers_of

@@ -25,7 +25,7 @@ from ._text import LONGEST_SHOWN
 from .counts import UNDECIDED, VerdictCounts
 from .engine import check_call, decide_bytes
 from .limits import GREATEST, Limits, in_range, words_of
-from .reading.files import BlockReader
+from .list_files import BlockReader
 from .runner.chunks import Identity, identity
 from .runner.errors import CheckError, FolderError
 from .runner.folder import FinishedRun, PassTotals

@@ -45,8 +45,10 @@ def test_lists(tmp_path: pathlib.Path) -> None:
     """The command finds the form of each list, and prints it; judges each list as it says."""
     assert min(len(FORMS["lists"]), len(FORMS["judged"])) >= 15
     for entry in FORMS["lists"]:
-        printed = re.search("form ([a-z]+)", command("read", given=as_lines(entry["lines"])).error.decode())
-        assert (None if printed is None else printed[1]) == entry["form"], entry["lines"]
+        for name, form in {"read": entry["form"], "judge": entry.get("claims", entry["form"])}.items():
+            error = command(name, "-", given=as_lines(entry["lines"])).error.decode()
+            printed = re.search("form ([a-z]+)", error)
+            assert (None if printed is None else printed[1]) == form, entry["lines"]
     for entry in FORMS["judged"]:
         (tmp_path / "words.txt").write_text(entry.get("words", ""), encoding="utf-8")
         more = ["--form", entry["form"]] if "form" in entry else []
@@ -106,6 +108,61 @@ def test_translation(tmp_path: pathlib.Path) -> None:
     for file, right in ((given, b"confirmed confirmed not-judged"), ((), b"not-judged " * 3)):
         rows = command("judge", str(path), *file).output.splitlines()
         assert [row.partition(b"\t")[0] for row in rows] == right.split()
+
+
+# Lines with a machine beside the name of a column.
+NAMED = ["{{TM|%s|halt}}", "%s | tm", "TM,%s", "! %s !! machine", "| %s || code"]
+
+
+@pytest.mark.parametrize("line", [line % "1RB1LB_1LA1RZ" for line in NAMED])
+def test_lines_with_machines_are_no_headers(line: str) -> None:
+    """Each has its verdict, and its place between two claims."""
+    status, output, error = command("decide", given=as_lines([line]))
+    assert (status, output.partition(b"\t")[0]) == (0, b"1RB1LB_1LA1RZ halt 6 4")
+    assert b"skipped" not in error
+    claims = ["1RB1LB_1LA1RZ halt 6 4", line, "1RA1RA translated R 1 2"]
+    for lines, first in ((claims, b"confirmed"), ([line, *claims], b"not-judged")):
+        rows = [row.split(b"\t") for row in command("judge", "-", given=as_lines(lines)).output.splitlines()]
+        assert [row[1] for row in rows] == [b"%d" % number for number in range(1, len(lines) + 1)]
+        assert rows[0][0] == first
+    error = command("compare", "-", "/dev/null", given=as_lines(claims)).error
+    assert b"standard input:2: refused: the rest of the line" in error
+
+
+def test_fields_are_kept_as_they_came() -> None:
+    for line in ('1RA1RA,"a,b",c', '1RA1RA,a,"b,c"', '1RA1RA;"a""b";', "1RA1RA\t'a'\t\t b"):
+        output = command("decide", given=as_lines(["machine,x", line])).output.decode()
+        assert output == "1RA1RA translated R 1 2 1 1\t%s\n" % line[7:]
+
+
+def test_state_tables_are_refused() -> None:
+    """A line for each state isn't read as a machine of one state."""
+    for names in (("q_A", "q_B"), ("A \u2192", "B \u2192"), ("| A |", "| B |"), ("qA:", "qB:"), ("A", "B")):
+        lines = ["%s 1RA1LB" % names[0], "%s 1LA1RZ" % names[1], "%s 1RA1LA" % names[0]]
+        for name in ("read", "normal"):
+            status, output, error = command(name, given=as_lines(lines))
+            assert (status, output, error.count(b": refused: ")) == (1, b"", 3), names
+
+
+def test_long_records_are_refused(tmp_path: pathlib.Path) -> None:
+    """None is judged by a part of it; shorter ones are read whole."""
+    path = tmp_path / "long.csv"
+    record = "1RB1LB_1LA1RZ,halt,%s,6000"
+    for length, judgement in ((65_540, "unreadable"), (20_000, "unreadable"), (16_000, "contradicted")):
+        padding = "x" * (length + 3 - len(record))
+        path.write_bytes(as_lines(["machine,verdict,x,steps", record % padding, "1RB1LB_1LA1RZ,halt,,6"]))
+        rows = command("judge", str(path)).output.decode().splitlines()
+        assert [row.split("\t")[0] for row in rows] == [judgement, "confirmed"]
+        status, output, _ = command("decide", str(path))
+        assert output.startswith(b"refused" if length > 16_384 else b"1RB1LB_1LA1RZ halt 6 4")
+    verdict = "1RB1LB_1LA1RZ halt 6 4\t" + "x" * 70_000
+    assert command("judge", "-", given=as_lines([verdict])).output.startswith(b"unreadable\t1\t")
+
+
+@pytest.mark.parametrize("path", ["/dev/zero", "/dev/urandom"])
+def test_words_that_never_end(path: str) -> None:
+    status, _, error = command("judge", "-", "--words", path, given=b"machine,verdict\n1RA1RA,x\n")
+    assert (status, error.count(b"\n")) == (2, 1)
 
 
 @pytest.mark.timing

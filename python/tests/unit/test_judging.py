@@ -14,8 +14,9 @@ from budlarem import WORDS, Claim, Columns, Form, Halt, Judgement, Limits, Word,
 from budlarem.claims import read_words
 from budlarem.normal_forms import canonical_form
 from budlarem.numbers import number_of, numbers_in
-from budlarem.reading import ListForm, forms
-from budlarem.reading.files import Source
+from budlarem import claim_lists
+from budlarem.claim_lists import ListForm
+from budlarem.list_files import Source
 from support.machines import machine, random_change
 
 CHAMPION = "1RB1LB_1LA1RZ"
@@ -26,7 +27,7 @@ SMALL = Limits(1_000, 1_000, 30, 1_000)
 
 def claim_of(line: str) -> Claim:
     found = claims.claim_of(1, line, ListForm(Form.TEXT), WORDS)
-    assert found is not None
+    assert isinstance(found, Claim)
     return found
 
 
@@ -212,11 +213,11 @@ def test_each_reading_has_the_same_lines(tmp_path: pathlib.Path) -> None:
     for kept in (10**6, 100, 0):
         given: tuple[Source, ...] = (path, io.BytesIO(content), iter(lines))
         for source in given:
-            with mock.patch.object(forms, "_MOST_BUFFERED", kept):
-                twice = forms.RereadableList(source)
+            with mock.patch.object(claim_lists, "_MOST_BUFFERED", kept):
+                twice = claim_lists.RereadableList(source)
                 assert [list(twice.lines()), list(twice.lines())] == [right, right]
                 assert (list(twice.once()), twice.counted.empty) == (right, 80)
-    once = forms.RereadableList(path)
+    once = claim_lists.RereadableList(path)
     assert (list(once.once()), once.counted.empty) == (right, 80)
 
 

@@ -8,9 +8,12 @@ import itertools
 import json
 import os
 import pathlib
+import random
+import re
 import resource
 import subprocess
 import sys
+import time
 from typing import Any, Iterator
 from unittest import mock
 
@@ -19,11 +22,12 @@ import hypothesis
 import pytest
 from budlarem import Columns, EncodingError, Form, Reading, Rewriting, Skipped
 from budlarem._text import LONGEST_LINE
+from budlarem.claim_lists import RereadableList
 from budlarem.commands import build_parser
 from budlarem.limits import limits_of
 from budlarem.numbers import whole_number
-from budlarem.reading import files
-from budlarem.reading.files import EndlessLineError, find_encoding
+from budlarem import list_files
+from budlarem.list_files import EndlessLineError, find_encoding
 from budlarem.reading.readings import ADVICE
 from hypothesis import strategies as st
 from support import TOP
@@ -66,7 +70,7 @@ def test_each_form() -> None:
 
 
 def test_sentences() -> None:
-    assert LISTED["advice"] == ADVICE
+    assert {**LISTED["advice"], **LISTED["advice_of_tables"]} == ADVICE
     assert LISTED["rewritings"] == {rewriting.value: rewriting.sentence for rewriting in Rewriting}
     kinds = {form["refusal"] for form in LISTED["forms"] if "refusal" in form}
     assert kinds | {"long", "row", "column"} == set(ADVICE)
@@ -183,6 +187,12 @@ def test_bytes_that_are_no_utf_8_are_counted() -> None:
     assert readings.non_utf8_lines == 2
 
 
+def table_machines(lines: list[str], columns: Columns, form: Form = Form.TABLE) -> list[Reading]:
+    """The readings of the records of a table of claims."""
+    readings = (one.claim.reading for one in budlarem.judge(lines, form=form, columns=columns))
+    return list(readings)
+
+
 def test_tables() -> None:
     for lines, columns, machines in (
         (["machine,x", "1ra1ra,1", '"1RA1RA","a, b"'], Columns(), ["1RA1RA", "1RA1RA"]),
@@ -191,23 +201,122 @@ def test_tables() -> None:
         (["a,bb", "1,1RA1RA"], Columns("BB"), ["1RA1RA"]),
         (["|machine|", "|-", "| `1RA1RA` |", "#17 1RA1RA", "# c"], Columns(), ["1RA1RA", None]),
     ):
-        readings = list(budlarem.read(lines, columns=columns))
-        assert [reading.machine for reading in readings] == machines, lines
-    reasons = [reading.reason for reading in budlarem.read(["1;1RA1RA", "2;x", "3"], None, Columns("2"))]
+        assert [reading.machine for reading in table_machines(lines, columns)] == machines, lines
+    reasons = [reading.reason for reading in table_machines(["1;1RA1RA", "2;x", "3"], Columns("2"))]
     assert [reason.kind for reason in reasons if reason] == ["none", "row"]
+    quoted = table_machines(["machine,x", '1RA1RA,"a""b', '1RA1RA,"a,b"'], Columns())
+    assert [reading.row for reading in quoted] == [(), ("1RA1RA", "a,b")]
+    for form in (Form.TABLE, Form.CSV, Form.TSV):
+        with pytest.raises(ValueError, match="the form %s is of claims" % form):
+            budlarem.read(["1RA1RA"], form)
 
 
 def test_tables_whose_layout_is_not_known() -> None:
     for lines, form, columns, text in (
         (["1RA1RA,1"], Form.TABLE, Columns(), "give it by --machine"),
-        (["1RA1RA,1"], None, Columns("3"), "no separator"),
-        (["machine,x", "1RA1RA,1"], None, Columns(verdict="y"), "no columns have the name y"),
-        (["machine,x", "1RA1RA,1"], None, Columns(verdict="7"), "no column 7"),
-        (["x,1RA1RA,y;1RA1RA;z"], None, Columns("2"), "may be comma or semicolon"),
-        (["1RA1RA"], Form.TEXT, Columns("1"), "columns are of the form table"),
+        (["1RA1RA,1"], Form.TABLE, Columns("3"), "no separator"),
+        (["machine,x", "1RA1RA,1"], Form.CSV, Columns(verdict="y"), "no columns have the name y"),
+        (["machine,x", "1RA1RA,1"], Form.TABLE, Columns(verdict="7"), "no column 7"),
+        (["x,1RA1RA,y;1RA1RA;z"], Form.TABLE, Columns("2"), "may be comma or semicolon"),
+        (["1RA1RA"], Form.TEXT, Columns("1"), "columns are of the forms table, csv and tsv"),
     ):
         with pytest.raises(ValueError, match=text):
-            list(budlarem.read(lines, form, columns))
+            table_machines(lines, columns, form)
+    assert table_machines(["x,1RA1RA,y;1RA1RA;z"], Columns("2"), Form.CSV)[0].machine == "1RA1RA"
+
+
+CELLS = [
+    "1RB1LB_1LA1RZ",
+    "1RA1RA",
+    "not 1RA1RA",
+    "`1RA1RA`",
+    "{{TM|1RA1RA|halt}}",
+    "1RB1LC_1LA1RZ",
+    "machine",
+]
+CELLS += ["tm", "status", "halt", "-halt", "6", '"a,b"', '"', "", "x", "#", "------"]
+
+
+def test_no_record_with_a_machine_is_passed_over() -> None:
+    """Each record of random tables has a machine, or a reason; or the table is refused as a whole."""
+    source, read = random.Random(1), 0
+    for _ in range(3_000):
+        separators = source.choices((",", ";", "\t", "|", " ", " | "), k=2)
+        lines = [
+            source.choice(separators).join(source.choices(CELLS, k=source.randint(1, 4))) for _ in range(4)
+        ]
+        columns = (
+            Columns(*source.choices((None, None, "1", "2", "TM"), k=2))
+            if source.random() < 0.4
+            else Columns()
+        )
+        try:
+            form = RereadableList(lines, source.choice((None, *Form)), columns).form
+        except ValueError:
+            continue
+        for number, line in enumerate(lines, 1):
+            if "1R" in line:
+                reading = form.read(number, line)
+                assert isinstance(reading, Reading) and (reading.machine is None) == (
+                    reading.reason is not None
+                )
+                read += 1
+    assert read > 500
+
+
+# A machine in a line, however it is written.
+HAS_MACHINE = re.compile(
+    r"(?:[0-9][LRlr][A-Za-z]|---|\.\.\.)(?:[_ ]{0,2}(?:[0-9][LRlr][A-Za-z]|---|\.\.\.))+"
+)
+
+
+def test_no_line_with_a_machine_is_passed_over() -> None:
+    """Each line of the forms with entries of a machine has a machine, or a refusal with its number."""
+    lines = [form["line"] for form in LISTED["forms"]]
+    lines += [line for entry in LISTED["lists"] + LISTED["judged"] for line in entry["lines"]]
+    with_machines = [line for line in lines if (found := HAS_MACHINE.search(line)) and found[0].strip("-. ")]
+    assert len(with_machines) > 250
+    for line in with_machines:
+        for form in (None, Form.TEXT, Form.MACHINES, Form.VERDICTS):
+            (reading,) = [one for one in budlarem.read(["# c", "", line], form) if one.number == 3]
+            assert (reading.machine is None) == (reading.reason is not None), line
+
+
+NAMES = (
+    "",
+    "machine,",
+    "! ",
+    "| TM | ",
+    "# ",
+    "// ",
+    "```",
+    "|- ",
+    "{| ",
+    "{{TM|",
+    "code;",
+    "\t",
+    "refused 3 ",
+    "halt, ",
+)
+
+
+@pytest.mark.parametrize("machine", [CHAMPION, "1ra1ra", "------_------", "1RB 1LB  1LA 1R_", "1RB1LB1LA1RZ"])
+def test_no_line_with_a_machine_is_a_header(machine: str) -> None:
+    for before, behind in itertools.product(NAMES, NAMES):
+        for line in (before + machine + behind, before + machine + " " + behind[::-1]):
+            for form in (Form.TEXT, Form.MACHINES, Form.VERDICTS):
+                reading = one(line, form)
+                assert (reading.machine is None) == (reading.reason is not None)
+
+
+def test_long_lines_take_time_in_proportion() -> None:
+    for text in ("`1RB`", "1RB ", "A: 1RA1LA ", "1RA1RA,", '[["1RB"', "1RA1RA ... "):
+        spent: dict[int, float] = {}
+        for size in (LONGEST_LINE // 8, LONGEST_LINE):
+            before = time.process_time()
+            assert len(list(budlarem.read([(text * size)[:size]], Form.TEXT))) == 1
+            spent[size] = time.process_time() - before
+        assert spent[LONGEST_LINE] < 1, (text, spent)
 
 
 ENTRIES = st.one_of(st.just("---"), st.from_regex("[01][LR][A-GZ]", fullmatch=True))
@@ -321,17 +430,20 @@ def test_commands_over_a_line_that_never_ends(tmp_path: pathlib.Path) -> None:
 
 
 def test_lines_that_never_end() -> None:
-    with mock.patch.object(files, "LONGEST_UNENDED", 1_000_000):
-        endless: dict[files.Source, int] = {"/dev/zero": 1, io.BytesIO(b"1RA1RA\n" + b"x" * 2_000_000): 2}
+    with mock.patch.object(list_files, "LONGEST_UNENDED", 1_000_000):
+        endless: dict[list_files.Source, int] = {
+            "/dev/zero": 1,
+            io.BytesIO(b"1RA1RA\n" + b"x" * 2_000_000): 2,
+        }
         for source, number in endless.items():
             with pytest.raises(
                 EndlessLineError, match="line %d has more than .* no newline" % number
             ) as raised:
-                list(files.Lines(source))
+                list(list_files.Lines(source))
             assert raised.value.number == number
 
 
 def test_a_long_line_that_ends() -> None:
-    with mock.patch.object(files, "LONGEST_UNENDED", 3_000_000):
-        lines = files.Lines(io.BytesIO((b"x" * 2_000_000 + b"\n") * 3))
+    with mock.patch.object(list_files, "LONGEST_UNENDED", 3_000_000):
+        lines = list_files.Lines(io.BytesIO((b"x" * 2_000_000 + b"\n") * 3))
         assert [number for number, _ in lines] == [1, 2, 3]

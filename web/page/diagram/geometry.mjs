@@ -1,5 +1,5 @@
 /** Steps and positions in the diagram's canvas, and their descriptions. */
-import { formatCount, formatNumber, stateText } from "../../reader/machine.mjs";
+import { formatCount, formatNumber, stateText } from "../../common/machine.mjs";
 import { symbolAt } from "../../worker/packed-rows.mjs";
 import { FRAMED, cellsPerPixel, isSameView, stepsPerPixel } from "./viewport.mjs";
 

@@ -3,7 +3,7 @@
  *
  * @typedef {{x: number, y: number, wide: number, high: number}} Box
  */
-import { formatNumber } from "../../reader/machine.mjs";
+import { formatNumber } from "../../common/machine.mjs";
 import { symbolAt } from "../../worker/packed-rows.mjs";
 import { colourOf } from "../dom.mjs";
 import { FRAMED, cellsPerPixel, stepsPerPixel, ticks } from "./viewport.mjs";

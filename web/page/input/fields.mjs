@@ -1,7 +1,7 @@
 /** The fields of limits and deciders, and links with their values. */
 import { LIMITS, RANGES } from "../../lib/limits.mjs";
-import { formatNumber } from "../../reader/machine.mjs";
-import { LONGEST_SHOWN } from "../../reader/tokens.mjs";
+import { formatNumber } from "../../common/machine.mjs";
+import { LONGEST_SHOWN } from "../../common/text.mjs";
 import { byId, create } from "../dom.mjs";
 
 const SWITCHES = ["cyclers", "translated", "backward"];

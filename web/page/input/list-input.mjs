@@ -1,6 +1,6 @@
 /** The input list, as text or file, and its settings. */
 import { DETECTION_BYTES, detectForm, firstLines, hasVerdicts, isUtf8 } from "../../reader/list-reader.mjs";
-import { formatCount, formatNumber } from "../../reader/machine.mjs";
+import { formatCount, formatNumber } from "../../common/machine.mjs";
 import { byId, setInactive, showText } from "../dom.mjs";
 import { FIRST_READ_BYTES } from "../list/chunks.mjs";
 import { fieldTexts, setPlan } from "./fields.mjs";

@@ -1,7 +1,7 @@
 /** Chunks of a list for workers: of its lines, or of rows to decide again. */
 import { countLines } from "../../lib/memory.mjs";
-import { concatBytes } from "../../reader/list-reader.mjs";
-import { BYTES_KEPT } from "../../reader/tokens.mjs";
+import { concatBytes } from "../../common/bytes.mjs";
+import { BYTES_KEPT } from "../../common/text.mjs";
 
 const NEWLINE = 10;
 const MOST_READ_BYTES = 4_194_304;

@@ -1,5 +1,5 @@
 /** A run over a list: dispatches it to workers, collects results, and shows the progress. */
-import { KINDS, formatCount } from "../../reader/machine.mjs";
+import { KINDS, formatCount } from "../../common/machine.mjs";
 import { announce, byId, setInactive, showText } from "../dom.mjs";
 import { enlargePlan, showRefusal } from "../input/fields.mjs";
 import { prestartWorkers } from "../worker-client.mjs";

@@ -1,5 +1,5 @@
 /** The view of a list: its kinds, order, rows and open line. */
-import { KINDS, formatNumber } from "../../reader/machine.mjs";
+import { KINDS, formatNumber } from "../../common/machine.mjs";
 import { create, onClick, byId, setInactive, announce } from "../dom.mjs";
 import { WorkerClient } from "../worker-client.mjs";
 import { RowTable } from "./row-table.mjs";

@@ -1,7 +1,7 @@
 /** The results of a list, in the order of its lines; chunks may finish in another order. */
-import { ANSWERS, KINDS, UNREAD_LINE, parseVerdictLine } from "../../reader/machine.mjs";
-import { concatBytes, lineAt } from "../../reader/list-reader.mjs";
-import { BYTES_KEPT, LONGEST_SHOWN } from "../../reader/tokens.mjs";
+import { ANSWERS, KINDS, UNREAD_LINE, parseVerdictLine } from "../../common/machine.mjs";
+import { concatBytes, lineAt } from "../../common/bytes.mjs";
+import { BYTES_KEPT, LONGEST_SHOWN } from "../../common/text.mjs";
 import { startsOf, readSteps } from "../../worker/replies.mjs";
 
 // Sorting pauses after this long.

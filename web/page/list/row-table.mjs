@@ -4,9 +4,9 @@
  * @typedef {{element: HTMLElement, of: Part, line: number, bytes: Uint8Array, isChosen: boolean}} DrawnRow
  *   `of`, `line` and `bytes`: its part, its line there, and the part's bytes when it was drawn
  */
-import { formatNumber } from "../../reader/machine.mjs";
+import { formatNumber } from "../../common/machine.mjs";
 import { readLine } from "../../reader/line-reader.mjs";
-import { LONGEST_SHOWN } from "../../reader/tokens.mjs";
+import { LONGEST_SHOWN } from "../../common/text.mjs";
 import { create, byId } from "../dom.mjs";
 import { FIRST_PASS, LARGER } from "./results.mjs";
 

@@ -1,11 +1,11 @@
 /** The status of a list run, in words. */
-import { ANSWERS, KINDS, formatCount, formatNumber } from "../../reader/machine.mjs";
-import { LONGEST_QUOTED } from "../../reader/tokens.mjs";
+import { ANSWERS, KINDS, formatCount, formatNumber } from "../../common/machine.mjs";
+import { LONGEST_QUOTED } from "../../common/text.mjs";
 
 const [UNDECIDED, REFUSED] = [KINDS.indexOf("undecided"), KINDS.indexOf("refused")];
 const [BAD, OVER] = [ANSWERS.indexOf("bad"), ANSWERS.indexOf("over")];
 const SKIPPED = "empty lines, comments, code fences, rules and headers of tables";
-const FORMS = { machines: "a list of machines", verdicts: "verdict lines", table: "a table", text: "text" };
+const FORMS = { machines: "a list of machines", verdicts: "verdict lines", text: "text" };
 // Slower lines are named.
 const SLOW_MILLISECONDS = 500;
 

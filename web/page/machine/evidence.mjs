@@ -1,5 +1,5 @@
 /** The evidence for a verdict: marks on the diagram, and rows or the backward tree below it. */
-import { formatCount, parseMachine, formatNumber, stateLetter, stateText } from "../../reader/machine.mjs";
+import { formatCount, parseMachine, formatNumber, stateLetter, stateText } from "../../common/machine.mjs";
 import { create, byId } from "../dom.mjs";
 import { symbolAt } from "../tape/tape-row.mjs";
 import { WorkerClient } from "../worker-client.mjs";

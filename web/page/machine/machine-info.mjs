@@ -4,7 +4,7 @@
  * @typedef {{machine: string, cells: number, steps: number, verdict: Verdict, isConfirmed: boolean}} About
  * @typedef {{growth: string, steps: number, visited: number[]}} Growth
  */
-import { formatCount, formatNumber } from "../../reader/machine.mjs";
+import { formatCount, formatNumber } from "../../common/machine.mjs";
 import { byId, create, createFacts } from "../dom.mjs";
 import { WorkerClient } from "../worker-client.mjs";
 import { mirrorImage, normalForm } from "./normal-form.mjs";

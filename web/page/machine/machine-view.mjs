@@ -1,7 +1,7 @@
 /** The view of one machine: verdict, diagram, tape, table, evidence and facts. */
 import {
   entryText, formatNumber, parseMachine, parseVerdictLine, stateLetter, verdictText,
-} from "../../reader/machine.mjs";
+} from "../../common/machine.mjs";
 import { Diagram } from "../diagram/diagram.mjs";
 import { Gestures } from "../diagram/gestures.mjs";
 import { ZOOM } from "../diagram/viewport.mjs";

@@ -1,5 +1,5 @@
 /** The normal form of a machine, as `normal` of the Python package writes it. */
-import { entryText, parseMachine } from "../../reader/machine.mjs";
+import { entryText, parseMachine } from "../../common/machine.mjs";
 
 const STEPS = 10_000;
 

@@ -1,5 +1,5 @@
 /** The exact repetition behind a pair: facts, last uses, and marks on the diagram. */
-import { formatCount, formatNumber, stateLetter } from "../../reader/machine.mjs";
+import { formatCount, formatNumber, stateLetter } from "../../common/machine.mjs";
 import { byId, create, createFacts, createTable } from "../dom.mjs";
 import { WorkerClient } from "../worker-client.mjs";
 

@@ -1,5 +1,5 @@
 /** A row of the tape: its cells, the next entry, and its description. */
-import { entryText, parseMachine, formatNumber, stateLetter, stateText } from "../../reader/machine.mjs";
+import { entryText, parseMachine, formatNumber, stateLetter, stateText } from "../../common/machine.mjs";
 import { create } from "../dom.mjs";
 
 /** The symbol at a position, or at the head. */

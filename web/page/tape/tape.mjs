@@ -1,5 +1,5 @@
 /** The tape at one step: the cells around the head, the next entry, and stepping. */
-import { formatNumber } from "../../reader/machine.mjs";
+import { formatNumber } from "../../common/machine.mjs";
 import { onClick, byId, dispatchKey, setInactive, announce } from "../dom.mjs";
 import { parseNumber } from "../input/fields.mjs";
 import { WorkerClient } from "../worker-client.mjs";

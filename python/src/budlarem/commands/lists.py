@@ -14,15 +14,15 @@ from types import FrameType
 from typing import BinaryIO, Iterator, Mapping
 
 from .._text import escape_hidden, escape_message
+from ..claim_lists import ListForm, RereadableList
 from ..claims import WORDS, Claims, read_words
 from ..comparison import Agreement, compare
 from ..engine import Call, answer_file, check_call, recurrence_call
 from ..judging import Judgement, Judging, judge, translation_in
 from ..limits import GREATEST, Limits, limits_of
 from ..publishing import publish
-from ..reading import Form, ListForm
-from ..reading.files import BytesFile
-from ..reading.forms import RereadableList
+from ..reading import Form
+from ..list_files import BytesFile
 from ..recurrence_claims import Exactness
 from ..reports import report
 from ..runner.progress import TerminalLine, short_count
@@ -105,9 +105,10 @@ def add_check(commands: Subcommands) -> None:
     recurrence.add_argument("--entries", action="store_true", help="add the last use of each entry")
 
 
-_CLAIMS = """A list has one of the forms of `budlarem help read`: verdict lines; a table with a column of
-verdicts, or of words for halting beside columns of steps and scores, by a translation that is printed first; a
-text with lines whose other words are one verdict. A line without a verdict is printed on standard error with
+_CLAIMS = """A list has verdict lines; or records (--form csv, tsv or table) with a column of verdicts, or of
+words for halting beside columns of steps and scores, by a translation that is printed first; or lines whose other
+words are one verdict. Records are detected by a header without a machine that names a column of machines, or by a
+first one such as MACHINE,halt. A line without a verdict is printed on standard error with
 file and number; status 1 then. A list of machines, or a table without a column of verdicts, is refused whole;
 status 2 then."""
 _COMPARE = """Compares two lists of verdicts by machine, in any order. Each machine on which they don't agree gets
@@ -213,8 +214,10 @@ def add_claims(commands: Subcommands) -> None:
 
 
 _JUDGE = """Judges a list of the claims of others, by the form of the list (`budlarem help read`). verdicts: each
-line claims its verdict. table: the words of a column say whether a machine halts, by a translation that is
-printed first and that --words changes; for halting machines the columns of steps and score are judged too.
+line claims its verdict. table, csv, tsv: the words of a column say whether a machine halts, by a translation that
+is printed first and that --words changes; for halting machines the columns of steps and score are judged too.
+They are detected by a header without a machine that names a column of machines, or by a first record such as
+MACHINE,halt. A cell with words beside its machine isn't judged.
 text: a line makes a claim if its other words are one verdict. Nothing else is judged. Each machine is decided;
 a claim that our verdict doesn't settle is checked. Standard error gets the form, the counts, and the rewritten,
 unreadable and skipped lines of THEIRS. Status 1 if a line is contradicted or unreadable.

@@ -13,10 +13,12 @@ from types import FrameType
 from typing import TYPE_CHECKING, BinaryIO, Callable, Iterable, Iterator, Mapping, TypeVar
 
 from .._text import escape_hidden, escape_message, pluralize
+from ..claim_lists import ListForm
+from ..claim_tables import Columns
 from ..claims import Translation
 from ..limits import GREATEST, Limits
 from ..numbers import option_number
-from ..reading import Columns, Form, ListForm, Reading, Readings, Skipped
+from ..reading import Form, Reading, Readings, Skipped
 from ..runner.progress import TerminalLine, short_count
 
 if TYPE_CHECKING:
@@ -27,14 +29,15 @@ Kind = TypeVar("Kind")
 # The width of a help page.
 WIDTH = 79
 # The forms of a list, for the help of the commands that read one.
-LIST_HELP = """FILE is a list in one of four forms. machines: a machine a line, and nothing else. verdicts: verdict
-lines. table: CSV or TSV with a column of machines. text: a machine a line, alone, beside other fields, in
-backticks or in a link. The form is detected in the first hundred lines and printed on standard error; --form
-overrides it.
+LIST_HELP = """A line's machine is its one machine text, whatever stands around it: other fields, backticks, a link,
+the template {{TM|MACHINE|..}}. A line with two different machines, or with entries beside its machine, is refused.
 
-A machine is read only if its line has one possible reading. Each rewritten or refused line is printed on
-standard error with file and number, as is a count of the skipped lines: empty lines, comments (which begin with
-# or // and have no machine), code fences, rules and headers of tables. Gzip is detected by its first bytes."""
+FILE is a list in one of three forms. machines: a machine a line, and nothing else. verdicts: verdict lines. text:
+anything else. The form is detected in the first hundred lines and printed on standard error; --form overrides it.
+
+Each rewritten or refused line is printed on standard error with file and number, as is a count of the skipped
+lines. Only lines without a machine are skipped: empty lines, comments, which begin with # or //, code fences, rules
+and headers of tables. Gzip is detected by its first bytes."""
 # The columns of a table: the option for each, and its help.
 _ROLES = {
     "machine": ("--machine", "the column of machines"),
@@ -140,12 +143,12 @@ class _PrintedReadings(Readings):
     """The readings of a list, each printed by its reader, between the form and the counts."""
 
     def __init__(self, reader: ListReader) -> None:
-        super().__init__(reader.source, reader.form, reader.columns)
+        super().__init__(reader.source, reader.form)
         self._reader = reader
 
     def __iter__(self) -> Iterator[Reading]:
-        self._reader.print_form(self.form)
-        for reading in super().__iter__():
+        self._reader.print_form(ListForm(self.form, None, self.is_found))
+        for reading in self._readings:
             if reading.machine is None:
                 self._reader.refuse(reading.number, str(reading))
             else:
@@ -155,19 +158,20 @@ class _PrintedReadings(Readings):
         self._reader.print_skips(self.skips, self.non_utf8_lines)
 
 
-def add_form(parser: argparse.ArgumentParser, roles: Iterable[str] = ("machine",)) -> None:
-    """Adds the options for the form of a list and the columns of a table."""
-    forms = [str(form) for form in Form]
-    parser.add_argument("--form", choices=forms, help="the list's form (default: by its first lines)")
-    for role in roles:
-        name, holds = _ROLES[role]
-        help = "%s in a table, by its name or number" % holds
-        parser.add_argument(name, dest="column_" + role, metavar="COLUMN", help=help)
+def add_form(
+    parser: argparse.ArgumentParser, forms: Iterable[Form] = (Form.MACHINES, Form.VERDICTS, Form.TEXT)
+) -> None:
+    """Adds the option for the form of a list."""
+    names = [str(form) for form in forms]
+    parser.add_argument("--form", choices=names, help="the list's form (default: by its first lines)")
 
 
 def add_claims_form(parser: argparse.ArgumentParser) -> None:
-    """Adds the options for the form of a list of claims, and the words of a table."""
-    add_form(parser, _ROLES)
+    """Adds the options for the form of a list of claims, and the columns and words of a table."""
+    add_form(parser, Form)
+    for role, (name, holds) in _ROLES.items():
+        help = "%s in a table, by its name or number" % holds
+        parser.add_argument(name, dest="column_" + role, metavar="COLUMN", help=help)
     help = "words of a table: lines such as `halting: yes, true`, `never halting: no` and `nothing: open`"
     parser.add_argument("--words", metavar="FILE", help=help)
 

@@ -1,25 +1,23 @@
 """Reads lists: the one machine of each line, as `bb` reads it.
 
-A list has a form, and a machine is read only if its line has one possible reading. Every rewriting is named, and
-skipped lines are counted. `tests/support/forms.json` of the repository has examples of lines.
+A line's machine is its one machine text, whatever stands around it. Every rewriting is named, every other line is
+refused with a reason, and skipped lines are counted. `tests/support/forms.json` of the repository has examples.
 """
 
 from __future__ import annotations
 
-from .files import EncodingError, EndlessLineError, Source
-from .forms import ListForm, Readings
+from ..list_files import EncodingError, EndlessLineError, Source
+from .forms import Readings
 from .readings import Form, Reading, Reason, Rewriting, Skipped
-from .tables import Columns, Layout
 
 # fmt: off
 __all__ = [
-    "Columns", "EncodingError", "EndlessLineError", "Form", "Layout", "ListForm", "Reading", "Readings", "Reason",
-    "Rewriting", "Skipped", "read",
+    "EncodingError", "EndlessLineError", "Form", "Reading", "Readings", "Reason", "Rewriting", "Skipped", "read",
 ]
 # fmt: on
 
 
-def read(lines: Source, form: Form | None = None, columns: Columns = Columns()) -> Readings:
+def read(lines: Source, form: Form | None = None) -> Readings:
     """The reading of each line; empty lines, comments and the like are skipped.
 
     `lines` is a path, a file that is open for reading bytes, or an iterable of lines, with or without their
@@ -27,17 +25,16 @@ def read(lines: Source, form: Form | None = None, columns: Columns = Columns()) 
     of a machine.
 
     Without `form` the first hundred lines decide it: `machines` if each is a machine and nothing else,
-    `verdicts` if each is a verdict line, `table` if the first one is a header that names a column of machines,
-    else `text`. With `columns` it is a table. Later lines are read when needed. The result has the list's
+    `verdicts` if each is a verdict line, else `text`. Later lines are read when needed. The result has the list's
     `form`, and counts skipped lines in `skips`.
 
     Raises OSError if a path can't be opened or read, or a gzip is cut. Raises EncodingError for UTF-16 and
     formats that are no text. Raises TypeError if `lines` or an item has the wrong type. Raises ValueError for
-    an item with a newline inside, and for a table whose columns aren't known.
+    an item with a newline inside, and for a form of claims.
 
     >>> for reading in read(["17. 1rb1lb 1la1rh, the champion", "1RB1LC_1LA1RZ"]):
     ...     print(reading.machine, reading.before, reading.behind, reading.reason)
     1RB1LB_1LA1RZ 17. the champion None
     None   entry 2 names state C, but there are 2 states
     """
-    return Readings(lines, form, columns)
+    return Readings(lines, form)

@@ -20,6 +20,7 @@ class Rewriting(Words):
 
     SMALL_LETTERS = "small-letters", "small letters read as capital ones"
     HALTING_STATE = "halting-state", "H read as Z, the halting state"
+    HALTING_ENTRIES = "halting-entries", "_ read as Z, the halting state"
     UNDEFINED_ENTRIES = "undefined-entries", "... read as ---, an undefined entry"
     SPACES = "spaces", "spaces between groups read as _"
     UNDERSCORES = "underscores", "_ put between the groups"
@@ -31,14 +32,17 @@ class Rewriting(Words):
 class Form(Words):
     """The form of a list.
 
-    `MACHINES`: a machine a line, and nothing else. `VERDICTS`: verdict lines. `TABLE`: CSV or TSV, with a column
-    of machines. `TEXT`: text with at most one machine a line.
+    `TEXT`: a machine a line, whatever stands around it. `MACHINES`: a machine a line, and nothing else.
+    `VERDICTS`: verdict lines. The others are of claims alone: a `TABLE` has columns, `CSV` with a comma and `TSV`
+    with a tab between them.
     """
 
     MACHINES = "machines"
     VERDICTS = "verdicts"
-    TABLE = "table"
     TEXT = "text"
+    TABLE = "table"
+    CSV = "csv"
+    TSV = "tsv"
 
 
 class Skipped(Words):
@@ -69,7 +73,6 @@ ADVICE = {
     "divisions": "write _ between the groups",
     "dots": "write --- for an undefined entry, or leave the dots out",
     "words": "write one machine a line, or _ between the groups of one",
-    "mixed": "write one machine a line, with _ between all its groups",
     "part": "write one machine a line, with _ between its groups",
     "two": "write one machine a line",
     "long": "write one machine a line",
@@ -105,9 +108,8 @@ class Reading:
     """A line of a list, and its one machine or the reason why there is none.
 
     `number` is the line's, from 1 on; `line` is its text, without byte order mark and line end. `machine` is
-    written as `bb` reads it, and None if there is a `reason`. `rewritten` has all rewritings. `before` and
-    `behind` are the other texts of the line, without spaces, commas and semicolons at their ends. `row` has the
-    cells of a record of a table, None in other forms.
+    written as `bb` reads it. `before` and `behind` are the other texts of the line, without spaces at their ends and
+    a comma or semicolon beside the machine; in a record, of the machine's cell. `row` has the cells of a record.
     """
 
     number: int

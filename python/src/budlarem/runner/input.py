@@ -16,7 +16,8 @@ from typing import Iterator
 from .._calls import whole_lines
 from .._text import LONGEST_GIVEN, LONGEST_SHOWN, LONGEST_UNENDED, LONGEST_VALUE
 from ..engine import column_of
-from ..reading.files import BLOCK, GZIP, BlockReader
+from ..list_files import BLOCK, GZIP, BlockReader
+from ..reading import Skipped
 from ..reading.lines import read_line
 from ..verdicts import is_machine
 from .errors import FolderError, RunError
@@ -213,7 +214,8 @@ def require_form(source: ListFile) -> None:
 
 
 def refusal_reason(number: int, line: str) -> str:
-    if (reading := read_line(number, line)) is None:
+    reading = read_line(number, line)
+    if isinstance(reading, Skipped):
         return "it has no machine"
     if reading.reason is not None:
         return str(reading.reason)

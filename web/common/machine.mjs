@@ -8,6 +8,47 @@ export const ANSWERS = ["ok", "open", "bad", "over", "unread"];
 /** @type {{machine: string, verdict: Verdict}} the content of a line that isn't a verdict line */
 export const UNREAD_LINE = { machine: "", verdict: { kind: "refused", numbers: [], side: "", text: "" } };
 
+/** The letters of the states. */
+export const STATES = "ABCDEFGHIJKLMNOPQRSTUVWXY";
+export const MOST_SYMBOLS = 10;
+const NUMBER = "(?:0|[1-9][0-9]*)";
+const PAIR = `${NUMBER} ${NUMBER}`;
+const NUMBERS = `(?:halt|cycler|backward) ${PAIR}|translated [LR] ${PAIR}(?: ${PAIR})?`;
+const VERDICT = new RegExp(`^(?:${NUMBERS}|undecided (?:steps|cells))$`);
+const REFUSED = new RegExp("^refused [1-9][0-9]*(?:\\t.*)?$");
+// By the numbers of states and symbols.
+const PATTERNS = /** @type {Map<number, RegExp>} */ (new Map());
+
+/** Whether the engine accepts a text as a machine. */
+export function isMachine(/** @type {string} */ text) {
+  const size = `${text}_`.indexOf("_");
+  const [symbols, states] = [size / 3, (text.length + 1) / (size + 1)];
+  const isWhole = Number.isInteger(symbols) && Number.isInteger(states);
+  if (!isWhole || symbols < 2 || symbols > MOST_SYMBOLS || states > STATES.length) return false;
+  const key = states * (MOST_SYMBOLS + 1) + symbols;
+  const pattern = PATTERNS.get(key) ?? patternOf(states, symbols);
+  PATTERNS.set(key, pattern);
+  return pattern.test(text);
+}
+
+function patternOf(/** @type {number} */ states, /** @type {number} */ symbols) {
+  const group = `(?:[0-${symbols - 1}][LR][A-${STATES[states - 1]}Z]|---){${symbols}}`;
+  return new RegExp(`^${group}(?:_${group}){${states - 1}}$`);
+}
+
+/** A line without byte order mark and spaces at its ends. */
+export const trimLine = (/** @type {string} */ line) => line.replace(/^\ufeff+/, "").trim();
+
+/** Whether a line is the reply to a refused one; fields may follow a tab. */
+export const isRefusedLine = (/** @type {string} */ bare) => REFUSED.test(bare);
+
+/** Whether a line is a verdict line; fields may follow a tab. */
+export function isVerdictLine(/** @type {string} */ bare) {
+  const [first] = bare.split("\t", 1);
+  const [machine] = first.split(" ", 1);
+  return REFUSED.test(bare) || (VERDICT.test(first.slice(machine.length + 1)) && isMachine(machine));
+}
+
 /** @returns {Machine} */
 export function parseMachine(/** @type {string} */ text) {
   const groups = text.split("_");

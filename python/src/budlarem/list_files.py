@@ -10,7 +10,7 @@ import os
 import zlib
 from typing import Any, BinaryIO, Callable, Iterable, Iterator, Union
 
-from .._text import BYTES_KEPT, LONGEST_UNENDED, LONGEST_VALUE
+from ._text import BYTES_KEPT, LONGEST_UNENDED, LONGEST_VALUE
 
 # The first bytes of encodings and formats. UTF-32 comes before UTF-16, whose mark is a prefix of its own.
 _MARKS = (
