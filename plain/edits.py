@@ -86,7 +86,9 @@ class Edit(NamedTuple):
 def read_edits(name: str) -> Iterator[Edit]:
     """Read the edits of a crate, or the one of this name in it."""
     crate, _, edit = name.partition("/")
-    for path in sorted((TOP / "crates" / crate / "must-fail").glob((edit or "*") + ".edit")):
+    pattern = (edit or "*") + ".edit"
+    folders = [TOP / "crates" / crate / name for name in ("must-fail", "further-edits")]
+    for path in sorted(path for folder in folders for path in folder.glob(pattern)):
         text = path.read_text(encoding="utf-8")
         file = re.search(r"^file: src/(.*)$", text, re.M)
         assert file
