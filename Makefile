@@ -1,6 +1,8 @@
 # Builds what the repository makes. `make` alone lists the targets.
 
 MAKEFLAGS += --no-builtin-rules
+# rustc warns of a job server that it can't reach.
+unexport MAKEFLAGS MFLAGS
 .SUFFIXES:
 .DELETE_ON_ERROR:
 # Crates that don't stand on each other are proved side by side.
@@ -23,9 +25,20 @@ crates := $(foreach line,$(lines),$(firstword $(subst :, ,$(line))))
 goals := $(or $(MAKECMDGOALS),all)
 comma := ,
 
+# Without the kit the first rule that needs it ends with a sentence that names the other command.
+kit := $(shell command -v rt)
+instead_of_bb := `make plain` builds bb, cover and recurrence by cargo, without proofs
+instead_of_cover := $(instead_of_bb)
+instead_of_recurrence := $(instead_of_bb)
+instead_of_library := `make plain-library` builds the library by cargo, without proofs
+instead := $(firstword $(foreach goal,$(goals),$(if $(instead_of_$(goal)),$(goal))))
+need_kit = $(if $(kit),,$(error `make $(goals)` needs the Rattle kit, and its program rt isn't installed$(if \
+    $(instead),; $(instead_of_$(instead)))))
+
 define crate_rule
 needs_of_$(1) := $(filter $(crates),$(subst $(comma), ,$(2)))
 crates/$(1)/out/proved: $$(patsubst %,crates/%/out/proved,$$(needs_of_$(1))) $(filter crates/$(1)/%,$(sources))
+	$$(need_kit)
 	@tools/prove $(1) --goals "$(goals)"
 	@touch $$@
 endef
@@ -41,7 +54,7 @@ lister: tools/out/tree_normal_form ## build the program that lists machines in t
 
 tools/out/tree_normal_form: tools/tree_normal_form.rs
 	@mkdir -p tools/out; part=$$(mktemp -d tools/out/XXXXXX); trap 'rm -rf "$$part"' EXIT; \
-	MAKEFLAGS= rustc -O --edition 2021 -o "$$part/lister" $< && mv "$$part/lister" $@
+	rustc -O --edition 2021 -o "$$part/lister" $< && mv "$$part/lister" $@
 
 ## The library
 
@@ -51,6 +64,7 @@ built := crates/bb_c/out
 library: $(built)/libbb.so ## prove and link the library for other languages: libbb.so, libbb.a, include/bb.h
 
 $(built)/libbb.so: $(built)/proved Makefile
+	$(need_kit)
 	@echo "linking libbb.so" >&2
 	@set -e; parts=$$(mktemp -d); trap 'rm -rf "$$parts"' EXIT; \
 	top=$$PWD; kit=$$(dirname "$$(rt doc)"); cd "$$parts"; \
@@ -88,24 +102,21 @@ web/out/built: web/out/bb.wasm $(page)
 ## Without the kit
 
 plain := out/plain
-plain_sources := plain/erase.py $(shell find crates/*/src plain/shim -type f 2>/dev/null)
 
 .PHONY: plain
-plain: $(plain)/target/release/bb ## write the crates as a Cargo workspace without contracts, out/plain, and build it
-$(plain)/target/release/bb: $(plain_sources) crates.txt
-	@plain/erase.py $(plain)
-	@cargo fmt --version >/dev/null 2>&1 && cd $(plain) && MAKEFLAGS= cargo fmt --all || true
-	@cd $(plain) && MAKEFLAGS= cargo build --release --quiet -p bb -p cover -p recurrence
-	@echo "$(plain) is built by cargo and not proved; docs/plain.md says how to confirm its lists" >&2
-	@touch $@
+plain: ## write the crates as a Cargo workspace without contracts, out/plain, and build it
+	@plain/build.py
 
 .PHONY: plain-library
 plain-library: $(plain)/target/release/libbb.so ## link the library of that workspace: libbb.so and libbb.a in out/plain/target/release
 
+.PHONY: always
+$(plain)/built-bb_c: always
+	@plain/build.py bb_c
+
 # The eight calls and bb_is_plain stay global; Rust's std becomes local, so that a Rust program has its own beside it.
-$(plain)/target/release/libbb.so: $(plain)/target/release/bb
-	@set -e; parts=$$(mktemp -d); trap 'rm -rf "$$parts"' EXIT; \
-	(cd $(plain) && MAKEFLAGS= cargo build --release --quiet -p bb_c); cd $(@D); \
+$(plain)/target/release/libbb.so: $(plain)/built-bb_c
+	@set -e; parts=$$(mktemp -d); trap 'rm -rf "$$parts"' EXIT; cd $(@D); \
 	calls=$$(nm -g --defined-only libbb_c.a 2>/dev/null | sed -n 's/^.* T \(bb_[a-z_]*\)$$/-u \1/p'); \
 	ld -r --strip-debug --gc-sections --force-group-allocation $$calls -o "$$parts/bb.o" libbb_c.a; \
 	objcopy --wildcard --keep-global-symbol='bb_*' "$$parts/bb.o"; \
@@ -126,13 +137,13 @@ manual: ## write the manual page of the command budlarem from its parser, docs/b
 
 .PHONY: coq coq-check
 coq: ## build the second checkers and their proofs by Coq, coq/out/checker and coq/out/cover
-	@$(MAKE) --no-print-directory -C coq
+	@MAKEFLAGS='$(MAKEFLAGS)' $(MAKE) --no-print-directory -C coq
 coq-check: ## let coqchk look at the second checker's proofs too
-	@$(MAKE) --no-print-directory -C coq check
+	@MAKEFLAGS='$(MAKEFLAGS)' $(MAKE) --no-print-directory -C coq check
 
 ## Whole lists
 
-programs := $(if $(shell command -v rt),bb cover recurrence library,plain plain-library)
+programs := $(if $(kit),bb cover recurrence library,plain plain-library)
 
 .PHONY: whole-lists
 whole-lists: lister $(programs) ## decide all machines of eight sizes, some 50 minutes on four cores; fill docs/whole-lists.md
@@ -143,7 +154,7 @@ whole-lists: lister $(programs) ## decide all machines of eight sizes, some 50 m
 
 four := coq/out/four
 .PHONY: coq-four-states
-coq-four-states: bb lister coq ## turn the complete list of four states into one theorem of Coq
+coq-four-states: $(firstword $(programs)) lister coq ## turn the complete list of four states into one theorem of Coq
 	@mkdir -p $(four)
 	tools/tree_normal_form --states 4 | ./bb decide --steps 200 > $(four)/verdicts.txt
 	coq/theorem --cover --jobs $$(nproc) $(four)/verdicts.txt $(four)/Covered.v

@@ -1,14 +1,19 @@
 """Fixtures, options and the closing line of all tests."""
 
+import collections
 import functools
 import pathlib
 import random
 import subprocess
-from typing import Callable
+import sys
+from typing import Any, Callable
 
 import pytest
 from support import TOP, ListMachines, build, has_kit, require
 from support.program import LIST_LIMITS, LIST_STEPS, replies
+
+sys.path.insert(0, str(TOP))
+from plain.erase import DEBIAN, absent_from_debian  # noqa: E402
 
 
 def pytest_addoption(parser: pytest.Parser) -> None:
@@ -18,6 +23,14 @@ def pytest_addoption(parser: pytest.Parser) -> None:
 def pytest_runtest_setup(item: pytest.Item) -> None:
     for mark in item.iter_markers("needs"):
         require(*mark.args, modules=mark.kwargs.get("modules", ()))
+
+
+def pytest_terminal_summary(terminalreporter: Any) -> None:
+    """Print one line for each reason of skipped tests, with their number."""
+    reports = terminalreporter.stats.get("skipped", [])
+    reasons = collections.Counter(report.longrepr[2].partition("Skipped: ")[2] for report in reports)
+    for reason, count in sorted(reasons.items()):
+        terminalreporter.write_line("skipped %d: %s" % (count, reason))
 
 
 def pytest_unconfigure(config: pytest.Config) -> None:
@@ -68,11 +81,19 @@ def library(request: pytest.FixtureRequest) -> pathlib.Path:
 
 
 @pytest.fixture(scope="session")
-def plain() -> pathlib.Path:
-    """The folder of the programs without contracts, built by cargo over Debian's registry."""
+def registry() -> pathlib.Path:
+    """Debian's folder of the crates that the build by cargo takes."""
     require("cargo")
-    if not list(pathlib.Path("/usr/share/cargo/registry").glob("clap-4*")):
-        pytest.skip("Debian's librust-clap-dev isn't installed")
+    absent = absent_from_debian()
+    if absent:
+        pytest.skip("Debian's librust-%s-dev isn't installed" % "-dev and librust-".join(absent))
+    return DEBIAN
+
+
+@pytest.fixture(scope="session")
+def plain(registry: pathlib.Path) -> pathlib.Path:
+    """The folder of the programs without contracts, built by cargo over Debian's registry."""
+    assert registry.is_dir()
     return build("plain", "out/plain/target/release/bb").parent
 
 

@@ -21,7 +21,8 @@ import tempfile
 TOP = pathlib.Path(__file__).resolve().parents[1]
 sys.path.insert(0, str(TOP))
 
-from plain.erase import FLAGS, version, write_workspace  # noqa: E402
+from plain.erase import FLAGS, write_workspace  # noqa: E402
+from tools.build_info import header_version  # noqa: E402
 
 README = """# Budlarem without its proofs
 
@@ -75,7 +76,7 @@ def main() -> int:
     about = re.split(r"\n\n", __doc__ or "")[0]
     words = argparse.ArgumentParser(description=about)
     words.add_argument("folder", metavar="FOLDER", type=pathlib.Path, help="where the archive is written")
-    name = "budlarem-%s-src" % version()
+    name = "budlarem-%s-src" % header_version()
     path: pathlib.Path = words.parse_args().folder / (name + ".tar.gz")
     with tempfile.TemporaryDirectory() as top:
         folder = pathlib.Path(top) / name

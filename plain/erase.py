@@ -19,6 +19,10 @@ import textwrap
 from typing import Iterator, List, Match, NamedTuple, NoReturn, Optional, Tuple
 
 TOP = pathlib.Path(__file__).resolve().parents[1]
+sys.path.insert(0, str(TOP))
+
+from tools.build_info import header_version  # noqa: E402
+
 SHIMS = pathlib.Path(__file__).resolve().parent / "shim"
 DEBIAN = pathlib.Path("/usr/share/cargo/registry")
 
@@ -79,7 +83,10 @@ pub extern "C" fn bb_is_plain() -> u32 {
 # Some calls, imports and parameters are there for clauses alone.
 ALLOWED = "#![allow(dead_code, unused_imports, unused_variables)]\n"
 NO_MAIN = "#![cfg_attr(all(unix, not(test)), no_main)]\n"
-VERSIONS = {"arrayvec": "0.7", "itoa": "1", "memchr": "2"}
+# The crates of the registry. The shim of clap names its version too.
+VERSIONS = {"arrayvec": "0.7", "clap": "4", "itoa": "1", "memchr": "2"}
+# The oldest rustc that compiles the workspace.
+RUST = "1.87"
 # Dependencies of the kit whose place a crate in `shim` takes.
 SHIMMED = {"clap": "rattle_clap", "linked_list_allocator": "rattle_heap"}
 ERASED = ("thiserror",)
@@ -337,11 +344,9 @@ def read_crates() -> List[Crate]:
     return [Crate(row[1], bool(row[2]), row[3].split()) for row in rows if row]
 
 
-def version() -> str:
-    text = (TOP / "python" / "src" / "budlarem" / "_version.py").read_text(encoding="utf-8")
-    found = re.search(r'VERSION = "([^"]+)"', text)
-    assert found
-    return found[1]
+def absent_from_debian() -> List[str]:
+    """List the crates of the registry that Debian's folder lacks."""
+    return [name for name, start in VERSIONS.items() if not list(DEBIAN.glob("%s-%s*" % (name, start)))]
 
 
 def dependency(name: str, known: List[str]) -> str:
@@ -366,8 +371,9 @@ def write_crate(crate: Crate, known: List[str], out: pathlib.Path) -> None:
         library.write_text(library.read_text(encoding="utf-8") + PLAIN, encoding="utf-8")
     needs = "".join(dependency(name, known) for name in crate.needs if name not in ERASED)
     (out / crate.name / "Cargo.toml").write_text(
-        '[package]\nname = "%s"\nversion = "%s"\nedition = "2024"\nrust-version = "1.87"\n\n%s\n[lints]\nworkspace = true\n\n[dependencies]\n'
-        'rattle_std = { path = "../rattle_std" }\n%s' % (crate.name, version(), root, needs)
+        '[package]\nname = "%s"\nversion = "%s"\nedition = "2024"\nrust-version = "%s"\n\n%s\n[lints]\nworkspace = true\n\n'
+        "[dependencies]\n"
+        'rattle_std = { path = "../rattle_std" }\n%s' % (crate.name, header_version(), RUST, root, needs)
     )
 
 
@@ -387,7 +393,7 @@ def write_workspace(out: pathlib.Path) -> None:
     (out / "Cargo.toml").write_text(shape % (members, lints, PROFILES))
     config = out / ".cargo" / "config.toml"
     config.parent.mkdir(exist_ok=True)
-    config.write_text(FLAGS + (FROM_DEBIAN if list(DEBIAN.glob("clap-4*")) else ""))
+    config.write_text(FLAGS + ("" if absent_from_debian() else FROM_DEBIAN))
 
 
 def main() -> int:

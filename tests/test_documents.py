@@ -21,7 +21,7 @@ NO_SOURCE = re.compile(r"\.(md|png|svg|edit)$|/(lines|expected)\.txt$|^(?!crates
 ELSEWHERE = """Global get_flag get_one fault_of subcommand_of malloc realloc rattle-kit-13b rattle-kit-13f
     --anew --minutes --only --allow-holes --fix-imports FoldsTo elim omega refl grind returns-then-steps-self
     returns-then-p-lt0-clause-apart After-widened_side loop-x-init loop-x-preserved --host --memory-limit
-    --nanny-port --nthreads --nworkers --worker-port --pipe pass-1 pass-2 host1""".split()
+    --nanny-port --nthreads --nworkers --worker-port --pipe pass-1 pass-2 host1 CARGO_TARGET_DIR""".split()
 # What a source of a crate defines; elsewhere any word counts.
 DEFINED = {
     ".rt": r"\b(?:fn|struct|enum|trait|type|const|mod|requires|ensures) (\w+)|^pub use ([^;]+);"

@@ -39,12 +39,17 @@ class Version(NamedTuple):
     commit: str
 
 
+def header_version() -> str:
+    """Return the version that the header states."""
+    found = re.search(r'#define BB_VERSION "([0-9.]+)"', (TOP / "include" / "bb.h").read_text("utf-8"))
+    if found is None:
+        sys.exit("%s: include/bb.h has no version" % _NAME)
+    return found[1]
+
+
 def commit_version(paths: Sequence[str], files: Iterable[pathlib.Path]) -> Version:
     """Return a package's version, with `.changed` and a digest of `files` after changes below `paths`."""
-    header = re.search(r'#define BB_VERSION "([0-9.]+)"', (TOP / "include" / "bb.h").read_text("utf-8"))
-    if header is None:
-        sys.exit("%s: include/bb.h has no version" % _NAME)
-    number, commit = header[1], output_of("git", "rev-parse", "HEAD")
+    number, commit = header_version(), output_of("git", "rev-parse", "HEAD")
     suffix = "g" + commit[:12]
     if not output_of("git", "status", "--porcelain", "--", *paths):
         return Version(number, suffix, commit)
