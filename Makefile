@@ -27,6 +27,7 @@ comma := ,
 
 # Without the kit the first rule that needs it ends with a sentence that names the other command.
 kit := $(shell command -v rt)
+plain := out/plain
 instead_of_bb := `make plain` builds bb, cover and recurrence by cargo, without proofs
 instead_of_cover := $(instead_of_bb)
 instead_of_recurrence := $(instead_of_bb)
@@ -85,8 +86,11 @@ wheel: python/dist/built ## build the wheel of the Python package, in python/dis
 web: web/out/bb.html ## build the engine as WebAssembly and the page, in web/out
 npm: web/out/built ## build the npm package, in web/out
 
-python/dist/built: $(built)/libbb.so $(package) python/build_wheel.py
-	$(python) python/build_wheel.py --library $(built)/libbb.so
+# Without the kit packages have the library that cargo builds.
+packaged := $(if $(kit),$(built),$(plain)/target/release)/libbb.so
+
+python/dist/built: $(packaged) $(package) python/build_wheel.py tools/build_info.py
+	$(python) python/build_wheel.py --library $(packaged)
 	@touch $@
 
 web/out/bb.wasm: $(built)/libbb.so web/build_module.sh web/narrow.py
@@ -100,8 +104,6 @@ web/out/built: web/out/bb.wasm $(page)
 	@touch $@
 
 ## Without the kit
-
-plain := out/plain
 
 .PHONY: plain
 plain: ## write the crates as a Cargo workspace without contracts, out/plain, and build it
@@ -162,7 +164,7 @@ coq-four-states: $(firstword $(programs)) lister coq ## turn the complete list o
 ## All of it
 
 .PHONY: release test test-all bench clean
-release: bb cover recurrence library web npm lister ## build the folder that runs without the repository, dist/
+release: $(programs) $(if $(kit),web npm) lister ## build the folder that runs without the repository, dist/
 	tools/release
 test: ## the gate, the build and the tests, without the slow ones
 	./test

@@ -105,9 +105,10 @@ def plain_library(plain: pathlib.Path) -> pathlib.Path:
 
 
 @pytest.fixture(scope="session")
-def wheel() -> pathlib.Path:
+def wheel(request: pytest.FixtureRequest) -> pathlib.Path:
     """The path of the wheel of the Python package."""
     require("pip3", modules=("setuptools", "wheel"))
+    request.getfixturevalue("library" if has_kit() else "plain_library")
     build("wheel", "python/dist")
     return max((TOP / "python" / "dist").glob("*.whl"), key=lambda path: path.stat().st_mtime)
 

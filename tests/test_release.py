@@ -1,4 +1,7 @@
-"""The folder of the release, built twice from nothing in two clones of different names: the same bytes."""
+"""The folder of the release, built twice from nothing in two clones of different names: the same bytes.
+
+With the kit it has what is proved, else what cargo builds.
+"""
 
 import hashlib
 import pathlib
@@ -6,12 +9,14 @@ import re
 import subprocess
 
 import pytest
-from support import TOP, require
+from support import TOP, has_kit, require
 
+# The files that only the kit builds.
+OF_PAGE = {"bb.wasm", "bb.html", "bb.mjs"}
 PROGRAMS = ["bb", "cover", "recurrence", "many_cores", "tree_normal_form"]
 ALWAYS = {
     *PROGRAMS,
-    *"CONTENTS README.txt bb.1 budlarem.1 recurrence.1 bb.h decide.c libbb.a libbb.so bb.wasm bb.html bb.mjs".split(),
+    *"CONTENTS README.txt bb.1 budlarem.1 recurrence.1 bb.h decide.c libbb.a libbb.so".split(),
 }
 ALWAYS |= {"%s.%s" % (name, shell) for name in ("bb", "budlarem") for shell in ("bash", "zsh", "fish")}
 
@@ -19,9 +24,13 @@ pytestmark = pytest.mark.slow
 
 
 @pytest.fixture(scope="module")
-def releases(tmp_path_factory: pytest.TempPathFactory) -> list[pathlib.Path]:
+def releases(request: pytest.FixtureRequest, tmp_path_factory: pytest.TempPathFactory) -> list[pathlib.Path]:
     """Two folders, each built at this commit in a clone of its own, which may prove all crates."""
-    require("rt", "rustc", "esbuild", "tsc", "npm")
+    require("rustc", "pip3", modules=("setuptools", "wheel"))
+    if has_kit():
+        require("esbuild", "tsc", "npm")
+    else:
+        request.getfixturevalue("plain_library")
     top = tmp_path_factory.mktemp("release")
     commit = subprocess.check_output(["git", "rev-parse", "HEAD"], cwd=TOP, text=True).strip()
     folders = [top / "one", top / "another folder"]
@@ -44,9 +53,11 @@ def test_contents_has_each_file_with_its_sha256(release: pathlib.Path) -> None:
     digests = {name: digest for digest, name in re.findall(r"^(\S+)  (\S+)$", text, flags=re.M)}
     files = {path.name: path for path in release.iterdir() if path.name != "CONTENTS"}
     assert digests == {name: hashlib.sha256(path.read_bytes()).hexdigest() for name, path in files.items()}
-    assert "\nkit " in text and text.startswith("commit ")
-    assert ALWAYS <= {*files, "CONTENTS"}
-    assert len(list(release.glob("budlarem-*.whl"))) == len(list(release.glob("budlarem-*.tgz"))) == 1
+    assert ("\nkit " if has_kit() else "\nrustc ") in text and text.startswith("commit ")
+    assert ALWAYS <= {*files, "CONTENTS"} and (OF_PAGE <= set(files)) == has_kit()
+    assert len(list(release.glob("budlarem-*.tgz"))) == has_kit()
+    (wheel,) = release.glob("budlarem-*.whl")
+    assert ("+plain." not in wheel.name) == has_kit()
     assert len(list(release.glob("budlarem-*-src.tar.gz"))) == 1
 
 
@@ -54,6 +65,7 @@ def test_readme_has_each_file_and_the_command_that_checks_them(release: pathlib.
     page = (release / "README.txt").read_text(encoding="utf-8").splitlines()
     assert {path.name for path in release.iterdir()} - {"README.txt"} <= set(page)
     assert any("`grep '  ' CONTENTS | sha256sum" in line for line in page)
+    assert ("no theorem covers that build" not in " ".join(page)) == has_kit()
     subprocess.run("grep '  ' CONTENTS | sha256sum --check --quiet", shell=True, cwd=release, check=True)
 
 

@@ -57,6 +57,11 @@ def commit_version(paths: Sequence[str], files: Iterable[pathlib.Path]) -> Versi
     return Version(number, "%s.changed.%s" % (suffix, digest[:8]), commit + ", changed")
 
 
+def is_plain(library: pathlib.Path) -> bool:
+    """Tell whether a library is the one that cargo builds, without proofs."""
+    return " bb_is_plain" in output_of("nm", "--dynamic", "--defined-only", library)
+
+
 def glibc_of(path: str | pathlib.Path) -> tuple[int, ...]:
     """Return the newest glibc whose symbols a program or library needs; (0,) where it needs none."""
     names = re.findall(r"GLIBC_([0-9.]+)", output_of("readelf", "--version-info", "--wide", path))

@@ -15,7 +15,7 @@ TOP = pathlib.Path(__file__).resolve().parents[2]
 # What the fixture `list_machines` gives.
 ListMachines = Callable[..., list[str]]
 # Targets of the Makefile that take no proof kit.
-WITHOUT_KIT = ("coq", "lister", "plain", "plain-library")
+WITHOUT_KIT = ("coq", "lister", "plain", "plain-library", "wheel")
 
 
 def missing_requirements(programs: Sequence[str], modules: Sequence[str] = ()) -> list[str]:

@@ -17,6 +17,8 @@ VARIABLE = "BB_LIBRARY"
 CLEAN, NOT_CLEAN, LIMITS, MEMORY, SHORT = range(5)
 
 _HERE = pathlib.Path(__file__).resolve().parent
+# Its folders in the repository: of the proved one, and of the one that cargo builds.
+_BUILT = ("crates/bb_c/out", "out/plain/target/release")
 _NUMBER, _SIZE, _SWITCH = ctypes.c_uint64, ctypes.c_size_t, ctypes.c_bool
 _BUFFERS = (ctypes.c_char_p, _SIZE, ctypes.c_void_p, _SIZE, ctypes.POINTER(_SIZE))
 # The magic of a 64-bit little-endian ELF file; place, size and number of the program and section headers in its
@@ -43,13 +45,13 @@ class LibraryError(OSError):
 @functools.lru_cache(maxsize=None)
 def load_library() -> ctypes.CDLL:
     """The library at the path of the variable BB_LIBRARY, if set; else beside this package, or that of `make
-    library` in the repository. Raises LibraryError."""
-    built = [top / "crates" / "bb_c" / "out" / "libbb.so" for top in list(_HERE.parents)[2:3]]
+    library` or `make plain-library` in the repository. Raises LibraryError."""
+    built = [top / folder / "libbb.so" for top in list(_HERE.parents)[2:3] for folder in _BUILT]
     named = os.environ.get(VARIABLE)
     candidates = [pathlib.Path(named)] if named else [_HERE / "libbb.so", *built]
     if (path := next((place for place in candidates if place.is_file()), None)) is None:
         places = " nor at ".join(map(str, candidates))
-        how = f"install the wheel, build it by `make library`, or set the variable {VARIABLE} to its path"
+        how = f"install the wheel, build it by `make library` or `make plain-library`, or set the variable {VARIABLE} to its path"
         raise LibraryError(f"libbb.so isn't at {places}; {how}")
     require_whole(path)
     try:

@@ -13,16 +13,15 @@ import subprocess
 from typing import Any
 
 import pytest
-from support import TOP, build
+from support import TOP
 from support.program import run_command
 from support.runs import expected_verdicts, words_of
+from tools.build_info import NEWEST_GLIBC, glibc_of, is_plain
 
 PACKAGE = TOP / "python"
 WHEEL = re.compile(
-    r"budlarem-[0-9.]+\+g[0-9a-f]{12}(\.changed\.[0-9a-f]{8})?-py3-none-manylinux_2_17_x86_64\.whl"
+    r"budlarem-[0-9.]+\+(plain\.)?g[0-9a-f]{12}(?:\.changed\.[0-9a-f]{8})?-py3-none-manylinux_(\d+)_(\d+)_\w+\.whl"
 )
-# The newest glibc that the wheel's tag allows.
-NEWEST_GLIBC = (2, 17)
 FIRST_RUN = """
 import budlarem
 print(budlarem.__version__, budlarem.COMMIT)
@@ -102,31 +101,27 @@ def test_examples_of_docstrings() -> None:
     assert sum(one.attempted for one in found) > 15
 
 
-@pytest.fixture(scope="module")
-def wheel_library() -> pathlib.Path:
-    """The path of the library in the wheel: always the proved one."""
-    return build("library", "crates/bb_c/out/libbb.so")
-
-
-@pytest.mark.needs("readelf")
-def test_library_asks_for_no_newer_glibc(wheel_library: pathlib.Path) -> None:
-    """The wheel's tag names the newest glibc that its library may need."""
-    symbols = run_command(["readelf", "--version-info", "--wide", str(wheel_library)]).output.decode()
-    versions = [tuple(map(int, name.split("."))) for name in re.findall(r"GLIBC_([0-9.]+)", symbols)]
-    assert (0,) < max(versions) <= NEWEST_GLIBC
+@pytest.mark.needs("readelf", "nm")
+def test_library_asks_for_no_newer_glibc(library: pathlib.Path) -> None:
+    """The proved library needs no newer one than the tag of its wheel names."""
+    if is_plain(library):
+        pytest.skip("the library isn't the proved one")
+    assert (0,) < glibc_of(library) <= NEWEST_GLIBC
 
 
 @pytest.mark.slow
-@pytest.mark.needs("pip3", modules=("setuptools", "wheel"))
-def test_wheel(bb: str, wheel_library: pathlib.Path, tmp_path: pathlib.Path) -> None:
+@pytest.mark.needs("pip3", "readelf", "nm", modules=("setuptools", "wheel"))
+def test_wheel(bb: str, library: pathlib.Path, tmp_path: pathlib.Path) -> None:
     """Two builds are the same bytes; it works by the oldest and newest Python, and notices a cut library."""
     wheels = []
     for name in ("first", "again"):
-        words = ["--library", str(wheel_library), "--out", str(tmp_path / name)]
+        words = ["--library", str(library), "--out", str(tmp_path / name)]
         status, output = run(["/usr/bin/python3", "build_wheel.py", *words])
         assert status == 0, output
         wheels.append(pathlib.Path(output.strip().splitlines()[-1]))
-    assert WHEEL.fullmatch(wheels[0].name)
+    name = WHEEL.fullmatch(wheels[0].name)
+    assert name and bool(name[1]) == is_plain(library)
+    assert (int(name[2]), int(name[3])) == max(glibc_of(library), NEWEST_GLIBC)
     assert wheels[0].read_bytes() == wheels[1].read_bytes()
     found = pythons()
     for place, python in enumerate(dict.fromkeys([found[0], "/usr/bin/python3", found[-1]])):
@@ -144,13 +139,28 @@ def test_wheel(bb: str, wheel_library: pathlib.Path, tmp_path: pathlib.Path) -> 
         require_cut_library(command, folder)
 
 
+@pytest.mark.slow
+@pytest.mark.needs("pip3", "make", modules=("setuptools", "wheel"))
+@pytest.mark.usefixtures("wheel")
+def test_install_from_a_clone(tmp_path: pathlib.Path) -> None:
+    """`pip install ./python` builds the library, and leaves nothing beside the sources."""
+    before = {path for path in PACKAGE.rglob("*") if "__pycache__" not in path.parts}
+    if run(["/usr/bin/python3", "-m", "venv", "--system-site-packages", str(tmp_path)])[0] != 0:
+        pytest.skip("no venv (package python3-venv)")
+    inside = str(tmp_path / "bin" / "python")
+    words = ["--quiet", "--no-index", "--no-build-isolation", "./python"]
+    assert run([inside, "-m", "pip", "install", *words], cwd=TOP)[0] == 0
+    require_first_run(inside)
+    assert {path for path in PACKAGE.rglob("*") if "__pycache__" not in path.parts} == before
+
+
 def require_first_run(python: str) -> None:
     """The first run of the documents, by a version that names its commit."""
     status, output = run([python, "-I", "-c", FIRST_RUN])
     first, *lines = output.splitlines()
     version, commit = first.split(maxsplit=1)
     assert lines == ["1RB1LB_1LA1RZ halt 6 4", "1RA1RA translated R 1 2 1 1", "refused 2"]
-    assert "+g" + commit[:12] in version
+    assert re.search(r"\+(plain\.)?g" + commit[:12], version)
 
 
 def require_metadata(python: str) -> None:
