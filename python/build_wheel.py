@@ -47,7 +47,8 @@ def platform_of(library: pathlib.Path) -> str:
     if newest > NEWEST_GLIBC and not is_plain(library):
         asks = ".".join(map(str, newest))
         sys.exit("build_wheel: the library asks for glibc %s, which the wheel's tag doesn't say" % asks)
-    return "manylinux_%d_%d_%s" % (*max(newest, NEWEST_GLIBC)[:2], platform.machine())
+    major, minor = max(newest, NEWEST_GLIBC)[:2]
+    return "manylinux_%d_%d_%s" % (major, minor, platform.machine())
 
 
 def copy_sources(library: pathlib.Path, folder: pathlib.Path) -> None:

@@ -119,9 +119,9 @@ def test_wheel(bb: str, library: pathlib.Path, tmp_path: pathlib.Path) -> None:
         status, output = run(["/usr/bin/python3", "build_wheel.py", *words])
         assert status == 0, output
         wheels.append(pathlib.Path(output.strip().splitlines()[-1]))
-    name = WHEEL.fullmatch(wheels[0].name)
-    assert name and bool(name[1]) == is_plain(library)
-    assert (int(name[2]), int(name[3])) == max(glibc_of(library), NEWEST_GLIBC)
+    found_name = WHEEL.fullmatch(wheels[0].name)
+    assert found_name and bool(found_name[1]) == is_plain(library)
+    assert (int(found_name[2]), int(found_name[3])) == max(glibc_of(library), NEWEST_GLIBC)
     assert wheels[0].read_bytes() == wheels[1].read_bytes()
     found = pythons()
     for place, python in enumerate(dict.fromkeys([found[0], "/usr/bin/python3", found[-1]])):
