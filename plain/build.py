@@ -32,7 +32,7 @@ LIBRARY = "bb_c"
 ON_DEBIAN = "on Debian 12 install rustc-web and cargo-web, elsewhere see https://rustup.rs"
 # A status line of `cargo build -v`; the others are about errors and warnings.
 STATUS = re.compile(r"\s*(Compiling|Fresh|Dirty|Running|Finished|Locking|Adding) (.*)")
-# Cargo's own variables that would move what it builds, and a job server that it can't reach.
+# A variable that would move what cargo builds, and those of a job server that it can't reach.
 DROPPED = ("CARGO_BUILD_TARGET", "MAKEFLAGS", "MFLAGS")
 
 
@@ -40,11 +40,15 @@ def stop(sentence: str) -> NoReturn:
     sys.exit("build: " + sentence)
 
 
+def own_environment() -> dict[str, str]:
+    """Return the environment without the variables that are dropped."""
+    return {name: value for name, value in os.environ.items() if name not in DROPPED}
+
+
 def run(*command: str) -> subprocess.CompletedProcess[str]:
     """Run a command in the workspace, and keep its output."""
-    environment = {name: value for name, value in os.environ.items() if name not in DROPPED}
     return subprocess.run(
-        command, cwd=OUT, env=environment, stdin=subprocess.DEVNULL, capture_output=True, text=True
+        command, cwd=OUT, env=own_environment(), stdin=subprocess.DEVNULL, capture_output=True, text=True
     )
 
 
@@ -173,7 +177,7 @@ def run_cargo(packages: Sequence[str], reports: IO[str]) -> None:
     shape = ("--message-format", "json-render-diagnostics", "--color", "never")
     command = ["cargo", "build", "--release", "-v", *shape, "--target-dir", "target", *words]
     count = count_crates(words)
-    environment = {name: value for name, value in os.environ.items() if name not in DROPPED}
+    environment = own_environment()
     process = subprocess.Popen(
         command, cwd=OUT, env=environment, stdout=reports, stderr=subprocess.PIPE, text=True, errors="replace"
     )
@@ -226,3 +230,5 @@ if __name__ == "__main__":
         sys.exit(main())
     except KeyboardInterrupt:
         sys.exit(130)
+    except OSError as error:
+        stop(str(error))
