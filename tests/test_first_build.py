@@ -91,6 +91,9 @@ class Repository:
 
 @pytest.fixture
 def repository(tmp_path: pathlib.Path) -> Repository:
+    """A small repository whose commands don't find the kit."""
+    if shutil.which("rt", path="/usr/bin:/bin"):
+        pytest.skip("the kit is in /usr/bin")
     made = Repository(tmp_path)
     made.fill()
     return made

@@ -38,7 +38,8 @@ def releases(request: pytest.FixtureRequest, tmp_path_factory: pytest.TempPathFa
         subprocess.run(["git", "clone", "--quiet", str(TOP), str(folder)], check=True)
         command = ["git", "checkout", "--quiet", "--detach", commit]
         subprocess.run(command, cwd=folder, check=True)
-        subprocess.run(["make", "-s", "release"], cwd=folder, check=True)
+        made = subprocess.run(["make", "-s", "release"], cwd=folder, stderr=subprocess.PIPE, text=True)
+        assert made.returncode == 0 and "warning" not in made.stderr, made.stderr
     return [folder / "dist" for folder in folders]
 
 

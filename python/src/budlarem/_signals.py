@@ -24,7 +24,8 @@ _ENDS = {
 
 def is_command() -> bool:
     """Whether this process runs the command `budlarem`, by its script or by `python3 -m budlarem`."""
-    words: list[str] = getattr(sys, "orig_argv", [])
+    # Python 3.9 doesn't have the words; a module counts as another one there.
+    words: list[str] = getattr(sys, "orig_argv", ["-m"])
     is_module = sys.argv[:1] == ["-m"] and "budlarem" in words[words.index("-m") + 1 :][:1]
     return is_module or os.path.basename((sys.argv or [""])[0]) == "budlarem"
 
