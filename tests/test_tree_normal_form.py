@@ -168,7 +168,7 @@ def test_compiled_at_its_first_use_and_after_a_change(tools: pathlib.Path) -> No
 def test_missing_compiler_is_named(tools: pathlib.Path, tmp_path: pathlib.Path) -> None:
     found = tmp_path / "found"
     found.mkdir()
-    for name in ("sh", "dirname", "find", "make", "sed", "mkdir"):
+    for name in ("sh", "dirname", "readlink", "find", "make", "sed", "mkdir"):
         (found / name).symlink_to(shutil.which(name) or "")
     command = [str(tools / "tree_normal_form"), "--states", "1"]
     status, _, error = run_command(command, env={"PATH": str(found)})
