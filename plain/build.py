@@ -121,10 +121,10 @@ def update_workspace() -> None:
             if path.is_file() and path.relative_to(OUT) not in files:
                 path.unlink()
     for path, text in files.items():
-        replace_changed(OUT / path, text)
+        update_file(OUT / path, text)
 
 
-def replace_changed(path: pathlib.Path, text: bytes) -> None:
+def update_file(path: pathlib.Path, text: bytes) -> None:
     """Write a file if it has another text."""
     if path.exists() and path.read_bytes() == text:
         return

@@ -198,8 +198,8 @@ fn go_on<R: Steps, C: Course, T: Tape>(
     Ok(Progress::There)
 }
 
-/// Continues a run up to a step, on the way to its limit of steps, and leaves the registers once it needs more
-/// than 64 cells. Returns the answer if the run can't reach the limit.
+/// Continues a run up to a step, on the way to its limit of steps, and leaves the registers once it needs
+/// more than 64 cells. Returns the answer if the run can't reach the limit.
 #[inline(always)]
 pub(crate) fn run_to<C: Course, T: Tape>(
     machine: &Machine,
@@ -247,8 +247,8 @@ pub(crate) fn run_to<C: Course, T: Tape>(
     }
 }
 
-/// Moves a run and its saved configuration onto the tapes of a pair, and counts the run so far. The saved tape
-/// is a copy of the run's, which then gets the cells that changed since.
+/// Moves a run and its saved configuration onto the tapes of a pair, and counts the run so far. The saved
+/// tape is a copy of the run's, which then gets the cells that changed since.
 #[cold]
 #[inline(never)]
 fn leave<T: Tape>(
