@@ -1,7 +1,8 @@
 -- How serving ends, and the exit status at each end: this project's own.
-use Rattle.std.specs.Prelude.{◌≡◌, ℕ, ◌⊎◌, List, Option, Result, Ok, Err, if◌then◌else◌}
+use Rattle.std.specs.Prelude.{◌≡◌, ℕ, ◌⊎◌, List, Option, Result, Ok, Err, false, if◌then◌else◌}
 use Rattle.std.specs.String.{string_bytes}
 use Rattle.bb_machine.specs.Limits.{Bounds}
+use Rattle.bb_machine.specs.Machine.{IsMachine, Table, text}
 use Rattle.bb_machine.specs.declared.plan.Plan.{Plan}
 use Rattle.bb_lines.specs.declared.fault.Fault.{Fault}
 use Rattle.bb_run.specs.declared.summary.Summary.{Summary}
@@ -41,3 +42,9 @@ ServeInOneRunEnds work bounds left left_then held held_then end =
 abbrev pub end_status : Result Summary Fault → ℕ
 end_status (Ok summary) = if summary.clean then 0 else 1
 end_status (Err fault) = 3
+
+-- a trace that the limit of cells cuts: its text is a machine, and its summary isn't clean
+abbrev pub IsCut : Work → Result Summary Fault → Type 0
+IsCut (Trace word) (Ok summary) =
+    (summary.clean ≡ false) × (machine : Table) × IsMachine machine × (text machine ≡ string_bytes word)
+IsCut work end = ⊥

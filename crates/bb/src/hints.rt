@@ -1,4 +1,4 @@
-//! Hints on a terminal beside an answer: the kind of an input without lines, and the form of a number.
+//! Hints on standard error beside an answer: the kind of an input without lines, and the form of a number.
 
 ghost use Rattle.std.specs.Prelude.{◌≡◌, ◌↔◌, None, Some};
 ghost use Rattle.bb.specs.Hints.{IsGzip, IsUtf16};

@@ -22,7 +22,7 @@ use bb_terminal::progress::Progress;
 use bb_terminal::streams::Observed;
 use hints::{Hinted, InputHint, plain_number};
 use progress::{Counts, CountsByKind};
-use serve::{serve_in_one_run, status};
+use serve::{is_cut, serve_in_one_run, status};
 use std::alloc::Global;
 use std::io;
 use std::io::{IsTerminal, Read};
@@ -72,14 +72,12 @@ fn answer_request(rt: &HostRuntime, asked: &Asked) -> u8 {
         },
         None => serve_input(rt, asked, None, rt.stdin(), &counts),
     };
-    if let (Ok(_), Some(hint)) = (&end, hint) {
-        let _ = print_hint(rt, hint);
-    }
-    if let Err(fault) = &end {
-        let _ = eprintln!(rt; "{fault}");
-        if let Some(error) = error {
-            let file = asked.file.as_ref().map(|file| file.as_str());
-            let _ = print_failure(rt, file, *fault, &error);
+    match &end {
+        Ok(_) => {
+            let _ = print_notes(rt, asked, &end, hint);
+        }
+        Err(fault) => {
+            let _ = print_fault(rt, asked, *fault, error.as_ref());
         }
     }
     status(&end)
@@ -116,19 +114,42 @@ fn serve_input<'a, R: Read + Drop>(
     (end, error, hint)
 }
 
-/// Prints the hint on the input, on a terminal.
-fn print_hint(rt: &HostRuntime, hint: InputHint) -> io::Result<()> {
-    if !rt.stderr().is_terminal() {
-        return Ok(());
+/// Prints the hint on the input, if any, and whether the limit of cells cuts a trace.
+fn print_notes(
+    rt: &HostRuntime,
+    asked: &Asked,
+    end: &Result<Summary, Fault>,
+    hint: Option<InputHint>,
+) -> io::Result<()> {
+    if let Some(hint) = hint {
+        rt.eprintln(hint)?;
     }
-    rt.eprintln(hint)
+    if is_cut(&asked.work, end) {
+        let cells = asked.limits.cells();
+        eprintln!(rt; "the trace is cut: its next step needs more than --cells {cells}")?;
+    }
+    Ok(())
 }
 
-/// Prints on a terminal the plain form of numbers with separators among the arguments.
-fn print_plain_numbers(rt: &HostRuntime, arguments: &[String]) -> io::Result<()> {
-    if !rt.stderr().is_terminal() {
-        return Ok(());
+/// Prints a fault, on a terminal with the reason.
+fn print_fault(
+    rt: &HostRuntime,
+    asked: &Asked,
+    fault: Fault,
+    error: Option<&io::Error>,
+) -> io::Result<()> {
+    rt.eprintln(fault)?;
+    match error {
+        Some(error) if rt.stderr().is_terminal() => {
+            let file = asked.file.as_ref().map(|file| file.as_str());
+            print_failure(rt, file, fault, error)
+        }
+        _ => Ok(()),
     }
+}
+
+/// Prints the plain form of numbers with separators among the arguments.
+fn print_plain_numbers(rt: &HostRuntime, arguments: &[String]) -> io::Result<()> {
     for word in arguments {
         if let Some(number) = plain_number(word.as_str()) {
             eprintln!(rt; "{word}: write the number as {number}")?;

@@ -1,5 +1,5 @@
 //! Does the work of a request, and returns its result.
-ghost use Rattle.std.specs.Prelude.{◌≡◌, ◌≢◌, ◌⊎◌, ◌↔◌, false, true};
+ghost use Rattle.std.specs.Prelude.{◌≡◌, ◌≢◌, ◌⊎◌, ◌↔◌, false, true, IsTrue};
 ghost use Rattle.std.specs.String.{string_bytes};
 ghost use Rattle.bb_machine.specs.declared.plan.Plan.{Plan};
 ghost use Rattle.bb_lines.specs.Watched.{is_marked, watched_inner};
@@ -7,13 +7,13 @@ ghost use Rattle.bb_run.specs.BorneOut.{VerdictsAreBorneOut};
 ghost use Rattle.bb_run.specs.CheckEnds.{CheckEnds};
 ghost use Rattle.bb_run.specs.Ends.{TraceEnds};
 ghost use Rattle.bb_terminal.specs.NotBegun.{IsNotBegun};
-ghost use Rattle.bb.specs.Ends.{ServeEnds, ServeInOneRunEnds, end_status};
+ghost use Rattle.bb.specs.Ends.{IsCut, ServeEnds, ServeInOneRunEnds, end_status};
 
 use crate::progress::Counts;
 use bb_command::{Asked, Work};
 use bb_lines::fault::Fault;
 use bb_lines::watched::Watched;
-use bb_machine::Limits;
+use bb_machine::{Limits, Machine};
 use bb_run::laws::verdicts_are_borne_out;
 use bb_run::{
     AnswerCounts, Summary, ring_bench, ring_pair, run_check_with_counts, run_decide,
@@ -175,5 +175,17 @@ pub fn status(end: &Result<Summary, Fault>) -> u8
         Ok(summary) if summary.clean => 0,
         Ok(_) => 1,
         Err(_) => 3,
+    }
+}
+
+/// Whether the limit of cells cuts a trace: its text is a machine, and its summary isn't clean.
+pub fn is_cut(work: &Work, end: &Result<Summary, Fault>) -> bool
+    ensures { IsTrue result ↔ IsCut work.now end.now }
+{
+    match (work, end) {
+        (Work::Trace(text), Ok(summary)) => {
+            !summary.clean && Machine::can_read(text.as_str().as_bytes())
+        }
+        _ => false,
     }
 }

@@ -1,4 +1,5 @@
 -- The checker of a claim.
 pub mod Answer
 pub mod ClaimMeter
+pub mod Course
 pub mod Pair

@@ -2,6 +2,7 @@
 
 pub mod answer;
 pub mod checking;
+pub mod course;
 mod pairs;
 mod replay;
 mod run;

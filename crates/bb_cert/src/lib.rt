@@ -9,7 +9,8 @@ pub mod verdict;
 pub use bb_sim::is_same;
 pub use bb_tree::{Path, walk};
 pub use checker::answer::Answer;
-pub use checker::checking::{Pair, check};
+pub use checker::checking::{Pair, check, check_along};
+pub use checker::course::Course;
 pub use claims::laws;
 pub use verdict::line::{
     LINE_BUFFER, LONGEST, line_into, lines_are_short, refusal_into, verdict_into,

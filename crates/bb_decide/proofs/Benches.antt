@@ -1,5 +1,5 @@
 -- What a search was lent: a bench, whose tapes keep their room, and a meter.
-use Rattle.std.proofs.Common.{◌≡◌, ℕ, refl, ap, ◌∙◌}
+use Rattle.std.proofs.Common.{◌≡◌, ℕ, refl, ◌∙◌}
 use Rattle.bb_tape.specs.TapeView.{TapeView}
 use Rattle.bb_sim.specs.declared.meter.Meter.{Meter}
 use Rattle.bb_decide.specs.declared.bench.Bench.{Bench}
@@ -26,21 +26,6 @@ pub lent_on : {T : Type 0} {view : T → TapeView} {cells : ℕ} {first old : Be
 lent_on run right left had = record {
   tapes = record { run = run ∙ had.tapes.run; right = right ∙ had.tapes.right; left = left ∙ had.tapes.left };
   path = had.path;
-  meter = had.meter;
-}
-
--- the saved tapes of a bench were changed, after its run
-pub lent_on_bench : {T : Type 0} {view : T → TapeView} {cells : ℕ} {first old new : Bench T} {run : T}
-    {at_first here : Meter} → new.run ≡ run → new.path ≡ old.path → (view run).limit ≡ (view old.run).limit
-    → (view new.right).limit ≡ (view old.right).limit → (view new.left).limit ≡ (view old.left).limit
-    → IsAsLent view cells first old at_first here → IsAsLent view cells first new at_first here
-lent_on_bench {view = view} same path run right left had = record {
-  tapes = record {
-    run = ap (λ tape. (view tape).limit) same ∙ run ∙ had.tapes.run;
-    right = right ∙ had.tapes.right;
-    left = left ∙ had.tapes.left;
-  };
-  path = path ∙ had.path;
   meter = had.meter;
 }
 

@@ -1,5 +1,5 @@
 -- Steps of the single-pass run inside a block, over a runner and a view that are in the proof alone.
-use Rattle.std.proofs.Common.{◌≡◌, ◌≢◌, ℕ, ◌+◌, ◌%◌, ◌^◌, ◌<◌, inl, inr, ℤ, pos, negsuc, ◌+ℤ◌, ◌-ℤ◌}
+use Rattle.std.proofs.Common.{◌≡◌, ◌≢◌, ℕ, ◌+◌, ◌%◌, ◌^◌, ◌<◌, ◌≤◌, inl, inr, ℤ, pos, negsuc, ◌+ℤ◌, ◌-ℤ◌}
 use Rattle.std.proofs.Common.{◌≤ℤ◌, ◌<ℤ◌, refl, ap, sym, subst, ◌∙◌, arith, FitsSigned, of_z, to_z, w64, None}
 use Rattle.std.specs.Prelude.{bit_xor, min, max, unsigned_abs, ◌⊎◌}
 use Rattle.std.proofs.lemmas.Nat.Bits.{bit_at-lt, bit_at-zero, bit_at_xor}
@@ -7,7 +7,7 @@ use Rattle.std.specs.Int.{bit_at, int_max, int_min}
 use Rattle.std.proofs.lemmas.Bool.{cases_eq}
 use Rattle.std.proofs.lemmas.Int.{ints, clamps, by_lt_z, to_z-of_z}
 use Rattle.bb_machine.specs.Limits.{Bounds}
-use Rattle.bb_machine.specs.Machine.{Table}
+use Rattle.bb_machine.specs.Machine.{IsMachine, Table}
 use Rattle.bb_tape.specs.declared.tape.TheConstants.{MAX_CELLS}
 use Rattle.bb_tape.specs.Content.{Content, cell, with_cell}
 use Rattle.bb_tape.specs.TapeView.{TapeView}
@@ -19,7 +19,11 @@ use Rattle.bb_sim.specs.Runner.{Stands, high_of, low_of, position_of, state_of, 
 use Rattle.bb_sim.specs.Span.{Inside}
 use Rattle.bb_sim.proofs.Facts.{inside_here}
 use Rattle.bb_narrow.specs.Blocks.{IsBlockRun}
+use Rattle.bb_narrow.specs.declared.blocks.Barrier.{Barrier}
 use Rattle.bb_narrow.specs.declared.blocks.BlockRun.{BlockRun}
+use Rattle.bb_narrow.specs.declared.table.NarrowTable.{NarrowTable}
+use Rattle.bb_narrow.specs.Packed.{IsTableOf}
+use Rattle.bb_narrow.proofs.Facts.{steps_in_block}
 use Rattle.bb_cert.specs.declared.records.Records.{Records}
 use Rattle.bb_cert.specs.declared.verdict.Side.{Side}
 use Rattle.bb_cert.specs.declared.verdict.Side.TheVariants.{L, R}
@@ -29,10 +33,10 @@ use Rattle.bb_decide.specs.inside.BlockPasses.{ChangesTo, IsBarrier, IsBlockPass
 use Rattle.bb_decide.specs.inside.Searching.{IsInRecordSearch, IsInSinglePass, IsUnderWay}
 use Rattle.bb_decide.specs.inside.Fingerprints.{AreAsKept, KeepInTurn}
 use Rattle.bb_decide.specs.inside.Step.{HasMoved}
-use Rattle.bb_decide.specs.declared.block_pass.Barrier.{Barrier}
-use Rattle.bb_decide.specs.declared.block_pass.BlockPass.{BlockPass}
 use Rattle.bb_decide.specs.declared.single_pass.Fingerprints.{Fingerprints}
 use Rattle.bb_decide.specs.declared.single_pass.SinglePass.{SinglePass}
+use Rattle.bb_decide.specs.declared.sprint.Sprint.{Sprint}
+use Rattle.bb_decide.specs.inside.Sprints.{GoesOn, SprintsTo, Stays}
 use Rattle.bb_decide.proofs.Halting.{not_in_Z}
 use Rattle.bb_decide.proofs.NarrowCells.{pow_max, pow_min}
 use Rattle.bb_decide.proofs.SinglePass.{single_pass_on}
@@ -151,7 +155,7 @@ bit_position known k h r is =
 
 -- a step inside the block, before the barrier
 module _ {table : Table} {bounds : Bounds} {key : ℤ → ℕ} {from : ℤ} {tape right left : TapeView} {begun : SinglePass}
-    {old : BlockPass} {barrier : Barrier} (new : BlockPass)
+    {old : Sprint} {barrier : Barrier} (new : Sprint)
     (known : IsBlockPass table bounds key from tape right left begun old)
     (is_barrier : IsBarrier bounds from begun.fingerprints barrier)
     (after : IsBlockRun table bounds from tape new.run)
@@ -231,6 +235,25 @@ module _ {table : Table} {bounds : Bounds} {key : ℤ → ℕ} {from : ℤ} {tap
     single_pass = single_pass_on known.single_pass moved inside refl refl differs
         (inl (omega (arith, after.steps_is, stepped, before, is_barrier.before), refl));
   }
+
+-- steps inside the block
+pub sprint_in_block : {table : Table} {bounds : Bounds} {key : ℤ → ℕ} {from : ℤ} {tape right left : TapeView}
+    {begun : SinglePass} {packed : NarrowTable} {barrier : Barrier} {old new : Sprint} → IsMachine table
+    → IsTableOf table packed → IsBarrier bounds from begun.fingerprints barrier
+    → IsBlockPass table bounds key from tape right left begun old → SprintsTo packed barrier old new
+    → IsBlockPass table bounds key from tape right left begun new
+sprint_in_block machine is_table is_barrier begins Stays = begins
+sprint_in_block machine is_table is_barrier begins (GoesOn middle next so_far on) =
+    let known = sprint_in_block machine is_table is_barrier begins so_far in
+    let step = on.step in
+    step_in_block next known is_barrier (steps_in_block machine is_table known.run step is_barrier.few) step.steps
+    step.before step.apart on.least on.greatest
+
+-- make no fewer steps
+pub sprint_more : {packed : NarrowTable} {barrier : Barrier} {old new : Sprint} → SprintsTo packed barrier old new
+    → old.run.steps ≤ new.run.steps
+sprint_more Stays = omega arith
+sprint_more (GoesOn middle next so_far on) = omega (arith, sprint_more so_far, on.step.steps)
 
 -- the block just taken
 pub begin_block : {table : Table} {bounds : Bounds} {key : ℤ → ℕ} {from : ℤ} {tape right left : TapeView}
@@ -353,7 +376,7 @@ changed_back {from} {old} {new} {fewer} {place} {one} {middle} small cleared kno
 
 -- the block left
 pub leave_block : {table : Table} {bounds : Bounds} {key : ℤ → ℕ} {from : ℤ} {tape new right left : TapeView}
-    {begun : SinglePass} {end : BlockPass} {runner : Runner} {new_right new_left : Records} {current : ℕ}
+    {begun : SinglePass} {end : Sprint} {runner : Runner} {new_right new_left : Records} {current : ℕ}
     → (known : IsBlockPass table bounds key from tape right left begun end) → Stands table runner new
     → steps_of runner ≡ end.run.steps → new_right ≡ passed begun.right (from +ℤ pos known.least)
     → new_left ≡ passed begun.left (from +ℤ pos known.greatest) → current ≡ fingerprint key new.content

@@ -13,7 +13,6 @@ pub mod NarrowCells
 pub mod NarrowComparing
 pub mod NarrowEnds
 pub mod NarrowHandover
-pub mod NarrowParity
 pub mod NarrowPasses
 pub mod OneRun
 pub mod OneSide

@@ -1,5 +1,5 @@
 -- The single-pass run in registers, over runners, records and views that are in the proof alone.
-use Rattle.std.proofs.Common.{◌≡◌, ◌≢◌, ℕ, ◌*◌, ◌^◌, ◌<◌, ◌≤◌, inl, inr, Option, Some, None}
+use Rattle.std.proofs.Common.{◌≡◌, ◌≢◌, ℕ, ◌-◌, ◌*◌, ◌%◌, ◌^◌, ◌<◌, ◌≤◌, inl, inr, Option, Some, None}
 use Rattle.std.proofs.Common.{ℤ, pos, ◌+ℤ◌, ◌-ℤ◌, ◌≤ℤ◌, refl, ap, sym, subst, ◌∙◌, arith, w64, FitsSigned}
 use Rattle.std.specs.Prelude.{◌↔◌}
 use Rattle.std.specs.Int.{bit_at}
@@ -7,7 +7,7 @@ use Rattle.std.proofs.lemmas.Int.{by_lt_z, clamps, ints, to_z-of_z}
 use Rattle.std.proofs.lemmas.Nat.Bits.{bit_at-lt, same_from_bits_below}
 use Rattle.bb_machine.specs.declared.entry.Next.TheVariants.{Halt}
 use Rattle.bb_machine.specs.Limits.{Bounds}
-use Rattle.bb_machine.specs.Machine.{Table}
+use Rattle.bb_machine.specs.Machine.{IsMachine, Table}
 use Rattle.bb_tape.specs.TapeView.{TapeView, IsInside}
 use Rattle.bb_sim.specs.declared.runner.Runner.{Runner}
 use Rattle.bb_sim.specs.declared.simulation.Outcome.{Outcome}
@@ -32,18 +32,23 @@ use Rattle.bb_decide.proofs.Halting.{no_pair_in_Z, not_in_Z}
 use Rattle.bb_decide.proofs.OneSide.{TellsAgreement}
 use Rattle.bb_decide.proofs.SoFar.{none_earlier, none_so_far}
 use Rattle.bb_decide.proofs.Translations as records
+use Rattle.bb_narrow.specs.declared.blocks.Barrier.{Barrier}
 use Rattle.bb_narrow.specs.declared.run.NarrowRun.{NarrowRun}
+use Rattle.bb_narrow.specs.declared.table.NarrowTable.{NarrowTable}
+use Rattle.bb_narrow.specs.Packed.{IsTableOf}
 use Rattle.bb_narrow.specs.Registers.{EndsWith, ContinuesTo, IsNarrowRun, IsSameConfiguration, MatchesWindow}
 use Rattle.bb_narrow.proofs.Facts.{at_bit, bit_of}
-use Rattle.bb_narrow.proofs.Facts.{by_bit}
+use Rattle.bb_narrow.proofs.Facts.{block_of, by_bit, steps_in_window, with_block}
 use Rattle.bb_decide.specs.declared.narrow_records.NarrowRecords.{NarrowRecords}
 use Rattle.bb_decide.specs.declared.narrow_pass.KeptRun.{KeptRun}
 use Rattle.bb_decide.specs.inside.NarrowRecords.{CanCompareRecord, HasCompared, KeepsRecord, nearer_bit}
 use Rattle.bb_decide.specs.inside.NarrowPass.{IsPassIn, KeepsRunInTurn}
+use Rattle.bb_decide.specs.inside.Sprints.{GoesOn, SprintsTo, Stays}
+use Rattle.bb_decide.specs.declared.sprint.Sprint.{Sprint}
 use Rattle.bb_decide.proofs.NarrowCells.{keeps_passed, small_fits}
 
 pub narrow_pass_at_first : {table : Table} {bounds : Bounds} {run : NarrowRun} → IsNarrowRun table bounds run → run.steps ≡ 0
-    → (kept : KeptRun) → kept ≡ record { run = run; next = 0 } → (right left : NarrowRecords)
+    → (kept : KeptRun) → kept ≡ record { run = run; before_next = 0 } → (right left : NarrowRecords)
     → right ≡ record { kept = run; nearest = run.registers.head }
     → left ≡ record { kept = run; nearest = run.registers.head } → IsPassIn table bounds run kept right left
 narrow_pass_at_first {table} {bounds} {run} is_run zero kept kept_is right left right_is left_is =
@@ -64,7 +69,7 @@ narrow_pass_at_first {table} {bounds} {run} is_run zero kept kept_is right left 
       is_run = is_run;
       kept_is_run = is_run;
       search = cycles.searching_at_first is_run.stands none is_run.stands none;
-      next = omega (arith, zero);
+      before_next = omega (arith, zero);
       right_records = _;
       left_records = _;
       saved_right = is_run.view;
@@ -116,7 +121,7 @@ same_window window new room new_room old view was is p q low high =
 record Searches (table : Table) (bounds : Bounds) (runner : Runner) (view : TapeView) (kept : KeptRun) : Type 0 where
   kept_is_run : IsNarrowRun table bounds kept.run
   search : cycles.IsInCycleSearch table bounds runner kept_is_run.runner view kept_is_run.view
-  next : kept.next ≡ 2 * kept.run.steps
+  before_next : kept.before_next ≡ 2 * kept.run.steps - 1
 
 -- ---- the end
 module _ {table : Table} {bounds : Bounds} {run : NarrowRun} {kept : KeptRun} {right left : NarrowRecords}
@@ -269,17 +274,17 @@ module _ {table : Table} {bounds : Bounds} {run new : NarrowRun} {kept : KeptRun
       let is : Searches table bounds after.runner after.view kept = record {
         kept_is_run = here.kept_is_run;
         search = cycles.goes_on here.search moved made.inside differs
-            (omega (arith, stays.0, here.next, kept_steps, after.steps_is));
-        next = here.next;
+            (omega (arith, stays.0, here.before_next, kept_steps, after.steps_is));
+        before_next = here.before_next;
       } in
       subst (Searches table bounds after.runner after.view) (sym stays.1) is
   searches_on next_kept (inr turn) differs =
       let kept_steps = here.kept_is_run.steps_is in
-      let is : Searches table bounds after.runner after.view (record { run = new; next = 2 * new.steps }) = record {
+      let is : Searches table bounds after.runner after.view (record { run = new; before_next = 2 * new.steps - 1 }) = record {
         kept_is_run = after;
         search = cycles.keeps_this here.search moved made.inside differs
-            (omega (arith, turn.0, here.next, kept_steps, after.steps_is)) after.stands;
-        next = refl;
+            (omega (arith, turn.0, here.before_next, kept_steps, after.steps_is)) after.stands;
+        before_next = refl;
       } in
       subst (Searches table bounds after.runner after.view) (sym turn.1) is
 
@@ -342,7 +347,7 @@ module _ {table : Table} {bounds : Bounds} {run new : NarrowRun} {kept : KeptRun
             is_run = after;
             kept_is_run = s.kept_is_run;
             search = s.search;
-            next = s.next;
+            before_next = s.before_next;
             right_records = passed_right;
             left_records = passed_left;
             saved_right = here.saved_right;
@@ -390,7 +395,7 @@ module _ {table : Table} {bounds : Bounds} {run new : NarrowRun} {kept : KeptRun
                 is_run = after;
                 kept_is_run = s.kept_is_run;
                 search = s.search;
-                next = s.next;
+                before_next = s.before_next;
                 right_records = has.records;
                 left_records = passed_left;
                 saved_right = has.saved;
@@ -441,7 +446,7 @@ module _ {table : Table} {bounds : Bounds} {run new : NarrowRun} {kept : KeptRun
                 is_run = after;
                 kept_is_run = s.kept_is_run;
                 search = s.search;
-                next = s.next;
+                before_next = s.before_next;
                 right_records = passed_right;
                 left_records = has.records;
                 saved_right = here.saved_right;
@@ -456,3 +461,26 @@ module _ {table : Table} {bounds : Bounds} {run new : NarrowRun} {kept : KeptRun
                 keeps_right = keeps_right;
                 keeps_left = has.keeps;
               }
+
+-- ---- steps in the window, before the barrier of what is kept
+module _ {table : Table} {bounds : Bounds} {run : NarrowRun} {kept : KeptRun} {right left : NarrowRecords}
+    {packed : NarrowTable} {barrier : Barrier} (machine : IsMachine table) (is_table : IsTableOf table packed)
+    (begins : IsPassIn table bounds run kept right left) (window : barrier.window ≡ run.window)
+    (few : barrier.to ≤ bounds.steps) (before : barrier.to ≤ kept.before_next)
+    (head : barrier.head ≡ kept.run.registers.head) (entry : barrier.entry ≡ kept.run.registers.entry % 64) where
+  abbrev pub sprint_of : Sprint
+  sprint_of = record { run = block_of run; least = right.nearest; greatest = left.nearest }
+
+  pub sprint_in_window : {new : Sprint} → SprintsTo packed barrier sprint_of new
+      → IsPassIn table bounds (with_block run new.run) kept (record right { nearest = new.least })
+      (record left { nearest = new.greatest })
+  sprint_in_window Stays = begins
+  sprint_in_window (GoesOn middle next so_far on) =
+      let known = sprint_in_window so_far in
+      let step = on.step in
+      let made = steps_in_window machine is_table known.is_run step window few in
+      narrow_pass_on known made _ _ (ap (λ n. record right { nearest = n }) on.least)
+      (ap (λ n. record left { nearest = n }) on.greatest) kept
+      (inl (omega (arith, step.before, step.steps, before), refl))
+      (not_again known made made.next.at.fits known.kept_is_run.at.fits
+      (λ same. step.apart (same.1 ∙ sym head) (same.2 ∙ sym entry))) refl

@@ -8,7 +8,6 @@ use Rattle.bb_sim.specs.Meter.{CountsPart, CountsTo}
 use Rattle.bb_sim.specs.Span.{span}
 use Rattle.bb_sim.specs.Configuration.{start}
 use Rattle.bb_sim.proofs.Facts.{conf-start, span_grows}
-use Rattle.bb_narrow.specs.Registers.{FitsRegisters}
 use Rattle.bb_tape.specs.Content.{Content, blank}
 use Rattle.bb_decide.specs.Cycle.{CountsSearch, FindsCycle}
 use Rattle.bb_decide.specs.OneRun.{BreaksOff, IsStoppedAt, LeavesRegisters, RunsBefore}

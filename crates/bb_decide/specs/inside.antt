@@ -3,6 +3,7 @@ pub mod Follow
 pub mod Search
 pub mod SearchResult
 pub mod Fingerprints
+pub mod Sprints
 pub mod Step
 pub mod NarrowPass
 pub mod NarrowRecords

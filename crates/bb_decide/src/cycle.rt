@@ -52,7 +52,8 @@ pub fn cyclers<T: Tape>(
     Ok(search_result.found())
 }
 
-/// The same, with the outcome of the run if there is no such pair.
+/// The same, with the outcome of the run if there is no such pair. The limits are a local of the loop, and stay
+/// in registers; the runner counts its steps and cells, and the meter adds them at the end of the run.
 #[inline(never)]
 pub(crate) fn seek_cycle<T: Tape>(
     machine: &Machine,
@@ -66,29 +67,12 @@ pub(crate) fn seek_cycle<T: Tape>(
         bench.old bench.new meter.old meter.new result }
 {
     let limits = *limits;
-    run_to_cycle(machine, &limits, bench, meter)
-}
-
-/// The body of `seek_cycle`, inlined there: the limits are its local and stay in registers. The runner counts
-/// its steps and cells, and the meter adds them at the end of the run.
-#[inline(always)]
-fn run_to_cycle<T: Tape>(
-    machine: &Machine,
-    limits: &Limits,
-    bench: &mut Bench<T>,
-    meter: &mut Meter,
-) -> Result<SearchResult, Memory>
-    requires tapes { BenchHasCells T.view limits.now.cells bench.old }
-    requires room { meter.old.steps ≤ 2 * limits.now.steps }
-    ensures { Seeks (FindsCycle machine.now limits.now) T.GROWS T.view machine.now limits.now
-        bench.old bench.new meter.old meter.new result }
-{
     limits.show_accepted();
     let mut runner = Runner::start(machine, &mut bench.run);
     let mut kept = Runner::start(machine, &mut bench.right);
     let mut next_kept = 0;
     loop {
-        let Ok(moved) = step_on(machine, &mut runner, &mut bench.run, limits, meter) else {
+        let Ok(moved) = step_on(machine, &mut runner, &mut bench.run, &limits, meter) else {
             return Err(Memory);
         };
         match moved {

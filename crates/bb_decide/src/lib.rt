@@ -16,6 +16,7 @@ pub mod reasoning;
 mod record_search;
 mod search_result;
 mod single_pass;
+mod sprint;
 pub mod translation;
 
 pub use bb_machine::Plan;

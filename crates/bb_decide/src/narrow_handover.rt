@@ -44,6 +44,7 @@ impl NarrowPass {
         ensures path { bench.new.path ≡ bench.old.path }
         ensures memory { OnErr result (IsTrue T.GROWS) }
     {
+        limits.show_accepted();
         let Ok(runner) = self.run.move_to_tape(machine, limits, &mut bench.run) else {
             return Err(Memory);
         };
@@ -63,7 +64,7 @@ impl NarrowPass {
             current: fingerprint_of_bits(keys, self.run.registers.bits),
             kept: self.kept.run.runner(machine, limits),
             kept_fingerprint: fingerprint_of_bits(keys, self.kept.run.registers.bits),
-            next: self.kept.next,
+            next: 2 * self.kept.run.steps,
         };
         Ok(SinglePass {
             runner,

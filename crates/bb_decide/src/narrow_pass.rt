@@ -1,15 +1,16 @@
 //! The single-pass run of a machine of two symbols and at most seven states, in registers. It ends at a halt,
 //! at two agreeing records, at a repeated configuration, or where the run leaves the 64 cells.
-ghost use Rattle.std.specs.Prelude.{◌≡◌, ◌+◌, ◌-◌, ◌≤◌, ◌*◌, ◌%◌, ◌<◌, ◌^◌, ◌↔◌, false, true, length, IsTrue};
+ghost use Rattle.std.specs.Prelude.{◌≡◌, ◌≤◌, ◌*◌, ◌<◌, ◌^◌, length};
 ghost use Rattle.bb_machine.specs.Machine.{symbols_of};
 ghost use Rattle.bb_narrow.specs.Packed.{IsTableOf};
-ghost use Rattle.bb_narrow.specs.Registers.{IsNarrowRun, IsSameConfiguration};
+ghost use Rattle.bb_narrow.specs.Registers.{IsNarrowRun};
 ghost use Rattle.bb_decide.specs.inside.NarrowPass.{AdvancesPass, EndsNarrowPass, IsInNarrowPass, KeepsRunInTurn};
 
 use crate::narrow_records::NarrowRecords;
+use crate::sprint::Sprint;
 use bb_cert::{Side, Verdict};
 use bb_machine::{Limits, Machine};
-use bb_narrow::{NarrowMoved, NarrowRun, NarrowTable};
+use bb_narrow::{Barrier, BlockRun, NarrowMoved, NarrowRun, NarrowTable};
 use bb_sim::Outcome;
 
 /// How the run ends.
@@ -23,11 +24,12 @@ pub(crate) enum NarrowResult {
     Outside,
 }
 
-/// The run at the step that is kept, the partner of the next, and the step that is kept next, twice that.
+/// The run at the step that is kept, the partner of the next, and the last step before the next one that is
+/// kept, at twice that step.
 #[derive(Clone, Copy, Debug)]
 pub(crate) struct KeptRun {
     pub(crate) run: NarrowRun,
-    pub(crate) next: u64,
+    pub(crate) before_next: u64,
 }
 
 impl KeptRun {
@@ -37,11 +39,11 @@ impl KeptRun {
         requires { 2 * run.now.steps < 2 ^ 64 }
         ensures { KeepsRunInTurn run.now self.old self.new }
     {
-        if run.steps < self.next {
+        if run.steps <= self.before_next {
             return;
         }
         self.run = *run;
-        self.next = 2 * run.steps;
+        self.before_next = 2 * run.steps - 1;
     }
 }
 
@@ -70,111 +72,45 @@ impl NarrowPass {
         let run = NarrowRun::start(machine, limits);
         NarrowPass {
             run,
-            kept: KeptRun { run, next: 0 },
+            kept: KeptRun {
+                run,
+                before_next: 0,
+            },
             right: NarrowRecords::new(run),
             left: NarrowRecords::new(run),
         }
     }
 
-    /// Whether a run, one step on, has the kept configuration. The kept step is even or the next one is even,
-    /// and the head is at an even position at even steps alone, so only even steps are compared.
+    /// Makes steps as long as they stay in the window, aren't kept, are within the limit and don't come to the
+    /// kept head and state.
     #[inline(always)]
-    fn is_repeated_by(&self, run: &NarrowRun, is_even: bool) -> bool
-        ensures { IsTrue result
-            ↔ ((is_even ≡ true) × IsSameConfiguration run.now.registers self.now.kept.run.registers) }
-    {
-        if !is_even {
-            return false;
-        }
-        run.has_same_configuration(&self.kept.run)
-    }
-
-    /// Makes the next step if its number is at most `end`, it stays in the window and is no cycle. Else
-    /// nothing changes.
-    #[inline(always)]
-    fn step_in_window(
-        &mut self,
-        machine: &Machine,
-        table: &NarrowTable,
-        limits: &Limits,
-        end: u64,
-        is_even: bool,
-    ) -> bool
-        requires symbols { symbols_of machine.now ≡ 2 }
-        requires table { IsTableOf machine.now table.now }
-        requires pass { IsInNarrowPass machine.now limits.now self.old }
-        requires within { end ≤ limits.now.steps }
-        requires before_kept { end ≤ self.old.kept.next - 1 }
-        requires parity { is_even ≡ false → self.old.run.steps % 2 ≡ 0 }
-        ensures pass { IsInNarrowPass machine.now limits.now self.new }
-        ensures on { self.old.run.steps ≤ self.new.run.steps }
-        ensures kept { self.new.kept ≡ self.old.kept }
-        ensures stepped { IsTrue result → self.new.run.steps ≡ self.old.run.steps + 1 }
-        ensures stays { result ≡ false → self.new ≡ self.old }
-    {
-        if self.run.steps >= end {
-            return false;
-        }
-        let mut run = self.run;
-        if !run.advance_in_window(machine, table, limits) {
-            return false;
-        }
-        if self.is_repeated_by(&run, is_even) {
-            return false;
-        }
-        self.run = run;
-        self.right.pass(Side::R, run.registers.head);
-        self.left.pass(Side::L, run.registers.head);
-        true
-    }
-
-    /// Makes the next step as `step_in_window` does, but none at an even step. False if the run stays at an
-    /// odd one.
-    #[inline(always)]
-    fn reach_even_step(
-        &mut self,
-        machine: &Machine,
-        table: &NarrowTable,
-        limits: &Limits,
-        end: u64,
-    ) -> bool
-        requires symbols { symbols_of machine.now ≡ 2 }
-        requires table { IsTableOf machine.now table.now }
-        requires pass { IsInNarrowPass machine.now limits.now self.old }
-        requires within { end ≤ limits.now.steps }
-        requires before_kept { end ≤ self.old.kept.next - 1 }
-        ensures pass { IsInNarrowPass machine.now limits.now self.new }
-        ensures on { self.old.run.steps ≤ self.new.run.steps }
-        ensures kept { self.new.kept ≡ self.old.kept }
-        ensures even { IsTrue result → self.new.run.steps % 2 ≡ 0 }
-    {
-        if self.run.steps % 2 == 0 {
-            return true;
-        }
-        self.step_in_window(machine, table, limits, end, true)
-    }
-
-    /// Makes steps as long as they stay in the window, aren't kept, are no cycle and are within the limit.
-    #[inline(always)]
-    fn run_in_window(&mut self, machine: &Machine, table: &NarrowTable, limits: &Limits)
+    fn sprint(&mut self, machine: &Machine, table: &NarrowTable, limits: &Limits)
         requires symbols { symbols_of machine.now ≡ 2 }
         requires table { IsTableOf machine.now table.now }
         requires pass { IsInNarrowPass machine.now limits.now self.old }
         ensures pass { IsInNarrowPass machine.now limits.now self.new }
         ensures on { self.old.run.steps ≤ self.new.run.steps }
     {
-        let end = self.kept.next.saturating_sub(1).min(limits.steps());
-        if !self.reach_even_step(machine, table, limits, end) {
-            return;
-        }
-        loop {
-            if !self.step_in_window(machine, table, limits, end, false) {
-                return;
-            }
-            if !self.step_in_window(machine, table, limits, end, true) {
-                return;
-            }
-        }
+        machine.show_machine();
+        let barrier = Barrier {
+            to: limits.steps().min(self.kept.before_next),
+            window: self.run.window,
+            head: self.kept.run.registers.head,
+            entry: self.kept.run.registers.entry % 64,
+        };
+        let start = Sprint {
+            run: BlockRun {
+                registers: self.run.registers,
+                steps: self.run.steps,
+            },
+            least: self.right.nearest,
+            greatest: self.left.nearest,
+        };
+        let end = start.go_on(table, &barrier);
+        self.run.registers = end.run.registers;
+        self.run.steps = end.run.steps;
+        self.right.nearest = end.least;
+        self.left.nearest = end.greatest;
     }
 
     /// Makes the next step, and compares it with what is kept. None if the run goes on.
@@ -234,7 +170,7 @@ pub(crate) fn run_narrow_pass(machine: &Machine, limits: &Limits) -> NarrowEnd
     let limits = *limits;
     let mut pass = NarrowPass::start(machine, &limits);
     loop {
-        pass.run_in_window(machine, &table, &limits);
+        pass.sprint(machine, &table, &limits);
         match pass.advance(machine, &table, &limits) {
             Some(result) => return NarrowEnd { pass, result },
             None => {}

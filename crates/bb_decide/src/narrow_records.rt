@@ -2,8 +2,8 @@
 ghost use Rattle.std.specs.Prelude.{◌≡◌, ℕ, ◌<◌, ◌^◌, pos, neg_ℤ, ◌-ℤ◌, ◌≤ℤ◌};
 ghost use Rattle.std.specs.Prelude.{◌↔◌, IfSome, IsTrue};
 ghost use Rattle.bb_cert.specs.verdict.Verdict.{HasNumbers};
-ghost use Rattle.bb_cert.specs.records.Follow.{AgreesWithKept, HasSameCells};
-ghost use Rattle.bb_decide.specs.inside.NarrowRecords.{CanCompareCells, CanCompareRecord, HasCompared, KnowsHeads, nearer_bit};
+ghost use Rattle.bb_cert.specs.records.Follow.{AgreesWithKept};
+ghost use Rattle.bb_decide.specs.inside.NarrowRecords.{CanCompareRecord, HasCompared, KnowsHeads, nearer_bit};
 
 use bb_cert::{Extent, Side, Verdict};
 use bb_machine::{Limits, Machine};
@@ -50,32 +50,8 @@ impl NarrowRecords {
         };
     }
 
-    /// Whether the cells from the nearest position out to the kept record are those that lie as far before
-    /// the one that the run has just made.
-    #[inline(always)]
-    fn has_same_cells(
-        &self,
-        side: Side,
-        run: &NarrowRun,
-        kept: i64,
-        head: i64,
-        machine: &Machine,
-        limits: &Limits,
-    ) -> bool
-        requires { CanCompareCells machine.now limits.now side self.now run.now kept head }
-        ensures { (can : CanCompareCells machine.now limits.now side self.now run.now kept head)
-            → IsTrue result ↔ HasSameCells can.known.comparison.records can.known.comparison.is_run.runner
-            can.known.comparison.saved.content can.known.comparison.is_run.view.content }
-    {
-        let nearest = position_of_bit(self.nearest);
-        let from = nearest.min(kept);
-        let length = kept.abs_diff(nearest) + 1;
-        let saved = BitCells::of_bits(self.kept.registers.bits);
-        let now = BitCells::of_bits(run.registers.bits);
-        saved.agrees(from, &now, from + (head - kept), length)
-    }
-
-    /// Whether a record is kept that agrees with the one that the run has just made.
+    /// Whether a record is kept that agrees with the one that the run has just made: in the state, and in the
+    /// cells from the nearest position out to it, and as far before the new one.
     #[inline(always)]
     fn agrees(
         &self,
@@ -97,7 +73,12 @@ impl NarrowRecords {
         if self.kept.registers.entry % 64 != run.registers.entry % 64 {
             return false;
         }
-        self.has_same_cells(side, run, kept, head, machine, limits)
+        let nearest = position_of_bit(self.nearest);
+        let from = nearest.min(kept);
+        let length = kept.abs_diff(nearest) + 1;
+        let saved = BitCells::of_bits(self.kept.registers.bits);
+        let now = BitCells::of_bits(run.registers.bits);
+        saved.agrees(from, &now, from + (head - kept), length)
     }
 
     /// Compares the record that the run has just made with the kept one. The verdict where they agree; else

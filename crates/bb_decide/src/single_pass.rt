@@ -13,7 +13,7 @@ ghost use Rattle.bb_decide.specs.inside.Searching.{IsUnderWay};
 ghost use Rattle.bb_decide.specs.inside.Step.{TakesOver};
 
 use crate::bench::Bench;
-use crate::block_pass::{after_block, block_for, block_table};
+use crate::block_pass::{block_for, block_table, pass_block};
 use crate::fingerprint::update_fingerprint;
 use crate::keys::FingerprintKeys;
 use crate::narrow_pass::{NarrowPass, NarrowResult, run_narrow_pass};
@@ -250,46 +250,6 @@ fn of_side(records: Records, side: Side) -> Records
     known
 }
 
-/// Compares the record just made by the runner on a side, on the tapes of a bench. If there is no memory to
-/// keep it, the meter adds the run.
-#[inline(always)]
-fn compare_on_bench<T: Tape>(
-    side: Side,
-    right: &mut Records,
-    left: &mut Records,
-    runner: &Runner,
-    bench: &mut Bench<T>,
-    meter: &mut Meter,
-) -> Result<Option<Verdict>, Memory>
-    requires right_limit { (T.view bench.old.right).limit ≡ (T.view bench.old.run).limit }
-    requires left_limit { (T.view bench.old.left).limit ≡ (T.view bench.old.run).limit }
-    requires ready { IsReady (on_side side right.old left.old) runner.now
-        (on_side side (T.view bench.old.right) (T.view bench.old.left)) (T.view bench.old.run) }
-    requires room { meter.old.steps + steps_of runner.now < 2 ^ 64 }
-    ensures looks { IfOk result (ComparesRecord side runner.now (T.view bench.old.run) right.old left.old
-        (T.view bench.old.right) (T.view bench.old.left) right.new left.new
-        (T.view bench.new.right) (T.view bench.new.left)) }
-    ensures numbers { IfOk result (λ found. IfSome found HasNumbers) }
-    ensures run { bench.new.run ≡ bench.old.run }
-    ensures path { bench.new.path ≡ bench.old.path }
-    ensures right_limit { (T.view bench.new.right).limit ≡ (T.view bench.old.right).limit }
-    ensures left_limit { (T.view bench.new.left).limit ≡ (T.view bench.old.left).limit }
-    ensures memory { OnErr result (IsTrue T.GROWS) }
-    ensures uncounted { IfOk result (λ found. meter.new ≡ meter.old) }
-    ensures cut { OnErr result (TakesOver runner.now meter.old meter.new) }
-{
-    compare_record(
-        side,
-        right,
-        left,
-        runner,
-        &bench.run,
-        &mut bench.right,
-        &mut bench.left,
-        meter,
-    )
-}
-
 /// Continues a single-pass run on the tapes of a bench, in blocks where that is possible.
 #[inline(never)]
 fn continue_single_pass<T: Tape, K: FingerprintKeys>(
@@ -409,14 +369,23 @@ fn run_single_pass_inline<T: Tape, K: FingerprintKeys>(
                 left,
                 fingerprints,
             };
-            let pass = after_block(machine, &packed, limits, keys, here, &mut bench.run, from);
+            let pass = pass_block(machine, &packed, limits, keys, here, &mut bench.run, from);
             runner = pass.runner;
             right = of_side(pass.right, Side::R);
             left = of_side(pass.left, Side::L);
             fingerprints = pass.fingerprints;
             continue;
         };
-        match compare_on_bench(side, &mut right, &mut left, &runner, bench, meter)? {
+        match compare_record(
+            side,
+            &mut right,
+            &mut left,
+            &runner,
+            &bench.run,
+            &mut bench.right,
+            &mut bench.left,
+            meter,
+        )? {
             Some(verdict) => {
                 count_run(meter, runner);
                 return Ok(Some(SearchResult::Found(verdict)));

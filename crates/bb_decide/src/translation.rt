@@ -50,7 +50,8 @@ pub fn translated<T: Tape>(
     Ok(search_result.found())
 }
 
-/// The same, with the outcome of the run if there is no such record.
+/// The same, with the outcome of the run if there is no such record. The limits are a local of the loop, and
+/// stay in registers; the runner counts its steps and cells, and the meter adds them at the end of the run.
 #[inline(never)]
 pub(crate) fn seek_translation<T: Tape>(
     machine: &Machine,
@@ -64,30 +65,13 @@ pub(crate) fn seek_translation<T: Tape>(
         bench.old bench.new meter.old meter.new result }
 {
     let limits = *limits;
-    run_to_records(machine, &limits, bench, meter)
-}
-
-/// The body of `seek_translation`, inlined there: the limits are its local and stay in registers. The runner
-/// counts its steps and cells, and the meter adds them at the end of the run.
-#[inline(always)]
-fn run_to_records<T: Tape>(
-    machine: &Machine,
-    limits: &Limits,
-    bench: &mut Bench<T>,
-    meter: &mut Meter,
-) -> Result<SearchResult, Memory>
-    requires tapes { BenchHasCells T.view limits.now.cells bench.old }
-    requires room { meter.old.steps ≤ 2 * limits.now.steps }
-    ensures { Seeks (FindsTranslation machine.now limits.now) T.GROWS T.view machine.now limits.now
-        bench.old bench.new meter.old meter.new result }
-{
     limits.show_accepted();
     let mut runner = Runner::start(machine, &mut bench.run);
     let mut right = Records::new(Side::R, runner);
     let mut left = Records::new(Side::L, runner);
     loop {
         let cells = runner.cells();
-        let Ok(moved) = step_on(machine, &mut runner, &mut bench.run, limits, meter) else {
+        let Ok(moved) = step_on(machine, &mut runner, &mut bench.run, &limits, meter) else {
             return Err(Memory);
         };
         match moved {

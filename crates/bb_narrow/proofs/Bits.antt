@@ -1,17 +1,16 @@
 -- The cells that a number's bits tell, and what a write, a test and a count do to them.
 use Rattle.std.proofs.Common.{◌≡◌, ◌≢◌, ℕ, zero, suc, ◌+◌, ◌-◌, ◌*◌, ◌/◌, ◌%◌, ◌^◌, ◌<◌, ◌≤◌, min, ℤ, pos}
-use Rattle.std.proofs.Common.{negsuc, neg_ℤ, ◌+ℤ◌, ◌-ℤ◌, ap, sym, ◌∙◌, arith, inl, inr, w64}
-use Rattle.std.proofs.Common.{bit_and, bit_or}
+use Rattle.std.proofs.Common.{negsuc, neg_ℤ, ◌+ℤ◌, ◌-ℤ◌, ap, sym, ◌∙◌, arith, inl, inr}
+use Rattle.std.proofs.Common.{bit_and}
 use Rattle.std.specs.Int.{bit_at}
 use Rattle.std.proofs.Math.Nat.{div-div-eq-div-mul}
-use Rattle.std.specs.Int.Bits.{or_zero_r}
 use Rattle.std.specs.Int.Count.{ones}
 use Rattle.std.proofs.lemmas.Int.{ints, by_lt_z}
 use Rattle.std.proofs.lemmas.Bool.{cases_lt, cases_eq}
 use Rattle.std.proofs.lemmas.Nat.{pow_pos, pow-add, mod-pow-add, ones_cat}
 use Rattle.std.proofs.lemmas.Nat.Bits.{bit_at-lt, bit_at-zero, bit_at_and, bit_at_ones}
-use Rattle.std.proofs.lemmas.Nat.Bits.{bit_at_ones_above, bit_at_set_same, bit_at_set_other}
-use Rattle.std.proofs.lemmas.Nat.Bits.{bit_at_clear_same, bit_at_clear_other, same_from_bits}
+use Rattle.std.proofs.lemmas.Nat.Bits.{bit_at_ones_above}
+use Rattle.std.proofs.lemmas.Nat.Bits.{same_from_bits}
 use Rattle.std.proofs.lemmas.Nat.Bits.{same_from_bits_below, ones_shr}
 use Rattle.bb_tape.specs.Content.{Content, blank, cell, with_cell, score}
 use Rattle.bb_tape.specs.TapeView.{AgreesFrom}
@@ -102,27 +101,6 @@ bits_changed n m at v p h e is others =
     (λ q far.
     cell-with_cell-other (bits_content n) p v q (λ s. far (omega (arith, ints, s, e, h), omega (arith, ints, s, e, h)))
     ∙ cell-outside_word n q far)
-
--- the number after a write
-abbrev pub put : ℕ → ℕ → ℕ → ℕ
-put n at v = bit_or (bit_and n (2 ^ 64 - 1 - 1 * 2 ^ at % 2 ^ 64)) (v * 2 ^ at % 2 ^ 64)
-
-pub bits_written : (n at v : ℕ) (p : ℤ) → at < 64 → pos at ≡ p +ℤ pos 32 → v < 2
-    → bits_content (put n at v) ≡ with_cell (bits_content n) p v
-bits_written n at zero p h e small =
-    let cleared = bit_and n (2 ^ 64 - 1 - 1 * 2 ^ at % 2 ^ 64) in
-    let none : 0 * 2 ^ at % 2 ^ 64 ≡ 0 = omega arith in
-    let is : put n at 0 ≡ cleared = ap (bit_or cleared) none ∙ or_zero_r cleared in
-    bits_changed n (put n at 0) at 0 p h e
-    (ap (λ m. bit_at m at) is ∙ bit_at_clear_same w64 n at h)
-    (λ i low apart. ap (λ m. bit_at m i) is ∙ bit_at_clear_other w64 n at h i low apart)
-bits_written n at (suc zero) p h e small =
-    bits_changed n (put n at 1) at 1 p h e
-    (bit_at_set_same w64 (bit_and n (2 ^ 64 - 1 - 1 * 2 ^ at % 2 ^ 64)) at h)
-    (λ i low apart.
-    bit_at_set_other w64 (bit_and n (2 ^ 64 - 1 - 1 * 2 ^ at % 2 ^ 64)) at h i apart
-    ∙ bit_at_clear_other w64 n at h i low apart)
-bits_written n at (suc (suc v)) p h e small = absurd (omega arith)
 
 -- ---- the score
 ones_bit : (b : ℕ) → b < 2 → ones b ≡ min 1 b

@@ -1,6 +1,8 @@
 -- A step of a run inside a block, over a runner and a view that are in the proof alone.
 use Rattle.std.proofs.Common.{◌≡◌, ◌≢◌, ℕ, ◌+◌, ◌*◌, ◌%◌, ◌^◌, ◌<◌, ◌≤◌, inl, inr}
-use Rattle.std.proofs.Common.{ℤ, pos, ◌+ℤ◌, ◌-ℤ◌, ◌≤ℤ◌, refl, ap, sym, ◌∙◌, arith, negsuc, FitsSigned, w64}
+use Rattle.std.proofs.Common.{ℤ, pos, ◌+ℤ◌, ◌-ℤ◌, ◌≤ℤ◌, refl, ap, sym, subst, ◌∙◌, arith, negsuc, FitsSigned, w64}
+use Rattle.std.proofs.Common.{bit_and}
+use Rattle.std.specs.Int.Bits.{and_zero_r}
 use Rattle.std.specs.Prelude.{unsigned_abs}
 use Rattle.std.specs.Int.{bit_at, int_max, int_min}
 use Rattle.std.proofs.lemmas.Int.{ints, by_lt_z}
@@ -24,16 +26,18 @@ use Rattle.bb_sim.specs.Configuration.{beside}
 use Rattle.bb_sim.specs.declared.meter.Meter.{Meter}
 use Rattle.bb_sim.specs.Runner.{Moves, Reaches, Stands, high_of, low_of, position_of, state_of, steps_of}
 use Rattle.bb_sim.proofs.Facts.{cells_between-is, counts_next, inside_fits, max-same, min-same}
+use Rattle.bb_narrow.specs.declared.blocks.Barrier.{Barrier}
 use Rattle.bb_narrow.specs.declared.blocks.BlockRun.{BlockRun}
+use Rattle.bb_narrow.specs.declared.run.NarrowRun.{NarrowRun}
 use Rattle.bb_narrow.specs.declared.registers.Registers.{Registers}
 use Rattle.bb_narrow.specs.declared.table.NarrowTable.{NarrowTable}
-use Rattle.bb_narrow.specs.Blocks.{GoesOn, IsBlockOf, IsBlockRun}
+use Rattle.bb_narrow.specs.Blocks.{GoesOn, IsBlockOf, IsBlockRun, StepsBefore}
 use Rattle.bb_narrow.specs.Packed.{IsPackedEntry, IsTableOf}
-use Rattle.bb_narrow.specs.Registers.{StepsTo, flipped_bits}
+use Rattle.bb_narrow.specs.Registers.{ContinuesTo, IsNarrowRun, StepsTo, flipped_bits}
 use Rattle.bb_narrow.proofs.Bits.{at_bit}
 use Rattle.bb_narrow.proofs.Entries.{GoesTo, MovesTo, applies, flipped_other, flipped_same, goes_in, goes_to, packed_entry}
 use Rattle.bb_narrow.proofs.Entries.{symbol_at}
-use Rattle.bb_narrow.proofs.Moving.{CanStep, moved_on, next, sound_after, there, view_next}
+use Rattle.bb_narrow.proofs.Moving.{CanStep, goes_on_inside, moved_on, next, sound_after, there, view_next}
 use Rattle.bb_narrow.proofs.TapeBits.{same_views}
 
 -- a move between two places, wherever the block begins
@@ -164,6 +168,35 @@ module _ {table : Table} {bounds : Bounds} {from : ℤ} {tape : TapeView} {run :
       rw is (puts.here k within ∙ sym (known.bits k within)))
       (λ past. puts.there p (inr past) ∙ sym (known.rest p (inr past))))))
       (puts.low ∙ sym known.low) (puts.high ∙ sym known.high) (puts.limit ∙ sym known.limit)
+
+-- a step before a barrier, of a run inside a block
+pub steps_in_block : {table : Table} {bounds : Bounds} {from : ℤ} {tape : TapeView} {packed : NarrowTable}
+    {barrier : Barrier} {old new : BlockRun} → IsMachine table → IsTableOf table packed
+    → IsBlockRun table bounds from tape old → StepsBefore packed barrier old new → barrier.to ≤ bounds.steps
+    → IsBlockRun table bounds from tape new
+steps_in_block {table} {bounds} {from} {tape} {barrier = barrier} {new = new} machine is_table known step few =
+    subst (λ n. IsBlockRun table bounds from tape (record { registers = new.registers; steps = n })) (sym step.steps)
+    (next_in_block known machine is_table step.by step.on
+    (λ none. step.inside (ap (bit_and barrier.window) none ∙ and_zero_r barrier.window))
+    (λ e. omega (arith, e, step.before, few)))
+
+-- a run in registers, as one in the block of its 64 cells, and after steps there
+abbrev pub block_of : NarrowRun → BlockRun
+block_of run = record { registers = run.registers; steps = run.steps }
+
+abbrev pub with_block : NarrowRun → BlockRun → NarrowRun
+with_block run block = record run { registers = block.registers; steps = block.steps }
+
+-- a step before a barrier, of a run in registers whose window is the barrier's
+pub steps_in_window : {table : Table} {bounds : Bounds} {packed : NarrowTable} {barrier : Barrier} {run : NarrowRun}
+    {new : BlockRun} → IsMachine table → IsTableOf table packed → (known : IsNarrowRun table bounds run)
+    → StepsBefore packed barrier (block_of run) new → barrier.window ≡ run.window → barrier.to ≤ bounds.steps
+    → ContinuesTo known (with_block run new)
+steps_in_window {run = run} {new = new} machine is_table known step window few =
+    subst (λ n. ContinuesTo known (with_block run (record { registers = new.registers; steps = n }))) (sym step.steps)
+    (goes_on_inside machine is_table known step.by step.on
+    (λ none. step.inside (ap (λ w. bit_and w new.registers.head) window ∙ none))
+    (λ e. omega (arith, e, step.before, few)))
 
 -- the high end of a window told by its low end and its cells
 pub high_kept : (low high from : ℤ) (n : ℕ) → from ≡ low → n ≡ cells_between low high → low ≤ℤ high

@@ -6,7 +6,6 @@ pub mod Entries
 pub mod Moving
 pub mod Counts
 pub mod Ending
-pub mod Inside
 pub mod TapeBits
 pub mod Starting
 pub mod Word

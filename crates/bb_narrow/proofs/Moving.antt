@@ -43,7 +43,7 @@ use Rattle.bb_narrow.specs.Packed.{IsTableOf, right_bit}
 use Rattle.bb_narrow.specs.Registers.{ContinuesTo, IsNarrowRun, MatchesRunner, MatchesWindow, StaysInWord, StepsTo}
 use Rattle.bb_narrow.specs.Registers.{flipped_bits}
 use Rattle.bb_narrow.proofs.Bits.{at_bit}
-use Rattle.bb_narrow.proofs.OneBit.{bit_clear, bit_set, or_set}
+use Rattle.bb_narrow.proofs.OneBit.{bit_clear, bit_set}
 use Rattle.bb_narrow.proofs.Entries.{GoesTo, MovesTo, applies, content_written, entry_known, goes_beyond, goes_in, goes_to}
 use Rattle.bb_narrow.proofs.Entries.{symbol_at}
 
@@ -311,9 +311,6 @@ module _ {table : Table} {bounds : Bounds} {run : NarrowRun} (machine : IsMachin
 
     inside : IsInside view there_now
     inside = rw (there_is head_some) ((known.window_is.bits (to_place head_some).to (to_place head_some).within).0 set)
-
-    pub window_again : bit_or run.window head ≡ run.window
-    window_again = ap (bit_or run.window) (to_place head_some).is ∙ or_set run.window (to_place head_some).to set
 
     pub goes_on_inside : run.steps ≢ bounds.steps → ContinuesTo known (after run next_registers run.window run.room)
     goes_on_inside apart =

@@ -1,5 +1,6 @@
 -- A run inside a block of 64 cells of a tape, kept in registers: this project's own.
-use Rattle.std.specs.Prelude.{◌≡◌, ◌*◌, ◌%◌, ◌^◌, ◌<◌, ◌≤◌, ℕ, ℤ, pos, ◌+ℤ◌, ◌≤ℤ◌, ◌<ℤ◌, ◌⊎◌}
+use Rattle.std.specs.Prelude.{◌≡◌, ◌≢◌, ◌+◌, ◌*◌, ◌%◌, ◌^◌, ◌<◌, ◌≤◌, ℕ, ℤ, pos, ◌+ℤ◌, ◌≤ℤ◌, ◌<ℤ◌, ◌⊎◌}
+use Rattle.std.specs.Prelude.{bit_and}
 use Rattle.std.specs.Int.{bit_at}
 use Rattle.bb_machine.specs.declared.entry.Next.TheVariants as next
 use Rattle.bb_machine.specs.Limits.{Bounds}
@@ -11,7 +12,10 @@ use Rattle.bb_sim.specs.declared.meter.Meter.{Meter}
 use Rattle.bb_sim.specs.declared.runner.Runner.{Runner}
 use Rattle.bb_sim.specs.Meter.{CountsTo}
 use Rattle.bb_sim.specs.Runner.{Stands, high_of, low_of, position_of, state_of, steps_of}
+use Rattle.bb_narrow.specs.declared.blocks.Barrier.{Barrier}
 use Rattle.bb_narrow.specs.declared.blocks.BlockRun.{BlockRun}
+use Rattle.bb_narrow.specs.declared.table.NarrowTable.{NarrowTable}
+use Rattle.bb_narrow.specs.Registers.{StepsTo}
 
 -- the 64 positions from one on are in a runner's window, on one side of 0, and the head is among them
 pub record IsBlockOf (runner : Runner) (from : ℤ) : Type 0 where
@@ -55,3 +59,13 @@ pub record GoesOn (table : Table) (bounds : Bounds) (old new : Runner) (view_old
   pub more : steps_of old ≤ steps_of new
   pub counts : (begun : Meter) → CountsTo table (steps_of old) begun meter_old
       → CountsTo table (steps_of new) begun meter_new
+
+-- a step by a table to a state, that keeps before a barrier: it isn't past its last step, goes to a cell of
+-- its window, and doesn't come to its head in its state
+pub record StepsBefore (packed : NarrowTable) (barrier : Barrier) (old new : BlockRun) : Type 0 where
+  pub by : StepsTo packed old.registers new.registers
+  pub on : bit_at new.registers.entry 8 ≡ 1 → ⊥
+  pub before : old.steps < barrier.to
+  pub inside : bit_and barrier.window new.registers.head ≢ 0
+  pub apart : new.registers.head ≡ barrier.head → new.registers.entry % 64 ≡ barrier.entry → ⊥
+  pub steps : new.steps ≡ old.steps + 1

@@ -113,11 +113,6 @@ pub record EndsWith {table : Table} {bounds : Bounds} {run : NarrowRun} (known :
   pub made : last_step run outcome ≡ steps_of runner
   pub cells : span table (steps_of runner) + run.room ≡ bounds.cells
 
--- the run doesn't end where it is
-abbrev pub HasNoEnd : Table → Bounds → NarrowRun → Type 0
-HasNoEnd table bounds run =
-    (known : IsNarrowRun table bounds run) → (outcome : Outcome) → EndsWith known outcome → ⊥
-
 -- the run is at the next configuration, not in Z, by a step inside
 pub record ContinuesTo {table : Table} {bounds : Bounds} {run : NarrowRun}
     (known : IsNarrowRun table bounds run) (new : NarrowRun) : Type 0 where

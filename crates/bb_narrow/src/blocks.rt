@@ -1,6 +1,6 @@
 //! A run on a tape, made in registers while it stays within a block of 64 cells.
 ghost use Rattle.std.specs.Prelude.{◌≡◌, ◌+◌, ◌<◌, ◌≤◌, ◌%◌, ◌^◌, ◌↔◌, ℤ, neg_ℤ, pos, ◌+ℤ◌, ◌≤ℤ◌, ◌<ℤ◌, false};
-ghost use Rattle.std.specs.Prelude.{IfOk, IfSome, IsTrue, OnErr, OnOk, length};
+ghost use Rattle.std.specs.Prelude.{IfOk, IfSome, IsTrue, MatchBool, OnErr, OnOk, length};
 ghost use Rattle.bb_machine.specs.Machine.{symbols_of};
 ghost use Rattle.bb_tape.specs.declared.tape.TheConstants.{MAX_CELLS};
 ghost use Rattle.bb_tape.specs.TapeView.{TapeView};
@@ -8,7 +8,7 @@ ghost use Rattle.bb_sim.specs.declared.meter.Meter.{Meter};
 ghost use Rattle.bb_sim.specs.Meter.{CountsPart, CountsRun, CountsTo, IsWithinRun};
 ghost use Rattle.bb_sim.specs.Outcome.{IsOutcome};
 ghost use Rattle.bb_sim.specs.Runner.{Stands, high_of, low_of, position_of, state_of, steps_of};
-ghost use Rattle.bb_narrow.specs.Blocks.{GoesOn, IsBlockOf, IsBlockRun};
+ghost use Rattle.bb_narrow.specs.Blocks.{GoesOn, IsBlockOf, IsBlockRun, StepsBefore};
 ghost use Rattle.bb_narrow.specs.Packed.{IsTableOf};
 
 use crate::handover::lowest_position;
@@ -34,39 +34,35 @@ pub struct BlockRun {
     pub steps: u64,
 }
 
+/// Where steps in registers end at the latest.
+#[derive(Clone, Copy, Debug)]
+pub struct Barrier {
+    /// The last step that may be made.
+    pub to: u64,
+    /// The cells that the head may go to.
+    pub window: u64,
+    /// The bit of a head that may not come in the state of `entry`; 0 for none.
+    pub head: u64,
+    /// Nine times that state.
+    pub entry: u64,
+}
+
 impl BlockRun {
-    /// Makes the next step, if there is one inside the block, at most to this step, and not to this head in
-    /// the state of this entry. False if not.
+    /// Makes the next step, if it goes to a state and keeps before the barrier. False if not.
     #[inline(always)]
-    pub fn advance_apart(
-        &mut self,
-        machine: &Machine,
-        table: &NarrowTable,
-        limits: &Limits,
-        to: u64,
-        head: u64,
-        entry: u64,
-    ) -> bool
-        requires symbols { symbols_of machine.now ≡ 2 }
-        requires table { IsTableOf machine.now table.now }
-        requires few { to ≤ limits.now.steps }
-        ensures run { (from : ℤ) (tape : TapeView) → IsBlockRun machine.now limits.now from tape self.old
-            → IsBlockRun machine.now limits.now from tape self.new }
-        ensures stays { result ≡ false → self.new ≡ self.old }
-        ensures before { IsTrue result → self.old.steps < to }
-        ensures stepped { IsTrue result → self.new.steps ≡ self.old.steps + 1 }
-        ensures apart { IsTrue result → self.new.registers.head ≡ head
-            → self.new.registers.entry % 64 ≡ entry → ⊥ }
+    pub fn advance(&mut self, table: &NarrowTable, barrier: &Barrier) -> bool
+        ensures { MatchBool result (StepsBefore table.now barrier.now self.old self.new)
+            ((self.new ≡ self.old)
+            × ((next : BlockRun) → StepsBefore table.now barrier.now self.old next → ⊥)) }
     {
-        machine.show_machine();
-        if self.steps >= to {
+        if self.steps >= barrier.to {
             return false;
         }
         let next = self.registers.next(table);
-        if stops(next.entry) || next.head == 0 {
+        if stops(next.entry) || (barrier.window & next.head) == 0 {
             return false;
         }
-        if next.head == head && next.entry & 63 == entry {
+        if next.head == barrier.head && next.entry & 63 == barrier.entry {
             return false;
         }
         *self = BlockRun {
@@ -199,9 +195,16 @@ fn run_block<T: Tape>(
     let table = *table;
     let limits = *limits;
     let start = BlockRun::take(machine, &limits, runner, state, tape, from);
+    machine.show_machine();
     let mut run = start;
     // No step has the head 0, so none is refused for it.
-    while run.advance_apart(machine, &table, &limits, limits.steps(), 0, 0) {}
+    let barrier = Barrier {
+        to: limits.steps(),
+        window: u64::MAX,
+        head: 0,
+        entry: 0,
+    };
+    while run.advance(&table, &barrier) {}
     run.put(machine, &limits, runner, tape, from);
     meter.steps += run.steps - start.steps;
 }

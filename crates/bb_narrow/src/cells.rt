@@ -20,40 +20,12 @@ fn place(p: i64) -> u32
 }
 
 impl BitCells {
-    /// All cells 0.
-    #[inline(always)]
-    pub fn new() -> BitCells
-        ensures { content_of result ≡ blank }
-    {
-        BitCells { bits: 0 }
-    }
-
     /// The cells that the bits of a number stand for.
     #[inline(always)]
     pub fn of_bits(bits: u64) -> BitCells
         ensures { content_of result ≡ bits_content bits }
     {
         BitCells { bits }
-    }
-
-    /// The symbol of a cell.
-    #[inline(always)]
-    pub fn read(&self, p: i64) -> u8
-        requires { IsInWord p }
-        ensures { result ≡ cell (content_of self.now) p }
-    {
-        ((self.bits >> place(p)) & 1) as u8
-    }
-
-    /// Puts a symbol into a cell.
-    #[inline(always)]
-    pub fn write(&mut self, p: i64, v: u8)
-        requires near { IsInWord p }
-        requires symbol { v < 2 }
-        ensures { content_of self.new ≡ with_cell (content_of self.old) p v }
-    {
-        let at = place(p);
-        self.bits = (self.bits & !(1u64 << at)) | (u64::from(v) << at);
     }
 
     /// Whether `len` cells from `from` on have the symbols of those of other cells from `other_from` on.
@@ -67,21 +39,5 @@ impl BitCells {
     {
         let mask = u64::MAX >> (64 - len);
         (self.bits >> place(from)) & mask == (other.bits >> place(other_from)) & mask
-    }
-
-    /// Whether all cells are the same.
-    #[inline(always)]
-    pub fn same(&self, other: &BitCells) -> bool
-        ensures { IsTrue result ↔ (content_of self.now ≡ content_of other.now) }
-    {
-        self.bits == other.bits
-    }
-
-    /// How many cells aren't 0.
-    #[inline(always)]
-    pub fn score(&self) -> u64
-        ensures { result ≡ score (content_of self.now) }
-    {
-        u64::from(self.bits.count_ones())
     }
 }

@@ -10,7 +10,7 @@ pub mod run;
 pub mod simulation;
 pub mod table;
 
-pub use blocks::BlockRun;
+pub use blocks::{Barrier, BlockRun};
 pub use cells::BitCells;
 pub use registers::Registers;
 pub use run::{NarrowMoved, NarrowRun};

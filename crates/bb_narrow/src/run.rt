@@ -5,7 +5,7 @@ ghost use Rattle.std.specs.Int.{bit_at};
 ghost use Rattle.bb_machine.specs.Machine.{symbols_of};
 ghost use Rattle.bb_narrow.specs.Packed.{IsTableOf};
 ghost use Rattle.bb_narrow.specs.Registers.{AdvancesNarrow, EndsWith, IsNarrowRun, IsNextEntry, IsSameConfiguration};
-ghost use Rattle.bb_narrow.specs.Registers.{HasNoEnd, last_step};
+ghost use Rattle.bb_narrow.specs.Registers.{last_step};
 ghost use Rattle.bb_narrow.specs.declared.run.NarrowMoved.TheVariants.{Outside, Stepped};
 
 use crate::registers::{Registers, halts, stops};
@@ -89,70 +89,6 @@ impl NarrowRun {
         self.registers = next;
         self.steps += 1;
         NarrowMoved::Stepped
-    }
-
-    /// Makes the next step if it goes to a state and stays in the window. Else the run stays as it is.
-    #[inline(always)]
-    pub fn advance_in_window(
-        &mut self,
-        machine: &Machine,
-        table: &NarrowTable,
-        limits: &Limits,
-    ) -> bool
-        requires symbols { symbols_of machine.now ≡ 2 }
-        requires table { IsTableOf machine.now table.now }
-        requires run { IsNarrowRun machine.now limits.now self.old }
-        requires more { self.old.steps < limits.now.steps }
-        ensures { MatchBool result (AdvancesNarrow machine.now limits.now self.old self.new Stepped
-            × (self.new.window ≡ self.old.window)) (self.new ≡ self.old) }
-    {
-        machine.show_machine();
-        limits.show_accepted();
-        let next = self.registers.next(table);
-        if stops(next.entry) || (self.window & next.head) == 0 {
-            return false;
-        }
-        self.registers = next;
-        self.steps += 1;
-        true
-    }
-
-    /// Makes the next step of a run not at its end. False if the step would leave the 64 cells; it isn't made
-    /// then. There is no branch by the window, as the next cell is often new.
-    #[inline(always)]
-    pub fn advance_inside(
-        &mut self,
-        machine: &Machine,
-        table: &NarrowTable,
-        limits: &Limits,
-    ) -> bool
-        requires symbols { symbols_of machine.now ≡ 2 }
-        requires table { IsTableOf machine.now table.now }
-        requires run { IsNarrowRun machine.now limits.now self.old }
-        requires goes_on { HasNoEnd machine.now limits.now self.old }
-        ensures { MatchBool result (AdvancesNarrow machine.now limits.now self.old self.new Stepped)
-            (AdvancesNarrow machine.now limits.now self.old self.new Outside) }
-    {
-        machine.show_machine();
-        limits.show_accepted();
-        let next = self.registers.next(table);
-        if next.head == 0 {
-            return false;
-        }
-        self.room -= self.new_cells(next.head);
-        self.window |= next.head;
-        self.registers = next;
-        self.steps += 1;
-        true
-    }
-
-    /// How many cells the window has more with this one.
-    #[inline(always)]
-    fn new_cells(&self, head: u64) -> u64
-        ensures new { bit_and self.now.window head ≡ 0 → result ≡ 1 }
-        ensures visited { bit_and self.now.window head ≢ 0 → result ≡ 0 }
-    {
-        u64::from(self.window & head == 0)
     }
 
     /// Whether state, position and cells are those of another run.

@@ -11,7 +11,7 @@ use Rattle.bb_cert.specs.declared.verdict.Verdict.{Verdict}
 use Rattle.bb_cert.specs.declared.verdict.Verdict.TheVariants.{Halt, Cycler, Translated, Backward, Undecided}
 use Rattle.bb_cert.specs.checker.Answer.{IsAnswer, NamesTooMuch, NeedsTooMuch, Rule, answer_by, claim_holds, rank}
 use Rattle.bb_cert.specs.checker.Answer.{too_much_named, too_much_needed}
-use Rattle.bb_cert.specs.checker.ClaimMeter.{CountsClaim}
+use Rattle.bb_cert.specs.checker.ClaimMeter.{CountsClaim, IsOfPair, last_step}
 use Rattle.bb_cert.specs.claims.Claim.{Claim}
 use Rattle.laws_of_repetition.specs.Repetition.{CyclersRepeat, Repeats, TranslatedCyclersRepeat}
 use Rattle.bb_repetition.specs.Finding.{NamesPair}
@@ -71,6 +71,15 @@ confirmed cyclers translated table bounds (Translated side a b extent) first sec
     (record { here = claim.0.agree.second; exists = claim.0.agree.at_second })
     (few_of bounds.steps b (λ many. not_named table bounds (Translated side a b extent) ok (inr many)))
     (few_of bounds.cells _ (not_needed table bounds (Translated side a b extent) ok))))
+
+-- the last step of a pair is its second one
+pub named_pair : (verdict : Verdict) (first second : ℕ) → NamesPair verdict first second
+    → IsOfPair verdict × (last_step verdict ≡ second)
+named_pair (Cycler a b) first second names = (tt, names.1)
+named_pair (Translated side a b extent) first second names = (tt, names.1)
+named_pair (Halt steps score) first second names = absurd names
+named_pair (Backward levels nodes) first second names = absurd names
+named_pair (Undecided why) first second names = absurd names
 
 -- a confirmed pair counts its second step, and no tree
 pub record CountsSecond (second : ℕ) (meter : Meter) : Type 0 where

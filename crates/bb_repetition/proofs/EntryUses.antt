@@ -73,13 +73,6 @@ module _ (table : Table) (after : List ℕ) (n p r q s : ℕ) (x : Transition) (
         (not_used_here table (of_entry q s) n _ x at (apart other) seen)
   ]
 
--- a step in Z uses no entry
-pub not_recorded : (table : Table) (n after q s : ℕ) (x : Transition) → transition_at table n ≡ Some x
-    → (x.state ≡ State q → ⊥) → IsSeenUse table (of_entry q s) n after
-    → IsSeenUse table (of_entry q s) (n + 1) after
-not_recorded table n after q s x at other seen =
-    not_used_here table (of_entry q s) n after x at (λ is. other (ap (λ (t : Transition). t.state) is)) seen
-
 -- ---- the states and symbols of a run
 
 named_transition : (table : Table) → IsMachine table → (m : ℕ) (t : Transition) (found : Option Configuration)

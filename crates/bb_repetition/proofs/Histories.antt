@@ -10,15 +10,11 @@ use Rattle.std.proofs.Math.Nat.{mul_assoc, mul_comm}
 use Rattle.bb_machine.specs.declared.entry.Next.{Next}
 use Rattle.bb_machine.specs.declared.entry.Next.TheVariants.{State}
 use Rattle.bb_machine.specs.declared.machine.TheConstants.{MAX_SYMBOLS}
-use Rattle.bb_machine.specs.Limits.{Bounds}
 use Rattle.bb_machine.specs.Machine.{Table}
-use Rattle.bb_tape.specs.TapeView.{TapeView}
-use Rattle.bb_sim.specs.declared.runner.Runner.{Runner}
 use Rattle.laws_of_repetition.specs.Repetition.{IsMultipleOf, Repeats, Transition, transition_at}
 use Rattle.laws_of_repetition.specs.Seen.{Differs, IsSeenStart}
-use Rattle.bb_repetition.specs.declared.recurrence.Tapes.{Tapes}
-use Rattle.bb_repetition.specs.History.{IsRecorded, KeepsRun, UsesEntry, UsesPlace}
-use Rattle.bb_repetition.specs.Lockstep.{IsAt, TellsRepeats}
+use Rattle.bb_repetition.specs.History.{UsesEntry, UsesPlace}
+use Rattle.bb_repetition.specs.Lockstep.{TellsRepeats}
 use Rattle.bb_repetition.specs.Period.{IsLeastFrom, TellsPart}
 use Rattle.bb_repetition.proofs.Divisors.{divides_product, half_at_most, quotient_of, some_quotient}
 use Rattle.bb_repetition.proofs.EntryUses.{same_state, same_symbol}
@@ -69,17 +65,6 @@ pub uses_place : (table : Table) (n q s place : ℕ) → UsesEntry table n q s �
     → place ≡ MAX_SYMBOLS * q + s → UsesPlace table n place
 uses_place table n q s place at few is =
     record { state = q; symbol = s; inside = few; is_place = is; at = at }
-
--- ---- what is kept of a run
-
-pub kept_on : {T : Type 0} (view : T → TapeView) (table : Table) (bounds : Bounds) (first second : ℕ)
-    (saved : Runner) (old new : Tapes T) → view new.pair.saved ≡ view old.pair.saved
-    → new.history ≡ old.history → KeepsRun view table bounds first second saved old
-    → KeepsRun view table bounds first second saved new
-kept_on view table bounds first second saved old new same same_too kept = record {
-  short = λ few. subst (IsRecorded table second) (sym same_too) (kept.short few);
-  long = λ many. subst (IsAt table bounds first saved) (sym same) (kept.long many);
-}
 
 -- ---- one step more
 

@@ -4,12 +4,13 @@ mod Divisors
 mod EntryUses
 mod GoingOn
 mod Histories
-mod InRegisters
+mod Moves
 mod Quasihalts
 mod Quotients
 mod RecurrenceLaws
 mod RecurrenceReplies
 mod RecurrenceSummaries
+mod Reading
 mod ReplyLengths
 mod Reductions
 mod SeenStarts

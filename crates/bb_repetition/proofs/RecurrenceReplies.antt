@@ -1,5 +1,6 @@
 -- Replies to lines, from results for verdicts, and the cost of a result.
-use Rattle.std.proofs.Common.{◌≡◌, ℕ, ◌+◌, ◌-◌, ◌*◌, ◌<◌, ◌≤◌, ◌^◌, Bool, List, inl, inr, refl, ap, sym, ◌∙◌, arith}
+use Rattle.std.proofs.Common.{◌≡◌, ℕ, ◌-◌, ◌*◌, ◌<◌, ◌≤◌, ◌^◌, Bool, List, inl, inr, refl, ap, sym, ◌∙◌, arith}
+use Rattle.std.proofs.lemmas.Bool.{cases_lt}
 use Rattle.std.proofs.Math.Nat.{mul-le-mul_right, one-le-pow}
 use Rattle.bb_machine.specs.Limits.{Bounds, IsAccepted}
 use Rattle.bb_machine.specs.Machine.{Table}
@@ -14,10 +15,11 @@ use Rattle.bb_repetition.specs.declared.uses.LastUses.{LastUses}
 use Rattle.bb_repetition.specs.declared.verdict.Finding.{Finding}
 use Rattle.bb_repetition.specs.declared.verdict.Finding.TheVariants.{Answered, NoPair, Recurs}
 use Rattle.bb_repetition.specs.Finding.{CountsFinding, IsFinding, NamesPair}
+use Rattle.bb_repetition.specs.Recurrence.{CountsLong}
 use Rattle.bb_repetition.specs.RecurrenceReply.{IsRecurrenceReply}
 use Rattle.bb_repetition.specs.Writing.{IsFindingText, IsKnown}
 use Rattle.bb_repetition.proofs.ConfirmedPairs.{few_of, not_named}
-use Rattle.bb_repetition.proofs.Counting.{recurrence_few}
+use Rattle.bb_repetition.proofs.Counting.{long_few}
 use Rattle.bb_repetition.proofs.Reductions.{few_primes}
 
 -- a result has all that is written
@@ -119,17 +121,26 @@ few_cells table bounds verdict width (inl window) =
     omega (arith, is, few)
 few_cells table bounds verdict width (inr none) = omega (arith, none.1)
 
-all_steps : (steps first second period primes limit : ℕ) → second ≤ limit → period ≤ second → limit ≤ 10 ^ 12
-    → 2 ^ primes ≤ second - first
-    → steps ≤ second + (first + second) + period + primes * (4 * (second - first)) → steps ≤ 160 * limit
-all_steps steps first second period primes limit within whole accepted some few =
-    let fewer = few_primes primes (second - first) 1 (omega arith) (omega (arith, some))
+long_steps : (steps first second period limit : ℕ) → second ≤ limit → period ≤ second → limit ≤ 10 ^ 12
+    → CountsLong first second period second steps → steps ≤ 160 * limit
+long_steps steps first second period limit within whole accepted counts =
+    let few = long_few _ _ _ _ _ counts in
+    let some = counts.few_primes in
+    let fewer = few_primes counts.primes (second - first) 1 (omega arith) (omega (arith, some))
     (omega (arith, within, accepted)) in
-    let times : primes * (4 * (second - first)) ≤ 39 * (4 * (second - first)) =
+    let times : counts.primes * (4 * (second - first)) ≤ 39 * (4 * (second - first)) =
     mul-le-mul_right (4 * (second - first)) (omega (arith, fewer)) in
     let above : 0 < 2 = omega arith in
-    let one : 1 ≤ 2 ^ primes = one-le-pow primes 2 above in
+    let one : 1 ≤ 2 ^ counts.primes = one-le-pow counts.primes 2 above in
     omega (arith, few, times, whole, within, one, some)
+
+all_steps : (steps first second period limit : ℕ) → second ≤ limit → period ≤ second → limit ≤ 10 ^ 12
+    → (second ≤ 4096 → steps ≡ second) → (4096 < second → CountsLong first second period second steps)
+    → steps ≤ 160 * limit
+all_steps steps first second period limit within whole accepted recorded long = elim (cases_lt 4096 second) [
+  | inl many ↦ long_steps steps first second period limit within whole accepted (long many)
+  | inr few ↦ let is = recorded (omega (arith, few)) in omega (arith, is, within)
+]
 
 pub cheap : (table : Table) (bounds : Bounds) (verdict : Verdict) (uses : LastUses) (finding : Finding) (meter : Meter)
     → IsAccepted bounds → IsFinding table bounds verdict uses finding
@@ -138,11 +149,10 @@ cheap table bounds verdict uses (Recurs found) meter accepted is counts =
     let here = is.1 in
     let whole = here.whole in
     let same = one_second verdict _ _ _ _ here.names counts.names in
-    let few = recurrence_few _ _ _ _ _ counts.counted in
     record {
-      steps = all_steps meter.steps counts.first counts.second found.period counts.counted.primes bounds.steps
+      steps = all_steps meter.steps counts.first counts.second found.period bounds.steps
           (second_within bounds verdict _ _ counts.names (not_named table bounds verdict is.0))
-          (omega (arith, whole, same)) accepted.steps counts.counted.few_primes (omega (arith, few));
+          (omega (arith, whole, same)) accepted.steps counts.recorded counts.long;
       cells = few_cells table bounds verdict meter.most_cells counts.window;
       no_levels = counts.no_levels;
       no_nodes = counts.no_nodes;

@@ -1,5 +1,5 @@
 -- The summary of the recurrences of a list, from the effect of each line.
-use Rattle.std.proofs.Common.{◌≡◌, ℕ, ◌≤◌, ◌⊎◌, max, true, List, [], ◌∷◌, ◌++◌, refl, sym}
+use Rattle.std.proofs.Common.{◌≡◌, ℕ, ◌<◌, ◌≤◌, ◌⊎◌, max, true, List, [], ◌∷◌, ◌++◌, refl, sym}
 use Rattle.std.proofs.Common.{subst, ap, ◌∙◌, inl, inr, arith}
 use Rattle.std.specs.List.{FoldsTo}
 use Rattle.std.proofs.lemmas.Bool.{and_from, and_parts}
@@ -26,7 +26,7 @@ use Rattle.bb_repetition.specs.Finding.{CountsFinding, IsFinding, IsPair}
 use Rattle.bb_repetition.specs.RecurrenceSeen.{RecurrenceSaw, SawFinding, is_clean}
 use Rattle.bb_repetition.specs.RecurrenceSummary.{AreEnough, IsConfirmedOf, IsFine, IsFineContent, IsPairWindowOf}
 use Rattle.bb_repetition.specs.RecurrenceSummary.{IsRecurrenceSummary}
-use Rattle.bb_repetition.specs.Recurrence.{CountsRecurrence}
+use Rattle.bb_repetition.specs.Recurrence.{CountsLong}
 use Rattle.bb_repetition.proofs.Counting.{shift_no_less}
 use Rattle.bb_repetition.proofs.RecurrenceReplies.{IsCheap, cheap, one_first, one_second}
 
@@ -53,15 +53,16 @@ enough_on first second few many order are = record {
   long = λ s. let is = are.long s in omega (arith, is, order);
 }
 
-enough : (first second period steps : ℕ) → CountsRecurrence first second period second steps
-    → AreEnough first second steps
-enough first second period steps counts =
-    let later = shift_no_less first second period counts.tested steps counts.shift in
-    let tested = counts.no_less in
-    record {
-      short = λ s. let is = counts.start.short s in omega (arith, is, tested, later);
-      long = λ s. let is = counts.start.long s in omega (arith, is, tested, later);
-    }
+enough : (first second period steps : ℕ) → (second ≤ 4096 → steps ≡ second)
+    → (4096 < second → CountsLong first second period second steps) → AreEnough first second steps
+enough first second period steps recorded long = record {
+  short = λ few. let is = recorded few in omega (arith, is);
+  long = λ many.
+      let counts = long many in
+      let later = shift_no_less first second period counts.tested steps counts.shift in
+      let tested = counts.no_less in
+      omega (arith, tested, later);
+}
 
 -- ---- one result
 
@@ -89,7 +90,7 @@ module _ (table : Table) (bounds : Bounds) (verdict : Verdict) (uses : LastUses)
       let names = rw v at ok.names in
       let a = one_first verdict _ _ _ _ names counts.names in
       let b = one_second verdict _ _ _ _ names counts.names in
-      rw (a, b) (enough counts.first counts.second _ meter.steps counts.counted)
+      rw (a, b) (enough counts.first counts.second _ meter.steps counts.recorded counts.long)
   no_fewer (Answered answer) meter is counts line first second of ok =
       let t = one_table line ok.table table ok.verdict verdict ok.of of in
       let v = one_verdict line ok.table table ok.verdict verdict ok.of of in

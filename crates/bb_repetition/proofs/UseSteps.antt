@@ -2,7 +2,7 @@
 use Rattle.std.proofs.Common.{◌≡◌, ℕ, ◌+◌, ◌-◌, ◌<◌, ◌≤◌, Some, inl, inr, subst, arith}
 use Rattle.std.proofs.lemmas.Bool.{cases_lt}
 use Rattle.bb_machine.specs.declared.entry.Next.{Next}
-use Rattle.bb_machine.specs.declared.entry.Next.TheVariants.{Halt, State}
+use Rattle.bb_machine.specs.declared.entry.Next.TheVariants.{State}
 use Rattle.bb_machine.specs.Machine.{Table}
 use Rattle.laws_of_repetition.specs.Repetition.{Transition, transition_at, Repeats}
 use Rattle.laws_of_repetition.specs.Uses.{IsIn, IsLastUse, NeverUses, TablePart, Uses, UsesForEver}
@@ -58,10 +58,6 @@ not_used_here table part n after x at is_not seen =
 -- no state is two
 pub one_state : (x : Next) (p q : ℕ) → x ≡ State p → x ≡ State q → p ≡ q
 one_state x p q is is_too = cc
-
--- and Z is none
-pub no_state : (x : Next) (q : ℕ) → x ≡ Halt → x ≡ State q → ⊥
-no_state x q is is_too = cc
 
 -- ---- after the first period
 

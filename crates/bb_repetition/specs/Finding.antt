@@ -1,5 +1,5 @@
 -- The result for a verdict: this project's own.
-use Rattle.std.specs.Prelude.{◌≡◌, ◌≢◌, ℕ, ◌+◌, ◌≤◌}
+use Rattle.std.specs.Prelude.{◌≡◌, ◌≢◌, ℕ, ◌+◌, ◌<◌, ◌≤◌}
 use Rattle.bb_machine.specs.Limits.{Bounds}
 use Rattle.bb_machine.specs.Machine.{Table}
 use Rattle.bb_sim.specs.declared.meter.Meter.{Meter}
@@ -16,7 +16,7 @@ use Rattle.bb_repetition.specs.declared.verdict.Finding.{Finding}
 use Rattle.bb_repetition.specs.declared.verdict.Finding.TheVariants.{Answered, NoPair, Recurs}
 use Rattle.bb_repetition.specs.declared.uses.LastUses.{LastUses}
 use Rattle.bb_repetition.specs.LastUses.{AreSeen}
-use Rattle.bb_repetition.specs.Recurrence.{CountsRecurrence}
+use Rattle.bb_repetition.specs.Recurrence.{CountsLong}
 
 -- the verdict is a pair of these steps
 abbrev pub NamesPair : Verdict → ℕ → ℕ → Type 0
@@ -55,13 +55,15 @@ IsFinding table bounds verdict uses (Answered answer) =
     (answer ≢ Ok) × IsAnswer table bounds verdict answer × IsPair verdict
 IsFinding table bounds verdict uses NoPair = NamesNone verdict
 
--- the cost of a recurrence: the second step for the check, and then what the recurrence takes
+-- the cost of a recurrence: the second step for the check, which a run of at most 4,096 steps is recorded in;
+-- a longer one takes then what its recurrence takes
 pub record CountsPair (table : Table) (bounds : Bounds) (verdict : Verdict) (period : ℕ) (meter : Meter)
     : Type 0 where
   pub first : ℕ
   pub second : ℕ
   pub names : NamesPair verdict first second
-  pub counted : CountsRecurrence first second period second meter.steps
+  pub recorded : second ≤ 4096 → meter.steps ≡ second
+  pub long : 4096 < second → CountsLong first second period second meter.steps
   pub window : CountsWindow table bounds verdict meter.most_cells
   pub no_levels : meter.most_levels ≡ 0
   pub no_nodes : meter.nodes ≡ 0

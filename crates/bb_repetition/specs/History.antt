@@ -1,15 +1,10 @@
--- The recorded entries of a run, and what is kept of a run up to the second step of a pair.
-use Rattle.std.specs.Prelude.{◌≡◌, ℕ, ◌+◌, ◌*◌, ◌<◌, ◌≤◌, Some, slice_index_or}
+-- The recorded entries of a run.
+use Rattle.std.specs.Prelude.{◌≡◌, ℕ, ◌+◌, ◌*◌, ◌<◌, Some, slice_index_or}
 use Rattle.bb_machine.specs.declared.entry.Next.TheVariants.{State}
 use Rattle.bb_machine.specs.declared.machine.TheConstants.{MAX_SYMBOLS}
-use Rattle.bb_machine.specs.Limits.{Bounds}
 use Rattle.bb_machine.specs.Machine.{Table}
-use Rattle.bb_tape.specs.TapeView.{TapeView}
-use Rattle.bb_sim.specs.declared.runner.Runner.{Runner}
 use Rattle.laws_of_repetition.specs.Repetition.{transition_at}
 use Rattle.bb_repetition.specs.declared.history.History.{History}
-use Rattle.bb_repetition.specs.declared.recurrence.Tapes.{Tapes}
-use Rattle.bb_repetition.specs.Lockstep.{IsAt}
 
 -- step n uses the entry for this state and symbol
 abbrev pub UsesEntry : Table → ℕ → ℕ → ℕ → Type 0
@@ -27,9 +22,3 @@ pub record UsesPlace (table : Table) (n place : ℕ) : Type 0 where
 -- the places of the steps before step n
 abbrev pub IsRecorded : Table → ℕ → History → Type 0
 IsRecorded table n history = (m : ℕ) → m < n → UsesPlace table m (slice_index_or history.places m 0)
-
--- of a run of at most 4,096 steps each is recorded; of a longer one the first step of the pair is saved
-pub record KeepsRun {T : Type 0} (view : T → TapeView) (table : Table) (bounds : Bounds) (first second : ℕ)
-    (saved : Runner) (tapes : Tapes T) : Type 0 where
-  pub short : second ≤ 4096 → IsRecorded table second tapes.history
-  pub long : 4096 < second → IsAt table bounds first saved (view tapes.pair.saved)

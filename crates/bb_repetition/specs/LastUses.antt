@@ -10,6 +10,7 @@ use Rattle.laws_of_repetition.specs.Uses.{of_transition}
 use Rattle.bb_repetition.specs.declared.uses.LastUse.{LastUse}
 use Rattle.bb_repetition.specs.declared.uses.LastUse.TheVariants as last
 use Rattle.bb_repetition.specs.declared.uses.LastUses.{LastUses}
+use Rattle.bb_repetition.specs.History.{IsRecorded}
 
 -- the entry for a state and a symbol, as a part of a table
 abbrev pub of_entry : ℕ → ℕ → TablePart
@@ -31,6 +32,15 @@ pub record IsSeenUse (table : Table) (part : TablePart) (n after : ℕ) : Type 0
 abbrev pub AreSeen : Table → ℕ → LastUses → Type 0
 AreSeen table n uses = (q s : ℕ) → q < length table → s < symbols_of table
     → IsSeenUse table (of_entry q s) n (slice_index_or uses.after (MAX_SYMBOLS * q + s) 0)
+
+-- the steps before step n are recorded, and their entries if they are at most 4,096
+pub record AreRecorded (table : Table) (n : ℕ) (uses : LastUses) : Type 0 where
+  pub seen : AreSeen table n uses
+  pub entries : n ≤ 4096 → IsRecorded table n uses.history
+
+-- what is recorded up to one step is recorded up to a later one
+abbrev pub RecordsOn : Table → ℕ → ℕ → LastUses → LastUses → Type 0
+RecordsOn table from to old new = AreRecorded table from old → AreRecorded table to new
 
 -- the run repeats from `start` on, and these are the last uses of the steps up to the end of a first period
 -- or later

@@ -29,10 +29,6 @@ pub record IsAt (table : Table) (bounds : Bounds) (n : ℕ) (runner : Runner) (v
   pub steps : steps_of runner ≡ n
   pub limit : view.limit ≡ bounds.cells
 
--- it is there with some tape
-abbrev pub HasCome : Table → Bounds → ℕ → Runner → Type 0
-HasCome table bounds n runner = (view : TapeView) × IsAt table bounds n runner view
-
 -- whether the transitions from `first` on repeat with a distance, as far as the later of both is before
 -- `end`; else they don't repeat with it
 abbrev pub TellsRepeats : Table → ℕ → ℕ → ℕ → Bool → Type 0

@@ -35,7 +35,7 @@ pub record IsConfirmedOf (bounds : Bounds) (line : List ℕ) (first second : ℕ
 
 -- so many steps are enough to check a pair, and to find the start and the last uses
 pub record AreEnough (first second steps : ℕ) : Type 0 where
-  pub short : second ≤ 4096 → second + second ≤ steps
+  pub short : second ≤ 4096 → second ≤ steps
   pub long : 4096 < second → second + (first + second) ≤ steps
 
 -- no confirmed pair takes more than these

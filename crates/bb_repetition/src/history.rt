@@ -1,11 +1,17 @@
 //! The entries that the first steps of a run use.
-ghost use Rattle.std.specs.Prelude.{◌≡◌, ◌+◌, ◌<◌, ◌≤◌, ◌↔◌, IsTrue, slice_index_or};
-ghost use Rattle.bb_machine.specs.Machine.{Table};
+ghost use Rattle.std.specs.Prelude.{◌≡◌, ℕ, ◌+◌, ◌-◌, ◌/◌, ◌%◌, ◌<◌, ◌≤◌, ◌↔◌, ◌≤ℤ◌, neg_ℤ, pos};
+ghost use Rattle.std.specs.Prelude.{IsTrue, length, slice_index_or};
+ghost use Rattle.bb_machine.specs.Machine.{Table, symbols_of};
+ghost use Rattle.bb_sim.specs.Run.{Never};
 ghost use Rattle.laws_of_repetition.specs.Seen.{IsSeenStart};
+ghost use Rattle.laws_of_repetition.specs.Shift.{IsShift};
 ghost use Rattle.bb_repetition.specs.History.{IsRecorded, UsesPlace};
-ghost use Rattle.laws_of_repetition.specs.Repetition.{Repeats};
+ghost use Rattle.laws_of_repetition.specs.Repetition.{Repeats, RepeatsExactly};
 ghost use Rattle.bb_repetition.specs.Lockstep.{TellsRepeats};
 ghost use Rattle.bb_repetition.specs.Period.{IsLeastFrom, TellsPart};
+
+use crate::recurrence::Recurrence;
+use bb_machine::{Dir, Entry, MAX_SYMBOLS, Machine};
 
 /// The most steps that are recorded.
 pub(crate) const MAX_RECORDED: u64 = 4096;
@@ -29,14 +35,55 @@ impl History {
         }
     }
 
-    /// Records the place of a step's entry.
+    /// Records the place of a step's entry, if it is among the first steps.
     #[inline(always)]
     pub(crate) fn record(&mut self, step: u64, place: u8)
-        requires few { step < MAX_RECORDED }
-        ensures { (table : Table) → UsesPlace table step place → IsRecorded table step self.old
-            → IsRecorded table (step + 1) self.new }
+        ensures { (table : Table) → step < MAX_RECORDED → UsesPlace table step place
+            → IsRecorded table step self.old → IsRecorded table (step + 1) self.new }
     {
-        self.places[step as usize] = place;
+        if step < MAX_RECORDED {
+            self.places[step as usize] = place;
+        }
+    }
+
+    /// The recurrence of a run that repeats from `first` on with the period `second - first`.
+    pub(crate) fn recurrence(&self, machine: &Machine, first: u64, second: u64) -> Recurrence
+        requires order { first < second }
+        requires few { second ≤ MAX_RECORDED }
+        requires recorded { IsRecorded machine.now second self.now }
+        requires pair { Repeats machine.now first (second - first) }
+        ensures exact { RepeatsExactly machine.now result.start result.period }
+        ensures shift { IsShift machine.now result.start result.period result.shift }
+        ensures early { result.start ≤ first }
+        ensures whole { result.start + result.period ≤ second }
+    {
+        let start = self.start(first, second - first);
+        let period = self.period(first, second - first);
+        let shift = self.shift(machine, first, first + period);
+        Recurrence {
+            start,
+            period,
+            shift,
+        }
+    }
+
+    /// How many cells the head is farther to the right at one step than at an earlier one: the sum of the
+    /// moves between them.
+    fn shift(&self, machine: &Machine, from: u64, to: u64) -> i64
+        requires order { from ≤ to }
+        requires few { to ≤ MAX_RECORDED }
+        requires recorded { IsRecorded machine.now to self.now }
+        requires never { Never machine.now }
+        ensures { IsShift machine.now from (to - from) result }
+    {
+        machine.show_machine();
+        let mut shift = 0;
+        let mut step = from;
+        while step < to {
+            shift += move_of(machine, self.places[step as usize]);
+            step += 1;
+        }
+        shift
     }
 
     /// The first step from which on, up to `first`, each step uses the entry of the step `distance` later.
@@ -112,5 +159,24 @@ impl History {
         let steps = &self.places[first as usize..(end - distance) as usize];
         let later = &self.places[(first + distance) as usize..end as usize];
         steps == later
+    }
+}
+
+/// How many cells the head is farther to the right after a step that uses the entry with this place.
+#[inline(always)]
+fn move_of(machine: &Machine, place: u8) -> i64
+    requires state { place / MAX_SYMBOLS < length machine.now }
+    requires symbol { place % MAX_SYMBOLS < symbols_of machine.now }
+    ensures moves { (n : ℕ) → Never machine.now → UsesPlace machine.now n place
+        → IsShift machine.now n 1 result }
+    ensures near { (neg_ℤ (pos 1) ≤ℤ result) × (result ≤ℤ pos 1) }
+{
+    let symbols = MAX_SYMBOLS as u8;
+    match machine.entry(place / symbols, place % symbols) {
+        Entry::Go { dir, .. } => match dir {
+            Dir::L => -1,
+            Dir::R => 1,
+        },
+        Entry::Undefined => 1,
     }
 }

@@ -5,6 +5,7 @@ ghost use Rattle.bb_tape.specs.TapeView.{IsInside};
 ghost use Rattle.bb_sim.specs.Runner.{position_of, steps_of};
 ghost use Rattle.bb_repetition.specs.Lockstep.{IsAt, IsOpen, TellsRepeats, transition_here};
 
+use bb_cert::Course;
 use bb_machine::{Limits, Machine};
 use bb_sim::{Meter, Moved, Runner};
 use bb_tape::{Memory, Tape};
@@ -26,14 +27,15 @@ pub(crate) fn has_same_transition<T: Tape>(
         && runner.state() == other.state()
 }
 
-/// Makes one step.
+/// Makes one step, and takes it in.
 #[inline(always)]
-pub(crate) fn step<T: Tape>(
+pub(crate) fn step<C: Course, T: Tape>(
     machine: &Machine,
     runner: &mut Runner,
     tape: &mut T,
     limits: &Limits,
     last: u64,
+    course: &mut C,
     meter: &mut Meter,
 ) -> Result<(), Memory>
     requires goes_on { IsOpen machine.now limits.now last }
@@ -42,27 +44,35 @@ pub(crate) fn step<T: Tape>(
     requires room { meter.old.steps + 1 < 2 ^ 64 }
     ensures at { OnOk result
         (IsAt machine.now limits.now (steps_of runner.old + 1) runner.new (T.view tape.new)) }
+    ensures goes_on { OnOk result
+        (C.goes_on machine.now (steps_of runner.old) (steps_of runner.old + 1) course.old course.new) }
     ensures counted { OnOk result (meter.new.steps ≡ meter.old.steps + 1) }
     ensures uncounted { OnErr result (meter.new.steps ≡ meter.old.steps) }
     ensures limit { (T.view tape.new).limit ≡ limits.now.cells }
     ensures memory { OnErr result (IsTrue T.GROWS) }
 {
+    let before = *runner;
+    let symbol = tape.read_inside(before.position());
     match runner.advance(machine, tape, limits, meter)? {
-        Moved::Stepped => Ok(()),
+        Moved::Stepped => {
+            course.take_in(machine, &before, symbol, runner);
+            Ok(())
+        }
         Moved::Halted => unreachable!(),
         Moved::NoSteps => unreachable!(),
         Moved::NoCells => unreachable!(),
     }
 }
 
-/// Advances a run to a step.
-pub(crate) fn run_to<T: Tape>(
+/// Advances a run to a step, with something followed along it.
+pub(crate) fn run_to<C: Course, T: Tape>(
     machine: &Machine,
     runner: &mut Runner,
     tape: &mut T,
     limits: &Limits,
     to: u64,
     last: u64,
+    course: &mut C,
     meter: &mut Meter,
 ) -> Result<(), Memory>
     requires goes_on { IsOpen machine.now limits.now last }
@@ -71,6 +81,7 @@ pub(crate) fn run_to<T: Tape>(
     requires within { to ≤ last }
     requires room { meter.old.steps + (to - steps_of runner.old) < 2 ^ 64 }
     ensures at { OnOk result (IsAt machine.now limits.now to runner.new (T.view tape.new)) }
+    ensures goes_on { OnOk result (C.goes_on machine.now (steps_of runner.old) to course.old course.new) }
     ensures counted { OnOk result
         (meter.new.steps ≡ meter.old.steps + (to - steps_of runner.old)) }
     ensures no_less { meter.old.steps ≤ meter.new.steps }
@@ -79,7 +90,7 @@ pub(crate) fn run_to<T: Tape>(
     ensures memory { OnErr result (IsTrue T.GROWS) }
 {
     while runner.steps() < to {
-        step(machine, runner, tape, limits, last, meter)?;
+        step(machine, runner, tape, limits, last, course, meter)?;
     }
     Ok(())
 }
@@ -114,8 +125,8 @@ pub(crate) fn are_alike<T: Tape>(
         if !has_same_transition(runner, tape, ahead, ahead_tape) {
             return Ok(false);
         }
-        step(machine, runner, tape, limits, last, meter)?;
-        step(machine, ahead, ahead_tape, limits, last, meter)?;
+        step(machine, runner, tape, limits, last, &mut (), meter)?;
+        step(machine, ahead, ahead_tape, limits, last, &mut (), meter)?;
     }
     Ok(true)
 }

@@ -1,13 +1,11 @@
 //! The least period of a run, from a known one.
 ghost use Rattle.std.specs.Prelude.{◌≡◌, ◌+◌, ◌-◌, ◌*◌, ◌/◌, ◌%◌, ◌<◌, ◌≤◌, ◌^◌, IfOk, IsTrue, OnErr, OnOk};
 ghost use Rattle.laws_of_repetition.specs.Repetition.{IsMultipleOf, Repeats};
-ghost use Rattle.bb_repetition.specs.History.{KeepsRun};
-ghost use Rattle.bb_repetition.specs.Lockstep.{IsOpen};
+ghost use Rattle.bb_repetition.specs.Lockstep.{IsAt, IsOpen};
 ghost use Rattle.bb_repetition.specs.Period.{CountsTests, IsLeastFrom, IsReduced, TellsPeriod};
 ghost use Rattle.bb_repetition.specs.Tapes.{TapesHaveCells};
 
 use crate::factors::{next_divisor, without};
-use crate::history::MAX_RECORDED;
 use crate::lockstep::{are_alike, run_to};
 use crate::recurrence::Tapes;
 use bb_machine::{Limits, Machine};
@@ -15,7 +13,7 @@ use bb_sim::{Meter, Runner};
 use bb_tape::{Memory, Tape};
 
 /// The least period from the first step of a pair on. It tests quotients of the distance by primes: at most
-/// twice the logarithm of the distance to base 2. That of a recorded run is found without a step.
+/// twice the logarithm of the distance to base 2.
 pub(crate) fn least_period<T: Tape>(
     machine: &Machine,
     limits: &Limits,
@@ -29,22 +27,17 @@ pub(crate) fn least_period<T: Tape>(
     requires order { first < second }
     requires pair { Repeats machine.now first (second - first) }
     requires goes_on { IsOpen machine.now limits.now second }
-    requires kept { KeepsRun T.view machine.now limits.now first second saved tapes.old }
+    requires saved { IsAt machine.now limits.now first saved (T.view tapes.old.pair.saved) }
     requires room { meter.old.steps < 2 ^ 48 }
     ensures least { IfOk result (IsLeastFrom machine.now first) }
     ensures within { IfOk result (λ period. first + period ≤ second) }
     ensures no_less { meter.old.steps ≤ meter.new.steps }
     ensures few { CountsTests (second - first) meter.old.steps meter.new.steps }
-    ensures short { second ≤ 4096 → meter.new.steps ≡ meter.old.steps }
     ensures saved { (T.view tapes.new.pair.saved) ≡ (T.view tapes.old.pair.saved) }
-    ensures history { tapes.new.history ≡ tapes.old.history }
     ensures tapes { TapesHaveCells T.view limits.now.cells tapes.new }
     ensures memory { OnErr result (IsTrue T.GROWS) }
 {
     limits.show_accepted();
-    if second <= MAX_RECORDED {
-        return Ok(tapes.history.period(first, second - first));
-    }
     let mut period = second - first;
     let mut rest = period;
     let mut divisor = 2;
@@ -75,18 +68,16 @@ fn reduce<T: Tape>(
     meter: &mut Meter,
 ) -> Result<u64, Memory>
     requires tapes { TapesHaveCells T.view limits.now.cells tapes.old }
-    requires long { MAX_RECORDED < second }
     requires above { 1 < divisor }
     requires within { first + known ≤ second }
     requires repeats { Repeats machine.now first known }
     requires goes_on { IsOpen machine.now limits.now second }
-    requires kept { KeepsRun T.view machine.now limits.now first second saved tapes.old }
+    requires saved { IsAt machine.now limits.now first saved (T.view tapes.old.pair.saved) }
     requires room { meter.old.steps + 4 * known < 2 ^ 64 }
     ensures reduced { IfOk result (IsReduced machine.now first known divisor) }
     ensures no_less { meter.old.steps ≤ meter.new.steps }
     ensures few { meter.new.steps ≤ meter.old.steps + 4 * known }
     ensures saved { (T.view tapes.new.pair.saved) ≡ (T.view tapes.old.pair.saved) }
-    ensures history { tapes.new.history ≡ tapes.old.history }
     ensures tapes { TapesHaveCells T.view limits.now.cells tapes.new }
     ensures memory { OnErr result (IsTrue T.GROWS) }
 {
@@ -116,20 +107,18 @@ fn repeats_with<T: Tape>(
     meter: &mut Meter,
 ) -> Result<bool, Memory>
     requires tapes { TapesHaveCells T.view limits.now.cells tapes.old }
-    requires long { MAX_RECORDED < second }
     requires divides { IsMultipleOf quotient period }
     requires some { 0 < quotient }
     requires within { first + period ≤ second }
     requires repeats { Repeats machine.now first period }
     requires goes_on { IsOpen machine.now limits.now second }
-    requires kept { KeepsRun T.view machine.now limits.now first second saved tapes.old }
+    requires saved { IsAt machine.now limits.now first saved (T.view tapes.old.pair.saved) }
     requires room { meter.old.steps + 2 * period < 2 ^ 64 }
     ensures tells { IfOk result (TellsPeriod machine.now first quotient) }
     ensures no_less { meter.old.steps ≤ meter.new.steps }
     ensures few { meter.new.steps ≤ meter.old.steps + 2 * period }
     ensures tapes { TapesHaveCells T.view limits.now.cells tapes.new }
     ensures saved { (T.view tapes.new.pair.saved) ≡ (T.view tapes.old.pair.saved) }
-    ensures history { tapes.new.history ≡ tapes.old.history }
     ensures memory { OnErr result (IsTrue T.GROWS) }
 {
     let Ok(()) = tapes.pair.run.copy_from(&tapes.pair.saved) else {
@@ -147,6 +136,7 @@ fn repeats_with<T: Tape>(
         limits,
         first + quotient,
         second,
+        &mut (),
         meter,
     )?;
     are_alike(

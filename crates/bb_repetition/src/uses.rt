@@ -1,19 +1,14 @@
 //! The last use of each state, and of each entry, by a repeating run.
-ghost use Rattle.std.specs.Prelude.{◌≡◌, ℕ, ◌+◌, ◌*◌, ◌<◌, ◌≤◌, ◌^◌, length, max, MatchOption};
+ghost use Rattle.std.specs.Prelude.{◌≡◌, ℕ, ◌+◌, ◌*◌, ◌<◌, ◌≤◌, length, max, true, MatchOption};
 ghost use Rattle.bb_machine.specs.Machine.{IsMachine, Table, symbols_of};
-ghost use Rattle.bb_tape.specs.TapeView.{IsInside};
-ghost use Rattle.bb_narrow.specs.Registers.{IsNarrowRun};
-ghost use Rattle.bb_sim.specs.Run.{Never};
-ghost use Rattle.bb_sim.specs.Runner.{position_of, steps_of};
 ghost use Rattle.laws_of_repetition.specs.Uses.{IsQuasihalt, of_state};
-ghost use Rattle.bb_repetition.specs.History.{UsesEntry, UsesPlace};
-ghost use Rattle.bb_repetition.specs.Lockstep.{IsAt};
-ghost use Rattle.bb_repetition.specs.LastUses.{AreSeen, AreSeenWhole, IsSeenUse, IsUse, of_entry, IsUseBy};
+ghost use Rattle.bb_repetition.specs.LastUses.{AreRecorded, AreSeen, AreSeenWhole, IsSeenUse, IsUse};
+ghost use Rattle.bb_repetition.specs.LastUses.{IsUseBy, RecordsOn, of_entry};
 
-use bb_machine::{Limits, MAX_STATES, MAX_SYMBOLS, Machine};
-use bb_narrow::NarrowRun;
+use crate::history::History;
+use bb_cert::Course;
+use bb_machine::{MAX_STATES, MAX_SYMBOLS, Machine};
 use bb_sim::Runner;
-use bb_tape::Tape;
 
 /// When a state or an entry is used for the last time.
 #[derive(Clone, Copy, Debug, PartialEq, Eq)]
@@ -35,6 +30,8 @@ pub struct LastUses {
     // The step after the last use of each entry, 0 if no step used it: the entries of state A, then those of
     // B.
     after: [u64; MAX_ENTRIES],
+    // The entries of the first steps.
+    pub(crate) history: History,
 }
 
 impl LastUses {
@@ -44,76 +41,15 @@ impl LastUses {
     {
         LastUses {
             after: [0; MAX_ENTRIES],
+            history: History::new(),
         }
     }
 
     /// Begins anew for a machine. The entries of other states are left as they are.
     pub(crate) fn reset(&mut self, machine: &Machine)
-        ensures { AreSeen machine.now 0 self.new }
+        ensures { AreRecorded machine.now 0 self.new }
     {
         self.after[..MAX_SYMBOLS * machine.states() as usize].fill(0);
-    }
-
-    /// Records the entry of a runner's next step, and returns its place.
-    #[inline(always)]
-    pub(crate) fn record<T: Tape>(
-        &mut self,
-        machine: &Machine,
-        limits: &Limits,
-        runner: &Runner,
-        tape: &T,
-    ) -> u8
-        requires at { IsAt machine.now limits.now (steps_of runner.now) runner.now (T.view tape.now) }
-        requires inside { IsInside (T.view tape.now) (position_of runner.now) }
-        requires room { steps_of runner.now + 1 < 2 ^ 64 }
-        requires seen { AreSeen machine.now (steps_of runner.now) self.old }
-        ensures uses { AreSeen machine.now (steps_of runner.now + 1) self.new }
-        ensures place { Never machine.now → UsesPlace machine.now (steps_of runner.now) result }
-    {
-        machine.show_machine();
-        match runner.state() {
-            Some(state) => {
-                let symbol = tape.read_inside(runner.position());
-                self.record_entry(machine, state, symbol, runner.steps())
-            }
-            None => 0,
-        }
-    }
-
-    /// Records the entry of the next step of a run in registers, and returns its place.
-    #[inline(always)]
-    pub(crate) fn record_in_registers(
-        &mut self,
-        machine: &Machine,
-        limits: &Limits,
-        run: &NarrowRun,
-    ) -> u8
-        requires run { IsNarrowRun machine.now limits.now run.now }
-        requires seen { AreSeen machine.now run.now.steps self.old }
-        ensures uses { AreSeen machine.now (run.now.steps + 1) self.new }
-        ensures place { UsesPlace machine.now run.now.steps result }
-    {
-        machine.show_machine();
-        limits.show_accepted();
-        let symbol = u8::from(run.registers.reads_one());
-        self.record_entry(machine, run.registers.state(), symbol, run.steps)
-    }
-
-    /// Records the entry of a step, and returns its place.
-    #[inline(always)]
-    fn record_entry(&mut self, machine: &Machine, state: u8, symbol: u8, step: u64) -> u8
-        requires entry { UsesEntry machine.now step state symbol }
-        requires state { state < MAX_STATES }
-        requires symbol { symbol < MAX_SYMBOLS }
-        requires room { step + 1 < 2 ^ 64 }
-        requires seen { AreSeen machine.now step self.old }
-        ensures uses { AreSeen machine.now (step + 1) self.new }
-        ensures place { UsesPlace machine.now step result }
-    {
-        machine.show_machine();
-        let place = place_of(state, symbol);
-        self.after[place as usize] = step + 1;
-        place
     }
 
     /// The last use of a state, by a run that repeats from `start` on, if the uses are those up to the end of
@@ -170,6 +106,32 @@ impl LastUses {
             after = after.max(self.after[place_of(state, symbol) as usize]);
         }
         after
+    }
+}
+
+/// The entry of each step is recorded.
+impl Course for LastUses {
+    ghost READS = { true };
+
+    const READS: bool = true;
+
+    ghost goes_on = { RecordsOn };
+
+    ghost stays = { λ table n uses seen. seen };
+
+    ghost goes_further = { λ table a b c first second third one other seen. other (one seen) };
+
+    #[inline(always)]
+    fn take_in(&mut self, machine: &Machine, before: &Runner, symbol: u8, after: &Runner) {
+        machine.show_machine();
+        match before.state() {
+            Some(state) => {
+                let place = place_of(state, symbol);
+                self.after[place as usize] = after.steps();
+                self.history.record(before.steps(), place);
+            }
+            None => {}
+        }
     }
 }
 

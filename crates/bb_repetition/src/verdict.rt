@@ -9,9 +9,10 @@ ghost use Rattle.laws_of_repetition.specs.Repetition.{Repeats};
 ghost use Rattle.bb_repetition.specs.Finding.{CountsFinding, IsFinding, NamesNone, NamesPair};
 ghost use Rattle.bb_repetition.specs.Tapes.{TapesHaveCells};
 
+use crate::history::MAX_RECORDED;
 use crate::recurrence::{Recurrence, Tapes, find_recurrence};
 use crate::uses::LastUses;
-use bb_cert::{Answer, Path, Verdict, check};
+use bb_cert::{Answer, Path, Verdict, check, check_along};
 use bb_machine::{Limits, Machine};
 use bb_sim::Meter;
 use bb_tape::{Memory, Tape};
@@ -29,9 +30,9 @@ pub enum Finding {
 }
 
 /// Finds the exact recurrence of a machine's run, if a verdict is a pair and the checker confirms it under
-/// these limits. Resets `meter`, and counts there the steps of the check and those of `find_recurrence`, and
-/// the cells of the check, which runs as far. For a confirmed pair `uses` then has the last uses up to its
-/// second step.
+/// these limits. Resets `meter`, and counts there the steps and the cells of the check. If its second step is
+/// past 4,096, the steps of `find_recurrence` are added; else the checker's run is recorded, and no other is
+/// made. For a confirmed pair `uses` then has the last uses up to its second step.
 ///
 /// After an error the contents of the tapes are unspecified; the next call resets them.
 pub fn find<T: Tape>(
@@ -58,6 +59,15 @@ pub fn find<T: Tape>(
         return Ok(Finding::NoPair);
     };
     limits.show_accepted();
+    if second <= MAX_RECORDED {
+        uses.reset(machine);
+        let answer = check_along(machine, verdict, limits, &mut tapes.pair, path, uses, meter)?;
+        if answer != Answer::Ok {
+            return Ok(Finding::Answered(answer));
+        }
+        show_repeats(machine, verdict, limits, first, second);
+        return Ok(Finding::Recurs(uses.history.recurrence(machine, first, second)));
+    }
     let answer = check(machine, verdict, limits, &mut tapes.pair, path, meter)?;
     if answer != Answer::Ok {
         return Ok(Finding::Answered(answer));

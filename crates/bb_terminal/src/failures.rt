@@ -6,7 +6,7 @@ use crate::messages::{FaultText, LimitText};
 use bb_command::Stop;
 use bb_lines::fault::Fault;
 use std::fs::File;
-use std::io::{Error, ErrorKind, IsTerminal};
+use std::io::{Error, ErrorKind};
 use std::os::unix::fs::{FileTypeExt, MetadataExt};
 use std::{fs, io};
 
@@ -17,15 +17,15 @@ pub fn open_list(rt: &HostRuntime, path: &String) -> io::Result<(File, Option<u6
     Ok((file, size.map(|data| data.len())))
 }
 
-/// Prints the failed operation and the reason, on a terminal: of the list `file` or standard input, or of
-/// standard output. It doesn't mention a closed pipe.
+/// Prints the failed operation and the reason: of the list `file` or standard input, or of standard output.
+/// It doesn't mention a closed pipe.
 pub fn print_failure(
     rt: &HostRuntime,
     file: Option<&str>,
     fault: Fault,
     error: &Error,
 ) -> io::Result<()> {
-    if !rt.stderr().is_terminal() || error.kind() == ErrorKind::BrokenPipe {
+    if error.kind() == ErrorKind::BrokenPipe {
         return Ok(());
     }
     match (fault, file) {
@@ -40,7 +40,7 @@ pub fn print_failure(
     }
 }
 
-/// Reports a fault of a program with this name, on a terminal with the reason, and returns the exit status.
+/// Reports a fault of a program with this name, and its reason if there is one. Returns the exit status.
 pub fn report_fault(
     rt: &HostRuntime,
     program: &'static str,

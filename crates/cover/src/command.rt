@@ -111,8 +111,8 @@ need. Out: one line. For a complete list it begins with
   covers 4 states 2 symbols: 858909 lines, 8455 undecided
 and tells how many of these have more than one ---. Then each machine of the
 size halts, at most a step later than one of the list, never halts, or completes
-an undecided one, up to a change. Otherwise the line names the first wrong line
-of the list, and the reason.
+an undecided one, perhaps mirrored or renamed first. Otherwise the line names
+the first wrong line of the list, and the reason.
 
 With --below the walk begins at MACHINE: the list is a shard. A skeleton has in
 place of a shard's lines one line, MACHINE below N U G SHA256: its lines, those

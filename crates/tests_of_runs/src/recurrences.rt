@@ -12,20 +12,18 @@ use bb_tape::Memory;
 use std::alloc::Global;
 use std::process::Abort;
 
-/// The result for a verdict line.
-fn find_in(alloc: Global, limits: &Limits, line: &[u8]) -> Result<Finding, Memory> {
+/// The result for a verdict line, and the steps that it took.
+fn find_in(alloc: Global, limits: &Limits, line: &[u8]) -> Result<(Finding, u64), Memory> {
     let (mut tapes, mut path) = ring_tapes(alloc, limits)?;
     let mut uses = LastUses::new();
     let mut meter = Meter::new();
-    match read_line(line) {
-        Some(Line::Claim(machine, verdict)) => {
-            find(
-                &machine, &verdict, limits, &mut tapes, &mut path, &mut uses, &mut meter,
-            )
-        }
-        Some(Line::Refusal(_)) => Ok(Finding::NoPair),
-        None => Ok(Finding::NoPair),
-    }
+    let Some(Line::Claim(machine, verdict)) = read_line(line) else {
+        return Ok((Finding::NoPair, 0));
+    };
+    let finding = find(
+        &machine, &verdict, limits, &mut tapes, &mut path, &mut uses, &mut meter,
+    )?;
+    Ok((finding, meter.steps))
 }
 
 /// A verdict line, and the start, the period and the shift of its machine. The last lines are of runs around
@@ -54,13 +52,42 @@ static PAIRS: [(&[u8], u64, u64, i64); 11] = [
 fn recurrences_are_exact(rt: HostRuntime) {
     let limits = Limits::new(10_000, 16_384, 30, 1_000).expect(&rt, "limits");
     for (line, start, period, shift) in &PAIRS {
-        let found = find_in(rt.alloc(), &limits, line).expect(&rt, "memory");
+        let (found, _) = find_in(rt.alloc(), &limits, line).expect(&rt, "memory");
         let Finding::Recurs(recurrence) = found else {
             panic!(rt; "no recurrence");
         };
         assert_eq!(rt; recurrence.start, *start);
         assert_eq!(rt; recurrence.period, *period);
         assert_eq!(rt; recurrence.shift, *shift);
+    }
+}
+
+/// A verdict line, and the fewest and the most steps that it takes: the second step of its pair where that is
+/// at most 4,096, several periods apart or not. Past it both steps are made once more, and some for the period
+/// and the shift.
+static COSTS: [(&[u8], u64, u64); 6] = [
+    (b"1RB---_1LB0RB translated L 7 8 1 1", 8, 8),
+    (b"0RB---_0LA--- cycler 4 16", 16, 16),
+    (b"1RB---_1LB0RB translated L 4090 4096", 4096, 4096),
+    (
+        b"1RB1LC_1LC0LA_1RD1LB_---0RA translated L 684 861 7 15",
+        861,
+        861,
+    ),
+    (b"0RB---_0LA--- cycler 2 5", 5, 5),
+    (
+        b"1RB---_1LB0RB translated L 4091 4097",
+        4097 + 4091 + 4097,
+        4097 + 4091 + 4097 + 4 * 6 * 2 + 6,
+    ),
+];
+
+#[test]
+fn a_recorded_pair_costs_its_check(rt: HostRuntime) {
+    let limits = Limits::new(10_000, 16_384, 30, 1_000).expect(&rt, "limits");
+    for (line, fewest, most) in &COSTS {
+        let (_, steps) = find_in(rt.alloc(), &limits, line).expect(&rt, "memory");
+        assert!(rt; *fewest <= steps && steps <= *most);
     }
 }
 
@@ -78,7 +105,7 @@ static OTHERS: [(&[u8], Finding); 3] = [
 fn other_lines_have_their_answers(rt: HostRuntime) {
     let limits = Limits::new(100, 64, 30, 1_000).expect(&rt, "limits");
     for (line, wanted) in &OTHERS {
-        let found = find_in(rt.alloc(), &limits, line).expect(&rt, "memory");
+        let (found, _) = find_in(rt.alloc(), &limits, line).expect(&rt, "memory");
         assert!(rt; found == *wanted);
     }
 }

@@ -77,34 +77,6 @@ pub fits_inside : {table : Table} (bounds : Bounds) {n : ℕ} → Inside table b
     → bounds.cells < span table bounds.steps → ⊥
 fits_inside {table} bounds inside at = not_wide _ _ (subst (λ k. span table k ≤ bounds.cells) at inside.within_cells)
 
--- what is answered up to a step is answered within bounds that have it
-pub cycler_up_to : (table : Table) (bounds : Bounds) (first second : ℕ) (given : Answer)
-    → Checks table (up_to bounds second) (Cycler first second) given → Checks table bounds (Cycler first second) given
-cycler_up_to table bounds first second answer.Bad is = is
-cycler_up_to table bounds first second answer.Over is = is
-cycler_up_to table bounds first second answer.Ok is = is
-cycler_up_to table bounds first second answer.Open is = is
-
-pub translated_up_to : (table : Table) (bounds : Bounds) (claim : RecordPair) (second : ℕ) (given : Answer)
-    → Checks table (up_to bounds second) (claim_up_to second claim) given
-    → Checks table bounds (claim_up_to second claim) given
-translated_up_to table bounds claim second answer.Bad is = is
-translated_up_to table bounds claim second answer.Over is = is
-translated_up_to table bounds claim second answer.Ok is = is
-translated_up_to table bounds claim second answer.Open is = is
-
-pub within_up_to : (bounds : Bounds) (second : ℕ) (verdict : Verdict) (meter : Meter) → second ≤ bounds.steps
-    → IsWithinClaim (up_to bounds second) verdict meter → IsWithinClaim bounds verdict meter
-within_up_to bounds second verdict meter few is = record {
-  steps = omega (arith, few, is.steps);
-  named_steps = is.named_steps;
-  levels = is.levels;
-  named_levels = is.named_levels;
-  nodes = is.nodes;
-  named_nodes = is.named_nodes;
-  cells = is.cells;
-}
-
 -- ---- counts of a run
 
 pub run_counts : (table : Table) (verdict : Verdict) (meter : Meter) → levels_of verdict ≡ 0
@@ -174,15 +146,3 @@ module _ (table : Table) (levels nodes : ℕ) (meter : Meter) where
     };
     tree = record { ended = λ made. ended; not_walked = λ not. absurd (not (unsettled, tt)) };
   }
-
-  pub walk_counts : (a b : ℕ) → EndsWithin table levels nodes a b → meter ≡ walked zero_meter a b
-      → (h k : ℕ) → EndsWithin table levels nodes h k → (meter.most_levels ≡ h) × (meter.nodes ≡ k)
-  walk_counts a b found counts h k other =
-      let same = tree_has_one_end table a b h k found.ends other.ends in
-      let levels_is : meter.most_levels ≡ max 0 a = ap (λ (m : Meter). m.most_levels) counts in
-      let nodes_is : meter.nodes ≡ 0 + b = ap (λ (m : Meter). m.nodes) counts in
-      (omega (arith, levels_is, same.0), omega (arith, nodes_is, same.1))
-
-  pub no_tree_counts : EndsNowhere table levels nodes
-      → (h k : ℕ) → EndsWithin table levels nodes h k → (meter.most_levels ≡ h) × (meter.nodes ≡ k)
-  no_tree_counts none h k other = absurd (none.nowhere h k other)

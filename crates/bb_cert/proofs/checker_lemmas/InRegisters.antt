@@ -1,23 +1,23 @@
 -- The run of a claim in registers.
 use Rattle.std.proofs.Common.{◌≡◌, ℕ, ◌+◌, ◌*◌, ◌^◌, ◌<◌, ◌≤◌, inl, inr, Option, ap, sym, subst, ◌∙◌}
-use Rattle.std.proofs.Common.{arith, w64}
-use Rattle.std.specs.Prelude.{◌↔◌, IsTrue, MatchOption, None, Some}
-use Rattle.std.specs.Int.{trailing_zeros}
+use Rattle.std.proofs.Common.{arith, refl, w64, Bool, true, false, bit_and}
+use Rattle.std.specs.Prelude.{◌≢◌, ◌↔◌, IsTrue, MatchOption, None, Some}
+use Rattle.std.specs.Int.{bit_at, from_bool, trailing_zeros}
 use Rattle.std.proofs.lemmas.Bool.{cases_eq}
 use Rattle.std.proofs.lemmas.Int.{ints}
 use Rattle.std.proofs.lemmas.Nat.{pow_pos}
-use Rattle.std.proofs.lemmas.Nat.Bits.{bit_at-pow_other, bit_at-trailing_zeros}
+use Rattle.std.proofs.lemmas.Nat.Bits.{and_pow, bit_at-lt, bit_at-pow_other, bit_at-trailing_zeros}
 use Rattle.std.proofs.Math.Nat.{pow-le-pow_right}
 use Rattle.bb_machine.specs.declared.entry.Next.TheVariants.{State}
 use Rattle.bb_machine.specs.Limits.{Bounds}
 use Rattle.bb_machine.specs.Machine.{IsMachine, Table}
-use Rattle.bb_tape.specs.Content.{Content}
+use Rattle.bb_tape.specs.Content.{Content, cell}
 use Rattle.bb_tape.specs.TapeView.{TapeView}
 use Rattle.bb_sim.specs.declared.runner.Runner.{Runner}
 use Rattle.bb_sim.specs.declared.simulation.Outcome.{Outcome}
 use Rattle.bb_sim.specs.declared.simulation.Outcome.TheVariants.{Halt, NoCells, NoSteps}
 use Rattle.bb_sim.specs.Run.{HaltsAt}
-use Rattle.bb_sim.specs.Runner.{Stands, steps_of}
+use Rattle.bb_sim.specs.Runner.{Stands, position_of, steps_of}
 use Rattle.bb_sim.specs.Span.{Inside, span}
 use Rattle.bb_sim.proofs.Facts.{fits_at_halt, inside_here, next_inside, span_grows}
 use Rattle.bb_narrow.specs.declared.registers.Registers.{Registers}
@@ -25,7 +25,7 @@ use Rattle.bb_narrow.specs.declared.run.NarrowRun.{NarrowRun}
 use Rattle.bb_narrow.specs.declared.cells.BitCells.{BitCells}
 use Rattle.bb_narrow.specs.BitCells.{bits_content, content_of}
 use Rattle.bb_narrow.specs.Registers.{EndsWith, IsNarrowRun, IsSameConfiguration, MatchesRunner}
-use Rattle.bb_narrow.proofs.Facts.{at_bit, bits_unique}
+use Rattle.bb_narrow.proofs.Facts.{at_bit, bits_unique, by_bit, cell-in_word}
 use Rattle.bb_cert.specs.declared.checker.replay.ReplayState.{ReplayState}
 use Rattle.bb_cert.specs.declared.records.Records.{Records}
 use Rattle.bb_cert.specs.declared.verdict.Extent.{Extent}
@@ -38,7 +38,40 @@ use Rattle.bb_cert.specs.records.Word.{AgreesInWord}
 use Rattle.bb_cert.proofs.claim_lemmas.Claims.{claims_never_halt}
 use Rattle.bb_cert.proofs.claim_lemmas.Standing.{AreAlike}
 
+is_one : (reads : Bool) → IsTrue reads → from_bool reads ≡ 1
+is_one true is = refl
+is_one false is = absurd (let no : false ≡ true = is in cc)
+
+is_zero : (reads : Bool) → (IsTrue reads → ⊥) → from_bool reads ≡ 0
+is_zero true isnt = absurd (isnt refl)
+is_zero false isnt = refl
+
 module _ {table : Table} {bounds : Bounds} {run : NarrowRun} (known : IsNarrowRun table bounds run) where
+  -- the cell under the head is a bit
+  bit_is : cell known.view.content (position_of known.runner) ≡ bit_at run.registers.bits known.at.place
+  bit_is = ap (λ c. cell c (position_of known.runner)) known.at.content
+      ∙ ap (cell (bits_content run.registers.bits)) known.at.position
+      ∙ cell-in_word run.registers.bits known.at.place known.at.within
+
+  -- the test of the head's bit tells it
+  pub symbol_is : (reads : Bool) → IsTrue reads ↔ (bit_and run.registers.bits run.registers.head ≢ 0)
+      → from_bool reads ≡ cell known.view.content (position_of known.runner)
+  symbol_is reads test =
+      let bit = bit_at run.registers.bits known.at.place in
+      let tested : bit_and run.registers.bits run.registers.head ≡ bit * 2 ^ known.at.place =
+      ap (bit_and run.registers.bits) known.at.head ∙ and_pow run.registers.bits known.at.place in
+      elim (by_bit bit (bit_at-lt run.registers.bits known.at.place)) [
+        | inl none ↦
+            let empty : bit_and run.registers.bits run.registers.head ≡ 0 =
+            tested ∙ ap (λ b. b * 2 ^ known.at.place) none ∙ omega arith in
+            is_zero reads (λ one. test.0 one empty) ∙ sym none ∙ sym bit_is
+        | inr set ↦
+            is_one reads (test.1 (λ empty.
+            let whole : bit_and run.registers.bits run.registers.head ≡ 2 ^ known.at.place =
+            tested ∙ ap (λ b. b * 2 ^ known.at.place) set ∙ omega arith in
+            omega (arith, whole, empty, pow_pos known.at.place))) ∙ sym set ∙ sym bit_is
+      ]
+
   -- it is inside the bounds
   pub inside_in_registers : {runner : Runner} → Stands table runner known.view → steps_of runner ≡ run.steps
       → Inside table bounds (steps_of runner)

@@ -16,7 +16,8 @@ use Rattle.bb_cert.specs.declared.checker.replay.ReplayState.{ReplayState}
 use Rattle.bb_cert.specs.declared.records.Records.{Records}
 use Rattle.bb_cert.specs.declared.verdict.Extent.{Extent}
 use Rattle.bb_cert.specs.declared.verdict.Side.{Side}
-use Rattle.bb_cert.specs.inside.Runs.{IsRunnerAt, IsViewAt, MatchExtent}
+use Rattle.bb_cert.specs.checker.Course.{IsRunnerAt}
+use Rattle.bb_cert.specs.inside.Runs.{IsViewAt, MatchExtent}
 use Rattle.bb_cert.specs.records.Agree.{AgreeingRecords}
 use Rattle.bb_cert.specs.inside.Checks.{GoesOn, IsReplay, KeepsStep, MakesRecord}
 use Rattle.bb_cert.specs.inside.NarrowChecks.{IsFollowedFromStart, IsKeptAt, IsKeptUpTo}

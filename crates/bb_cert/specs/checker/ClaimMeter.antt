@@ -57,6 +57,14 @@ IsOfRun (Translated side first second extent) = Unit {0}
 IsOfRun (Backward levels nodes) = ⊥
 IsOfRun (Undecided why) = ⊥
 
+-- a pair is claimed
+abbrev pub IsOfPair : Verdict → Type 0
+IsOfPair (Halt steps score) = ⊥
+IsOfPair (Cycler first second) = Unit {0}
+IsOfPair (Translated side first second extent) = Unit {0}
+IsOfPair (Backward levels nodes) = ⊥
+IsOfPair (Undecided why) = ⊥
+
 -- unless a rule applies for which nothing has to be run
 abbrev pub IsReplayed : Bounds → Verdict → Type 0
 IsReplayed bounds verdict = (IsSettled bounds verdict → ⊥) × IsOfRun verdict

@@ -41,12 +41,6 @@ pub record IsSomewhere (holds : TapeView → Meter → Type 0) : Type 0 where
   pub meter : Meter
   pub is : holds tape meter
 
--- a runner stands at step n
-pub record IsRunnerAt (table : Table) (n : ℕ) (runner : Runner) : Type 0 where
-  pub view : TapeView
-  pub stands : Stands table runner view
-  pub at : steps_of runner ≡ n
-
 -- a run is in registers, and nothing of it counted or on the tape beside it
 pub record IsPackedRun (table : Table) (bounds : Bounds) (packed : PackedRun) (tape : TapeView) (meter : Meter)
     : Type 0 where

@@ -6,16 +6,16 @@ ghost use Rattle.bb_cert.specs.declared.checker.answer.Answer.{Answer};
 ghost use Rattle.bb_cert.specs.declared.verdict.Verdict.{Verdict};
 ghost use Rattle.bb_cert.specs.checker.Answer.{IsAnswer, IsSettled};
 ghost use Rattle.bb_cert.specs.inside.Checks.{Checks, Settles};
-ghost use Rattle.bb_cert.specs.inside.NarrowChecks.{claim_up_to};
 ghost use Rattle.bb_cert.specs.claims.Claim.{Claim, SaysNever};
 ghost use Rattle.bb_cert.specs.checker.ClaimMeter.{CountsCheck, CountsClaim, CountsWindow};
-ghost use Rattle.bb_cert.specs.checker.ClaimMeter.{IsWithinClaim};
+ghost use Rattle.bb_cert.specs.checker.ClaimMeter.{IsOfPair, IsWithinClaim, last_step};
 ghost use Rattle.bb_cert.specs.checker.Pair.{PairHasCells};
 ghost use Rattle.bb_tree.specs.Path.{depth_of};
 ghost use Rattle.bb_tree.specs.Tree.{EndsWithin};
 
 use crate::checker::answer::Answer;
-use crate::checker::pairs::{RecordPair, check_cycler_to_limit, check_translated_to_limit};
+use crate::checker::course::Course;
+use crate::checker::pairs::{RecordPair, check_cycler, check_translated};
 use crate::verdict::Verdict;
 use bb_machine::{Limits, Machine};
 use bb_narrow::simulate_narrow;
@@ -60,11 +60,45 @@ pub fn check<T: Tape>(
     ensures depth { depth_of path.new ≡ depth_of path.old }
     ensures memory { OnErr result (IsTrue T.GROWS) }
 {
+    check_along(machine, verdict, limits, pair, path, &mut (), meter)
+}
+
+/// [`check`], with something followed along the run of a pair: for a pair that holds, up to its second step.
+/// After another answer, or after an error, it may have been followed to some step of the run.
+///
+/// After an error the contents of the tapes are unspecified; the next call resets them.
+pub fn check_along<A: Course, T: Tape>(
+    machine: &Machine,
+    verdict: &Verdict,
+    limits: &Limits,
+    pair: &mut Pair<T>,
+    path: &mut Path,
+    along: &mut A,
+    meter: &mut Meter,
+) -> Result<Answer, Memory>
+    requires tapes { PairHasCells T.view limits.now.cells pair.old }
+    requires path { limits.now.depth ≤ depth_of path.old }
+    ensures answer { IfOk result (IsAnswer machine.now limits.now verdict.now) }
+    ensures claim { IfOk result (λ answer. answer ≡ Answer.Ok → Claim machine.now verdict.now) }
+    ensures never { IfOk result (λ answer. answer ≡ Answer.Ok → SaysNever verdict.now → Never machine.now) }
+    ensures counted { IfOk result (λ answer. answer ≡ Answer.Ok
+        → CountsClaim verdict.now meter.new) }
+    ensures within { IsWithinClaim limits.now verdict.now meter.new }
+    ensures cost { IfOk result (λ answer. CountsCheck machine.now limits.now verdict.now meter.new) }
+    ensures window { IfOk result (λ answer.
+        CountsWindow machine.now limits.now verdict.now meter.new.most_cells) }
+    ensures along { IfOk result (λ answer. answer ≡ Answer.Ok → IsOfPair verdict.now
+        → A.goes_on machine.now 0 (last_step verdict.now) along.old along.new) }
+    ensures settled { IsSettled limits.now verdict.now → meter.new ≡ zero_meter }
+    ensures tapes { PairHasCells T.view limits.now.cells pair.new }
+    ensures depth { depth_of path.new ≡ depth_of path.old }
+    ensures memory { OnErr result (IsTrue T.GROWS) }
+{
     *meter = Meter::new();
     machine.show_machine();
     match settle(verdict, limits) {
         Some(answer) => Ok(answer),
-        None => check_claim(machine, *verdict, limits, pair, path, meter),
+        None => check_claim(machine, *verdict, limits, pair, path, along, meter),
     }
 }
 
@@ -111,12 +145,13 @@ fn settle_pair(first: u64, second: u64, limits: &Limits) -> Option<Answer>
 }
 
 /// The answer to a claim by a run or a walk.
-fn check_claim<T: Tape>(
+fn check_claim<A: Course, T: Tape>(
     machine: &Machine,
     verdict: Verdict,
     limits: &Limits,
     pair: &mut Pair<T>,
     path: &mut Path,
+    along: &mut A,
     meter: &mut Meter,
 ) -> Result<Answer, Memory>
     requires open { IsSettled limits.now verdict → ⊥ }
@@ -130,6 +165,8 @@ fn check_claim<T: Tape>(
     ensures cost { IfOk result (λ answer. CountsCheck machine.now limits.now verdict meter.new) }
     ensures window { IfOk result (λ answer.
         CountsWindow machine.now limits.now verdict meter.new.most_cells) }
+    ensures along { IfOk result (λ answer. answer ≡ Answer.Ok → IsOfPair verdict
+        → A.goes_on machine.now 0 (last_step verdict) along.old along.new) }
     ensures tapes { PairHasCells T.view limits.now.cells pair.new }
     ensures depth { depth_of path.new ≡ depth_of path.old }
     ensures memory { OnErr result (IsTrue T.GROWS) }
@@ -139,7 +176,8 @@ fn check_claim<T: Tape>(
             check_halt(machine, steps, score, limits, &mut pair.run, meter)
         }
         Verdict::Cycler { first, second } => {
-            check_cycler(machine, first, second, limits, pair, meter)
+            let limits = with_steps(limits, second);
+            check_cycler(machine, first, &limits, pair, along, meter)
         }
         Verdict::Translated {
             side,
@@ -152,7 +190,8 @@ fn check_claim<T: Tape>(
                 first,
                 extent,
             };
-            check_translated(machine, claim, second, limits, pair, meter)
+            let limits = with_steps(limits, second);
+            check_translated(machine, claim, &limits, pair, along, meter)
         }
         Verdict::Backward { levels, nodes } => {
             check_backward(machine, levels, nodes, limits, &mut pair.run, path, meter)
@@ -210,59 +249,6 @@ fn check_halt<T: Tape>(
         Outcome::NoSteps => Ok(Answer::Bad),
         Outcome::NoCells => Ok(Answer::Over),
     }
-}
-
-/// Whether the configuration of one step comes again at another: one run, and a copy of its tape.
-fn check_cycler<T: Tape>(
-    machine: &Machine,
-    first: u64,
-    second: u64,
-    limits: &Limits,
-    pair: &mut Pair<T>,
-    meter: &mut Meter,
-) -> Result<Answer, Memory>
-    requires order { first < second }
-    requires steps { second ≤ limits.now.steps }
-    requires tapes { PairHasCells T.view limits.now.cells pair.old }
-    requires meter { meter.old ≡ zero_meter }
-    ensures checks { IfOk result (Checks machine.now limits.now (Verdict.Cycler first second)) }
-    ensures counted { IfOk result (λ answer. answer ≡ Answer.Ok
-        → CountsClaim (Verdict.Cycler first second) meter.new) }
-    ensures within { IsWithinClaim limits.now (Verdict.Cycler first second) meter.new }
-    ensures replayed { IfOk result (λ answer.
-        CountsRun machine.now (record limits.now { steps = second }) zero_meter meter.new) }
-    ensures tapes { PairHasCells T.view limits.now.cells pair.new }
-    ensures memory { OnErr result (IsTrue T.GROWS) }
-{
-    let limits = with_steps(limits, second);
-    check_cycler_to_limit(machine, first, &limits, pair, meter)
-}
-
-/// Whether two steps make agreeing records of a side, with the claimed extent: by one run, and a copy of its
-/// tape.
-fn check_translated<T: Tape>(
-    machine: &Machine,
-    claim: RecordPair,
-    second: u64,
-    limits: &Limits,
-    pair: &mut Pair<T>,
-    meter: &mut Meter,
-) -> Result<Answer, Memory>
-    requires order { claim.first < second }
-    requires steps { second ≤ limits.now.steps }
-    requires tapes { PairHasCells T.view limits.now.cells pair.old }
-    requires meter { meter.old ≡ zero_meter }
-    ensures checks { IfOk result (Checks machine.now limits.now (claim_up_to second claim)) }
-    ensures counted { IfOk result (λ answer. answer ≡ Answer.Ok
-        → CountsClaim (claim_up_to second claim) meter.new) }
-    ensures within { IsWithinClaim limits.now (claim_up_to second claim) meter.new }
-    ensures replayed { IfOk result (λ answer.
-        CountsRun machine.now (record limits.now { steps = second }) zero_meter meter.new) }
-    ensures tapes { PairHasCells T.view limits.now.cells pair.new }
-    ensures memory { OnErr result (IsTrue T.GROWS) }
-{
-    let limits = with_steps(limits, second);
-    check_translated_to_limit(machine, claim, &limits, pair, meter)
 }
 
 /// Whether the backward tree ends in so many levels with so many nodes, none of them matched by the start: by

@@ -12,6 +12,7 @@ ghost use Rattle.bb_cert.specs.inside.Runs.{saved_steps};
 
 use crate::checker::answer::Answer;
 use crate::checker::checking::Pair;
+use crate::checker::course::Course;
 use crate::checker::replay::{ReplayState, run_to};
 use crate::checker::run::Run;
 use crate::records::Records;
@@ -22,7 +23,7 @@ use bb_sim::Meter;
 use bb_tape::{Memory, Tape};
 
 /// A claim of two agreeing records, the second of which is made at the limit of steps.
-#[derive(Clone, Copy, Debug)]
+#[derive(Clone, Copy)]
 pub(crate) struct RecordPair {
     pub(crate) side: Side,
     pub(crate) first: u64,
@@ -31,11 +32,12 @@ pub(crate) struct RecordPair {
 
 /// Whether the configuration of one step comes again at the limit of steps: by one run, and a copy of its
 /// tape.
-pub(crate) fn check_cycler_to_limit<T: Tape>(
+pub(crate) fn check_cycler<A: Course, T: Tape>(
     machine: &Machine,
     first: u64,
     limits: &Limits,
     pair: &mut Pair<T>,
+    along: &mut A,
     meter: &mut Meter,
 ) -> Result<Answer, Memory>
     requires order { first < limits.now.steps }
@@ -46,17 +48,19 @@ pub(crate) fn check_cycler_to_limit<T: Tape>(
         → CountsClaim (Verdict.Cycler first limits.now.steps) meter.new) }
     ensures within { IsWithinClaim limits.now (Verdict.Cycler first limits.now.steps) meter.new }
     ensures replayed { IfOk result (λ answer. CountsRun machine.now limits.now zero_meter meter.new) }
+    ensures along { IfOk result (λ answer. answer ≡ Answer.Ok
+        → A.goes_on machine.now 0 limits.now.steps along.old along.new) }
     ensures tapes { PairHasCells T.view limits.now.cells pair.new }
     ensures memory { OnErr result (IsTrue T.GROWS) }
 {
-    let mut run = Run::begin(machine, limits, &mut pair.run, meter);
-    match run_to(machine, &mut run, pair, limits, first, &mut (), meter)? {
+    let run = &mut Run::begin(machine, limits, &mut pair.run, meter);
+    match run_to(machine, run, pair, limits, first, &mut (), along, meter)? {
         Some(answer) => return Ok(answer),
         None => {}
     }
     run.save(pair)?;
     let second = limits.steps();
-    match run_to(machine, &mut run, pair, limits, second, &mut (), meter)? {
+    match run_to(machine, run, pair, limits, second, &mut (), along, meter)? {
         Some(answer) => return Ok(answer),
         None => {}
     }
@@ -68,11 +72,12 @@ pub(crate) fn check_cycler_to_limit<T: Tape>(
 }
 
 /// Whether two steps make agreeing records, with the claimed extent, the second at the limit of steps.
-pub(crate) fn check_translated_to_limit<T: Tape>(
+pub(crate) fn check_translated<A: Course, T: Tape>(
     machine: &Machine,
     claim: RecordPair,
     limits: &Limits,
     pair: &mut Pair<T>,
+    along: &mut A,
     meter: &mut Meter,
 ) -> Result<Answer, Memory>
     requires order { claim.first < limits.now.steps }
@@ -83,30 +88,32 @@ pub(crate) fn check_translated_to_limit<T: Tape>(
         → CountsClaim (claim_of limits.now claim) meter.new) }
     ensures within { IsWithinClaim limits.now (claim_of limits.now claim) meter.new }
     ensures replayed { IfOk result (λ answer. CountsRun machine.now limits.now zero_meter meter.new) }
+    ensures along { IfOk result (λ answer. answer ≡ Answer.Ok
+        → A.goes_on machine.now 0 limits.now.steps along.old along.new) }
     ensures tapes { PairHasCells T.view limits.now.cells pair.new }
     ensures memory { OnErr result (IsTrue T.GROWS) }
 {
-    let mut run = Run::begin(machine, limits, &mut pair.run, meter);
+    let run = &mut Run::begin(machine, limits, &mut pair.run, meter);
     let at_start = run.runner(machine, limits);
-    let mut replay = ReplayState {
+    let mut state = ReplayState {
         records: Records::new(claim.side, at_start),
         is_record: false,
     };
     let first = claim.first;
-    match run_to(machine, &mut run, pair, limits, first, &mut replay, meter)? {
+    match run_to(machine, run, pair, limits, first, &mut state, along, meter)? {
         Some(answer) => return Ok(answer),
         None => {}
     }
     run.save(pair)?;
     let at_first = run.runner(machine, limits);
-    replay.keep_if_record(&at_first);
+    state.keep_if_record(&at_first);
     let second = limits.steps();
-    match run_to(machine, &mut run, pair, limits, second, &mut replay, meter)? {
+    match run_to(machine, run, pair, limits, second, &mut state, along, meter)? {
         Some(answer) => return Ok(answer),
         None => {}
     }
     run.count(machine, &pair.run, limits, meter);
-    let Some(found) = agreeing_extent(&replay, &run, machine, limits, pair) else {
+    let Some(found) = agreeing_extent(&state, run, machine, limits, pair) else {
         return Ok(Answer::Bad);
     };
     if !matches_claimed(claim.extent, found) {

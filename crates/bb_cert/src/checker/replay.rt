@@ -1,13 +1,12 @@
 //! The run of a claim, up to the steps named in it.
-ghost use Rattle.std.specs.Prelude.{◌≡◌, ℕ, ◌+◌, ◌≤◌, IfOk, IfSome, IsTrue, MatchBool, MatchOption};
+ghost use Rattle.std.specs.Prelude.{◌≡◌, ◌≤◌, false, IfOk, IfSome, IsTrue, MatchBool, MatchOption};
 ghost use Rattle.std.specs.Prelude.{OnErr, OnOk};
-ghost use Rattle.bb_machine.specs.Machine.{Table};
 ghost use Rattle.bb_sim.specs.Meter.{IsWithinRun, zero_meter};
 ghost use Rattle.bb_sim.specs.Runner.{steps_of};
 ghost use Rattle.bb_narrow.specs.Registers.{IsNarrowRun};
 ghost use Rattle.bb_cert.specs.checker.Pair.{PairHasCells};
 ghost use Rattle.bb_cert.specs.inside.Checks.{GoesOn, IsUnderWay, Passes, goes_further, goes_nowhere};
-ghost use Rattle.bb_cert.specs.inside.Runs.{IsAnswered, IsPackedPair, IsRun, IsRunnerAt, MatchProgress};
+ghost use Rattle.bb_cert.specs.inside.Runs.{IsAnswered, IsPackedPair, IsRun, MatchProgress};
 ghost use Rattle.bb_cert.specs.inside.Runs.{StandsSaved, made_of, packed_steps, saved_steps};
 ghost use Rattle.bb_cert.specs.records.Follow.{AgreesWithKept, IsComparable, IsKeptInStateOf, LiesAs};
 ghost use Rattle.bb_cert.specs.records.Follow.{with_kept};
@@ -15,6 +14,7 @@ ghost use Rattle.bb_cert.specs.records.Word.{AgreesInWord, IsComparableInWord};
 
 use crate::checker::answer::Answer;
 use crate::checker::checking::Pair;
+use crate::checker::course::Course;
 use crate::checker::run::{PackedRun, Progress, Run, Steps};
 use crate::records::{Records, widened_side};
 use crate::verdict::Extent;
@@ -24,7 +24,7 @@ use bb_sim::{Meter, Runner};
 use bb_tape::{Memory, Tape};
 
 /// The records of a side of a run, and whether the last step makes one.
-#[derive(Clone, Copy, Debug)]
+#[derive(Clone, Copy)]
 pub(crate) struct ReplayState {
     pub(crate) records: Records,
     pub(crate) is_record: bool,
@@ -108,36 +108,11 @@ impl ReplayState {
     }
 }
 
-/// Something that is followed along a run, step by step.
-pub(crate) trait Course: Copy {
-    /// The relation between one step and a later one.
-    ghost goes_on: { Table → ℕ → ℕ → Self → Self → Type 0 };
-
-    /// Takes in a step, from the runner before it to the one after it.
-    fn take_in(&mut self, machine: &Machine, before: &Runner, after: &Runner)
-        requires before { IsRunnerAt machine.now (steps_of before.now) before.now }
-        requires after { IsRunnerAt machine.now (steps_of before.now + 1) after.now }
-        ensures { goes_on machine.now (steps_of before.now) (steps_of before.now + 1) self.old self.new };
-
-    ghost stays: { (table : Table) (n : ℕ) (course : Self) → goes_on table n n course course };
-
-    ghost goes_further: { (table : Table) (a b c : ℕ) (first second third : Self)
-        → goes_on table a b first second → goes_on table b c second third → goes_on table a c first third };
-}
-
-/// Nothing is followed: a cycler needs two configurations only.
-impl Course for () {
-    ghost goes_on = { λ table a b old new. Unit {0} };
-
-    ghost stays = { λ table n course. tt };
-
-    ghost goes_further = { λ table a b c first second third one other. tt };
-
-    #[inline(always)]
-    fn take_in(&mut self, _machine: &Machine, _before: &Runner, _after: &Runner) {}
-}
-
 impl Course for ReplayState {
+    ghost READS = { false };
+
+    const READS: bool = false;
+
     ghost goes_on = { GoesOn };
 
     ghost stays = { λ table n course. goes_nowhere };
@@ -145,20 +120,22 @@ impl Course for ReplayState {
     ghost goes_further = { λ table a b c first second third one other. goes_further one other };
 
     #[inline(always)]
-    fn take_in(&mut self, _machine: &Machine, before: &Runner, after: &Runner) {
+    fn take_in(&mut self, _machine: &Machine, before: &Runner, _symbol: u8, after: &Runner) {
         self.pass(after, before.cells());
     }
 }
 
-/// Continues a run in registers, or one on a tape, up to a step on the way to its limit of steps.
+/// Continues a run in registers, or one on a tape, up to a step on the way to its limit of steps. The check's
+/// own course is copied, so the loop keeps it in registers; the caller's may be large, and stays in its place.
 #[inline(never)]
-fn go_on<R: Steps, C: Course, T: Tape>(
+fn go_on<R: Steps, C: Course + Copy, A: Course, T: Tape>(
     machine: &Machine,
     start: &mut R,
     tape: &mut T,
     limits: &Limits,
     step: u64,
     from: &mut C,
+    along: &mut A,
     meter: &mut Meter,
 ) -> Result<Progress, Memory>
     requires under_way { R.is_under_way machine.now limits.now start.old (T.view tape.old) meter.old }
@@ -167,11 +144,13 @@ fn go_on<R: Steps, C: Course, T: Tape>(
     requires within { step ≤ limits.now.steps }
     ensures progress { IfOk result (λ progress. MatchProgress progress
         (R.is_under_way machine.now limits.now start.new (T.view tape.new) meter.new
-        × (R.made start.new ≡ step) × C.goes_on machine.now (R.made start.old) step from.old from.new)
+        × (R.made start.new ≡ step) × C.goes_on machine.now (R.made start.old) step from.old from.new
+        × A.goes_on machine.now (R.made start.old) step along.old along.new)
         (IsAnswered machine.now limits.now meter.new)
         (R.is_under_way machine.now limits.now start.new (T.view tape.new) meter.new
         × (R.made start.old ≤ R.made start.new) × (R.made start.new ≤ step) × R.may_leave
-        × C.goes_on machine.now (R.made start.old) (R.made start.new) from.old from.new)) }
+        × C.goes_on machine.now (R.made start.old) (R.made start.new) from.old from.new
+        × A.goes_on machine.now (R.made start.old) (R.made start.new) along.old along.new)) }
     ensures within { IsWithinRun limits.now zero_meter meter.new }
     ensures limit { (T.view tape.new).limit ≡ (T.view tape.old).limit }
     ensures memory { OnErr result (IsTrue T.GROWS) }
@@ -180,6 +159,7 @@ fn go_on<R: Steps, C: Course, T: Tape>(
     let mut course = *from;
     while run.steps() < step {
         let before = run.runner(machine, limits);
+        let symbol = run.symbol(tape, C::READS || A::READS);
         let progress = run.advance(machine, tape, limits, meter)?;
         match progress {
             Progress::There => {}
@@ -191,7 +171,8 @@ fn go_on<R: Steps, C: Course, T: Tape>(
             }
         }
         let after = run.runner(machine, limits);
-        course.take_in(machine, &before, &after);
+        course.take_in(machine, &before, symbol, &after);
+        along.take_in(machine, &before, symbol, &after);
     }
     *start = run;
     *from = course;
@@ -201,13 +182,14 @@ fn go_on<R: Steps, C: Course, T: Tape>(
 /// Continues a run up to a step, on the way to its limit of steps, and leaves the registers once it needs
 /// more than 64 cells. Returns the answer if the run can't reach the limit.
 #[inline(always)]
-pub(crate) fn run_to<C: Course, T: Tape>(
+pub(crate) fn run_to<C: Course + Copy, A: Course, T: Tape>(
     machine: &Machine,
     run: &mut Run,
     pair: &mut Pair<T>,
     limits: &Limits,
     step: u64,
     course: &mut C,
+    along: &mut A,
     meter: &mut Meter,
 ) -> Result<Option<Answer>, Memory>
     requires run { IsRun machine.now limits.now run.old (T.view pair.old.run) meter.old }
@@ -217,7 +199,8 @@ pub(crate) fn run_to<C: Course, T: Tape>(
     requires within { step ≤ limits.now.steps }
     ensures runs { IfOk result (λ cut. MatchOption cut
         (IsRun machine.now limits.now run.new (T.view pair.new.run) meter.new × (made_of run.new ≡ step)
-        × C.goes_on machine.now (made_of run.old) step course.old course.new)
+        × C.goes_on machine.now (made_of run.old) step course.old course.new
+        × A.goes_on machine.now (made_of run.old) step along.old along.new)
         (IsAnswered machine.now limits.now meter.new)) }
     ensures saved { StandsSaved machine.now limits.now run.old (T.view pair.old.saved)
         → OnOk result (StandsSaved machine.now limits.now run.new (T.view pair.new.saved)) }
@@ -227,7 +210,16 @@ pub(crate) fn run_to<C: Course, T: Tape>(
     ensures memory { OnErr result (IsTrue T.GROWS) }
 {
     if let Run::InRegisters { packed, saved } = run {
-        match go_on(machine, packed, &mut pair.run, limits, step, course, meter)? {
+        match go_on(
+            machine,
+            packed,
+            &mut pair.run,
+            limits,
+            step,
+            course,
+            along,
+            meter,
+        )? {
             Progress::There => return Ok(None),
             Progress::Cut(answer) => return Ok(Some(answer)),
             Progress::Outside => {
@@ -240,7 +232,16 @@ pub(crate) fn run_to<C: Course, T: Tape>(
     let Run::OnTape { runner, .. } = run else {
         unreachable!();
     };
-    match go_on(machine, runner, &mut pair.run, limits, step, course, meter)? {
+    match go_on(
+        machine,
+        runner,
+        &mut pair.run,
+        limits,
+        step,
+        course,
+        along,
+        meter,
+    )? {
         Progress::There => Ok(None),
         Progress::Cut(answer) => Ok(Some(answer)),
         Progress::Outside => unreachable!(),

@@ -11,7 +11,8 @@ ghost use Rattle.bb_sim.specs.Span.{Inside};
 ghost use Rattle.bb_cert.specs.claims.Repeat.{Same};
 ghost use Rattle.bb_cert.specs.inside.Checks.{IsUnderWay};
 ghost use Rattle.bb_cert.specs.inside.NarrowChecks as checks;
-ghost use Rattle.bb_cert.specs.inside.Runs.{IsAnswered, IsPackedRun, IsRun, IsRunnerAt, IsSomewhere};
+ghost use Rattle.bb_cert.specs.checker.Course.{IsReadAt, IsRunnerAt};
+ghost use Rattle.bb_cert.specs.inside.Runs.{IsAnswered, IsPackedRun, IsRun, IsSomewhere};
 ghost use Rattle.bb_cert.specs.inside.Runs.{MatchProgress, StandsSaved, StandsThere, made_of, packed_steps};
 ghost use Rattle.bb_cert.specs.inside.Runs.{saved_steps};
 
@@ -23,7 +24,7 @@ use bb_sim::{Meter, Moved, Outcome, Runner, is_same};
 use bb_tape::{Memory, Tape};
 
 /// How far a run came towards a step.
-#[derive(Clone, Copy, Debug)]
+#[derive(Clone, Copy)]
 pub(crate) enum Progress {
     /// It is there.
     There,
@@ -53,6 +54,12 @@ pub(crate) trait Steps: Copy {
         requires run { IsSomewhere (is_under_way machine.now limits.now self.now) }
         ensures { IsRunnerAt machine.now (made self.now) result };
 
+    /// The symbol under the head, if it is wanted.
+    fn symbol<T: Tape>(&self, tape: &T, wanted: bool) -> u8
+        ensures { (table : Table) (bounds : Bounds) (meter : Meter)
+            → is_under_way table bounds self.now (T.view tape.now) meter
+            → IsTrue wanted → IsReadAt table (made self.now) result };
+
     /// Makes one step towards the limit of steps.
     fn advance<T: Tape>(
         &mut self,
@@ -75,7 +82,7 @@ pub(crate) trait Steps: Copy {
 }
 
 /// A run in registers, not counted so far, with its machine's table.
-#[derive(Clone, Copy, Debug)]
+#[derive(Clone, Copy)]
 pub(crate) struct PackedRun {
     pub(crate) run: NarrowRun,
     pub(crate) table: NarrowTable,
@@ -96,6 +103,11 @@ impl Steps for PackedRun {
     #[inline(always)]
     fn runner(&self, machine: &Machine, limits: &Limits) -> Runner {
         self.run.runner(machine, limits)
+    }
+
+    #[inline(always)]
+    fn symbol<T: Tape>(&self, _tape: &T, _wanted: bool) -> u8 {
+        u8::from(self.run.registers.reads_one())
     }
 
     #[inline(always)]
@@ -137,6 +149,15 @@ impl Steps for Runner {
     }
 
     #[inline(always)]
+    fn symbol<T: Tape>(&self, tape: &T, wanted: bool) -> u8 {
+        if wanted {
+            tape.read(self.position())
+        } else {
+            0
+        }
+    }
+
+    #[inline(always)]
     fn advance<T: Tape>(
         &mut self,
         machine: &Machine,
@@ -166,7 +187,7 @@ fn answer_of(outcome: Outcome) -> Answer
 }
 
 /// A run of a claim, with its configuration at an earlier step: the start, until [`Run::save`].
-#[derive(Clone, Copy, Debug)]
+#[derive(Clone, Copy)]
 pub(crate) enum Run {
     /// Both in registers.
     InRegisters { packed: PackedRun, saved: NarrowRun },

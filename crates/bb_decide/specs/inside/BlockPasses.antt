@@ -8,15 +8,15 @@ use Rattle.bb_tape.specs.Content.{Content, cell}
 use Rattle.bb_tape.specs.TapeView.{TapeView}
 use Rattle.bb_sim.specs.Runner.{position_of, state_of}
 use Rattle.bb_narrow.specs.Blocks.{IsBlockRun}
+use Rattle.bb_narrow.specs.declared.blocks.Barrier.{Barrier}
 use Rattle.bb_narrow.specs.declared.table.NarrowTable.{NarrowTable}
 use Rattle.bb_narrow.specs.Packed.{IsTableOf}
 use Rattle.bb_cert.specs.records.Follow.{passed}
 use Rattle.bb_decide.specs.Fingerprint.{fingerprint}
 use Rattle.bb_decide.specs.inside.Searching.{IsInRecordSearch, IsInSinglePass, IsUnderWay}
-use Rattle.bb_decide.specs.declared.block_pass.Barrier.{Barrier}
-use Rattle.bb_decide.specs.declared.block_pass.BlockPass.{BlockPass}
 use Rattle.bb_decide.specs.declared.single_pass.Fingerprints.{Fingerprints}
 use Rattle.bb_decide.specs.declared.single_pass.SinglePass.{SinglePass}
+use Rattle.bb_decide.specs.declared.sprint.Sprint.{Sprint}
 
 -- a machine's table in two numbers, for a tape that doesn't grow
 pub record IsBlockTable (grows : Bool) (table : Table) (packed : NarrowTable) : Type 0 where
@@ -46,7 +46,7 @@ pub record IsBarrier (bounds : Bounds) (from : ℤ) (fingerprints : Fingerprints
 -- The single-pass run inside a block: its records have passed the least and the greatest head, and its
 -- fingerprint is that of its cells.
 pub record IsBlockPass (table : Table) (bounds : Bounds) (key : ℤ → ℕ) (from : ℤ) (tape right left : TapeView)
-    (begun : SinglePass) (pass : BlockPass) : Type 0 where
+    (begun : SinglePass) (pass : Sprint) : Type 0 where
   pub run : IsBlockRun table bounds from tape pass.run
   pub least : ℕ
   pub least_small : least < 64
@@ -58,14 +58,6 @@ pub record IsBlockPass (table : Table) (bounds : Bounds) (key : ℤ → ℕ) (fr
       (passed begun.left (from +ℤ pos greatest)) right left
   pub single_pass : IsInSinglePass table bounds key run.runner run.view
       (record begun.fingerprints { current = fingerprint key run.view.content })
-
--- steps inside a block, before a barrier
-abbrev pub GoesOnInBlock : Table → Bounds → Barrier → BlockPass → BlockPass → Type 0
-GoesOnInBlock table bounds barrier old new =
-    (key : ℤ → ℕ) (from : ℤ) (tape right left : TapeView) (begun : SinglePass)
-    → IsBarrier bounds from begun.fingerprints barrier
-    → IsBlockPass table bounds key from tape right left begun old
-    → IsBlockPass table bounds key from tape right left begun new
 
 -- a content with these bits in a block becomes one with those bits there
 pub record ChangesTo (from : ℤ) (old new : ℕ) (one other : Content) : Type 0 where

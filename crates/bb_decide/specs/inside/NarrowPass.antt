@@ -1,5 +1,5 @@
 -- A single-pass run in registers, for the functions of this crate. No public contract cites it.
-use Rattle.std.specs.Prelude.{◌≡◌, ◌+◌, ◌*◌, ◌<◌, ◌≤◌, ◌⊎◌, Option, Some, None}
+use Rattle.std.specs.Prelude.{◌≡◌, ◌+◌, ◌-◌, ◌*◌, ◌<◌, ◌≤◌, ◌⊎◌, Option, Some, None}
 use Rattle.bb_machine.specs.Limits.{Bounds}
 use Rattle.bb_machine.specs.Machine.{Table}
 use Rattle.bb_tape.specs.TapeView.{TapeView}
@@ -26,7 +26,7 @@ pub record IsPassIn (table : Table) (bounds : Bounds) (run : NarrowRun) (kept : 
   pub is_run : IsNarrowRun table bounds run
   pub kept_is_run : IsNarrowRun table bounds kept.run
   pub search : IsInCycleSearch table bounds is_run.runner kept_is_run.runner is_run.view kept_is_run.view
-  pub next : kept.next ≡ 2 * kept.run.steps
+  pub before_next : kept.before_next ≡ 2 * kept.run.steps - 1
   pub right_records : Records
   pub left_records : Records
   pub saved_right : TapeView
@@ -58,7 +58,7 @@ AdvancesPass table bounds old new None =
 AdvancesPass table bounds old new (Some result) =
     IsNarrowRun table bounds new.run × EndsNarrowPass table bounds new result
 
--- a run is kept from the step on that is next
+-- a run is kept at the step that is next
 abbrev pub KeepsRunInTurn : NarrowRun → KeptRun → KeptRun → Type 0
-KeepsRunInTurn run old new = ((run.steps < old.next) × (new ≡ old))
-    ⊎ ((old.next ≤ run.steps) × (new ≡ record { run = run; next = 2 * run.steps }))
+KeepsRunInTurn run old new = ((run.steps ≤ old.before_next) × (new ≡ old))
+    ⊎ ((old.before_next < run.steps) × (new ≡ record { run = run; before_next = 2 * run.steps - 1 }))

@@ -6,7 +6,7 @@ use Rattle.bb_sim.specs.declared.meter.Meter.{Meter}
 use Rattle.std.proofs.lemmas.Result.{err_from_is_err_and}
 use Rattle.bb_decide.specs.Fingerprint.{fingerprint}
 use Rattle.bb_decide.proofs.BlockPasses.{is_under_way, passed_again}
-use Rattle.bb_decide.proofs.Benches.{lent_at_first, lent_on, lent_on_bench, lent_uncounted}
+use Rattle.bb_decide.proofs.Benches.{lent_at_first, lent_on, lent_uncounted}
 use Rattle.bb_decide.proofs.Counted.{cut_after_step, cut_at_step, few_steps, has_moved, taken_over}
 use Rattle.bb_decide.proofs.Cycles.{no_cycle_at_end}
 use Rattle.bb_decide.proofs.SearchResults.{ends_into_Z, ends_where_stopped, runs_and_finds, runs_to_end}
@@ -182,18 +182,18 @@ loop-moved-preserved-in_default-table g c =
       lent = lent_on c.advance.ensures.limit refl refl here.lent;
     }
 
-pub after_block-pass-requires-clause-table : goal.after_block-pass-requires-clause-table
-after_block-pass-requires-clause-table g c =
+pub pass_block-pass-requires-clause-table : goal.pass_block-pass-requires-clause-table
+pass_block-pass-requires-clause-table g c =
     subst (λ table. IfSome table (IsBlockTable g.T.Tape.GROWS c.args.machine.now)) c.in-Some-table.is c.requires.table
 
-pub after_block-pass-requires-clause-can : goal.after_block-pass-requires-clause-can
-after_block-pass-requires-clause-can g c =
+pub pass_block-pass-requires-clause-can : goal.pass_block-pass-requires-clause-can
+pass_block-pass-requires-clause-can g c =
     let here = c.loop-moved.invariant in
-    let step = step_made g (goal.at.after_block-pass-requires-clause-can g c).After-update_fingerprint in
-    let taken = taken_in g (goal.at.after_block-pass-requires-clause-can g c).After-widened_side in
+    let step = step_made g (goal.at.pass_block-pass-requires-clause-can g c).After-update_fingerprint in
+    let taken = taken_in g (goal.at.pass_block-pass-requires-clause-can g c).After-widened_side in
     let under = is_under_way here.search here.single_pass step.0 step.1
     (looks_at_none taken (is_none _ c.in_default-widened_side.not-Some)) refl
-    (current g (goal.at.after_block-pass-requires-clause-can g c).After-update_fingerprint)
+    (current g (goal.at.pass_block-pass-requires-clause-can g c).After-update_fingerprint)
     (λ same. both_ways _ c.if-are_as_kept.false (c.are_as_kept.ensures.1 same)) c.keep_in_turn.ensures in
     record {
       right = _;
@@ -213,7 +213,7 @@ of_side-right-requires-in_default-widened_side g c =
     (looks_at_none taken (is_none _ c.in_default-widened_side.not-Some)) refl
     (current g (goal.at.of_side-right-requires-in_default-widened_side g c).After-update_fingerprint)
     (λ same. both_ways _ c.if-are_as_kept.false (c.are_as_kept.ensures.1 same)) c.keep_in_turn.ensures in
-    record { side = (c.after_block-pass.ensures.pass _ _ under).search.searched.right_is }
+    record { side = (c.pass_block-pass.ensures.pass _ _ under).search.searched.right_is }
 
 pub of_side-left-requires-in_default-widened_side : goal.of_side-left-requires-in_default-widened_side
 of_side-left-requires-in_default-widened_side g c =
@@ -224,7 +224,7 @@ of_side-left-requires-in_default-widened_side g c =
     (looks_at_none taken (is_none _ c.in_default-widened_side.not-Some)) refl
     (current g (goal.at.of_side-left-requires-in_default-widened_side g c).After-update_fingerprint)
     (λ same. both_ways _ c.if-are_as_kept.false (c.are_as_kept.ensures.1 same)) c.keep_in_turn.ensures in
-    record { side = (c.after_block-pass.ensures.pass _ _ under).search.searched.left_is }
+    record { side = (c.pass_block-pass.ensures.pass _ _ under).search.searched.left_is }
 
 pub loop-moved-preserved-in_default-widened_side : goal.loop-moved-preserved-in_default-widened_side
 loop-moved-preserved-in_default-widened_side g c =
@@ -235,21 +235,21 @@ loop-moved-preserved-in_default-widened_side g c =
     (looks_at_none taken (is_none _ c.in_default-widened_side.not-Some)) refl
     (current g (goal.at.loop-moved-preserved-in_default-widened_side g c).After-update_fingerprint)
     (λ same. both_ways _ c.if-are_as_kept.false (c.are_as_kept.ensures.1 same)) c.keep_in_turn.ensures in
-    let after = c.after_block-pass.ensures.pass _ _ under in
+    let after = c.pass_block-pass.ensures.pass _ _ under in
     record {
       search = rw (c.of_side-right-in_default-widened_side.ensures, c.of_side-left-in_default-widened_side.ensures) after.search;
       single_pass = after.single_pass;
-      lent = lent_on (c.after_block-pass.ensures.limit ∙ c.advance.ensures.limit) refl refl here.lent;
+      lent = lent_on (c.pass_block-pass.ensures.limit ∙ c.advance.ensures.limit) refl refl here.lent;
     }
 
 -- else the record that it makes is looked at
-pub compare_on_bench-requires-clause-ready : goal.compare_on_bench-requires-clause-ready
-compare_on_bench-requires-clause-ready g c =
-    let taken = taken_in g (goal.at.compare_on_bench-requires-clause-ready g c).After-widened_side in
+pub compare_record-requires-clause-ready : goal.compare_record-requires-clause-ready
+compare_record-requires-clause-ready g c =
+    let taken = taken_in g (goal.at.compare_record-requires-clause-ready g c).After-widened_side in
     is_ready taken _ c.in-Some-widened_side.is (g.met.T.Tape.sound c.advance.new.tape)
 
-pub compare_on_bench-requires-clause-room : goal.compare_on_bench-requires-clause-room
-compare_on_bench-requires-clause-room g c =
+pub compare_record-requires-clause-room : goal.compare_record-requires-clause-room
+compare_record-requires-clause-room g c =
     let few = (rw c.in-Stepped.is at c.in-Ok.ensures.reaches).0.within_steps in
     let same = ap (λ (m : Meter). m.steps) c.loop-moved.invariant.lent.meter in
     omega (arith, few, same, c.show_accepted.ensures.accepted.steps, c.requires.room)
@@ -261,9 +261,8 @@ returns-in_err-verdict g c =
     let step = step_made g (goal.at.returns-in_err-verdict g c).After-update_fingerprint in
     let call = c.in_err-verdict.ensures in
     let fault = err_from_is_err_and c.from_residual.result c.from_residual.ensures.1 in
-    rw fault.1 (runs_until_cut (lent_on_bench c.compare_on_bench.ensures.run c.compare_on_bench.ensures.path
-    c.advance.ensures.limit c.compare_on_bench.ensures.right_limit c.compare_on_bench.ensures.left_limit here.lent)
-    (rw c.compare_on_bench.ensures.run (cut_after_step step.0.stands step.1 call.cut))
+    rw fault.1 (runs_until_cut (lent_on c.advance.ensures.limit c.compare_record.ensures.right_limit
+    c.compare_record.ensures.left_limit here.lent) (cut_after_step step.0.stands step.1 call.cut)
     (still_wide here.single_pass.wide step.0) call.memory)
 
 pub returns-in-Some-2 : goal.returns-in-Some-2
@@ -273,7 +272,7 @@ returns-in-Some-2 g c =
     let call = c.in_ok-verdict.ensures in
     let tells = tells_pair (taken_in g (goal.at.returns-in-Some-2 g c).After-widened_side) _ _ _ _ _
     c.in-Some-widened_side.is _ (rw c.in-Some-2.is at call.looks) in
-    runs_and_finds (lent_on_bench call.run call.path c.advance.ensures.limit call.right_limit call.left_limit
+    runs_and_finds (lent_on c.advance.ensures.limit call.right_limit call.left_limit
     (lent_uncounted call.uncounted here.lent))
     (not_stopped_at_record here.single_pass step.0 step.1 refl
     (current g (goal.at.returns-in-Some-2 g c).After-update_fingerprint)
@@ -287,12 +286,12 @@ loop-moved-preserved g c =
     let step = step_made g (goal.at.loop-moved-preserved g c).After-update_fingerprint in
     let call = c.in_ok-verdict.ensures in
     record {
-      search = rw call.run (goes_on here.search step.0 step.1
+      search = goes_on here.search step.0 step.1
           (looks_at_one (taken_in g (goal.at.loop-moved-preserved g c).After-widened_side) _ _ _ _ _
-          c.in-Some-widened_side.is (rw c.in-None.is at call.looks)));
-      single_pass = rw call.run (single_pass_on here.single_pass step.0 step.1 refl
+          c.in-Some-widened_side.is (rw c.in-None.is at call.looks));
+      single_pass = single_pass_on here.single_pass step.0 step.1 refl
           (current g (goal.at.loop-moved-preserved g c).After-update_fingerprint)
-          (λ same. both_ways _ c.if-are_as_kept.false (c.are_as_kept.ensures.1 same)) c.keep_in_turn.ensures);
-      lent = lent_on_bench call.run call.path c.advance.ensures.limit call.right_limit call.left_limit
+          (λ same. both_ways _ c.if-are_as_kept.false (c.are_as_kept.ensures.1 same)) c.keep_in_turn.ensures;
+      lent = lent_on c.advance.ensures.limit call.right_limit call.left_limit
           (lent_uncounted call.uncounted here.lent);
     }

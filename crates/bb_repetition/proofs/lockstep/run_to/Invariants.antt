@@ -8,6 +8,7 @@ invariant-loop-runner g l = record {
   at : IsAt l.machine l.limits (steps_of l.runner) l.runner (g.T.Tape.view l.tape);
   within : steps_of l.runner ≤ l.to;
   later : steps_of l.fn.runner ≤ steps_of l.runner;
+  goes_on : g.C.Course.goes_on l.machine (steps_of l.fn.runner) (steps_of l.runner) l.fn.course l.course;
   counted : l.meter.steps ≡ l.fn.meter.steps + (steps_of l.runner - steps_of l.fn.runner);
 }
 

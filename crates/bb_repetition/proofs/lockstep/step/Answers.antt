@@ -1,4 +1,6 @@
-use Rattle.bb_repetition.proofs.GoingOn.{steps_on}
+use Rattle.std.proofs.Common.{FitsSigned, refl, rules, w64}
+use Rattle.std.proofs.lemmas.Int.{to_z-of_z}
+use Rattle.bb_repetition.proofs.GoingOn.{inside_of, steps_on}
 use Rattle.bb_repetition.proofs.lockstep.step.Goals as goal
 
 pub unreachable-requires : goal.unreachable-requires
@@ -18,3 +20,27 @@ unreachable-requires-in-NoCells g c =
     let on = steps_on _ _ _ _ _ c.requires.goes_on c.requires.before c.in_ok-advance.ensures.answers in
     let is = c.in-NoCells.is in
     cc
+
+pub read_inside-symbol-requires : goal.read_inside-symbol-requires
+read_inside-symbol-requires g c =
+    let fits : FitsSigned w64 c.position.result = search rules in
+    let inside = inside_of _ _ _ _ _ _ c.requires.goes_on c.requires.at in
+    simp to_z-of_z (rw c.position.ensures inside)
+
+pub take_in-requires-clause-read : goal.take_in-requires-clause-read
+take_in-requires-clause-read g c reads =
+    let fits : FitsSigned w64 c.position.result = search rules in
+    record {
+      runner = _;
+      view = _;
+      stands = c.requires.at.stands;
+      at = refl;
+      reads = rw c.position.ensures at (simp to_z-of_z at c.read_inside-symbol.ensures);
+    }
+
+pub take_in-requires-clause-after : goal.take_in-requires-clause-after
+take_in-requires-clause-after g c = record {
+  view = _;
+  stands = c.in_ok-advance.ensures.stands;
+  at = (rw c.in-Stepped.is at c.in_ok-advance.ensures.moves).0;
+}

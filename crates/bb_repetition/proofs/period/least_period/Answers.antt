@@ -1,5 +1,4 @@
 use Rattle.std.proofs.Common.{◌∙◌, arith, refl}
-use Rattle.bb_repetition.proofs.Histories.{kept_on}
 use Rattle.bb_repetition.proofs.Reductions.{at_least, counts_at_first, counts_early, counts_more, least_at_end}
 use Rattle.bb_repetition.proofs.Reductions.{less_of_remainder, rest_within, room_for_test, tried_at_first, tried_more}
 use Rattle.bb_repetition.proofs.period.least_period.Goals as goal
@@ -8,8 +7,6 @@ pub loop-rest-init : goal.loop-rest-init
 loop-rest-init g c = record {
   saved = refl;
   tapes = c.requires.tapes;
-  history = refl;
-  kept = c.requires.kept;
   above = omega arith;
   tried = tried_at_first _ _ _ c.requires.pair;
   no_less = omega arith;
@@ -43,8 +40,6 @@ loop-rest-preserved-then-rest-divisor-eq0 g c =
     record {
       saved = c.in_ok-period.ensures.saved ∙ here.saved;
       tapes = c.reduce.ensures.tapes;
-      history = c.in_ok-period.ensures.history ∙ here.history;
-      kept = kept_on _ _ _ _ _ _ _ _ c.in_ok-period.ensures.saved c.in_ok-period.ensures.history here.kept;
       above = omega (arith, above);
       tried = tried_more _ _ _ _ _ _ here.tried here.above c.if-rest-divisor-eq0.true _ _
           c.in_ok-period.ensures.reduced c.without-rest.ensures;
@@ -69,14 +64,3 @@ loop-rest-smaller-then-rest-divisor-eq0 g c =
     let low = at_least _ _ c.loop-rest-test.true here.tried.none in
     let half = c.without-rest.ensures.half c.if-rest-divisor-eq0.true in
     omega (arith, low, half, c.loop-rest-test.true)
-
-pub returns-then-second-le-MAX_RECORDED-clause-least : goal.returns-then-second-le-MAX_RECORDED-clause-least
-returns-then-second-le-MAX_RECORDED-clause-least g c =
-    let order = c.requires.order in
-    c.period.ensures.least c.args.machine.now
-    (λ m soon. c.requires.kept.short c.if-second-le-MAX_RECORDED.true m (omega (arith, soon, order))) c.requires.pair
-
-pub returns-then-second-le-MAX_RECORDED-clause-few : goal.returns-then-second-le-MAX_RECORDED-clause-few
-returns-then-second-le-MAX_RECORDED-clause-few g c =
-    let order = c.requires.order in
-    record { primes = 0; few_primes = omega (arith, order); counted = omega arith }

@@ -1,5 +1,4 @@
 use Rattle.std.proofs.Common.{◌≡◌, ◌<◌, ◌≤◌, ◌-◌, ◌*◌}
-use Rattle.bb_repetition.specs.History.{KeepsRun}
 use Rattle.bb_repetition.specs.Tapes.{TapesHaveCells}
 use Rattle.bb_repetition.proofs.Reductions.{CountsSoFar, IsTried}
 use Rattle.bb_repetition.proofs.period.least_period.Given as goal
@@ -9,8 +8,6 @@ abbrev pub invariant-loop-rest : goal.invariant-loop-rest
 invariant-loop-rest g l = record {
   saved : g.T.Tape.view l.tapes.pair.saved ≡ g.T.Tape.view l.fn.tapes.pair.saved;
   tapes : TapesHaveCells g.T.Tape.view l.limits.cells l.tapes;
-  history : l.tapes.history ≡ l.fn.tapes.history;
-  kept : KeepsRun g.T.Tape.view l.machine l.limits l.first l.second l.saved l.tapes;
   above : 1 < l.divisor;
   tried : IsTried l.machine l.first (l.second - l.first) l.period l.rest l.divisor;
   no_less : l.fn.meter.steps ≤ l.meter.steps;

@@ -1,6 +1,5 @@
 use Rattle.std.proofs.Common.{◌≡◌, ◌∙◌, arith, false, true, refl}
 use Rattle.bb_repetition.proofs.Divisors.{half_at_most, quotient_of, some_quotient}
-use Rattle.bb_repetition.proofs.Histories.{kept_on}
 use Rattle.bb_repetition.proofs.Reductions.{divides_further, multiple_of_itself, reduced_by_remainder, reduced_by_test}
 use Rattle.bb_repetition.proofs.period.reduce.Goals as goal
 
@@ -8,8 +7,6 @@ pub loop-period-init : goal.loop-period-init
 loop-period-init g c = record {
   saved = refl;
   tapes = c.requires.tapes;
-  history = refl;
-  kept = c.requires.kept;
   some = c.requires.repeats.some;
   less = omega arith;
   divides = multiple_of_itself _;
@@ -38,8 +35,6 @@ loop-period-preserved g c =
     record {
       saved = c.in_ok-repeats_with.ensures.saved ∙ here.saved;
       tapes = c.repeats_with.ensures.tapes;
-      history = c.in_ok-repeats_with.ensures.history ∙ here.history;
-      kept = kept_on _ _ _ _ _ _ _ _ c.in_ok-repeats_with.ensures.saved c.in_ok-repeats_with.ensures.history here.kept;
       some = some_quotient _ _ _ some is;
       less = omega (arith, half, less);
       divides = divides_further _ _ _ c.loop-period-test.true here.divides;

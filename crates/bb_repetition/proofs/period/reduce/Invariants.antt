@@ -1,6 +1,5 @@
 use Rattle.std.proofs.Common.{◌≡◌, ◌≤◌, ◌<◌, ◌+◌, ◌*◌}
 use Rattle.laws_of_repetition.specs.Repetition.{IsMultipleOf, Repeats}
-use Rattle.bb_repetition.specs.History.{KeepsRun}
 use Rattle.bb_repetition.specs.Tapes.{TapesHaveCells}
 use Rattle.bb_repetition.proofs.period.reduce.Given as goal
 
@@ -9,8 +8,6 @@ abbrev pub invariant-loop-period : goal.invariant-loop-period
 invariant-loop-period g l = record {
   saved : g.T.Tape.view l.tapes.pair.saved ≡ g.T.Tape.view l.fn.tapes.pair.saved;
   tapes : TapesHaveCells g.T.Tape.view l.limits.cells l.tapes;
-  history : l.tapes.history ≡ l.fn.tapes.history;
-  kept : KeepsRun g.T.Tape.view l.machine l.limits l.first l.second l.saved l.tapes;
   some : 0 < l.period;
   less : l.period ≤ l.known;
   divides : IsMultipleOf l.period l.known;

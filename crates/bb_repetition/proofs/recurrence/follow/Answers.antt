@@ -1,6 +1,6 @@
-use Rattle.std.proofs.Common.{◌≡◌, ◌+◌, ◌-◌, sym, subst, arith}
+use Rattle.std.proofs.Common.{◌≡◌, ◌+◌, ◌-◌, subst, arith}
 use Rattle.bb_sim.specs.Runner.{steps_of}
-use Rattle.bb_repetition.specs.LastUses.{AreSeen}
+use Rattle.bb_repetition.specs.LastUses.{AreRecorded}
 use Rattle.bb_repetition.proofs.GoingOn.{at_own, inside_of, one_on, transition_of_runner}
 use Rattle.bb_repetition.proofs.SeenStarts.{seen_on}
 use Rattle.bb_repetition.proofs.recurrence.follow.Goals as goal
@@ -25,8 +25,7 @@ loop-runner-preserved g c =
       seen_start = rw steps (seen_on _ _ _ _ _ _ _ _ (transition_of_runner _ _ _ _ _ here.at)
           (transition_of_runner _ _ _ _ _ here.ahead) c.has_same_transition-same.ensures
           (rw c.steps-in-loop-runner.ensures at c.start_after-start.ensures) here.seen_start);
-      seen_uses = subst (λ k. AreSeen c.args.machine.now k c.record.new.self) (sym ahead_steps)
-          c.record.ensures.uses;
+      recorded = rw ahead_steps (c.in_ok-step-2.ensures.goes_on here.recorded);
       counted = omega (
         arith,
         here.counted,
@@ -36,13 +35,13 @@ loop-runner-preserved g c =
       );
     }
 
-pub returns-clause-uses : goal.returns-clause-uses
-returns-clause-uses g c =
+pub returns-clause-recorded : goal.returns-clause-recorded
+returns-clause-recorded g c =
     let here = c.loop-runner.invariant in
     let apart = here.apart in
     let end : steps_of c.loop-runner.ahead ≡ c.args.second =
     omega (arith, apart, here.within, c.loop-runner-test.false, c.steps.ensures, c.requires.order) in
-    subst (λ k. AreSeen c.args.machine.now k c.loop-runner.uses) end here.seen_uses
+    subst (λ k. AreRecorded c.args.machine.now k c.loop-runner.uses) end here.recorded
 
 pub returns-clause-ahead : goal.returns-clause-ahead
 returns-clause-ahead g c =
@@ -58,6 +57,3 @@ has_same_transition-same-requires-clause-inside g c =
 pub has_same_transition-same-requires-clause-other_inside : goal.has_same_transition-same-requires-clause-other_inside
 has_same_transition-same-requires-clause-other_inside g c =
     inside_of _ _ _ _ _ _ c.requires.goes_on c.loop-runner.invariant.ahead
-
-pub record-requires-clause-inside : goal.record-requires-clause-inside
-record-requires-clause-inside g c = inside_of _ _ _ _ _ _ c.requires.goes_on c.loop-runner.invariant.ahead

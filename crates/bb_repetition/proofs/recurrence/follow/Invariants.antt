@@ -1,7 +1,7 @@
 use Rattle.std.proofs.Common.{◌≡◌, ◌≤◌, ◌-◌, ◌+◌, ◌*◌}
 use Rattle.bb_sim.specs.Runner.{steps_of}
 use Rattle.laws_of_repetition.specs.Seen.{IsSeenStart}
-use Rattle.bb_repetition.specs.LastUses.{AreSeen}
+use Rattle.bb_repetition.specs.LastUses.{AreRecorded}
 use Rattle.bb_repetition.specs.Lockstep.{IsAt}
 use Rattle.bb_repetition.specs.Tapes.{TapesHaveCells}
 use Rattle.bb_repetition.proofs.recurrence.follow.Given as goal
@@ -16,7 +16,7 @@ invariant-loop-runner g l = record {
   apart : steps_of l.ahead ≡ steps_of l.runner + (l.second - l.first);
   within : steps_of l.runner ≤ l.first;
   seen_start : IsSeenStart l.machine (steps_of l.runner) (l.second - l.first) l.start;
-  seen_uses : AreSeen l.machine (steps_of l.ahead) l.uses;
+  recorded : AreRecorded l.machine (steps_of l.ahead) l.uses;
   counted : l.meter.steps ≡ l.fn.meter.steps + 2 * steps_of l.runner;
 }
 

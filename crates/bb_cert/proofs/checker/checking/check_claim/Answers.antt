@@ -19,7 +19,7 @@ returns-in-Translated-clause-cost g c =
     (λ (given : Answer). CountsCheck table bounds c.args.verdict meter) _
     (λ given run. replay_counts table bounds c.args.verdict meter
     (c.requires.open, rw c.in-Translated.is tt) (rw c.in-Translated.is (λ tree. tree)) run)
-    (rw c.in-Translated.is c.check_translated.ensures.replayed)
+    (rw c.in-Translated.is (rw c.with_steps-limits-in-Translated.ensures at c.check_translated.ensures.replayed))
 
 pub returns-in-Backward-clause-cost : goal.returns-in-Backward-clause-cost
 returns-in-Backward-clause-cost g c =

@@ -11,6 +11,7 @@ invariant-loop-run g l = record {
   further : g.R.Steps.made l.fn.start ≤ g.R.Steps.made l.run;
   limit : (g.T.Tape.view l.tape).limit ≡ (g.T.Tape.view l.fn.tape).limit;
   goes_on : g.C.Course.goes_on l.machine (g.R.Steps.made l.fn.start) (g.R.Steps.made l.run) l.fn.from l.course;
+  goes_along : g.A.Course.goes_on l.machine (g.R.Steps.made l.fn.start) (g.R.Steps.made l.run) l.fn.along l.along;
 }
 
 abbrev pub decreases-loop-run : goal.decreases-loop-run

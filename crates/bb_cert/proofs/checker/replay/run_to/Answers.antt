@@ -25,6 +25,15 @@ module _ (g : given.Over) (c : In-OnTape g) where
     | in_default w ↦ rw (w.run-is, w.course-is) (g.met.C.Course.stays _ _ _)
   ]
 
+  along_so_far : g.A.Course.goes_on c.args.machine.now (made_of c.args.run.now) (made_of c.match-run.run) c.args.along.now
+      c.match-run.along
+  along_so_far = elim c.match-run.branch [
+    | in-InRegisters+in_ok-go_on+in-Outside+in_ok-runner-in-Outside w ↦
+        let first = rw w.in-Outside.is at w.in_ok-go_on.ensures.progress in
+        rw (w.run-is, w.along-is, w.in-InRegisters.is, w.in_ok-runner-in-Outside.ensures.steps) first.5
+    | in_default w ↦ rw (w.run-is, w.along-is) (g.met.A.Course.stays _ _ _)
+  ]
+
   saved_so_far : StandsSaved c.args.machine.now c.args.limits.now c.args.run.now (g.T.Tape.view c.args.pair.now.saved)
       → StandsSaved c.args.machine.now c.args.limits.now c.match-run.run (g.T.Tape.view c.match-run.pair.saved)
   saved_so_far before = elim c.match-run.branch [
@@ -43,7 +52,12 @@ pub returns-in-There-2-clause-runs : goal.returns-in-There-2-clause-runs
 returns-in-There-2-clause-runs g c =
     let progress = rw c.in-There-2.is at c.in_ok-go_on-2.ensures.progress in
     let before = so_far g (goal.at.returns-in-There-2-clause-runs g c).In-OnTape in
-    (progress.0, progress.1, g.met.C.Course.goes_further _ _ _ _ _ _ _ (rw c.in-OnTape.is at before) progress.2)
+    let along = along_so_far g (goal.at.returns-in-There-2-clause-runs g c).In-OnTape in (
+      progress.0,
+      progress.1,
+      g.met.C.Course.goes_further _ _ _ _ _ _ _ (rw c.in-OnTape.is at before) progress.2,
+      g.met.A.Course.goes_further _ _ _ _ _ _ _ (rw c.in-OnTape.is at along) progress.3,
+    )
 
 pub returns-in-There-2-clause-saved : goal.returns-in-There-2-clause-saved
 returns-in-There-2-clause-saved g c before =

@@ -1,4 +1,4 @@
-use Rattle.std.proofs.Common.{◌+◌, ◌∙◌, ap, arith, subst, sym}
+use Rattle.std.proofs.Common.{◌+◌, ◌*◌, ◌∙◌, ap, arith, subst, sym}
 use Rattle.bb_tape.specs.TapeView.{TapeView}
 use Rattle.bb_narrow.specs.Registers.{FitsRegisters}
 use Rattle.bb_decide.specs.Fingerprint.{fingerprint}
@@ -45,7 +45,7 @@ returns-clause-begun g c =
         current_is = c.fingerprint_of_bits.ensures ∙ ap (fingerprint key) (sym pass.is_run.at.content)
             ∙ ap (λ (s : TapeView). fingerprint key s.content) (sym view);
         kept_fingerprint_is = c.fingerprint_of_bits-2.ensures ∙ ap (fingerprint key) (sym pass.kept_is_run.at.content);
-        next = omega (arith, pass.next, c.runner.ensures.steps);
+        next = ap (λ n. 2 * n) (sym c.runner.ensures.steps);
         none_alike = λ p t few looks.
             looks.1 (fits_so_far pass.is_run c.requires.symbols c.requires.states t (omega (arith, steps, few)));
         running = not_in_Z (place.0 ∙ pass.is_run.at.state_is);

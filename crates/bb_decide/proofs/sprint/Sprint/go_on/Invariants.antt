@@ -1,0 +1,9 @@
+use Rattle.std.proofs.Common.{◌-◌}
+use Rattle.bb_decide.specs.inside.Sprints.{SprintsTo}
+use Rattle.bb_decide.proofs.sprint.Sprint.go_on.Given as goal
+
+abbrev pub invariant-loop-table : goal.invariant-loop-table
+invariant-loop-table l = SprintsTo l.fn.table l.fn.barrier l.fn.self l.sprint
+
+abbrev pub decreases-loop-table : goal.decreases-loop-table
+decreases-loop-table l = l.barrier.to - l.sprint.run.steps
