@@ -7,6 +7,7 @@ wrong one fails the proof.
 
 from __future__ import annotations
 
+import functools
 import itertools
 import re
 from dataclasses import dataclass
@@ -40,11 +41,28 @@ Lemma leads : leads %(task)s no_progress lines undecided place.
 Proof. exact (%(proof)s). Qed.
 
 """
+# Of a list of a whole size: no line tells of a halt past the greatest.
+TELLS = """Lemma tells : forallb (tells_at_most %(steps)d %(score)d) lines = true.
+Proof. %(proof)s. Qed.
+
+"""
+KERNEL = "vm_cast_no_check (eq_refl true)"
+BOUNDED = """Theorem bounded : forall M,
+  is_machine M = true -> states M = %(states)d -> symbols M = %(symbols)d ->
+  halts_within %(most_steps)d %(most_score)d M \\/ never_halts M%(or_open)s.
+Proof.
+  intros M W S K. destruct (covered M W S K) as %(cases)s.
+  exact (soon_within %(steps)d %(score)d lines M tells H).
+Qed.
+"""
+OPEN_CASES = "[H|H]; [left|right; exact H]"
+SETTLED_CASES = "[H|[H|H]]; [left|right; exact H|destruct (none_left M H)]"
 WHOLE = """Theorem covered : forall M,
   is_machine M = true -> states M = %(states)d -> symbols M = %(symbols)d ->
   halts_soon lines M \\/ never_halts M \\/ completes_one_of undecided M.
 Proof. exact (covered_by lines undecided place %(states)d %(symbols)d leads eq_refl). Qed.
 Print Assumptions covered.
+%(bounded)sPrint Assumptions bounded.
 """
 ASSUMED = """Definition assumed : list machine := [
   %(machines)s].
@@ -64,8 +82,9 @@ Proof.
     as [H|[H|H]]; [left; exact H|right; left; exact H|right].
   exact (assumed_by assumed undecided open M are_machines %(proof)s leave_open H).
 Qed.
-End Assumed.
+%(bounded)sEnd Assumed.
 Print Assumptions covered.
+Print Assumptions bounded.
 """
 SHARD = """Theorem covered : is_walk [first] lines /\\ have_counts lines %(counts)s /\\
   are_undecided lines undecided.
@@ -96,6 +115,18 @@ class Job:
     below: str | None
     is_skeleton: bool
     assumed: Sequence[str]
+
+    @property
+    def is_whole(self) -> bool:
+        """Whether the lines are those of a size, each with its verdict."""
+        return self.below is None and not self.is_skeleton
+
+    @functools.cached_property
+    def greatest(self) -> tuple[int, int]:
+        """The greatest steps, and the greatest score, of the halts among the lines."""
+        halts = [re.search(r" halt (\d+) (\d+)$", line) for line in self.lines]
+        found = [(int(halt[1]), int(halt[2])) for halt in halts if halt]
+        return max((steps for steps, _ in found), default=0), max((score for _, score in found), default=0)
 
     @property
     def task(self) -> str:
@@ -224,22 +255,39 @@ def texts_term(texts: Sequence[str]) -> str:
     return "lines_of [\n  %s\n]%%bytes" % ";\n  ".join('"%s"' % text for text in texts)
 
 
+def tells_text(job: Job, proof: str) -> str:
+    """The lemma that bounds the halts of some lines; nothing where some stand for shards."""
+    steps, score = job.greatest
+    return TELLS % {"steps": steps, "score": score, "proof": proof} if job.is_whole else ""
+
+
 def part_text(job: Job, part: Part) -> str:
     """The definitions and the lemma of a part."""
     first = "" if job.below is None else "Definition first : machine := %s.\n" % machine_term(job.below)
     fields = {"lines": texts_term(part.lines), "undecided": texts_term(part.undecided), "task": job.task}
-    return first + PART % {**fields, "before": part.before, "after": part.after}
+    text = first + PART % {**fields, "before": part.before, "after": part.after}
+    return text + tells_text(job, KERNEL)
 
 
 def joined_text(job: Job, names: Sequence[str]) -> str:
     """The lines of all parts, and the lemma that they lead from the beginning of the walk to its end."""
-    proof = names[-1] + ".leads"
+    proof, tells = names[-1] + ".leads", names[-1] + ".tells"
     for name in reversed(names[:-1]):
         proof = "leads_on _ _ _ _ _ _ _ _ %s.leads (%s)" % (name, proof)
+        tells = "tells_on _ _ _ _ %s.tells (%s)" % (name, tells)
     fields = {"lines": " ++ ".join(name + ".lines" for name in names), "last": names[-1], "proof": proof}
     fields["undecided"] = " ++ ".join(name + ".undecided" for name in names)
     first = "" if job.below is None else "Definition first : machine := %s.first.\n" % names[0]
-    return first + JOINED % {**fields, "task": job.task}
+    return first + JOINED % {**fields, "task": job.task} + tells_text(job, "exact (%s)" % tells)
+
+
+def bounded_text(job: Job, size: dict[str, object], left: Sequence[str], name: str) -> str:
+    """The theorem that bounds all halts of a size; `name` is that of the texts of the machines left open."""
+    steps, score = job.greatest
+    fields = dict(size, steps=steps, score=score, most_steps=steps + 1, most_score=score + 1)
+    fields["or_open"] = " \\/ completes_one_of %s M" % name if left else ""
+    fields["cases"] = OPEN_CASES if left else SETTLED_CASES
+    return BOUNDED % fields
 
 
 def end_text(job: Job, undecided: Sequence[str]) -> str:
@@ -255,9 +303,10 @@ def end_text(job: Job, undecided: Sequence[str]) -> str:
         return (SHARD_SKELETON if job.is_skeleton else SHARD) % fields
     if job.is_skeleton:
         return SKELETON % fields
+    left = [machine for machine in undecided if machine not in set(job.assumed)]
+    fields["bounded"] = bounded_text(job, fields, left, "open" if job.assumed else "undecided")
     if not job.assumed:
         return WHOLE % fields
-    left = [machine for machine in undecided if machine not in set(job.assumed)]
     fields["hypotheses"] = "\n".join(
         "Hypothesis nonhalt_%d : never_halts %s." % (number, machine_term(machine))
         for number, machine in enumerate(job.assumed, 1)

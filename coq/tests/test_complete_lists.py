@@ -11,6 +11,8 @@ from support.machines import spoil
 from support.program import LIST_LIMITS, CommandResult, Decide, as_lines, options, run_command
 from support.second_checker import COQ, Edit, build_wrong
 
+# The most steps of a halt, by states and symbols: published values.
+CHAMPIONS = {(2, 2): 6, (3, 2): 21, (2, 3): 38}
 SIZES = ((2, 2), (3, 2), (2, 3))
 WRONG = [
     Edit(name, "Cover.v", *change)
@@ -117,13 +119,19 @@ ENDS = {
     1: ["--below=------_------", "--below 0RB---_------"],
     2: ["--below 1rB1LB", "--below 1RC1LB_1LA1RZ", "--below 1RB1LA_1LA1RZ1", "--below=", "--cells 0"]
     + ["--steps 1000000000001", "--depth 10001", "--nodes 1000000000001", "--cells 1 --depth 2"],
-    3: ["/no/such/file"],
 }
 
 
 @pytest.mark.parametrize("words, status", [(words, status) for status in ENDS for words in ENDS[status]])
 def test_words_are_answered_alike(cover: str, coq_cover: str, words: str, status: int) -> None:
     assert compare(cover, coq_cover, words.split(" "), b"").status == status
+
+
+def test_missing_file_is_answered_alike(cover: str, coq_cover: str) -> None:
+    """The fault is the same line; the reason below it is for people, in the system's words."""
+    ours, theirs = (run_command([program, "/no/such/file"]) for program in (cover, coq_cover))
+    assert ours.status == theirs.status == 3 and ours.output == theirs.output == b""
+    assert ours.error.splitlines()[0] == theirs.error.splitlines()[0] == b"cover: read failed"
 
 
 @pytest.mark.parametrize("words", ["--stepz 1", "a b", "--skeleton --skeleton", "--below", "--steps x"])
@@ -210,7 +218,9 @@ def test_theorem_of_a_whole_list(
     assert done.status == 0 and b"accepts this as one theorem" in done.output, done.error
     text = (tmp_path / "Made.v").read_text()
     size = "states M = %d -> symbols M = %d ->" % (states, symbols)
-    assert "Theorem covered : forall M,\n  is_machine M = true -> " + size in text
+    for name in ("covered", "bounded"):
+        assert "Theorem %s : forall M,\n  is_machine M = true -> %s" % (name, size) in text
+    assert "halts_within %d " % CHAMPIONS[states, symbols] in text
     undecided = [line.split(" ")[0] for line in lines if " undecided " in line]
     written = re.findall('"(.*)"', text.partition("Definition undecided")[2].partition("%bytes")[0])
     assert written == undecided or not undecided
@@ -218,7 +228,7 @@ def test_theorem_of_a_whole_list(
 
 @pytest.mark.usefixtures("coq_cover")
 def test_theorem_of_a_changed_file_fails(decide_all: Decide, tmp_path: pathlib.Path) -> None:
-    """A line left out, one undecided machine left out, and another size: Coq refuses each."""
+    """A line or an undecided machine left out, a halt changed, another size, a lower bound: Coq refuses each."""
     lines = decide_all(2, 3)
     assert theorem(tmp_path, lines).status == 0 and check_again(tmp_path).status == 0
     text = (tmp_path / "Made.v").read_text()
@@ -229,9 +239,11 @@ def test_theorem_of_a_changed_file_fails(decide_all: Decide, tmp_path: pathlib.P
         ('  "%s";\n' % undecided, ""),
         (halt, re.sub(r"halt (\d+)", lambda found: "halt %d" % (int(found[1]) + 1), halt)),
         ("states M = 2 -> symbols M = 3", "states M = 3 -> symbols M = 2"),
+        ("halts_within 38 ", "halts_within 37 "),
+        ("tells_at_most 37 ", "tells_at_most 36 "),
     ]:
-        assert text.count(old) == 1, old
-        (tmp_path / "Other.v").write_text(text.replace(old, new))
+        assert old in text, old
+        (tmp_path / "Other.v").write_text(text.replace(old, new, 1))
         assert check_again(tmp_path, "Other.v").status != 0, old
 
 
@@ -244,6 +256,7 @@ def test_assumed_machines_become_hypotheses(decide_all: Decide, tmp_path: pathli
     assert done.status == 0, done.error
     text = (tmp_path / "Made.v").read_text()
     assert "Definition open : list string := []." in text
+    assert re.search(r"halts_within 21 \d+ M \\/ never_halts M\.", text)
     assert len(re.findall(r"^Hypothesis nonhalt_\d+ : never_halts ", text, flags=re.M)) == len(undecided)
     (tmp_path / "assumed").write_text(undecided[0] + " nonhalts\n")
     done = theorem(tmp_path, lines, ["--assume", str(tmp_path / "assumed")])

@@ -120,8 +120,9 @@ def test_theorem_is_stated_by_the_definitions_to_read(tmp_path: pathlib.Path, ro
     (files,) = re.findall(r"^\| %s \| (.*?) \|" % re.escape(row), document, re.M)
     modules = " ".join(re.findall(r"`(\w+)\.v`", files))
     head = [*library, "From Budlarem Require Import %s.\n" % modules, "Import ListNotations.\n"]
-    statement = "".join(part + ".\n" for part in stated)
-    (tmp_path / "Stated.v").write_text("".join([*head, statement, "Abort.\n"]))
+    ends = (".\nAbort.\n" if part.startswith("Theorem") else ".\n" for part in stated)
+    statement = "".join(part + end for part, end in zip(stated, ends))
+    (tmp_path / "Stated.v").write_text("".join([*head, statement]))
     command = ["coqc", "-q", "-noglob", "-Q", str(COQ / "out"), "Budlarem", "Stated.v"]
     done = subprocess.run(command, capture_output=True, text=True, cwd=tmp_path)
     assert done.returncode == 0, done.stderr
