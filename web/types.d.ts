@@ -76,6 +76,8 @@ interface ListRequest {
   mode: "decide" | "check";
   clean: boolean;
   form: Form;
+  /** Whether the list's first lines gave the form. */
+  isFound: boolean;
   plan: Plan;
 }
 /** The offset of each line and the end of the last one, and the number of each line's kind. */
@@ -140,6 +142,8 @@ interface RunInfo {
   plan: Plan;
   /** The form of its lines, null if they aren't rewritten. */
   form: Form | null;
+  /** Whether its first lines gave the form. */
+  isFound: boolean;
   /** Whether it begins as UTF-8. */
   isText: boolean;
   /** Its bytes. */
@@ -154,6 +158,8 @@ interface InputLine {
   number: number;
   /** The form of its list, null if lines aren't rewritten. */
   form: Form | null;
+  /** Whether the list's first lines gave the form. */
+  isFound: boolean;
 }
 
 // Rows of a machine's run.
@@ -175,6 +181,7 @@ interface PackedRows {
 type Run = { machine: string; cells: number };
 /** The steps `from`, `from + every`, .. to `upto`. */
 type RowRequest = { from: number; every: number; upto: number };
+type ClaimRows = ReturnType<typeof import("./worker/trace.mjs").traceClaim>;
 /** A request for a cache; `space`: most bytes. */
 type AheadRequest = RowRequest & Run & { space: number };
 /** `cut`: the limit of cells ended the trace; `upto` is infinite if the run ended. */

@@ -25,7 +25,10 @@ export function codePointName(/** @type {string} */ character) {
 /** A text for a message: truncated, with invisible controls as `\\x1b` and others as `U+200B`. */
 export function abbreviate(/** @type {string} */ given) {
   const text = /^[ -~]*$/.test(given) ? given : [...given].map(escapeCharacter).join("");
-  return text.length <= LONGEST_QUOTED ? text : `${text.slice(0, LONGEST_QUOTED - 2)}..`;
+  if (text.length <= LONGEST_QUOTED) return text;
+  // Characters are counted, not UTF-16 code units.
+  const characters = [...text];
+  return characters.length <= LONGEST_QUOTED ? text : `${characters.slice(0, LONGEST_QUOTED - 2).join("")}..`;
 }
 
 function escapeCharacter(/** @type {string} */ character) {

@@ -12,6 +12,7 @@
  *
  * @typedef {import("./limits.mjs").Integer} Integer
  * @typedef {import("./limits.mjs").Limit} Limit
+ * @typedef {import("./memory.mjs").Memory} Memory
  * @typedef {{steps?: Integer, cells?: Integer, depth?: Integer, nodes?: Integer}} Limits
  * @typedef {Limits & {cyclers?: boolean, translated?: boolean, backward?: boolean}} Plan
  * @typedef {{steps?: Integer, cells?: Integer, entries?: boolean}} RecurrenceOptions
@@ -20,7 +21,7 @@
  * @typedef {(...words: (bigint | boolean | number)[]) => number} Call addresses are numbers, other integers
  *   are 64-bit
  */
-import { LIMITS, LimitsError, RANGES, parseLimits, parseSwitches, throwLimitsError } from "./limits.mjs";
+import { LIMITS, LimitsError, RANGES, parseCount, parseOptions } from "./limits.mjs";
 import { Allocator, MemoryError, UnsupportedError, countLines, isSupported } from "./memory.mjs";
 
 export { LimitsError, MemoryError, RANGES, UnsupportedError, isSupported };
@@ -50,12 +51,7 @@ export class Engine {
 
   /** Bytes of WebAssembly memory, which never shrinks. */
   get memoryBytes() {
-    return /** @type {WebAssembly.Memory} */ (this.allocator.memory).buffer.byteLength;
-  }
-
-  /** Whether this module has the call `trace`. */
-  get hasTrace() {
-    return this.calls.bb_trace !== undefined;
+    return /** @type {Memory} */ (this.allocator.memory).buffer.byteLength;
   }
 
   /**
@@ -101,30 +97,28 @@ export class Engine {
    * counting them.
    * @param {Uint8Array} list @param {Plan} [plan] @param {number} [lines]
    */
-  decideBytes(list, plan = {}, lines = countLines(list)) {
-    const { cyclers = true, translated = true, backward = true, ...limits } = plan;
-    const words = [...parseLimits(limits, LIMITS), ...parseSwitches({ cyclers, translated, backward })];
-    return copyReply(this.invoke("bb_decide", LIMITS, words, list, list.length + VERDICT_BYTES * lines));
+  decideBytes(list, plan = {}, lines = undefined) {
+    const words = parseOptions(plan, LIMITS, { cyclers: true, translated: true, backward: true });
+    return copyReply(this.invoke("bb_decide", words, list, replySpace(list, lines, 1, VERDICT_BYTES)));
   }
 
   /**
    * `check` from bytes to bytes.
    * @param {Uint8Array} list @param {Limits} [limits] @param {number} [lines] as in `decideBytes`
    */
-  checkBytes(list, limits = {}, lines = countLines(list)) {
-    const words = parseLimits(limits, LIMITS);
-    return copyReply(this.invoke("bb_check", LIMITS, words, list, ANSWER_BYTES * lines));
+  checkBytes(list, limits = {}, lines = undefined) {
+    const words = parseOptions(limits, LIMITS);
+    return copyReply(this.invoke("bb_check", words, list, replySpace(list, lines, 0, ANSWER_BYTES)));
   }
 
   /**
    * `recurrence` from bytes to bytes.
    * @param {Uint8Array} list @param {RecurrenceOptions} [options] @param {number} [lines] as in `decideBytes`
    */
-  recurrenceBytes(list, options = {}, lines = countLines(list)) {
-    const { entries = false, ...limits } = options;
-    const words = [...parseLimits(limits, RECURRENCE_LIMITS), ...parseSwitches({ entries })];
-    const space = RECURRENCE_FOLD * list.length + RECURRENCE_BYTES * lines;
-    return copyReply(this.invoke("bb_recurrence", RECURRENCE_LIMITS, words, list, space));
+  recurrenceBytes(list, options = {}, lines = undefined) {
+    const words = parseOptions(options, RECURRENCE_LIMITS, { entries: false });
+    const space = replySpace(list, lines, RECURRENCE_FOLD, RECURRENCE_BYTES);
+    return copyReply(this.invoke("bb_recurrence", words, list, space));
   }
 
   /**
@@ -141,19 +135,19 @@ export class Engine {
    * @param {Uint8Array} line @param {TraceOptions} options @param {number} [space]
    */
   traceInPlace(line, options, space = 0) {
-    if (options.steps === undefined) throw new TypeError("a trace needs a limit of steps");
-    const words = parseLimits(options, TRACE_LIMITS);
-    return this.invoke("bb_trace", TRACE_LIMITS, words, line, space || traceSpace(words));
+    if (options?.steps === undefined) throw new TypeError("a trace needs a limit of steps");
+    const words = parseOptions(options, TRACE_LIMITS);
+    const room = parseCount("space", space) || traceSpace(/** @type {bigint[]} */ (words));
+    return this.invoke("bb_trace", words, requireBytes(line), room);
   }
 
   /**
    * Calls the module with room for a reply of `space` bytes, and again if the reply is longer. The next call
    * overwrites the reply.
-   * @param {string} name @param {Limit[]} names of the limits at the beginning of `words`
-   * @param {(bigint | boolean)[]} words @param {Uint8Array} input @param {number} space
+   * @param {string} name @param {(bigint | boolean)[]} words @param {Uint8Array} input @param {number} space
    * @returns {Reply}
    */
-  invoke(name, names, words, input, space) {
+  invoke(name, words, input, space) {
     const { allocator, calls: { [name]: call } } = this;
     if (call === undefined) throw new TypeError(`this module has no ${name}`);
     allocator.reset();
@@ -164,13 +158,25 @@ export class Engine {
     allocator.bytes(list, input.length).set(input);
     const status = call(...words, list, BigInt(input.length), out, BigInt(space), count);
     const length = Number(new DataView(allocator.bytes(0, 0).buffer, count).getBigUint64(0, true));
-    if (status === STATUS_SHORT) return this.invoke(name, names, words, input, length);
-    if (status === STATUS_LIMITS) {
-      throwLimitsError(names, /** @type {bigint[]} */ (words.slice(0, names.length)));
-    }
+    if (status === STATUS_SHORT) return this.invoke(name, words, input, length);
     if (status === STATUS_MEMORY) throw new MemoryError();
+    if (status === STATUS_LIMITS) throw new RangeError("the engine refused the limits");
     return { bytes: allocator.bytes(out, length), clean: status === 0 };
   }
+}
+
+/**
+ * Room for replies: so many bytes for each byte of the list, and for each line.
+ * @param {Uint8Array} list @param {number | undefined} lines @param {number} fold @param {number} each
+ */
+function replySpace(list, lines, fold, each) {
+  const { length } = requireBytes(list);
+  return fold * length + each * parseCount("lines", lines === undefined ? countLines(list) : lines);
+}
+
+function requireBytes(/** @type {Uint8Array} */ bytes) {
+  if (bytes instanceof Uint8Array) return bytes;
+  throw new TypeError("expected bytes in a Uint8Array");
 }
 
 /** @returns {Reply} */
@@ -179,16 +185,19 @@ const copyReply = (/** @type {Reply} */ { bytes, clean }) => ({ bytes: bytes.sli
 /**
  * An engine from the bytes of `bb.wasm`, or from their compiled module, which workers can share. Throws
  * UnsupportedError, or WebAssembly's errors for other bytes.
- * @param {BufferSource | WebAssembly.Module} bytes
+ * @param {ArrayBuffer | ArrayBufferView | object} bytes
  * @param {{memory?: number}} [limit] the most bytes of memory; a call that needs more throws MemoryError
  */
 export async function load(bytes, limit = {}) {
+  const { memory: most = Number.MAX_SAFE_INTEGER, ...others } = limit;
+  parseOptions(others, []);
+  const allocator = new Allocator(parseCount("memory", most));
   if (!isSupported()) throw new UnsupportedError();
-  const allocator = new Allocator(limit.memory ?? Infinity);
-  const module = bytes instanceof WebAssembly.Module ? bytes : await WebAssembly.compile(bytes);
+  const isModule = bytes instanceof WebAssembly.Module;
+  const module = isModule ? bytes : await WebAssembly.compile(/** @type {BufferSource} */ (bytes));
   const instance = await WebAssembly.instantiate(module, { env: allocator.imports() });
   const { memory, __heap_base: base, ...calls } = instance.exports;
-  allocator.memory = /** @type {WebAssembly.Memory} */ (memory);
+  allocator.memory = /** @type {Memory} */ (memory);
   allocator.base = Number(/** @type {WebAssembly.Global} */ (base).value);
   return new Engine(allocator, /** @type {Record<string, Call>} */ (calls));
 }

@@ -28,39 +28,49 @@ export class LimitsError extends RangeError {
   }
 }
 
-/** @param {Partial<Record<Limit, Integer>>} values @param {Limit[]} names @returns the values in order */
-export function parseLimits(values, names) {
-  for (const name of Object.keys(values)) {
-    if (!names.includes(/** @type {Limit} */ (name))) {
-      throw new TypeError(`no limit or switch has the name ${name}`);
-    }
+/**
+ * The values of limits and switches, in order. Throws before the engine sees any of them, for the first wrong one.
+ * @param {object} options @param {Limit[]} limits @param {Record<string, boolean>} [switches] their defaults
+ * @returns {(bigint | boolean)[]}
+ */
+export function parseOptions(options, limits, switches = {}) {
+  if (typeof options !== "object" || options === null) throw new TypeError("limits are named in an object");
+  const usual = limits.map((name) => /** @type {const} */ ([name, RANGES[name].default]));
+  const values = new Map(/** @type {[string, any][]} */ ([...usual, ...Object.entries(switches)]));
+  for (const [name, value] of Object.entries(options)) {
+    if (!values.has(name)) throw new TypeError(`no limit or switch has the name ${name}`);
+    if (value !== undefined) values.set(name, value);
   }
-  return names.map((name) => parseInteger(name, values[name] ?? RANGES[name].default));
+  const words = Array.from(values, ([name, value]) =>
+    Object.hasOwn(switches, name) ? parseSwitch(name, value) : parseLimit(/** @type {Limit} */ (name), value),
+  );
+  limits.includes("depth") && requireFit(/** @type {bigint[]} */ (words));
+  return words;
 }
 
-function parseInteger(/** @type {Limit} */ name, /** @type {Integer} */ value) {
-  if (typeof value !== "number" && typeof value !== "bigint") {
-    throw new TypeError(`${name} is no number`);
-  }
+/** A limit in its range. */
+export function parseLimit(/** @type {Limit} */ name, /** @type {Integer | null} */ value) {
+  if (typeof value !== "number" && typeof value !== "bigint") throw new TypeError(`${name} is no number`);
   if (typeof value === "number" && !Number.isSafeInteger(value)) {
     throw new LimitsError(name, `${name} is not a whole number that is exact; use a BigInt`);
   }
-  if (value < 0n || value >= 2n ** 64n) throw rangeError(name);
+  const { min, max } = RANGES[name];
+  if (value < min || value > max) throw new LimitsError(name, `${name} out of range`);
   return BigInt(value);
 }
 
-/** The values of switches, in order. */
-export function parseSwitches(/** @type {Record<string, boolean>} */ switches) {
-  for (const [name, value] of Object.entries(switches)) {
-    if (typeof value !== "boolean") throw new TypeError(`${name} is neither true nor false`);
-  }
-  return Object.values(switches);
+/** Requires that the backward tree's depth fits the cells. */
+export function requireFit(/** @type {bigint[]} */ [, cells, depth]) {
+  if (2n * depth > cells + 1n) throw new LimitsError("depth", "depth does not fit in cells");
 }
 
-/** Throws the error for limits that the engine refused: of several wrong ones, the program's first. */
-export function throwLimitsError(/** @type {Limit[]} */ names, /** @type {bigint[]} */ values) {
-  const wrong = names.find((name, k) => values[k] < RANGES[name].min || values[k] > RANGES[name].max);
-  throw wrong ? rangeError(wrong) : new LimitsError("depth", "depth does not fit in cells");
+function parseSwitch(/** @type {string} */ name, /** @type {boolean} */ value) {
+  if (typeof value !== "boolean") throw new TypeError(`${name} is neither true nor false`);
+  return value;
 }
 
-const rangeError = (/** @type {Limit} */ name) => new LimitsError(name, `${name} out of range`);
+/** A number of lines or bytes. */
+export function parseCount(/** @type {string} */ name, /** @type {number} */ value) {
+  if (Number.isSafeInteger(value) && value >= 0) return value;
+  throw new TypeError(`${name} is not a whole number from 0`);
+}

@@ -56,11 +56,16 @@ export function countLines(/** @type {Uint8Array} */ bytes) {
   return rest.reduce((sum, part) => sum + part.filter((byte) => byte === NEWLINE).length, count);
 }
 
-/** A bump allocator by address, emptied before each call. */
+/**
+ * A bump allocator by address, emptied before each call.
+ *
+ * @typedef {{readonly buffer: ArrayBuffer, grow: (pages: number) => number}} Memory a `WebAssembly.Memory`,
+ *   in words that need no types of a browser
+ */
 export class Allocator {
   /** @param {number} most bytes of memory */
   constructor(most) {
-    this.memory = /** @type {WebAssembly.Memory | undefined} */ (undefined);
+    this.memory = /** @type {Memory | undefined} */ (undefined);
     this.base = 0;
     this.free = 0;
     this.last = 0;
@@ -100,7 +105,7 @@ export class Allocator {
 
   /** Grows memory up to an address; returns whether it reaches there. */
   reserve(/** @type {number} */ end) {
-    const memory = /** @type {WebAssembly.Memory} */ (this.memory);
+    const memory = /** @type {Memory} */ (this.memory);
     const missing = Math.ceil((end - memory.buffer.byteLength) / PAGE);
     if (missing <= 0) return true;
     try {
@@ -112,12 +117,12 @@ export class Allocator {
 
   /** A view of memory, valid until memory grows. */
   bytes(/** @type {number} */ at, /** @type {number} */ length) {
-    return new Uint8Array(/** @type {WebAssembly.Memory} */ (this.memory).buffer, at, length);
+    return new Uint8Array(/** @type {Memory} */ (this.memory).buffer, at, length);
   }
 
   /** Writes an allocation's result for the module: a flag for success, and the address. */
   writeResult(/** @type {number} */ to, /** @type {number} */ at) {
-    const view = new DataView(/** @type {WebAssembly.Memory} */ (this.memory).buffer, to >>> 0, 16);
+    const view = new DataView(/** @type {Memory} */ (this.memory).buffer, to >>> 0, 16);
     view.setBigUint64(0, at === 0 ? 0n : 1n, true);
     view.setBigUint64(8, BigInt(at === 0 ? 1 : at), true);
   }

@@ -41,8 +41,8 @@ async function startRun(isOfLink = false) {
   }
   input.store();
   listView.reset();
-  const { blob, first, isText, mode, form } = list;
-  run.start(blob, first, { mode, form, clean: input.clean.checked, plan }, isText);
+  const { blob, first, isText, mode, form, isFound } = list;
+  run.start(blob, first, { mode, form, isFound, clean: input.clean.checked, plan }, isText);
 }
 
 /** Runs a file in place of the text; null removes it. */

@@ -29,20 +29,22 @@ const MACHINE_NAME = /^(?:machines?|tm|turingmachines?|code)$/;
 const NOTHING = /** @type {Reading} */ ({ kind: "nothing" });
 
 /**
- * Reads a line without its newline.
- * @param {string} given @param {Form} [form] @returns {Reading}
+ * Reads a line without its newline. A line of another form than that of the first lines, which `isFound`, is read as
+ * a text.
+ * @param {string} given @param {Form} [asked] @param {boolean} [isFound] @returns {Reading}
  */
-export function readLine(given, form = "text") {
+export function readLine(given, asked = "text", isFound = false) {
   const line = given.replace(/^\ufeff+/, "").replace(/(?<!\r)\r+$/, "");
   const bare = line.trim();
   if (line.length > LONGEST_LINE && [...line].length > LONGEST_LINE) {
     const sentence = `the line has more than ${LONGEST_LINE.toLocaleString("en")} characters`;
     return refuse("long", sentence, LONGEST_LINE + 1);
   }
-  if (form === "verdicts" && isVerdictLine(bare) && !isRefusedLine(bare)) return readMachineFirst(bare);
-  if (isMachine(bare) && (form === "machines" || (form === "text" && !DASHES.test(bare)))) {
+  if (asked === "verdicts" && isVerdictLine(bare) && !isRefusedLine(bare)) return readMachineFirst(bare);
+  if (isMachine(bare) && (asked === "machines" || (asked === "text" && !DASHES.test(bare)))) {
     return readMachineFirst(bare);
   }
+  const form = isFound && !(asked === "verdicts" && isRefusedLine(bare)) ? "text" : asked;
   const { text, places } = unescapeLine(line);
   const read = readTexts(text);
   if (read === null) return NOTHING;

@@ -2,7 +2,7 @@
  * Runs the engine's calls for `support.node`. A line of standard input is a job as JSON; the reply is a line.
  * Bytes pass through files.
  *
- * @typedef {{call: string, given: string, out: string, plan: any, memory?: number, times?: number}} Job
+ * @typedef {{call: string, given: string, out: string, plan: any, room?: any, memory?: any, times?: number}} Job
  */
 import { readFileSync, writeFileSync } from "node:fs";
 import { createInterface } from "node:readline";
@@ -16,10 +16,10 @@ const CALLS = {
 };
 
 /** @param {import("../lib/bb.mjs").Engine} engine @param {Job} job */
-function runCall(engine, { call, given, plan }) {
+function runCall(engine, { call, given, plan, room }) {
   const list = new Uint8Array(readFileSync(given));
   const extra = { samples: traceAllSamples, rows: getCachedRows }[call];
-  return extra ? extra(engine, list, plan) : engine[CALLS[call]](list, plan);
+  return extra ? extra(engine, list, plan) : engine[CALLS[call]](list, plan, room);
 }
 
 /** Rows from the worker's cache: each request's lines, the requests without a trace, and the last row. */
@@ -49,10 +49,12 @@ function traceAllSamples(engine, line, { from, every, ...limits }) {
   return { bytes: Buffer.concat(parts), clean: true };
 }
 
-/** @param {import("../lib/bb.mjs").Engine} engine @param {Job} job */
-function runJob(engine, job) {
+/** @param {import("../lib/bb.mjs").Engine} shared @param {Job} job */
+async function runJob(shared, job) {
   const begun = process.cpuUsage();
+  let engine = shared;
   try {
+    if (job.memory !== undefined) engine = await load(bytes, { memory: job.memory });
     let reply = runCall(engine, job);
     for (let k = 1; k < (job.times ?? 1); k += 1) {
       reply = runCall(engine, job);
@@ -67,9 +69,8 @@ function runJob(engine, job) {
 }
 
 const engine = isSupported() ? await load(bytes) : null;
-console.log(JSON.stringify(engine === null ? { unsupported: true } : { traces: engine.hasTrace }));
+console.log(JSON.stringify(engine === null ? { unsupported: true } : {}));
 for await (const line of createInterface({ input: process.stdin })) {
   const job = JSON.parse(line);
-  const asked = job.memory === undefined ? engine : await load(bytes, { memory: job.memory });
-  console.log(JSON.stringify(runJob(asked, job)));
+  console.log(JSON.stringify(await runJob(engine, job)));
 }

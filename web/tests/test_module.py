@@ -22,7 +22,7 @@ LISTS = list(read_examples("decide", "check"))
 slow = pytest.mark.slow
 each_way = pytest.mark.parametrize("same", ["engine", "tab"], indirect=True)
 # The size of the module; exact repetition is a fifth of it.
-MOST_BYTES = 105_472
+MOST_BYTES = 108_544
 SMALL = {"steps": 100, "cells": 64, "depth": 20, "nodes": 100}
 REFUSED_LIMITS = (
     "--steps 1000000000001, --cells 0, --cells 67108865, --depth 10001, --nodes 1000000000001, --cells 598, "
@@ -42,6 +42,7 @@ WIDE = """
 """
 # Bytes of memory for a small engine.
 MEMORY = 64 * 65_536
+CALLS = ("decide", "check", "recurrence", "trace")
 
 
 def test_size(module: pathlib.Path) -> None:
@@ -149,12 +150,27 @@ def test_refused_limit(engine: Engine, words: str) -> None:
     assert said == "bb: %s\n" % answer["message"]
 
 
-@pytest.mark.parametrize(
-    "plan, error",
-    [({"cells": 2.5}, "LimitsError"), ({"cell": 5}, "TypeError"), ({"backward": 1}, "TypeError")],
-)
-def test_wrong_plan(engine: Engine, plan: Plan, error: str) -> None:
-    assert engine.call("decide", plan, b"1RA1RA\n").answer["error"] == error
+def test_wrong_numbers_and_names(engine: Engine) -> None:
+    """Each is refused before anything is written: the next reply is the program's."""
+    rooms: list[dict[str, Any]] = [{"room": room} for room in (-5, -2, 1.5, "1", None, 2**53)]
+    sizes: list[dict[str, Any]] = [{"memory": size} for size in (-1, 0.5, None, "1")]
+    plans: list[Any] = [
+        {"cell": 5},
+        {"backward": 1},
+        {"backward": None},
+        {"steps": None},
+        {"steps": "5"},
+        None,
+    ]
+    cases: list[tuple[str, Any, dict[str, Any]]] = [("decide", plan, {}) for plan in plans]
+    cases += [("trace", {}, {}), ("trace", None, {})]
+    cases += [("check", {}, more) for more in [*rooms, *sizes]]
+    cases += [(name, {"steps": 5} if name == "trace" else {}, {"room": -5}) for name in CALLS]
+    for name, plan, more in cases:
+        answer = engine.call(name, plan, b"1RB1LB_1LA1RZ\n", **more).answer
+        assert answer["error"] == "TypeError" and "undefined" not in answer["message"], (name, plan, more)
+        engine.require_same("decide", {}, b"1RB1LB_1LA1RZ\n")
+    assert engine.call("decide", {"cells": 2.5}, b"1RA1RA\n").answer["error"] == "LimitsError"
 
 
 @pytest.mark.parametrize("name", ["decide", "check"])

@@ -16,9 +16,9 @@ const engine = await load(new Uint8Array());
 const plan: Plan = { steps: 1_000, cyclers: false };
 const lines: string[] = engine.decide(["1RB1LB_1LA1RZ"], plan);
 const { clean }: { clean: boolean } = engine.trace("1RA1RA", { steps: 10n });
-console.log(lines, clean, LimitsError);
+export default [lines, clean, LimitsError];
 """
-TSC = "tsc --strict --noEmit --target es2022 --lib es2022,dom --module node16".split()
+TSC = "tsc --strict --noEmit --target es2022 --lib es2022 --module node16".split()
 INSTALL = "npm install --offline --no-audit --no-fund --cache cache".split()
 
 
@@ -68,7 +68,7 @@ def test_example_of_the_readme(bb: str, installation: pathlib.Path) -> None:
 
 @pytest.mark.parametrize("name, is_right", [("steps", True), ("stepps", False)])
 def test_types(installation: pathlib.Path, name: str, is_right: bool) -> None:
-    """Types accept right calls, and reject a misspelled name."""
+    """Types accept right calls, and reject a misspelled name. They need no types of a browser."""
     text = TYPED.replace("steps: 1_000", name + ": 1_000")
     (installation / "typed.mts").write_text(text, encoding="utf-8")
     done = subprocess.run([*TSC, "typed.mts"], cwd=installation, capture_output=True, text=True)

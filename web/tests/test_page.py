@@ -12,13 +12,13 @@ from typing import Any
 
 import pytest
 from support import TOP
-from support.browser import ENDLESS, LONG, Page
+from support.browser import ENDLESS, LONG, Page, soon
 from support.examples import README
 from support.machines import random_machines
 from support.node import documented_script
 from support.program import FOUR, as_lines, random_plan
 
-MOST_BYTES = 288_768
+MOST_BYTES = 294_912
 # Opens the next undecided line three times, and returns the longest time in milliseconds.
 UNDECIDED = """
 const taken = [0, 0, 0].map(() => {
@@ -66,23 +66,24 @@ def test_own_verdicts_are_checked(tab: Page, rng: random.Random) -> None:
 
 
 @pytest.mark.parametrize(
-    "plan, name, sentence",
+    "plan, sentences",
     [
-        ({"cells": 0}, "cells", "cells out of range"),
-        ({"steps": 10**12 + 1}, "steps", "steps out of range"),
-        ({"depth": 10_001}, "depth", "depth out of range"),
-        ({"nodes": 10**12 + 1}, "nodes", "nodes out of range"),
-        ({"cells": 598}, "depth", "depth does not fit in cells"),
-        ({"steps": "many"}, "steps", "steps is no number"),
+        ({"cells": 0, "depth": 10_001}, ["cells out of range", "depth out of range"]),
+        ({"steps": 10**12 + 1, "nodes": 10**25}, ["steps out of range", "nodes out of range"]),
+        ({"cells": 598}, ["depth does not fit in cells"]),
+        ({"steps": "many"}, ["steps is no number"]),
     ],
 )
-def test_refused_limits(tab: Page, plan: dict[str, Any], name: str, sentence: str) -> None:
-    """The program's message is shown beside the field."""
+def test_refused_limits(tab: Page, plan: dict[str, Any], sentences: list[str]) -> None:
+    """The program's message is shown beside each wrong field, and the first has the focus."""
     tab.plan(plan, "auto")
     tab.run()
-    tab.until(lambda: tab.get(name, "ariaInvalid"))
-    shown = tab.text(name + "-range")
-    assert shown.startswith(sentence) and len(shown) > len(sentence)
+    names = [sentence.split()[0] for sentence in sentences]
+    assert soon(lambda: tab.js("return $$('#fields [aria-invalid]').map((one) => one.id)") == names)
+    for name, sentence in zip(names, sentences):
+        shown = tab.text(name + "-range")
+        assert shown.startswith(sentence) and len(shown) > len(sentence)
+    assert tab.focus() == names[0]
 
 
 @pytest.mark.slow

@@ -6,9 +6,10 @@ import time
 
 import pytest
 from support import TOP
-from support.browser import COLOUR, Page, contrast
+from support.browser import COLOUR, Page, contrast, soon
 from support.gestures import Keys
 from support.machines import CHAMPION, LATE
+from support.program import as_lines
 from support.traces import trace
 
 TEXT, MARK = 4.5, 3.0
@@ -95,6 +96,8 @@ const pen = document.createElement("canvas").getContext("2d");
 pen.font = "11px system-ui, sans-serif";
 return $("diagram").dataset.x - 9 - pen.measureText(arguments[0]).width;
 """
+NAVIGATION = "return $$('#row-before, #row-next, #open-next').map((one) => one.offsetTop)"
+SIX = "1RB0LD_1RC0RF_1LC1LA_0LE1RZ_1LF0RB_0RC0RE"
 WIDTH = "return document.documentElement.scrollWidth"
 
 
@@ -208,11 +211,22 @@ def test_page_sends_nothing(tab: Page) -> None:
     assert tab.save() == b"1RA1RA translated R 1 2 1 1\n"
 
 
-def test_row_fits_at_a_desk(tab: Page) -> None:
-    """A machine of 34 characters and a `translated` verdict fit."""
+def test_page_at_all_widths(tab: Page) -> None:
+    """A machine of 34 characters and a `translated` verdict fit at a desk, six states too, a line's number always."""
     tab.plan({}, "check", True)
     tab.open_list(CHAMPION + " translated R 1234 5678 12 34", "1RB1LB_1LA1RZ halt 7")
     assert not tab.js(CLIPPED)
+    tab.plan({"steps": 10}, "decide")
+    tab.answer_file(as_lines([SIX] * 20_000))
+    for width in (390, 640, 901, 1_000, 1_280, 1_920):
+        metrics = {"width": width, "height": 900, "deviceScaleFactor": 1, "mobile": False}
+        tab.command("Emulation.setDeviceMetricsOverride", **metrics)
+        tab.press("rows", Keys.END)
+        assert soon(lambda: not {SIX if width >= 1_280 else "", "20,000"} & set(tab.js(CLIPPED)))
+        assert tab.rows()[-1][0] == "20,000" and tab.js(WIDTH) <= width
+        assert tab.get("machine", "clientWidth") > 0.42 * width - 30
+        assert len(set(tab.js(NAVIGATION))) == 1
+    tab.command("Emulation.clearDeviceMetricsOverride")
 
 
 @pytest.mark.slow

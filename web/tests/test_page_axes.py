@@ -5,7 +5,7 @@ from typing import NamedTuple
 
 from support.browser import HEAD, Page, soon
 from support.gestures import Keys, cell_at, send_mouse, window_point
-from support.machines import CHAMPION, CHAMPION_OF_FOUR
+from support.machines import CHAMPION, CHAMPION_OF_FOUR, HALT
 from support.traces import Row, trace
 
 STEPS = 10_000
@@ -126,6 +126,10 @@ def test_axes_and_pointer(tab: Page) -> None:
     require_ticks(tab)
     require_rows(tab, rows)
     require_places(tab, rows)
+    # Nothing is numbered behind a halt.
+    view = tab.open_machine(HALT)
+    steps, positions = ticks(tab, view)
+    assert steps[0].number == 0 and steps[-1].number <= 6 and 0 in [tick.number for tick in positions]
     tab.remove_script(made)
 
 

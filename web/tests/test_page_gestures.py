@@ -2,25 +2,26 @@
 
 import pytest
 from support.browser import Page, View, soon
-from support.gestures import Point, cell_at, drag, pinch, place_of, swipe, tap, window_point
+from support.gestures import Keys, Point, cell_at, drag, pinch, place_of, send_mouse, swipe, tap, window_point
 from support.machines import CHAMPION
 from support.traces import trace
 
 STEPS = 10_000
 # A step to open, with legible cells.
 NEAR = 6_000
-# The events of a drag by the right button.
-OTHER_BUTTON = """
+# Sends events of the mouse at places of the canvas; returns the tape's text right after them.
+EVENTS = """
 const canvas = $("diagram");
 canvas.setPointerCapture = () => {};
 const { left, top } = canvas.getBoundingClientRect();
-for (const [kind, far] of [["down", 0], ["move", 40], ["move", 80], ["up", 80]]) {
+for (const [kind, button, x, y] of arguments[0]) {
   canvas.dispatchEvent(new PointerEvent("pointer" + kind, {
-    pointerId: 1, pointerType: "mouse", button: kind === "move" ? -1 : 2, buttons: kind === "up" ? 0 : 2,
-    clientX: left + 200, clientY: top + 200 - far, bubbles: true,
+    pointerId: 1, pointerType: "mouse", button, bubbles: true,
+    clientX: left + canvas.clientLeft + x, clientY: top + canvas.clientTop + y,
   }));
 }
 delete canvas.setPointerCapture;
+return $("tape-text").textContent;
 """
 
 
@@ -80,9 +81,30 @@ def test_mouse_moves_the_picture(tab: Page) -> None:
     assert tab.wait_until_drawn() == before
 
 
+def test_keys_zoom_at_the_mouse(tab: Page) -> None:
+    """The description is of the view, and a click counts before the tape's row comes."""
+    before = tab.open_machine(CHAMPION, "&steps=47200000")
+    tab.scroll_to_diagram()
+    place = (before["x"] + 300.5, before["y"] + 250.5)
+    send_mouse(tab, "mouseMoved", window_point(tab, *place))
+    tab.press("diagram", "+")
+    after = tab.wait_until_drawn(lambda view: view["every"] < before["every"])
+    require_place(after, cell_at(before, place), place)
+    assert tab.text("place-text").startswith("Step {:,}, ".format(cell_at(after, place)[0]))
+    assert tab.js(EVENTS, [("down", 0, *place), ("up", 0, *place)]).startswith("Going to step")
+    assert tab.tape_is_at("{:,}:".format(cell_at(after, place)[0]))
+    tab.press("diagram", Keys.ARROW_DOWN)
+    assert soon(lambda: tab.text("place-text") != "")
+    tab.go_to("40")
+    assert tab.wait_until_drawn(lambda view: view["every"] == 1)["every"] == 1
+    assert tab.text("place-text") == ""
+
+
 def test_other_button_moves_nothing(tab: Page) -> None:
     before = open_near(tab)
-    tab.js(OTHER_BUTTON)
+    tab.js(
+        EVENTS, [("down", 2, 200, 200), ("move", -1, 200, 160), ("move", -1, 200, 120), ("up", 2, 200, 120)]
+    )
     assert not soon(lambda: tab.wait_until_drawn() != before, 0.5)
 
 

@@ -4,7 +4,6 @@ import pathlib
 import time
 from typing import Callable
 
-import pytest
 from support.browser import LONG, Page, soon
 from support.gestures import type_text
 from support.machines import CHAMPION, CHAMPION_OF_FOUR
@@ -77,27 +76,8 @@ def test_words_fold_out(tab: Page) -> None:
     assert tab.js(is_shown)
 
 
-def test_button_says_what_a_file_gets(tab: Page) -> None:
-    tab.answer_file(b"1RA1RA\n")
-    for mode, words in (("check", "Check"), ("decide", "Decide"), ("check", "Check"), ("auto", "Decide")):
-        tab.choose_option("mode", mode)
-        assert soon(lambda: tab.text("run") == words)
-
-
-def test_defaults_take_back_a_refusal(tab: Page) -> None:
-    """Each example can be chosen again, too."""
-    tab.type("steps", "many")
-    tab.run()
-    assert soon(lambda: is_refused(tab, "steps"))
-    tab.click("defaults")
-    assert not is_refused(tab, "steps") and "number" not in tab.text("steps-range")
-    tab.choose_example("claims")
-    tab.click("defaults")
-    assert tab.get("examples", "value") == ""
-
-
 def test_examples_bring_their_settings(tab: Page) -> None:
-    """Another list and the button for the defaults reset them."""
+    """A reload keeps them. Another list and the button for the defaults reset them."""
 
     def settings() -> list[object]:
         return [tab.get("steps", "value"), tab.get("clean", "checked"), tab.get("mode", "value")]
@@ -105,8 +85,13 @@ def test_examples_bring_their_settings(tab: Page) -> None:
     usual = settings()
     tab.choose_example("small limits")
     assert settings()[:2] != usual[:2]
+    tab.reload()
+    assert tab.text("limits-text") != ""
     tab.type("list", "1RA1RA\n")
-    assert settings() == usual and tab.get("examples", "value") == ""
+    assert settings() == usual and tab.get("examples", "value") == "" == tab.text("limits-text")
+    # The default, written otherwise.
+    tab.type("steps", "1e6")
+    assert tab.text("limits-text") == ""
     tab.type("steps", "7")
     tab.put("clean", "checked", False)
     tab.choose_option("mode", "check")
@@ -114,12 +99,14 @@ def test_examples_bring_their_settings(tab: Page) -> None:
     assert settings() == usual
 
 
-@pytest.mark.parametrize("text", ["1,5e3", "1,5", "1,00,000", ",100", "1 5", "1_5", "1,000 000", "1 000 00"])
-def test_limit_that_is_no_number(tab: Page, text: str) -> None:
-    """Separators elsewhere than between groups of three digits are refused."""
-    tab.type("steps", text)
-    tab.run()
-    assert soon(lambda: is_refused(tab, "steps"))
+def test_limits_that_are_no_numbers(tab: Page) -> None:
+    """Separators elsewhere than between groups of three digits are refused. The defaults take it back."""
+    for text in ["many", "1,5e3", "1,5", "1,00,000", ",100", "1 5", "1_5", "1,000 000", "1 000 00"]:
+        tab.type("steps", text)
+        tab.run()
+        assert soon(lambda: is_refused(tab, "steps"))
+        tab.click("defaults")
+        assert not is_refused(tab, "steps") and "number" not in tab.text("steps-range")
 
 
 def test_limits_as_people_write_them(tab: Page) -> None:
@@ -154,9 +141,12 @@ def test_step_is_written_as_a_limit(tab: Page) -> None:
         assert not is_refused(tab, "tape-step")
 
 
-def test_changed_file_is_named(tab: Page) -> None:
-    """A file that changed since it was chosen is reported, and can be chosen again."""
+def test_chosen_file(tab: Page) -> None:
+    """The button says what it gets. If it changed since, this is reported, and it can be chosen again."""
     tab.answer_file(b"1RA1RA\n")
+    for mode, words in (("check", "Check"), ("decide", "Decide"), ("check", "Check"), ("auto", "Decide")):
+        tab.choose_option("mode", mode)
+        assert soon(lambda: tab.text("run") == words)
     path = pathlib.Path(tab.folder) / "list"
     time.sleep(1.1)
     path.write_bytes(b"1RB1LB_1LA1RZ\n1RA1RA\n")
@@ -238,14 +228,3 @@ def test_reload_names_a_list_that_is_gone(tab: Page) -> None:
     tab.open_list("# " + "x" * 1_000_001, "1RA1RA")
     assert "1,000,0" in missing_text()
     tab.js("sessionStorage.clear()")
-
-
-def test_reload_keeps_an_example_with_its_settings(tab: Page) -> None:
-    tab.choose_example("small limits")
-    tab.reload()
-    assert tab.text("limits-text") != ""
-    tab.type("list", "1RA1RA\n")
-    assert tab.text("limits-text") == ""
-    # The default, written otherwise.
-    tab.type("steps", "1e6")
-    assert tab.text("limits-text") == ""

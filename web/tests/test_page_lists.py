@@ -6,7 +6,7 @@ import pathlib
 import random
 import re
 import time
-from typing import Any
+from typing import Any, Sequence
 
 import pytest
 from budlarem._text import LONGEST_LINE
@@ -30,7 +30,7 @@ MORE = (
 SKIPPED = "3 skipped (empty lines, comments, code fences, rules and headers of tables)"
 
 
-def read_by_page(asked: list[Any]) -> list[Any]:
+def read_by_page(asked: Sequence[Any]) -> list[Any]:
     """Return the sentences of the page's reader, and its replies."""
     given = "".join(json.dumps(one) + "\n" for one in asked).encode()
     done = run_command(["node", str(TOP / "web/tests/reader.mjs")], given)
@@ -50,7 +50,7 @@ def expected_reading(form: dict[str, Any]) -> dict[str, Any]:
 
 @pytest.mark.needs("node")
 def test_forms_have_their_readings(forms: Forms) -> None:
-    lines = [[form["line"], form.get("form", "text")] for form in forms["forms"]]
+    lines = [[form["line"], form.get("form", "text"), form.get("found", False)] for form in forms["forms"]]
     sentences, *found = read_by_page([*lines, *forms["lists"], *forms["encodings"]])
     assert sentences == {name: forms[name] for name in ("advice", "rewritings")}
     wanted = [expected_reading(form) for form in forms["forms"]]
@@ -69,9 +69,9 @@ def change(line: str, source: random.Random) -> str:
     return line
 
 
-def read_by_package(line: str, form: str) -> dict[str, Any]:
+def read_by_package(line: str, form: str, is_found: bool = False) -> dict[str, Any]:
     """Return the package's reading of a line in the page's form."""
-    reading = read_line(1, line, Form(form))
+    reading = read_line(1, line, Form(form), is_found)
     if isinstance(reading, Skipped):
         return {"kind": "nothing"}
     if reading.reason is not None:
@@ -87,7 +87,7 @@ def test_package_and_page_read_alike(forms: Forms, rng: random.Random, count: in
     """Of changed lines, in each form."""
     lines = [form["line"] for form in forms["forms"] if "\n" not in form["line"]]
     kinds = ("text", "text", "machines", "verdicts")
-    asked = [[change(rng.choice(lines), rng), rng.choice(kinds)] for _ in range(count)]
+    asked = [(change(rng.choice(lines), rng), rng.choice(kinds), rng.random() < 0.5) for _ in range(count)]
     _, *found = read_by_page(asked)
     assert found == [read_by_package(*one) for one in asked]
     print("%d lines" % count)

@@ -2,16 +2,21 @@
 
 import math
 import pathlib
+import random
 import time
 
 import budlarem
 import pytest
-from support.browser import LONG, Page
-from support.machines import CHAMPION, CHAMPION_OF_FOUR, HALT, LATE, SWAPPED, TREE
+from support.browser import LONG, Page, soon
+from support.claims import with_other_number
+from support.gestures import Keys
+from support.machines import CHAMPION, CHAMPION_OF_FOUR, HALT, LATE, SWAPPED, TREE, random_machines
+from support.program import as_lines
 from support.traces import trace
 
 MACHINES = "1RA1RA 1LB0LA_1RA--- 1LC1RZ_1RB---_1RA1LA 1RB---_1LB1LA".split()
 MACHINES += [HALT, LONG, TREE, CHAMPION, LATE]
+SMALL = {"steps": 1_000, "cells": 400, "depth": 20, "nodes": 100}
 ON_BLANK = "A on the blank tape alone"
 # Records copies.
 COPY = """
@@ -52,17 +57,17 @@ def test_growth(tab: Page, machine: str, steps: int = 5_000) -> None:
         return
     visited = [len(rows[steps // part].cells) for part in (100, 10, 1)]
     power = math.log10(visited[2] / visited[0]) / 2
-    grows = "grow as a " + ("logarithm" if power < 0.2 else "root" if power < 0.8 else "line")
-    words = "stay" if visited[1] == visited[2] else grows
-    counts = ", ".join(map("{:,}".format, visited))
-    assert tab.text("fact-growth").startswith("They %s: %s after" % (words, counts))
+    grows = "Logarithmic growth" if power < 0.2 else "Growth like a root" if power < 0.8 else "Linear growth"
+    words = "No growth" if visited[1] == visited[2] else grows
+    counts = "{:,}, {:,} and {:,} cells after".format(*visited)
+    assert tab.text("fact-growth").startswith("%s, estimated by %s" % (words, counts))
 
 
 def test_growth_up_to_the_limit_of_cells(tab: Page) -> None:
     """Long before the limit of steps."""
     tab.open_facts("1RA1RA")
-    visited = "656, 6,551, 65,501 after a hundredth, a tenth and all of 65,535 steps"
-    assert tab.text("fact-growth").startswith("They grow as a line: %s;" % visited)
+    visited = "656, 6,551 and 65,501 cells after 1 %, 10 % and 100 % of 65,535 steps"
+    assert tab.text("fact-growth") == "Linear growth, estimated by %s." % visited
 
 
 @pytest.mark.parametrize(
@@ -80,6 +85,40 @@ def test_what_a_verdict_says_of_others(tab: Page, machine: str, completions: str
     assert completions in tab.text("fact-completions")
     assert starts in tab.text("fact-starts")
     assert tab.get("elsewhere", "href") == "https://bbchallenge.org/" + machine
+
+
+# Claims that the checker refutes, each with the difference that the page names.
+DIFFERENCES = {
+    "1RA1RA translated R 1 2 99 1": "The head is 1 cell farther out.",
+    "1RA1RA translated L 1 2 1 1": "At step 1 the head isn\u2019t farther left than ever.",
+    "1RA1RA translated R 1 3 1 1": "The head is 2 cells farther out.",
+    "1RA1RA translated R 1 2 1 9": "The stretch has 1 cell.",
+    "1RB1LB_1LA1RZ halt 5 4": "It doesn\u2019t halt there: its next entry is 1RZ.",
+    "1RB1LB_1LA1RZ halt 6 3": "It has 4 nonzero cells.",
+    "1RB1LB_1LA1RZ halt 7 4": "The run ends at step 6.",
+    "0RB---_0LA--- cycler 2 3": "The states differ, A and B.",
+    "0RB---_0LA--- cycler 4 2": "The second step doesn\u2019t come after the first.",
+    "1RB1LB_1LA1LB cycler 1 3": "The head\u2019s positions differ, 1 and \u22121.",
+}
+
+
+def test_refuted_claims(tab: Page, rng: random.Random) -> None:
+    """The page says only of what the checker confirms that the rows show it, and names the first difference."""
+    machines = [HALT, LONG, TREE, "1LB0LA_1RA---", "1RB0LC_1RC0RC_1LA0RB", *random_machines(9, rng)]
+    decided = tab.program_output("decide", SMALL, as_lines(machines)).decode().splitlines()
+    lines = [line for line in decided if not line.startswith("refused") and "undecided" not in line]
+    lines = [*DIFFERENCES, *lines, *(with_other_number(line, rng) for line in lines * 3)]
+    tab.open_list(*lines, plan=SMALL, mode="check")
+    for row, (line, answer) in enumerate(zip(lines, tab.save().decode().splitlines())):
+        tab.press("rows", Keys.ARROW_DOWN if row else Keys.HOME, Keys.ENTER)
+        if answer not in ("ok", "bad"):
+            continue
+        assert soon(lambda: tab.text("machine-text") == line.split()[0] and tab.text("behind") != "")
+        errors = tab.js("return $$('#behind .error').map((one) => one.textContent)")
+        is_shown, is_claimed = ("above show" in tab.text("behind"), "Claimed" in tab.text("behind"))
+        assert is_claimed == (answer == "bad") == (len(errors) == 1), (line, errors)
+        assert is_shown == (answer == "ok" and " backward " not in line), line
+        assert line not in DIFFERENCES or errors == [DIFFERENCES[line]], (line, errors)
 
 
 def test_text_link_and_picture_are_copied(tab: Page) -> None:

@@ -3,9 +3,11 @@
 import time
 
 from support.browser import LONG, Page, soon
+from support.gestures import Keys
 from support.machines import CHAMPION, CHAMPION_OF_FOUR, HALT
 
 CHOSEN = "return $$('#shown [aria-selected=true]').map((row) => row.children[1].textContent)"
+OPEN = "return $$('#shown [aria-current=true]').map((row) => row.children[1].textContent)"
 LINES = [HALT, "1RA1RA", LONG, "1LB0LA_1RA---", CHAMPION_OF_FOUR]
 ORDERS = """
 const order = $("order");
@@ -48,6 +50,13 @@ def test_chosen_line_stays(tab: Page) -> None:
     assert tab.js(CHOSEN) == []
     tab.press("rows", "p")
     assert is_marked(tab, LINES[3])
+
+
+def test_open_line_is_marked(tab: Page) -> None:
+    """Also where another one is chosen."""
+    tab.open_list(*LINES)
+    tab.press("rows", Keys.HOME, Keys.ARROW_DOWN)
+    assert soon(lambda: tab.js(OPEN) == LINES[:1]) and tab.js(CHOSEN) == LINES[1:2]
 
 
 def test_buttons_of_kinds_stay(tab: Page) -> None:

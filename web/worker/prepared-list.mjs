@@ -16,11 +16,12 @@ export const unchangedList = (/** @type {Uint8Array} */ bytes) => {
 
 /**
  * The lines that the engine is to read.
- * @param {Uint8Array} bytes @param {{mode: string, clean: boolean, form: Form}} request
+ * @param {Uint8Array} bytes @param {{mode: string, clean: boolean, form: Form, isFound: boolean}} request
  * @returns {PreparedList}
  */
-export function prepareList(bytes, { mode, clean, form }) {
+export function prepareList(bytes, { mode, clean, form, isFound }) {
   if (!clean) return unchangedList(bytes);
+  const readText = (/** @type {string} */ text) => readLine(text, form, isFound);
   const read = mode === "check" ? readClaim : readMachine;
   // ASCII lines are cut out of one text: browsers decode short texts slowly.
   const all = decoder.decode(bytes);
@@ -33,7 +34,7 @@ export function prepareList(bytes, { mode, clean, form }) {
     const end = lineEnd(bytes, from);
     const given = bytes.subarray(from, end);
     const isLong = given.length > BYTES_KEPT;
-    const line = isLong ? given : read(given, isAscii ? all.slice(from, end) : decoder.decode(given), form);
+    const line = isLong ? given : read(given, isAscii ? all.slice(from, end) : decoder.decode(given), form, readText);
     if (line !== null) {
       lines.push(line, LINE_END);
       numbers.push(number);
@@ -45,11 +46,14 @@ export function prepareList(bytes, { mode, clean, form }) {
   return { bytes: concatBytes(lines), ...origin, skipped: number - numbers.length };
 }
 
-/** A line's machine, or a line that the engine refuses; null for a skipped line. */
-function readMachine(/** @type {Uint8Array} */ line, /** @type {string} */ text, /** @type {Form} */ form) {
+/**
+ * A line's machine, or a line that the engine refuses; null for a skipped line.
+ * @param {Uint8Array} line @param {string} text @param {Form} form @param {(text: string) => Reading} readText
+ */
+function readMachine(line, text, form, readText) {
   const isWhole = isMachine(text);
   if (isWhole && form !== "verdicts" && text.length === line.length && text[0] !== "-") return line;
-  const reading = readLine(text, form);
+  const reading = readText(text);
   if (reading.kind === "machine") return encoder.encode(reading.machine);
   // A leading space makes the engine refuse a machine that the form doesn't allow.
   return reading.kind === "nothing" ? null : isWhole ? Uint8Array.of(SPACE, ...line) : line;

@@ -7,6 +7,9 @@ import { RowCache } from "./row-cache.mjs";
 // The exponents of the steps between which growth counts as a root.
 const ROOT = [0.2, 0.8];
 
+// Of a claim whose trace is larger only the named rows are made.
+const MOST_CLAIM_BYTES = 24_000_000;
+
 let cache = /** @type {RowCache | null} */ (null);
 
 const isCached = (/** @type {Run} */ run) => cache?.machine === run.machine && cache.cells === run.cells;
@@ -27,6 +30,24 @@ export function traceRows(/** @type {Engine} */ engine, /** @type {Run & RowRequ
   });
   const isShort = rows.length < 2 && request.from + request.every <= request.upto;
   return { rows, last: isShort ? own.lastRow(request.upto).step : rows.at(-1)?.step };
+}
+
+/**
+ * The rows of a claim's steps, and those before; the run's last step if some are missing; and the positions
+ * between which the head stays from the first to the last, null if they are too far apart.
+ */
+export function traceClaim(/** @type {Engine} */ engine, /** @type {Run & {steps: number[]}} */ request) {
+  const { machine, cells, steps } = request;
+  const between = { from: steps[0], every: 1, upto: steps[steps.length - 1] };
+  const own = cacheFor(engine, request);
+  const isNear = own.traceSize(between) <= MOST_CLAIM_BYTES;
+  const heads = isNear ? own.getRows(between, true).rows.heads.slice().sort() : new Int32Array(0);
+  const traced = steps.map((step) =>
+    traceRows(engine, { machine, cells, from: Math.max(0, step - 1), every: 1, upto: step }));
+  const rows = traced.flatMap(({ rows }, k) => rows.filter(({ step }) => step === steps[k]));
+  const before = traced.map(({ rows: [row] }, k) => (row?.step === steps[k] - 1 ? row : null));
+  const last = Math.min(...traced.map(({ last }) => last ?? 0));
+  return { rows, before, last, low: heads.at(0) ?? null, high: heads.at(-1) ?? null };
 }
 
 /** Rows for another worker's cache. */

@@ -5,7 +5,7 @@ import { ANSWERS, KINDS, markedSteps, parseRecurrence } from "../common/machine.
 import { LONGEST_SHOWN } from "../common/text.mjs";
 import { prepareList, unchangedList } from "./prepared-list.mjs";
 import { countValues, readAnswers, readLines, startsOf } from "./replies.mjs";
-import { makePicture, measureGrowth, storeRows, traceAhead, traceRows } from "./trace.mjs";
+import { makePicture, measureGrowth, storeRows, traceAhead, traceClaim, traceRows } from "./trace.mjs";
 
 const NEWLINE = 10;
 const REFUSED = KINDS.indexOf("refused");
@@ -188,6 +188,7 @@ const HANDLERS = {
   recurrence: (message, host) => [findRecurrence(host, message)],
   "decide-one": (message) => [decideOne(message)],
   trace: (message, host) => [traceRows(host, message)],
+  claim: (message, host) => [traceClaim(host, message)],
 };
 
 async function onMessage(/** @type {any} */ message) {

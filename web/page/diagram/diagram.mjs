@@ -183,6 +183,12 @@ export class Diagram {
     return geometry.zoomCentre(scene, [this.pointed, this.tapePlace]);
   }
 
+  /** Chooses a step of the picture, which is marked at once. */
+  choose(/** @type {Place} */ place) {
+    this.showStep(place, false);
+    this.onChoose(place);
+  }
+
   /** Marks the tape's step. If its cells are too small, `closes` zooms in on it. */
   showStep(/** @type {Place} */ place, /** @type {boolean} */ closes) {
     this.tapePlace = place;
@@ -221,7 +227,7 @@ export class Diagram {
     painter.paintPicture(picture, this.sheet);
     painter.paintHeads(picture);
     painter.paintMarks(this.marks);
-    painter.paintAxes(this.tapePlace.step);
+    painter.paintAxes(this.tapePlace.step, this.run?.upto ?? 0);
     this.pointed !== null && painter.paintPlace(this.pointed);
     const isNew = canvas.dataset.state !== "requested";
     Object.assign(canvas.dataset, { ...scene.view, x: scene.area.x, y: scene.area.y, ratio: painter.ratio });

@@ -133,7 +133,7 @@ export function pictureText(/** @type {Picture} */ picture, /** @type {number} *
   const parts = [every > 1 ? `${range}, every ${formatNumber(every)} steps` : range];
   const [left, right] = [view.left, view.left + Math.ceil(width * cellsPerPixel(view)) - 1];
   const visited = formatCount(high - low + 1, "visited cell");
-  parts.push(low < left || high > right ? `part of ${visited}` : `all of ${visited}`);
+  parts.push(low < left || high > right ? `part of ${visited}` : visited);
   if (view.across > 1) {
     parts.push(`one pixel shows the mean colour of ${formatNumber(view.across)} cells`);
   }

@@ -1,6 +1,6 @@
 /** Input to a diagram by wheel, keys, mouse and fingers. */
 import { byId, dispatchKey } from "../dom.mjs";
-import { placeAt, placeText, snapToRow } from "./geometry.mjs";
+import { isVisible, placeAt, placeText, snapToRow } from "./geometry.mjs";
 import { ZOOM } from "./viewport.mjs";
 
 const DOUBLE = 8;
@@ -21,6 +21,8 @@ export class Gestures {
     this.moved = 0;
     /** The view, the middle between the fingers in the canvas, and their distance. */
     this.start = this.startGesture();
+    // The mouse in the canvas; undefined outside, or after a key of the pointer.
+    this.hovered = /** @type {Point | undefined} */ (undefined);
     // One finger scrolls the page until the picture is tapped.
     this.canMove = false;
     const { canvas } = diagram;
@@ -38,7 +40,10 @@ export class Gestures {
     canvas.addEventListener("pointermove", (event) => this.onMove(event));
     canvas.addEventListener("pointerup", (event) => this.onUp(event));
     canvas.addEventListener("pointercancel", (event) => this.removeFinger(event));
-    canvas.addEventListener("pointerleave", () => tell("", false));
+    canvas.addEventListener("pointerleave", () => {
+      this.hovered = undefined;
+      tell("", false);
+    });
   }
 
   /** Describes the pointer of the keys if the picture has its exact row. */
@@ -48,30 +53,35 @@ export class Gestures {
     this.report(isShown ? placeText(picture, pointed) : "", true);
   }
 
-  /** Describes the pointer once its picture has come. */
+  /** Describes what is pointed at in a new picture, if it is there. */
   onPicture() {
-    const { diagram } = this;
-    if (diagram.pointed !== null && byId("place-text").textContent === "") {
-      diagram.pointed = snapToRow(diagram.picture, diagram.pointed);
+    const { diagram, hovered } = this;
+    const { scene, pointed } = diagram;
+    if (pointed !== null && scene !== null && isVisible(scene, pointed)) {
+      if (byId("place-text").textContent !== "") return;
+      diagram.pointed = snapToRow(diagram.picture, pointed);
       this.reportPlace();
+    } else {
+      this.reportPoint(hovered);
     }
   }
 
   onKey(/** @type {KeyboardEvent} */ event) {
     const { diagram } = this;
     const point = (/** @type {number} */ right, /** @type {number} */ down) => () => {
+      this.hovered = undefined;
       diagram.movePointer(right, down, event.shiftKey);
       this.reportPlace();
     };
-    const choose = () => diagram.pointed && diagram.onChoose(diagram.pointed);
+    const choose = () => diagram.pointed && diagram.choose(diagram.pointed);
     dispatchKey(event, {
       ArrowLeft: point(-1, 0),
       ArrowRight: point(1, 0),
       ArrowUp: point(0, -1),
       ArrowDown: point(0, 1),
-      "+": () => diagram.zoom(ZOOM),
-      "=": () => diagram.zoom(ZOOM),
-      "-": () => diagram.zoom(1 / ZOOM),
+      "+": () => diagram.zoom(ZOOM, this.hovered),
+      "=": () => diagram.zoom(ZOOM, this.hovered),
+      "-": () => diagram.zoom(1 / ZOOM, this.hovered),
       0: () => diagram.fit(),
       Enter: choose,
       " ": choose,
@@ -140,9 +150,14 @@ export class Gestures {
   }
 
   /** Describes the cell under the pointer, and returns its place. */
-  reportPointer(/** @type {PointerEvent} */ { offsetX: x, offsetY: y }) {
+  reportPointer(/** @type {PointerEvent} */ { offsetX: x, offsetY: y, pointerType }) {
+    this.hovered = pointerType === "mouse" ? { x, y } : undefined;
+    return this.reportPoint({ x, y });
+  }
+
+  reportPoint(/** @type {Point | undefined} */ point) {
     const { scene, picture } = this.diagram;
-    const place = scene && placeAt(scene, { x, y });
+    const place = point && scene && placeAt(scene, point);
     this.report(place ? placeText(picture, place) : "", false);
     return place;
   }
@@ -151,7 +166,7 @@ export class Gestures {
     const { diagram, fingers } = this;
     if (fingers.has(event.pointerId) && fingers.size === 1 && this.moved < CLICK_PIXELS) {
       const place = this.reportPointer(event);
-      place && diagram.onChoose(place);
+      place && diagram.choose(place);
       diagram.canvas.focus({ preventScroll: true });
     }
     this.removeFinger(event);

@@ -102,8 +102,8 @@ export class Painter {
     });
   }
 
-  /** Paints steps on the left, with an arrow at the chosen one, and positions on top. */
-  paintAxes(/** @type {number} */ chosen) {
+  /** Paints steps up to the last one on the left, with an arrow at the chosen one, and positions on top. */
+  paintAxes(/** @type {number} */ chosen, /** @type {number} */ last) {
     const { pen, area, view } = this;
     pen.fillStyle = colourOf("--panel");
     pen.fillRect(0, 0, area.x, this.bottom);
@@ -112,7 +112,7 @@ export class Painter {
     pen.textAlign = "right";
     for (const step of ticks(view.top, stepsPerPixel(view), area.height, STEPS_APART)) {
       const y = this.yOf(step) + view.high / 2;
-      if (y >= area.y && y < this.bottom - 4) {
+      if (step <= last && y >= area.y && y < this.bottom - 4) {
         pen.fillText(formatNumber(step), area.x - NUMBER_PIXELS, y);
         pen.fillRect(area.x - MARK_PIXELS, Math.floor(y), MARK_PIXELS, 1);
       }

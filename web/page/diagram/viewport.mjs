@@ -5,7 +5,7 @@ export const ZOOM = 4;
 /** The least size in pixels of legible cells, which have a frame around the head. */
 export const FRAMED = 6;
 // Sizes of single cells, in pixels.
-const SIZES = [1, 2, 3, 4, 6, 8, 12, 16, 24, 32];
+const SIZES = [1, 2, 3, 4, 6, 8, 12, 16, 24, 32, 48, 64];
 // The size of cells after going to a step from far away.
 const CLOSE_PIXELS = 12;
 // The greatest ratio of a cell's width to its height.

@@ -1,5 +1,5 @@
 /** The fields of limits and deciders, and links with their values. */
-import { LIMITS, RANGES } from "../../lib/limits.mjs";
+import { LIMITS, RANGES, parseLimit, requireFit } from "../../lib/limits.mjs";
 import { formatNumber } from "../../common/machine.mjs";
 import { LONGEST_SHOWN } from "../../common/text.mjs";
 import { byId, create } from "../dom.mjs";
@@ -59,39 +59,38 @@ export function enlargePlan(/** @type {Plan} */ plan) {
   return { ...plan, steps, cells };
 }
 
-/** A number's text without separators. */
-function digitsOf(/** @type {string} */ text) {
-  const plain = text.trim().replace(/^\+/, "").replace(/\s*\^\s*/, "^");
-  return plain.replace(GROUPS, (digits) => digits.replace(/\D/g, ""));
-}
-
 /** Parses a whole number with separators, or as `1e6` or `10^6`; null for other texts. */
 export function parseNumber(/** @type {string} */ input) {
-  const text = digitsOf(input);
+  const plain = input.trim().replace(/^\+/, "").replace(/\s*\^\s*/, "^");
+  const text = plain.replace(GROUPS, (digits) => digits.replace(/\D/g, ""));
   const power = /^(\d{1,15})(?:\.(\d{1,15}))?e\+?(\d{1,2})$/i.exec(text) ?? /^(1)()0\^(\d{1,2})$/.exec(text);
-  if (power === null) return /^\d{1,19}$/.test(text) ? BigInt(text) : null;
+  if (power === null) return /^\d{1,999}$/.test(text) ? BigInt(text) : null;
   const [, whole, fraction = "", zeros] = power;
   const rest = Number(zeros) - fraction.length;
   return rest < 0 ? null : BigInt(whole + fraction) * 10n ** BigInt(rest);
 }
 
-/** @returns {Plan | null} the fields' plan; null for a refused limit, whose refusal is shown */
+/** @returns {Plan | null} the fields' plan; null for refused limits, whose refusals are shown */
 export function readPlan() {
   clearRefusals();
   /** @type {Plan} */
   const plan = Object.fromEntries(SWITCHES.map((name) => [name, field(name).checked]));
-  for (const name of LIMITS) {
-    const text = field(name).value;
-    const number = parseNumber(text);
-    const { min, max } = RANGES[name];
-    if (number === null || number < min || number > max) {
-      const isLarge = number !== null || /^\d{20,}$/.test(digitsOf(text));
-      return showRefusal(name, isLarge ? `${name} out of range` : `${name} is no number`);
-    }
-    plan[name] = number;
+  const read = (/** @type {Limit} */ name) => (plan[name] = parseLimit(name, parseNumber(field(name).value)));
+  // From the last to the first, which gets the focus.
+  const wrong = [...LIMITS].reverse().filter((name) => !isAccepted(name, () => read(name)));
+  const fits = () => requireFit(LIMITS.map((name) => plan[name]));
+  return wrong.length === 0 && isAccepted("depth", fits) ? plan : null;
+}
+
+/** Whether a limit is right; the refusal of a wrong one is shown. */
+function isAccepted(/** @type {Limit} */ name, /** @type {() => void} */ parse) {
+  try {
+    parse();
+    return true;
+  } catch (error) {
+    showRefusal(name, /** @type {Error} */ (error).message);
+    return false;
   }
-  if (2n * plan.depth > plan.cells + 1n) return showRefusal("depth", "depth does not fit in cells");
-  return plan;
 }
 
 const rangeText = (/** @type {Limit} */ name) =>
@@ -104,7 +103,7 @@ function clearRefusals() {
   }
 }
 
-/** Shows a refused limit beside its field: the program's message, and the valid values. Returns null. */
+/** Shows a refused limit beside its field: the program's message, and the valid values. */
 export function showRefusal(/** @type {string} */ limit, /** @type {string} */ message) {
   const range = `enter ${rangeText(/** @type {Limit} */ (limit))}`;
   const advice = message.includes("fit") ? "2 × depth − 1 is at most the cells" : range;
@@ -112,7 +111,6 @@ export function showRefusal(/** @type {string} */ limit, /** @type {string} */ m
   field(limit).setAttribute("aria-invalid", "true");
   Object.assign(byId(`${limit}-range`), { textContent: `${message}: ${advice}`, className: "error" });
   field(limit).focus();
-  return null;
 }
 
 /** The fragment of a link that opens a machine with a plan. */

@@ -13,6 +13,7 @@ const MARKS = /** @type {[number[], string][]} */ ([
   [[0x50, 0x4b, 3, 4], "a ZIP archive"],
   [[0x37, 0x7a, 0xbc, 0xaf, 0x27, 0x1c], "a 7z archive"],
   [[0x25, 0x50, 0x44, 0x46, 0x2d], "a PDF document"],
+  [[0x89, 0x50, 0x4e, 0x47], "a PNG picture"],
 ]);
 const GZIP = [0x1f, 0x8b];
 // The prefix in which zero bytes are counted.
@@ -69,11 +70,17 @@ const startsWith = (/** @type {Uint8Array} */ bytes, /** @type {number[]} */ mar
 
 /** The encoding or format of a file by its first bytes; null if they may be UTF-8. */
 export function encodingOf(/** @type {Uint8Array} */ start) {
-  const first = start.subarray(0, EXAMINED_BYTES);
-  const zeros = first.filter((byte) => byte === 0).length;
-  const isWide = first.length >= LEAST_BYTES && 3 * zeros >= first.length && zeros < first.length;
   const [, name] = MARKS.find(([bytes]) => startsWith(start, bytes)) ?? [];
-  return name ?? (isWide ? `UTF-${3 * zeros > 2 * first.length ? 32 : 16} text` : null);
+  const first = start.subarray(0, EXAMINED_BYTES);
+  const others = Array.from(first, (byte, at) => (byte === 0 ? -1 : at)).filter((at) => at >= 0);
+  const { length } = others;
+  if (name !== undefined || first.length < LEAST_BYTES || 3 * length > 2 * first.length || length === 0) {
+    return name ?? null;
+  }
+  // In wide text nearly all other bytes are the same ones of each character.
+  const isWide = (/** @type {number} */ width) => [0, 1, 2, 3].some((residue) =>
+    16 * others.filter((at) => at % width !== residue).length <= first.length);
+  return isWide(4) ? "UTF-32 text" : isWide(2) ? "UTF-16 text" : "no text";
 }
 
 /** The list can't be read; the message gives the reason. */

@@ -40,9 +40,9 @@ export const ADVICE = /** @type {Record<string, string>} */ ({
 
 /** Shows a line's rewriting, or the place and reason of its refusal. */
 export function showInputNotes(/** @type {InputLine} */ line, /** @type {Verdict} */ verdict) {
-  const { text, number, form } = line;
+  const { text, number, form, isFound } = line;
   const isRefused = verdict.kind === "refused";
-  const reading = text !== null && form !== null ? readLine(text, form) : null;
+  const reading = text !== null && form !== null ? readLine(text, form, isFound) : null;
   const isRewritten = reading?.kind === "machine" && !isRefused;
   showText("machine-given", isRewritten ? rewritingText(reading, text ?? "") : "");
   const [column] = verdict.numbers;

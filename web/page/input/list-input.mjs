@@ -59,7 +59,10 @@ export class ListInput {
     byId("run").textContent = mode === "check" ? "Check" : "Decide";
   }
 
-  /** The list, its first bytes, mode and form, and whether it begins as UTF-8. Labels the button. */
+  /**
+   * The list, its first bytes, mode and form, whether its lines gave the form, and whether it begins as UTF-8.
+   * Labels the button.
+   */
   async read(length = FIRST_READ_BYTES) {
     const { file } = this;
     const blob = await (file === null ? new Blob([this.list.value]) : this.decompressOnce(file));
@@ -69,8 +72,9 @@ export class ListInput {
     const mode = this.modeOf(start);
     file === this.file && this.setButtonLabel(mode);
     const chosen = /** @type {Form | "auto"} */ (this.form.value);
-    const form = chosen === "auto" ? detectForm(firstLines(start)) ?? "text" : chosen;
-    return { blob, first, mode, form, isText: isUtf8(start) };
+    const isFound = chosen === "auto";
+    const form = isFound ? detectForm(firstLines(start)) ?? "text" : chosen;
+    return { blob, first, mode, form, isFound, isText: isUtf8(start) };
   }
 
   /** The decompressed file; a failed one is read again on the next request. */

@@ -6,7 +6,7 @@ import { prestartWorkers } from "../worker-client.mjs";
 import { ChunkReader, holdoutChunks } from "./chunks.mjs";
 import { WorkerPool } from "./pool.mjs";
 import { Results } from "./results.mjs";
-import { slowLineText, statusText } from "./status.mjs";
+import { passText, slowLineText, statusText } from "./status.mjs";
 
 const MOST_WORKERS = 8;
 const REFRESH_MILLISECONDS = 250;
@@ -43,9 +43,11 @@ export class ListRun {
     this.pool = /** @type {WorkerPool | null} */ (null);
     this.results = new Results({});
     /** @type {RunInfo} */
-    this.info = { mode: "decide", plan: {}, form: null, isText: true, size: 0, begun: 0, taken: 0 };
+    this.info = { mode: "decide", plan: {}, form: null, isFound: false, isText: true, size: 0, begun: 0, taken: 0 };
     // The latest limits.
     this.plan = {};
+    /** The rows that a later pass decides again: their number, those done, and its begin. */
+    this.again = /** @type {{rows: number, done: number, begun: number} | null} */ (null);
     this.outcome = "Done";
     this.isShown = false;
     this.refreshTimer = 0;
@@ -62,12 +64,12 @@ export class ListRun {
    * @param {boolean} isText
    */
   start(blob, first, request, isText) {
-    const { mode, plan, clean } = request;
+    const { mode, plan, clean, isFound } = request;
     const form = clean ? request.form : null;
     const begun = performance.now();
     const results = new Results(plan);
-    const info = { mode, plan, form, isText, size: blob.size, begun, taken: 0 };
-    Object.assign(this, { info, plan, results, isShown: false, announcedAt: begun });
+    const info = { mode, plan, form, isFound, isText, size: blob.size, begun, taken: 0 };
+    Object.assign(this, { info, plan, results, isShown: false, announcedAt: begun, again: null });
     byId("results").hidden = false;
     const workers = workerCount(blob.size);
     const chunks = new ChunkReader(blob, first, workers);
@@ -99,10 +101,14 @@ export class ListRun {
     }
     const workers = workerCount(rows.length * LEAST_BYTES);
     const chunks = holdoutChunks(results, rows, workers);
-    this.startPool(workers, { mode: "decide", form: "machines", clean: false, plan }, {
+    const again = { rows: rows.length, done: 0, begun: performance.now() };
+    this.again = again;
+    this.startPool(workers, { mode: "decide", form: "machines", isFound: false, clean: false, plan }, {
       nextChunk: async () => chunks.next().value ?? null,
-      part: (part) =>
-        results.replace(rows.subarray(part.first, part.first + part.kinds.length), part, number),
+      part: (part) => {
+        again.done += part.kinds.length;
+        results.replace(rows.subarray(part.first, part.first + part.kinds.length), part, number);
+      },
       end: () => this.finish("Done"),
     });
   }
@@ -165,12 +171,11 @@ export class ListRun {
   }
 
   showProgress(/** @type {string} */ outcome) {
-    const { info, results } = this;
-    const { lines, waiting } = results;
-    const read = outcome === "Done" || info.size === 0 ? 1 : results.read / info.size;
-    const share = lines === 0 ? read : read * (1 - waiting / lines);
+    const { info, results, again } = this;
+    const read = info.size === 0 ? 1 : results.read / info.size;
+    const share = outcome === "Done" ? 1 : again === null ? read : again.done / again.rows;
     /** @type {HTMLProgressElement} */ (byId("progress")).value = share;
-    byId("status").textContent = statusText(outcome, share, info, results);
+    byId("status").textContent = statusText(outcome, passText(outcome, share, again?.begun), info, results);
     showText("under-way", slowLineText(this.pool?.slowestLine() ?? null));
   }
 

@@ -131,8 +131,11 @@ export class ListView {
     const isWaiting = results.isWaiting(row);
     const openText = isWaiting ? "" : verdict.text;
     Object.assign(this, { wasOpened: true, openLine: results.placeOf(row), openText });
+    this.rows.openLine = this.openLine;
+    this.rows.draw();
     const form = info.mode === "decide" ? info.form : null;
-    this.view.open({ machine, verdict, answer, plan, isWaiting }, moves, { text: given, number, form });
+    const line = { text: given, number, form, isFound: info.isFound };
+    this.view.open({ machine, verdict, answer, plan, isWaiting }, moves, line);
   }
 
   /** Opens the next or previous row, or undecided row. */

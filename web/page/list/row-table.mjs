@@ -1,8 +1,9 @@
 /**
  * The table of lines. Only visible rows are in the document, so that millions of lines scroll.
  *
- * @typedef {{element: HTMLElement, of: Part, line: number, bytes: Uint8Array, isChosen: boolean}} DrawnRow
- *   `of`, `line` and `bytes`: its part, its line there, and the part's bytes when it was drawn
+ * @typedef {{element: HTMLElement, of: Part, line: number, bytes: Uint8Array, isChosen: boolean,
+ *   isOpen: boolean}} DrawnRow `of`, `line` and `bytes`: its part, its line there, and the part's bytes when it
+ *   was drawn
  */
 import { formatNumber } from "../../common/machine.mjs";
 import { readLine } from "../../reader/line-reader.mjs";
@@ -31,6 +32,10 @@ export class RowTable {
     // The place of the chosen line, or the next one if it is filtered out.
     this.gap = 0;
     this.line = /** @type {LinePlace | null} */ (null);
+    /** The line whose machine is open. */
+    this.openLine = /** @type {LinePlace | null} */ (null);
+    // The characters of the longest machine so far.
+    this.widest = 0;
     this.phone = matchMedia(PHONE);
     this.phone.addEventListener("change", () => this.onResize());
     this.box = byId("rows");
@@ -42,7 +47,7 @@ export class RowTable {
     this.inner = 0;
     new ResizeObserver(() => {
       this.inner = this.box.clientHeight;
-      this.draw();
+      this.scrollTo(this.top);
     }).observe(this.box);
   }
 
@@ -64,7 +69,7 @@ export class RowTable {
 
   /** Forgets the chosen line. */
   reset() {
-    Object.assign(this, { chosen: -1, gap: 0, line: null, top: 0 });
+    Object.assign(this, { chosen: -1, gap: 0, line: null, openLine: null, top: 0, widest: 0 });
   }
 
   /**
@@ -77,6 +82,7 @@ export class RowTable {
     this.rows = rows;
     this.locateChosen(results, rows, isInOrder);
     byId("spacer").style.height = `${this.height}px`;
+    this.box.style.setProperty("--digits", String(formatNumber(results.lines + results.skipped).length));
     // A full box keeps its height.
     if (fewer * this.pixels <= this.inner) this.inner = this.box.clientHeight;
     this.box.setAttribute("aria-rowcount", String(rows.length + 1));
@@ -139,6 +145,7 @@ export class RowTable {
       drawn.set(place, this.drawnRowAt(place));
     }
     this.drawn = drawn;
+    this.box.style.setProperty("--widest", String(this.widest));
     const rows = Array.from(drawn.values(), ({ element }) => element);
     if (rows.length !== box.children.length || rows.some((row, k) => row !== box.children[k])) {
       box.replaceChildren(...rows);
@@ -153,14 +160,15 @@ export class RowTable {
   drawnRowAt(place) {
     const { part: of, line } = /** @type {Results} */ (this.results).placeOf(this.rows[place]);
     const isChosen = place === this.chosen;
+    const isOpen = this.openLine?.part === of && this.openLine.line === line;
     const { bytes } = of;
     const before = this.drawn.get(place);
     const isSame = before?.of === of && before.line === line && before.bytes === bytes;
-    if (before !== undefined && isSame && before.isChosen === isChosen) return before;
-    return { element: this.createRow(place), of, line, bytes, isChosen };
+    if (isSame && before?.isChosen === isChosen && before.isOpen === isOpen) return before;
+    return { element: this.createRow(place, isOpen), of, line, bytes, isChosen, isOpen };
   }
 
-  createRow(/** @type {number} */ place) {
+  createRow(/** @type {number} */ place, /** @type {boolean} */ isOpen) {
     const results = /** @type {Results} */ (this.results);
     const { machine, verdict, answer, kind, number, given, pass, plan } = results.rowAt(this.rows[place]);
     const cell = (/** @type {string} */ text, name = "", more = "", title = text) => {
@@ -176,7 +184,8 @@ export class RowTable {
     const steps = formatNumber(Number(plan.steps));
     const mark = pass === FIRST_PASS ? "first pass" : pass >= LARGER ? `again, ${steps} steps` : "";
     const about = { role: "row", class: "row", id: `row-${place}`, "aria-rowindex": place + 2 };
-    const chosen = { "aria-selected": place === this.chosen, "data-place": place };
+    const chosen = { "aria-selected": place === this.chosen, "aria-current": isOpen, "data-place": place };
+    this.widest = Math.max(this.widest, machine.length);
     return create(
       "div",
       { ...about, ...chosen },

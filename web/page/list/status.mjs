@@ -6,18 +6,31 @@ const [UNDECIDED, REFUSED] = [KINDS.indexOf("undecided"), KINDS.indexOf("refused
 const [BAD, OVER] = [ANSWERS.indexOf("bad"), ANSWERS.indexOf("over")];
 const SKIPPED = "empty lines, comments, code fences, rules and headers of tables";
 const FORMS = { machines: "a list of machines", verdicts: "verdict lines", text: "text" };
+// The share of a pass from which on the time left is estimated.
+const LEAST_SHARE = 0.02;
 // Slower lines are named.
 const SLOW_MILLISECONDS = 500;
 
 /**
+ * How much of a pass is done, and for a later pass the time left.
+ * @param {string} outcome @param {number} share @param {number | undefined} begun the start of a later pass
+ */
+export function passText(outcome, share, begun) {
+  const done = outcome === "Done" ? "" : `, ${Math.floor(100 * share)} % done`;
+  if (done === "" || begun === undefined) return done;
+  const left = Math.ceil(((performance.now() - begun) / 1000) * (1 / share - 1));
+  const isKnown = outcome === "Running" && share > LEAST_SHARE;
+  return `. Second pass${done}${isKnown ? `, about ${formatCount(left, "second")} left` : ""}`;
+}
+
+/**
  * Progress, counts and the checker's answers. Each line is counted once.
  * @param {string} outcome Running, Done, Stopped or Ended
- * @param {number} share of the list that is done, 0 to 1 @param {RunInfo} info @param {Results} results
+ * @param {string} progress of a pass @param {RunInfo} info @param {Results} results
  */
-export function statusText(outcome, share, info, results) {
+export function statusText(outcome, progress, info, results) {
   const seconds = (info.taken || performance.now() - info.begun) / 1000;
   const { counts, answers, lines, skipped, waiting, provisional, redecided } = results;
-  const progress = outcome === "Done" ? "" : `, ${Math.floor(100 * share)} % done`;
   const unconfirmed = answers[BAD] + answers[OVER];
   const decided = lines - counts[UNDECIDED] - counts[REFUSED] - unconfirmed;
   const numbers = [

@@ -27,6 +27,10 @@ export function buildTree(/** @type {Machine} */ machine, /** @type {number} */ 
   return { levels, count, ended: level.length === 0 };
 }
 
+/** Whether a node is the start: A, with no other symbol known than 0. */
+export const isStart = (/** @type {TreeNode} */ { state, known }) =>
+  state === 0 && [...known.values()].every((symbol) => symbol === 0);
+
 /** The cells from left to right, unknown ones as `.`, the head's in brackets. */
 export function nodeText(/** @type {TreeNode} */ node) {
   const distances = [...node.known.keys()];

@@ -3,7 +3,8 @@ import { formatCount, parseMachine, formatNumber, stateLetter, stateText } from 
 import { create, byId } from "../dom.mjs";
 import { symbolAt } from "../tape/tape-row.mjs";
 import { WorkerClient } from "../worker-client.mjs";
-import { nodeText, buildTree } from "./backward-tree.mjs";
+import { buildTree, isStart, nodeText } from "./backward-tree.mjs";
+import { differenceOf } from "./differences.mjs";
 
 const MOST_NODES = 100_000;
 const NODES_SHOWN = 60;
@@ -16,6 +17,7 @@ const MOST_STEPS = 100_000_000;
 const NODE_WORDS =
   "A node is a state and the known cells. The head’s cell is in brackets, a dot is an unknown cell.";
 const NO_EXTENT = "The line doesn’t name the cells that agree.";
+const NO_DIFFERENCE = "The rows above don’t differ from the line.";
 const NO_TREE = "No entry halts, so the tree is empty.";
 const client = new WorkerClient();
 /** @type {Verdict | null} the current verdict; rows for another one are dropped */
@@ -39,7 +41,7 @@ export function diagramSteps(/** @type {Verdict} */ { kind, numbers }, /** @type
 
 /**
  * Shows a verdict's evidence, and passes on the diagram's marks, the marked pair, and the last row of a halt.
- * @param {{machine: string, cells: number, verdict: Verdict}} about
+ * @param {{machine: string, cells: number, verdict: Verdict, answer: string}} about
  * @param {(marks: Mark[], pair: Fit["pair"], end: Fit["end"]) => void} mark
  */
 export function showEvidence(about, mark) {
@@ -54,12 +56,14 @@ export function showEvidence(about, mark) {
     return;
   }
   // The two rows of a pair, or the last row of a halt.
-  const sample = kind === "halt" ? { every: 1, upto: from } : { every: second - from, upto: second };
-  client.request({ type: "trace", machine, cells, from, ...sample }, ({ rows = [] }) => {
+  const steps = kind === "halt" ? [from] : [Math.min(from, second), second];
+  client.request({ type: "claim", machine, cells, steps }, (found) => {
     if (shownVerdict !== verdict) return;
-    const { bands, parts } = rowEvidence(verdict, rows);
+    const rows = found.rows ?? [];
+    const difference = found.error ? `The rows can’t be traced: ${found.message}.` : differenceOf(verdict, machine, found);
+    const { bands, parts } = rowEvidence(about, rows, difference);
     box.replaceChildren(...parts);
-    const [row] = kind === "halt" ? rows : [];
+    const [row] = kind === "halt" && difference === null ? rows : [];
     const end = row === undefined ? null : { step: row.step, low: row.low, width: row.cells.length };
     mark([{ bands, arrow: kind === "translated" }], kind === "halt" ? null : markedPair(verdict, bands), end);
   });
@@ -80,50 +84,31 @@ function bandOf(/** @type {Row} */ { step, head }, /** @type {Verdict} */ { kind
   return beyond < 0 ? { step, from: null, to: null, label } : { step, from, to, label };
 }
 
-/** The bands and elements of a verdict's rows. */
-function rowEvidence(/** @type {Verdict} */ verdict, /** @type {Row[]} */ rows) {
+/**
+ * The bands and elements of a claim's rows.
+ * @param {{verdict: Verdict, answer: string}} about @param {Row[]} rows @param {string | null} difference
+ */
+function rowEvidence({ verdict, answer }, rows, difference) {
   const { kind, numbers: [, second, shift, length] } = verdict;
-  if (rows.length < (kind === "halt" ? 1 : 2)) {
-    return { bands: [], parts: [create("p", { class: "error" }, "The rows can’t be traced.")] };
-  }
   const isBare = kind === "translated" && length === undefined;
   const bands = rows.map((row) => bandOf(row, verdict));
   const lines = rows.map((row, k) => createRowLine(row, bands[k], rows, kind));
-  /** @type {Record<string, string>} */
-  const titles = {
-    halt: `The last row: ${formatCount(second, "nonzero cell")}`,
-    cycler: "The two equal rows",
-    translated:
-      `The two records: the same ${formatCount(length ?? 0, "cell")}, ` +
-      `${formatCount(shift ?? 0, "cell")} farther out`,
-  };
-  const title = create("h3", {}, isBare ? "The two records" : titles[kind]);
-  const shownRows = create("div", { class: "cells" }, ...lines);
-  const note = isBare ? createHint(NO_EXTENT) : createComparison(kind, rows, bands, second);
-  return { bands, parts: [title, shownRows, note] };
+  const cells = `the same ${formatCount(length ?? 0, "cell")}, ${formatCount(shift ?? 0, "cell")} farther out`;
+  const titles = /** @type {Record<string, string>} */ ({
+    halt: `the last row: ${formatCount(second, "nonzero cell")}`,
+    cycler: "the two equal rows",
+    translated: isBare ? "the two records" : `the two records: ${cells}`,
+  });
+  const title = create("h3", {}, titleOf(titles[kind], answer));
+  const shows = kind === "halt" ? "The row above shows it." : "The rows above show it.";
+  const agrees = answer === "ok" ? (isBare ? NO_EXTENT : shows) : NO_DIFFERENCE;
+  const note = difference === null ? createHint(agrees) : create("p", { class: "error" }, difference);
+  return { bands, parts: [title, create("div", { class: "cells" }, ...lines), note] };
 }
 
-/** @param {string} kind @param {Row[]} rows @param {Band[]} bands @param {number} score */
-function createComparison(kind, rows, bands, score) {
-  const texts = rows.map((row, k) => (kind === "cycler" ? configurationOf(row) : stretchText(row, bands[k])));
-  const nonzero = rows[0].cells.filter((symbol) => symbol !== 0).length;
-  const holds = kind === "halt" ? nonzero === score : texts[0] === texts[1];
-  const [name, shows, denies] = kind === "halt" ? ["row", "shows", "doesn’t"] : ["rows", "show", "don’t"];
-  const words = holds ? `${shows} it` : `${denies} show what the verdict says`;
-  return create("p", { class: holds ? "hint" : "error" }, `The ${name} above ${words}.`);
-}
-
-/** A row's state, head and nonzero cells as a text. */
-function configurationOf(/** @type {Row} */ { state, head, low, cells }) {
-  const content = Array.from(cells, (symbol, k) => (symbol === 0 ? "" : `${low + k}:${symbol}`));
-  return [state, head, ...content.filter(Boolean)].join(" ");
-}
-
-/** A row's state and agreeing cells as a text; empty without such cells. */
-function stretchText(/** @type {Row} */ row, /** @type {Band} */ { from, to }) {
-  if (from === null || to === null) return "";
-  return row.state + Array.from({ length: to - from + 1 }, (_, k) => symbolAt(row, from + k)).join("");
-}
+/** A title; of a claim that the checker doesn't confirm it says so. */
+const titleOf = (/** @type {string} */ words, /** @type {string} */ answer) =>
+  answer === "ok" ? words[0].toUpperCase() + words.slice(1) : `Claimed: ${words}`;
 
 /** @param {Row} row @param {Band} band its agreeing cells @param {Row[]} rows @param {string} kind */
 function createRowLine(row, band, rows, kind) {
@@ -143,17 +128,20 @@ function createRowLine(row, band, rows, kind) {
   return create("div", {}, create("span", { class: "step" }, words), ...cells);
 }
 
-function createTree(/** @type {{machine: string, verdict: Verdict}} */ { machine, verdict }) {
+function createTree(/** @type {{machine: string, verdict: Verdict, answer: string}} */ about) {
+  const { machine, verdict, answer } = about;
   const [levels, nodes] = verdict.numbers;
   const tree = buildTree(parseMachine(machine), Math.min(nodes, MOST_NODES));
   const counts = `${formatCount(nodes, "node")} in ${formatCount(levels, "level")}`;
-  const parts = [create("h3", {}, `The tree of configurations before a halt: ${counts}`)];
+  const parts = [create("h3", {}, titleOf(`the tree of configurations before a halt: ${counts}`, answer))];
   if (!tree.ended && nodes > MOST_NODES) {
     parts.push(createHint(`Too large to draw: only ${formatNumber(tree.count)} nodes are computed.`));
   } else if (!tree.ended || tree.levels.length !== levels || tree.count !== nodes) {
     const found = `${formatCount(tree.count, "node")} in ${formatCount(tree.levels.length, "level")}`;
     const differs = `The tree computed here has ${found}, unlike the line.`;
     parts.push(create("p", { class: "error" }, differs));
+  } else if (tree.levels.some((level) => level.some(isStart))) {
+    parts.push(create("p", { class: "error" }, "The start is in the tree."));
   }
   tree.levels.slice(0, LEVELS_SHOWN).forEach((level, k) => parts.push(createLevel(level, k)));
   if (tree.levels.length > LEVELS_SHOWN) {

@@ -25,10 +25,10 @@ const HALT_ON_UNDEFINED =
   "It halts on a ---. Completions of only the other --- have the same verdict; nothing is known of " +
   "completions of that one.";
 const GROWTHS = /** @type {Record<string, string>} */ ({
-  stays: "They stay",
-  logarithm: "They grow as a logarithm",
-  root: "They grow as a root",
-  line: "They grow as a line",
+  stays: "No growth",
+  logarithm: "Logarithmic growth",
+  root: "Growth like a root",
+  line: "Linear growth",
 });
 const client = new WorkerClient();
 const growthClient = new WorkerClient();
@@ -118,6 +118,7 @@ function requestGrowth(/** @type {About} */ about) {
 
 function growthText(/** @type {Growth} */ { growth, steps, visited }) {
   if (growth === "halts") return `The run ends, with ${formatCount(visited[2], "cell")}.`;
-  const counts = `${visited.map(formatNumber).join(", ")} after a hundredth, a tenth and all`;
-  return `${GROWTHS[growth]}: ${counts} of ${formatCount(steps, "step")}; a guess from these.`;
+  const [early, later, all] = visited.map(formatNumber);
+  const counts = `${early}, ${later} and ${all} cells after 1 %, 10 % and 100 % of ${formatCount(steps, "step")}`;
+  return `${GROWTHS[growth]}, estimated by ${counts}.`;
 }

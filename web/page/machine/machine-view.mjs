@@ -140,7 +140,7 @@ export class MachineView {
     byId("marked").hidden = !isPair;
     const { last, upto } = diagramSteps(verdict, steps);
     const about = { machine: text, cells };
-    showEvidence({ ...about, verdict }, (marks, pair, end) => {
+    showEvidence({ ...about, verdict, answer }, (marks, pair, end) => {
       this.diagram.open({ ...about, last, upto, pair, end }, marks);
       this.tape.open({ ...about, last: upto }, pair?.first ?? 0);
       isPair && answer === "ok" && showRecurrence(`${text} ${verdict.text}`, plan, (mark, exact) => {

@@ -105,6 +105,7 @@ export class Tape {
     const begin = Math.max(0, this.step - Math.floor(back));
     const upto = begin + many;
     const { requests } = this;
+    byId("tape-text").textContent = `Going to step ${formatNumber(this.step)} …`;
     this.client.request({ type: "trace", machine, cells, from: begin, every: 1, upto }, (answer) => {
       if (requests === this.requests && answer.error) {
         this.pause();
