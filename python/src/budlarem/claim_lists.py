@@ -32,7 +32,7 @@ class ListForm:
         """The reading of a line, or why it is skipped."""
         if self.layout is not None:
             return read_row(number, line, self.layout)
-        return read_line(number, line, self.form)
+        return read_line(number, line, self.form, self.is_found)
 
 
 def form_of(

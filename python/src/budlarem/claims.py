@@ -103,7 +103,8 @@ class Claims(Iterable[Claim]):
 
 def claim_of(number: int, line: str, form: ListForm, words: dict[str, Word]) -> Claim | Skipped:
     """The claim of a line, or why it is skipped."""
-    if form.form in (Form.VERDICTS, Form.TEXT) and len(line) <= LONGEST_LINE:
+    is_ours = form.layout is None and (form.is_found or form.form is not Form.MACHINES)
+    if is_ours and len(line) <= LONGEST_LINE:
         claim = _of_verdict_line(number, line)
         is_rule = form.form is Form.TEXT and not line.partition(" ")[0].strip("-")
         if claim is not None and not is_rule:
@@ -113,7 +114,7 @@ def claim_of(number: int, line: str, form: ListForm, words: dict[str, Word]) -> 
         return reading if isinstance(reading, Skipped) else Claim(reading)
     if form.layout is not None:
         return _of_row(reading, form.layout, words)
-    if form.form is Form.MACHINES:
+    if form.form is Form.MACHINES and not reading.fields:
         return Claim(reading, trouble="a list of machines claims nothing")
     return _of_text(reading)
 

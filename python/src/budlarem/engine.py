@@ -159,7 +159,8 @@ def _claim_replies(
 
 
 def check(lines: Iterable[str | Verdict], limits: Limits = Limits(), *, threads: int = 1) -> Iterator[Answer]:
-    """The checker's answer to each verdict, in order. `lines` has verdicts, verdict lines, or both.
+    """The checker's answer to each verdict, in order. `lines` has verdicts, verdict lines, or both. A claim of more
+    steps than the limits is `OVER`; the command `budlarem check` has the greatest limits by default.
 
     Reads and raises as `decide` does.
 

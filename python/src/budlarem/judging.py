@@ -92,7 +92,8 @@ class ListOverlap:
                 self._listed.setdefault(reading.machine, reading.number)
 
     def add(self, reading: Reading) -> None:
-        if reading.machine is not None:
+        """Counts a line for its machine. A record with words beside the machine in its cell may mean another."""
+        if reading.machine is not None and (reading.row is None or not reading.fields):
             self._theirs.setdefault(reading.machine, []).append(reading.number)
 
     def missing(self) -> list[tuple[int, str]]:

@@ -24,6 +24,7 @@ _MARKS = (
     (b"PK\x03\x04", "a ZIP archive"),
     (b"7z\xbc\xaf\x27\x1c", "a 7z archive"),
     (b"%PDF-", "a PDF document"),
+    (b"\x89PNG", "a PNG picture"),
 )
 # The bytes that are examined for zeros.
 _EXAMINED = 256
@@ -55,11 +56,15 @@ def find_encoding(start: bytes) -> str | None:
         if start.startswith(mark):
             return name
     start = start[:_EXAMINED]
-    zeros = start.count(0)
+    others = [byte != 0 for byte in start]
     # Zeros alone are no text of any encoding.
-    if len(start) < 4 or zeros * 3 < len(start) or zeros == len(start):
+    if len(start) < 4 or sum(others) * 3 > 2 * len(start) or not any(others):
         return None
-    return "UTF-32 text" if zeros * 3 > 2 * len(start) else "UTF-16 text"
+    # In wide text nearly all other bytes are the same ones of each character.
+    for width, name in ((4, "UTF-32 text"), (2, "UTF-16 text")):
+        if (sum(others) - max(sum(others[at::width]) for at in range(width))) * 16 <= len(start):
+            return name
+    return "no text"
 
 
 GZIP = b"\x1f\x8b"

@@ -2,15 +2,13 @@
 
 from __future__ import annotations
 
-import collections
 import dataclasses
-import functools
 import itertools
 import math
 import os
 import struct
 import zlib
-from typing import Callable, Iterable, Sequence
+from typing import Iterable, Sequence
 
 from ._files import name_errors
 from .engine import Configuration, trace
@@ -26,8 +24,8 @@ UNVISITED, HEAD = 10, 11
 MOST_PIXELS = 100_000_000
 # A picture of more positions is scaled down unless a width is given.
 MOST_WIDE = 2_000
-# The most cells of a pixel whose colour is kept for others like it.
-_SHORT = 64
+# The values of each colour's red, green and blue, by its number.
+_CHANNELS = [bytes(colour[at] for colour in COLOURS).ljust(256, b"\0") for at in range(3)]
 _DIGITS = bytes(max(code - ord("0"), 0) if code < 58 else 0 for code in range(256))
 
 
@@ -117,36 +115,63 @@ def row_colours(row: Configuration, left: int, right: int, has_head: bool = True
     return bytes(shown)
 
 
+def _spread(values: bytes, apart: int) -> bytearray:
+    """The values, each `apart` bytes behind the one before, with zeros between them."""
+    lanes = bytearray(apart * len(values))
+    lanes[::apart] = values
+    return lanes
+
+
+def _sums(values: bytes, across: int) -> tuple[int, ...]:
+    """The sum of each `across` values, by additions of whole rows: each value has four bytes of a long number."""
+    rows = (_spread(values[start::across], 4) for start in range(across))
+    total = sum(int.from_bytes(row, "little") for row in rows)
+    count = len(values) // across
+    return struct.unpack("<%dI" % count, total.to_bytes(4 * count, "little"))
+
+
 def mean_colours(row: bytes, across: int, is_rounded: bool = True) -> bytes:
-    """The mean colours of each `across` places, rounded or cut off; three bytes a pixel: red, green, blue."""
-    parts = (row[start : start + across] for start in range(0, len(row), across))
-    mean = _cached_mean if across <= _SHORT else _mean
-    return b"".join(mean(part, len(part), is_rounded) for part in parts)
+    """The mean colours of each `across` places, rounded or cut off; three bytes a pixel: red, green, blue. The last
+    pixel has the places that are left."""
+    rest = row[len(row) - len(row) % across :]
+    row, half = row[: len(row) - len(rest)], across // 2 if is_rounded else 0
+    pixels = bytearray(3 * (len(row) // across))
+    for colour, values in enumerate(_CHANNELS if row else ()):
+        sums = _sums(row.translate(values), across)
+        pixels[colour::3] = bytes([(total + half) // across for total in sums])
+    return bytes(pixels) + (_mean(rest, len(rest), is_rounded) if rest else b"")
+
+
+def _mean(part: bytes, size: int, is_rounded: bool = True) -> bytes:
+    """The mean colour of `size` places, unvisited ones behind `part`; rounded or cut off."""
+    half, others = size // 2 if is_rounded else 0, size - len(part)
+    sums = (sum(part.translate(values)) + others * values[UNVISITED] for values in _CHANNELS)
+    return bytes((total + half) // size for total in sums)
 
 
 def _scaled_row(row: Configuration, first: int, wide: int, across: int) -> bytes:
     """The mean colours of `wide` times `across` positions from `first` on. Only visited cells take time."""
     pixels = bytearray(bytes(COLOURS[UNVISITED]) * wide)
     start, end = max(row.low, first), min(row.low + len(row.cells), first + wide * across)
-    cells = row.cells[start - row.low : max(end - row.low, 0)].encode().translate(_DIGITS)
-    mean = _cached_mean if across <= _SHORT else _mean
-    for pixel in range((start - first) // across, -(-(end - first) // across)):
-        begin = max(first + pixel * across - start, 0)
-        part = cells[begin : first + (pixel + 1) * across - start]
-        pixels[3 * pixel : 3 * pixel + 3] = mean(part, across, True)
+    if start < end:
+        cells = row.cells[start - row.low : end - row.low].encode().translate(_DIGITS)
+        # The first pixel and the last one may have unvisited places too.
+        head = min((first - start) % across, len(cells))
+        tail = (len(cells) - head) % across
+        means = _mean(cells[:head], across) if head else b""
+        means += mean_colours(cells[head : len(cells) - tail], across)
+        means += _mean(cells[len(cells) - tail :], across) if tail else b""
+        begin = 3 * ((start - first) // across)
+        pixels[begin : begin + len(means)] = means
     return bytes(pixels)
 
 
-def _mean(part: bytes, size: int, is_rounded: bool) -> bytes:
-    """The mean colour of `size` places, unvisited ones behind `part`; rounded or cut off."""
-    counts = collections.Counter(part)
-    counts[UNVISITED] += size - len(part)
-    sums = (sum(COLOURS[place][colour] * count for place, count in counts.items()) for colour in range(3))
-    return bytes((total + (size // 2 if is_rounded else 0)) // size for total in sums)
-
-
-# Not for longer parts, which would take much memory.
-_cached_mean: Callable[[bytes, int, bool], bytes] = functools.lru_cache(maxsize=1 << 16)(_mean)
+def _enlarge(row: bytes, size: int, scale: int) -> bytes:
+    """A row in which each pixel, of `size` bytes, stands `scale` times."""
+    wide = bytearray(scale * len(row))
+    for at in range(size * scale):
+        wide[at :: size * scale] = row[at % size :: size]
+    return bytes(wide)
 
 
 def _png(wide: int, high: int, kind: int, palette: bytes, lines: bytes) -> bytes:
@@ -170,8 +195,7 @@ def png(rows: Sequence[bytes], scale: int) -> bytes:
     """A PNG file of rows with the number of a colour for each place, each `scale` pixels wide and high."""
     lines = []
     for row in rows:
-        wide = b"".join(bytes([place]) * scale for place in row) if scale > 1 else row
-        lines.extend([b"\0" + wide] * scale)
+        lines.extend([b"\0" + _enlarge(row, 1, scale)] * scale)
     palette = bytes(part for colour in COLOURS for part in colour)
     return _png(len(rows[0]) * scale, len(rows) * scale, 3, palette, b"".join(lines))
 
@@ -195,8 +219,7 @@ def _draw(
         data = png([row_colours(row, first, last) for row in chosen], scale)
     else:
         means = (_scaled_row(row, first, wide, across) for row in chosen)
-        wider = (b"".join(row[k : k + 3] * scale for k in range(0, len(row), 3)) for row in means)
-        scaled = (row for row in wider for _ in range(scale))
+        scaled = (wider for row in means for wider in [_enlarge(row, 3, scale)] * scale)
         data = png_of_colours(wide * scale, high * scale, scaled)
     return Picture(data, every, chosen[-1].step, first, last, is_cut, is_part, across)
 

@@ -1,4 +1,4 @@
-"""Completion of the command lines of `bb` and `budlarem` in bash, zsh and fish: each shell is asked."""
+"""Completion of the command lines of all programs in bash, zsh and fish: each shell is asked."""
 
 import os
 import pathlib
@@ -19,6 +19,8 @@ COMP_CWORD=$(($# - 1))
 _$1
 printf '%s\\n' "${COMPREPLY[@]}"
 """
+# The long options that begin a line of the help.
+OPTION = re.compile(r"^ +(?:-\w(?: [\w=,]+)?, +)?(--[a-z-]+)", re.MULTILINE)
 # What zsh's own functions are given, written out in their place.
 ZSH = """
 _arguments() { print -rl -- "$@" }
@@ -60,13 +62,19 @@ class Shell:
         return {re.split(r"[\t\[:]", row)[0] for row in self.at(*line)} - {""}
 
 
+@pytest.fixture
+def programs_of(bb: str, cover: str, recurrence: str) -> dict[str, str]:
+    return {"bb": bb, "cover": cover, "recurrence": recurrence}
+
+
 @pytest.fixture(params=["bash", "zsh", "fish"])
-def shell(request: pytest.FixtureRequest, bb: str, tmp_path: pathlib.Path) -> Shell:
+def shell(request: pytest.FixtureRequest, programs_of: dict[str, str], tmp_path: pathlib.Path) -> Shell:
     require(request.param)
     folder, files = tmp_path / "here", tmp_path / "files"
     folder.mkdir()
     (folder / "a list.txt").touch()
-    subprocess.run([sys.executable, str(TOP / "tools" / "completions"), str(files), "--bb", bb], check=True)
+    words = [word for name, path in programs_of.items() for word in ("--" + name, path)]
+    subprocess.run([sys.executable, str(TOP / "tools" / "completions"), str(files), *words], check=True)
     return Shell(request.param, files, folder)
 
 
@@ -81,12 +89,10 @@ def test_commands_and_options(bb: str, shell: Shell, program: str) -> None:
     names = {*re.findall(r"^ {2,4}([a-z]+)(?: |$)", page, re.MULTILINE), "help"}
     assert len(names) > 3
     assert shell.words_at(program, "") - {"--help", "--version"} == names
-    # The long options that begin a line of the help.
-    option = re.compile(r"^ +(?:-\w(?: [\w=,]+)?, +)?(--[a-z-]+)", re.MULTILINE)
     for name in names:
         page = help_of([*command, name]) if (program, name) != ("bb", "help") else ""
         found = {row for row in shell.words_at(program, name, "--") if row.startswith("--")}
-        assert found == set(option.findall(page)), name
+        assert found == set(OPTION.findall(page)), name
 
 
 def test_files(shell: Shell) -> None:
@@ -100,8 +106,26 @@ def test_files(shell: Shell) -> None:
         (("budlarem", "publish", "--list", "a li"), True),
         (("budlarem", "run", "--out", "a li"), True),
         (("bb", "decide", "--steps", ""), False),
+        (("cover", "a li"), True),
+        (("recurrence", "--steps", ""), False),
+        (("budlarem", "read", "--form", ""), False),
         (("budlarem", "publish", "--threads", ""), False),
     ):
         shown = (word.replace(" ", "\\ ") if shell.name == "fish" else word for word in line)
         found = shell.at(*shown)
         assert any("a list.txt" in row.replace("\\ ", " ") for row in found) == wanted, line
+
+
+def test_programs_without_commands_and_few_values(programs_of: dict[str, str], shell: Shell) -> None:
+    for program in ("cover", "recurrence"):
+        found = {word for word in shell.words_at(program, "--") if word.startswith("--")}
+        assert found == set(OPTION.findall(help_of([programs_of[program]])))
+    if shell.name == "zsh":
+        rows = shell.at("budlarem", "read", "--form", "")
+        assert [
+            row
+            for row in rows
+            if row.startswith("--form[") and row.endswith(":FORM:(machines verdicts text)")
+        ]
+    else:
+        assert shell.words_at("budlarem", "read", "--form", "") == {"machines", "verdicts", "text"}

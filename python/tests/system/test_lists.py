@@ -55,8 +55,9 @@ def test_lists(tmp_path: pathlib.Path) -> None:
         for role, column in entry.get("columns", {}).items():
             more += ["--steps-column" if role == "steps" else "--" + role, column]
         words = ["judge", "-", "--words", str(tmp_path / "words.txt"), *more]
-        output = command(*words, given=as_lines(entry["lines"])).output.decode()
-        rows = [line.split("\t") for line in output.splitlines()]
+        before = entry.get("times", 1) - 1
+        output = command(*words, given=as_lines(entry["lines"][:1] * before + entry["lines"])).output.decode()
+        rows = [line.split("\t") for line in output.splitlines()[before:]]
         assert [row[0] for row in rows] == entry["judgements"], entry
         assert {*entry.get("reasons", ())} <= {row[3] for row in rows}, entry
 

@@ -346,15 +346,22 @@ def test_it_names_all_files(case: RunCase) -> None:
         assert "`%s`" % path.name in page
 
 
-def test_its_commands(case: RunCase) -> None:
+@pytest.mark.parametrize("check", ["", "--check", "--check-here"])
+def test_its_commands(case: RunCase, monkeypatch: pytest.MonkeyPatch, check: str) -> None:
+    """They resume with the same check, and publish what can be published."""
+    monkeypatch.chdir(case.top)
     case.list.write_bytes(MACHINE_LINE + b"0RB1LD_0RC1RD_0RD---_1LA0RB\n")
-    for more in ("--check", "--keep=halts=9"):
-        case.out = case.top / more
-        assert case.call(*SMALL_PASS, more)[0] == 0
+    for keep in ("", "--keep=halts=9"):
+        options = list(filter(None, [keep, check]))
+        case.out = case.top / "-".join(["out", *options])
+        assert case.call(*SMALL_PASS, *options)[0] == 0
         found = commands_of_page(case)
-        assert [words[0] for words in found] == ["run", "check", "publish"]
-        for words in found[:2]:
+        assert [words[0] for words in found] == ["run", "check", "publish"][: 2 if keep and not check else 3]
+        for words in found:
             assert call_command(*words)[0] == 0, words
+        if check:
+            status, said = case.call(*SMALL_PASS, *options[:-1])
+            assert status == 2 and "was started with %s; give it too, or another folder" % check in said
 
 
 def test_names_that_begin_as_options_do(case: RunCase, monkeypatch: pytest.MonkeyPatch) -> None:

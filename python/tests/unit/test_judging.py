@@ -194,6 +194,13 @@ def test_a_list() -> None:
     assert judging.foreign() == [(4, "1RA---2RA"), (5, "1RA---2RA")]
 
 
+def test_a_cell_with_words_is_no_line_of_its_machine() -> None:
+    rows = ["machine,status", "not 1RA1RA,halt", "1RA---2RA (a mirror),halt", CHAMPION + ",halt"]
+    judging = budlarem.judge(rows, ["1RA1RA", CHAMPION])
+    assert [str(judged.judgement) for judged in judging] == ["not-judged", "not-judged", "confirmed"]
+    assert (judging.missing(), judging.foreign()) == ([(1, "1RA1RA")], [])
+
+
 def test_files_and_streams(tmp_path: pathlib.Path) -> None:
     path = str(tmp_path / "theirs.txt")
     pathlib.Path(path).write_text(CHAMPION + " halt 6 4\n", encoding="utf-8")

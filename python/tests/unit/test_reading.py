@@ -28,6 +28,7 @@ from budlarem.limits import limits_of
 from budlarem.numbers import whole_number
 from budlarem import list_files
 from budlarem.list_files import EndlessLineError, find_encoding
+from budlarem.reading.lines import read_line
 from budlarem.reading.readings import ADVICE
 from hypothesis import strategies as st
 from support import TOP
@@ -54,19 +55,32 @@ def right_reading(form: dict[str, Any]) -> list[Any]:
     return [form["machine"], rewritten, form.get("before", ""), form.get("behind", "")]
 
 
-def read_line(line: str, form: Form = Form.TEXT) -> list[Any]:
+def what_is_read(line: str, form: Form = Form.TEXT, is_found: bool = False) -> list[Any]:
     """What is read of a line, in the same shape."""
-    for reading in budlarem.read([line], form):
-        if reading.reason is not None:
-            return [reading.reason.kind, reading.reason.text, reading.reason.place]
-        return [reading.machine, list(map(str, reading.rewritten)), reading.before, reading.behind]
-    return []
+    reading = read_line(1, line, form, is_found)
+    if isinstance(reading, Skipped):
+        return []
+    if reading.reason is not None:
+        return [reading.reason.kind, reading.reason.text, reading.reason.place]
+    return [reading.machine, list(map(str, reading.rewritten)), reading.before, reading.behind]
 
 
 def test_each_form() -> None:
     assert len(LISTED["forms"]) >= 80
     for form in LISTED["forms"]:
-        assert read_line(form["line"], Form(form.get("form", "text"))) == right_reading(form)
+        found = what_is_read(form["line"], Form(form.get("form", "text")), form.get("found", False))
+        assert found == right_reading(form), form
+
+
+def test_kinds_of_lines_mix_behind_the_first_ones() -> None:
+    """A form that is found refuses no line for being of another one; a given form does."""
+    mixed = ["1RA1RA, x", "1RB1LB_1LA1RZ halt 6 4", "17. 1ra1ra", CHAMPION]
+    for first in (CHAMPION, "1RA1RA halt 6 4"):
+        lines = [first] * 100 + mixed
+        found = [reading.machine for reading in budlarem.read(lines)][100:]
+        assert found == ["1RA1RA", CHAMPION, "1RA1RA", CHAMPION]
+        given = [reading.machine for reading in budlarem.read(lines, budlarem.read(lines).form)][100:]
+        assert given.count(None) == 3
 
 
 def test_sentences() -> None:

@@ -125,7 +125,7 @@ def test_changed_passes_and_libraries(case: RunCase) -> None:
 
 def test_what_a_folder_was_begun_with() -> None:
     keep = chunks.Retention(True, 7)
-    config = folder.RunConfig(list(PASSES), keep, chunks.identity(), "\udcff list \u1234", 5, None)
+    config = folder.RunConfig(list(PASSES), keep, chunks.identity(), "\udcff list \u1234", 5, None, "--check")
     text = config.text()
     assert folder.RunConfig.read(text) == config
     assert json.loads(text)["list"]["bytes"] == 5
@@ -425,7 +425,7 @@ def test_keep_passes_are_added(case: RunCase) -> None:
     assert case.verdicts() == kept_lines(PASSES, 10**12)
     other = LIST.replace(b"------", b"1RZ---", 1)
     case.list.write_bytes(other)
-    require_error(case, FolderError, "isn't the list that", keep=keep)
+    require_error(case, FolderError, "isn't the list that", keep=keep, check=True)
 
 
 def test_a_line_of_a_later_pass_is_named(case: RunCase) -> None:
@@ -524,7 +524,7 @@ def test_a_verdict_that_the_checker_refuses(case: RunCase) -> None:
     for limits in ([SMALL], PASSES):
         case.out = case.top / str(len(limits))
         require_error(case, CheckError, BAD_LINE + "1RB1LC_1RC1RB", executor, limits=limits, check=True)
-    require_verdicts(case)
+    require_verdicts(case, check=True)
 
 
 def test_a_lying_worker_is_found_here(case: RunCase) -> None:
@@ -560,7 +560,7 @@ def test_answers_to_other_verdicts(case: RunCase) -> None:
         return next(one for one in replies if one[6] == reply[6]) if is_check else reply
 
     require_error(case, RunError, "answers other lines; tried 3 times", Answering(swap), check=True)
-    require_verdicts(case)
+    require_verdicts(case, check=True)
 
 
 def test_seconds_that_did_not_pass(case: RunCase) -> None:

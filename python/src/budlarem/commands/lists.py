@@ -228,8 +228,8 @@ line claims nothing by the form of the list. unreadable: no one machine.
 
 Numbers may have groups of three digits, as 47,176,870.
 
-If each halt of theirs at a --- is true of the machine with 1RZ there, and there is one, they are taken to count
-a step for ---, and standard error says so. --undefined-steps sets it beforehand.
+Some lists count a step into ---. This is assumed, and printed, if THEIRS has a halt at a ---, and each such halt
+is true of the machine with 1RZ there. --undefined-steps sets it beforehand.
 
 In a table, columns of the start and the period of a repetition are judged by the exact numbers (`budlarem help
 recurrence`): exact; true, but later or a multiple; or false, with the right numbers. If our verdict has no pair,

@@ -33,7 +33,8 @@ LIST_HELP = """A line's machine is its one machine text, whatever stands around 
 the template {{TM|MACHINE|..}}. A line with two different machines, or with entries beside its machine, is refused.
 
 FILE is a list in one of three forms. machines: a machine a line, and nothing else. verdicts: verdict lines. text:
-anything else. The form is detected in the first hundred lines and printed on standard error; --form overrides it.
+anything else. The form is detected in the first hundred lines and printed on standard error. A later line of another
+form is read as text. --form FORM overrides this, and refuses lines of another form.
 
 Each rewritten or refused line is printed on standard error with file and number, as is a count of the skipped
 lines. Only lines without a machine are skipped: empty lines, comments, which begin with # or //, code fences, rules

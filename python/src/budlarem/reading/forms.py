@@ -78,7 +78,7 @@ class Readings(Iterator[Reading]):
     def _read(self) -> Iterator[Reading]:
         form = self.form
         for number, line in itertools.chain(self._ahead, self._source):
-            reading = read_line(number, line, form)
+            reading = read_line(number, line, form, self.is_found)
             if isinstance(reading, Skipped):
                 self._skips[reading] += 1
             else:

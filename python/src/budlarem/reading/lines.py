@@ -92,8 +92,9 @@ Read = tuple[Text, Outcome]
 Line = Union[Reading, Skipped]
 
 
-def read_line(number: int, line: str, form: Form = Form.TEXT) -> Line:
-    """The reading of a line without its newline, in any form but a table's, or why it is skipped."""
+def read_line(number: int, line: str, form: Form = Form.TEXT, is_found: bool = False) -> Line:
+    """The reading of a line without its newline, in any form but a table's, or why it is skipped. A line of
+    another form than that of the first lines, which `is_found`, is read as a text."""
     line = line.lstrip("\ufeff").rstrip("\r")
     bare = line.strip(SPACES)
     if len(line) > LONGEST_LINE:
@@ -106,6 +107,7 @@ def read_line(number: int, line: str, form: Form = Form.TEXT) -> Line:
         return Reading(number, line, verdict.machine, behind=bare[len(verdict.machine) + 1 :])
     if is_machine(bare) and (form is Form.MACHINES or form is Form.TEXT and bare.strip("-")):
         return Reading(number, line, bare)
+    form = Form.TEXT if is_found and verdict is None else form
     plain, places = _unescape(line)
     read = _read_texts(plain)
     if isinstance(read, Skipped):

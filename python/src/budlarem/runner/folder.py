@@ -166,6 +166,7 @@ _SEALED = ',\n  "seal": "%s"\n}\n'
 # Errors of file systems that lock no directories: NFS wants a locked file to be open for writing.
 _NO_LOCKS = (errno.EBADF, errno.EINVAL, errno.EISDIR, errno.ENOLCK, errno.ENOSYS, errno.EOPNOTSUPP)
 _PAGE = pathlib.Path(__file__).parents[1] / "folder.txt"
+_UNPUBLISHED = "They can't be published: to publish them, start with --check, in another folder."
 
 
 def as_argument(path: str) -> str:
@@ -173,9 +174,14 @@ def as_argument(path: str) -> str:
     return os.path.join(os.curdir, path) if path.startswith("-") else path
 
 
+# The options of `budlarem run` that have verdicts checked, the stronger ones behind.
+CHECKS = ("", "--check", "--check-here")
+
+
 @dataclasses.dataclass
 class RunConfig:
-    """The configuration of a run. `list_lines` is known once the first pass has seen the end."""
+    """The configuration of a run. `list_lines` is known once the first pass has seen the end. `check` is one of
+    CHECKS."""
 
     passes: list[Limits]
     keep: Retention
@@ -183,11 +189,13 @@ class RunConfig:
     list_name: str
     list_bytes: int | None = None
     list_lines: int | None = None
+    check: str = ""
 
     def text(self) -> str:
         fields = {
             "passes": [words_of(limits) for limits in self.passes],
             "keep": str(self.keep),
+            **({"check": self.check} if self.check else {}),
             "list": {"name": self.list_name, "bytes": self.list_bytes, "lines": self.list_lines},
             **dataclasses.asdict(self.identity),
         }
@@ -203,6 +211,7 @@ class RunConfig:
         words = ["budlarem", "run", listed, "--out", as_argument(folder)]
         for limits in self.passes:
             words += ["--pass", words_of(limits)]
+        words += [self.check] if self.check else []
         verdicts = "a verdict for each line of the list, in its order"
         if self.keep.only_holdouts:
             words += ["--keep", str(self.keep)]
@@ -222,8 +231,10 @@ class RunConfig:
         check = shlex.join(["budlarem", "check", os.path.join(folder, VERDICTS)])
         archive = as_argument(os.path.basename(os.path.abspath(folder)) + ".tar")
         what = "the verdicts again, and to publish them"
+        if self.keep.only_holdouts and not self.check:
+            return f"To check the kept verdicts again:\n\n    {check}\n\n{_UNPUBLISHED}"
         if self.keep.only_holdouts:
-            what = "the kept verdicts again, and to publish them with digests of the\nrest, if the run had --check"
+            what = "the kept verdicts again, and to publish them with digests of the\nrest"
             # Without all verdicts the list is needed.
             listed = listed or ["--list", "LIST"]
         publish = shlex.join(["budlarem", "publish", archive, "--verdicts", folder, *listed])
@@ -238,8 +249,9 @@ class RunConfig:
         with contextlib.suppress(ValueError, TypeError, KeyError, AttributeError, RecursionError):
             fields = json.loads(text)
             passes, keep = list(map(limits_of, fields["passes"])), parse_retention([fields["keep"]])
-            name, *numbers = (fields["list"][role] for role in ("name", "bytes", "lines"))
-            config = cls(passes, keep, Identity.of_fields(fields), str(name), *numbers)
+            name, size, lines = (fields["list"][role] for role in ("name", "bytes", "lines"))
+            check = CHECKS[CHECKS.index(fields.get("check", ""))]
+            config = cls(passes, keep, Identity.of_fields(fields), str(name), size, lines, check)
             if config.text() == text:
                 return config
         other = fields.get("format", FORMAT) if isinstance(fields, dict) else FORMAT

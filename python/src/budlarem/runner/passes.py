@@ -19,7 +19,7 @@ from ..counts import KINDS, UNDECIDED
 from ..limits import Limits, words_of
 from .chunks import Counts, Identity, Retention, validate_answers, validate_verdicts
 from .errors import CheckError, FolderError, ReplyError
-from .folder import README, RUN, SUMMARY, Folder, RunConfig
+from .folder import CHECKS, README, RUN, SUMMARY, Folder, RunConfig
 from .input import ListFile, StreamLines
 from .journal import PassFolder, Record, holdouts_of, list_line_number
 from .progress import Progress
@@ -280,6 +280,10 @@ class RunOptions:
     keep: Retention = Retention()
     require_list: Callable[[], None] = lambda: None
 
+    @property
+    def check(self) -> str:
+        return CHECKS[2 if self.is_checked_here else 1 if self.is_checked else 0]
+
 
 @dataclasses.dataclass(frozen=True)
 class Pass:
@@ -347,9 +351,6 @@ class PassRun:
         chunk.is_confirmed, chunk.is_resumed, chunk.is_timed = record.is_checked, True, True
         chunk.seconds = record.milliseconds / 1_000
         if self._needs_check(chunk):
-            if self._options.keep.only_holdouts:
-                text = "verdicts were dropped before they were checked; resume without --check"
-                raise FolderError(f"{self._folder.path}: {text}, or start again with it in another folder")
             chunk.written = kept
         return True
 
@@ -498,7 +499,9 @@ def start_or_resume(
     """The configuration of a folder, maybe with more passes. Raises FolderError if it has another one."""
     size = None if source.is_compressed else source.size
     if (config := folder.read_config()) is None:
-        config = RunConfig(list(passes), options.keep, options.identity, source.name, size)
+        config = RunConfig(
+            list(passes), options.keep, options.identity, source.name, size, check=options.check
+        )
         folder.write(RUN, config.text())
         return config
     _require_same(folder, config, passes, options)
@@ -506,14 +509,15 @@ def start_or_resume(
         text = f"{source.name} isn't the list that {folder.path} was started with; give that list, or another"
         raise FolderError(f"{text} folder: it has {size} bytes, and that one had {config.list_bytes}")
     folder.require_free(range(len(config.passes) + 1, len(passes) + 1))
-    if list(passes) != config.passes:
-        config.passes = list(passes)
-        folder.write(RUN, config.text())
-    return config
+    resumed = dataclasses.replace(config, passes=list(passes), check=config.check or options.check)
+    if resumed != config:
+        folder.write(RUN, resumed.text())
+    return resumed
 
 
 def _require_same(folder: Folder, config: RunConfig, passes: Sequence[Limits], options: RunOptions) -> None:
-    """Raises FolderError if the folder was started with another library, other passes or another --keep."""
+    """Raises FolderError if the folder was started with another library, other passes or another --keep, or with
+    --check if it isn't given; if it is, and verdicts were dropped without it."""
 
     def text_of(passes: Sequence[Limits]) -> str:
         return " ".join("--pass " + words_of(limits) for limits in passes)
@@ -527,8 +531,13 @@ def _require_same(folder: Folder, config: RunConfig, passes: Sequence[Limits], o
         sentence = f"other passes: {text_of(config.passes)}; here are {text_of(passes)}; {advice}"
     elif config.keep != options.keep:
         sentence = f"--keep {config.keep}; here is --keep {options.keep}; give the same, or another folder"
+    elif CHECKS.index(options.check) < CHECKS.index(config.check):
+        sentence = f"{config.check}; give it too, or another folder"
     if sentence:
         raise FolderError(f"{folder.path} was started with {sentence}")
+    if options.check and options.keep.only_holdouts and not config.check:
+        text = "verdicts were dropped before they were checked; resume without --check"
+        raise FolderError(f"{folder.path}: {text}, or start again with it in another folder")
 
 
 def summary_of(

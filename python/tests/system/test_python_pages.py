@@ -1,0 +1,89 @@
+"""The pages on Python: their snippets run in order, each page in one process, and the reference has all names."""
+
+import doctest
+import inspect
+import itertools
+import pathlib
+import re
+import sys
+from typing import Any, Iterator
+
+import budlarem
+import pytest
+from budlarem import _api
+from support import TOP
+from support.program import run_command
+
+API = "docs/python-api.md"
+NAMES = [*_api.__all__, "COMMIT", "__version__"]
+# The pages, and how many of their blocks are commands for a shell; test_wheel runs those.
+PAGES = {"docs/python-tutorial.md": 1, API: 0, "python/README.md": 0}
+
+
+def blocks_of(page: str) -> Iterator[str]:
+    """The blocks of code of a page, in order."""
+    lines = (TOP / page).read_text(encoding="utf-8").splitlines()
+    # An item of a list has indented lines too, but no empty line before.
+    for is_code, rows in itertools.groupby(lines, lambda line: line.startswith("    ")):
+        if is_code:
+            yield "".join(row[4:] + "\n" for row in rows)
+
+
+def is_python(block: str) -> bool:
+    try:
+        compile(block.replace(">>> ", "").replace("... ", ""), "block", "exec")
+    except SyntaxError:
+        return ">>> " in block
+    return True
+
+
+def run_block(block: str, names: dict[str, Any]) -> None:
+    """Runs a snippet, and compares what it prints if it is a session."""
+    if ">>> " not in block:
+        exec(block, names)
+        return
+    test = doctest.DocTestParser().get_doctest(block, {}, "block", None, None)
+    test.globs = names
+    found: list[str] = []
+    failed, _ = doctest.DocTestRunner().run(test, out=found.append, clear_globs=False)
+    assert not failed, "".join(found)
+
+
+@pytest.mark.needs(modules=("matplotlib",))
+@pytest.mark.parametrize("page", PAGES)
+def test_snippets_run_in_order(page: str, tmp_path: pathlib.Path, monkeypatch: pytest.MonkeyPatch) -> None:
+    monkeypatch.chdir(tmp_path)
+    names: dict[str, Any] = {}
+    blocks = list(blocks_of(page))
+    for block in filter(is_python, blocks):
+        run_block(block, names)
+    assert len(blocks) > PAGES[page] == len([block for block in blocks if not is_python(block)])
+
+
+def test_reference_has_all_names() -> None:
+    text = (TOP / API).read_text(encoding="utf-8")
+    named = set(re.findall(r"\w+", " ".join(re.findall(r"`[^`\n]+`", text)))) | set(
+        re.findall(r"^    (\w+)\(", text, re.M)
+    )
+    assert set(NAMES) - named == set()
+
+
+def test_reference_has_the_parameters() -> None:
+    """Their order, names and defaults are those of the calls."""
+    text = (TOP / API).read_text(encoding="utf-8")
+    rows = re.findall(r"^(?:\| )?`(\w+)\(([^`]*)\)`", text, re.M)
+    found: list[tuple[str, list[str]]] = [(name, given.split(", ")) for name, given in rows if name in NAMES]
+    assert len(found) > 19
+    for name, given in found:
+        actual = inspect.signature(getattr(budlarem, name)).parameters
+        pairs = [word.partition("=")[::2] for word in given]
+        assert [one for one, _ in pairs] == [one for one in actual if one in dict(pairs)], name
+        for parameter, default in pairs:
+            assert not default or eval(default) == actual[parameter].default, (name, parameter)
+
+
+def test_limits_of_the_command_are_the_greatest(tmp_path: pathlib.Path) -> None:
+    """The page says so beside the answer of the call, `over`."""
+    (tmp_path / "claims").write_text("1RB1LC_1RC1RB_1RD0LE_1LA1LD_1RZ0LA halt 47176870 4098\n")
+    done = run_command([sys.executable, "-m", "budlarem", "check", str(tmp_path / "claims")])
+    assert (done.status, done.output) == (0, b"ok\n")
