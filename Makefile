@@ -5,9 +5,9 @@ MAKEFLAGS += --no-builtin-rules
 unexport MAKEFLAGS MFLAGS
 .SUFFIXES:
 .DELETE_ON_ERROR:
-# Crates that don't stand on each other are proved side by side.
+# Crates that don't stand on each other are proved side by side; `tools/prove` shares cores and memory among them.
 ifeq ($(filter -j%,$(MAKEFLAGS)),)
-MAKEFLAGS += -j3
+MAKEFLAGS += -j6
 endif
 
 python := /usr/bin/python3
@@ -23,6 +23,7 @@ sources := $(shell find crates/*/src crates/*/specs crates/*/proofs -type f ! -n
 lines := $(shell sed -n 's/^\([a-z_]*\)[^:]*: */\1:/; s/ /,/g; /^[a-z_]*:/p' crates.txt)
 crates := $(foreach line,$(lines),$(firstword $(subst :, ,$(line))))
 goals := $(or $(MAKECMDGOALS),all)
+began := $(shell date +%s)
 comma := ,
 
 # Without the kit the first rule that needs it ends with a sentence that names the other command.
@@ -40,8 +41,7 @@ define crate_rule
 needs_of_$(1) := $(filter $(crates),$(subst $(comma), ,$(2)))
 crates/$(1)/out/proved: $$(patsubst %,crates/%/out/proved,$$(needs_of_$(1))) $(filter crates/$(1)/%,$(sources))
 	$$(need_kit)
-	@tools/prove $(1) --goals "$(goals)"
-	@touch $$@
+	@tools/prove $(1) --goals "$(goals)" --since $(began)
 endef
 $(foreach line,$(lines),$(eval $(call crate_rule,$(firstword $(subst :, ,$(line))),$(word 2,$(subst :, ,$(line))))))
 
@@ -130,10 +130,7 @@ manual_page := docs/budlarem.1
 
 .PHONY: manual
 manual: ## write the manual page of the command budlarem from its parser, docs/budlarem.1
-	@PYTHONPATH=python/src COLUMNS=80 argparse-manpage --module budlarem.commands \
-	    --function build_parser --project-name budlarem \
-	    --output $(manual_page)
-	@sed -i -e '/^\.SH AUTHORS/,$$d' -e '3s/.*/budlarem \\- work on lists of machines and verdicts/' $(manual_page)
+	@$(python) python/build_manual.py $(manual_page)
 
 ## The second checker
 

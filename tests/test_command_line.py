@@ -13,6 +13,7 @@ BY_TREES = b"1RB1LB_1LA1RZ halt 6 4\n0RB---_0LA--- backward 2 4\n1RA1RA backward
 CLAIMS = VERDICTS + b"1RA1RA undecided cells\nrefused 14\n"
 ANSWERS = b"ok\nok\nok\nopen\nopen\n"
 UNREAD, DEPTH = b"bb: read failed\n", b"bb: depth does not fit in cells\n"
+CUT = b"the trace is cut: its next step needs more than --cells 2\n"
 Case = tuple[str, str, bytes, int, bytes, bytes]
 # Name, words, standard input, status, standard output, and a part of standard error. The words LISTED,
 # CLAIMED, MISSING and FOLDER stand for paths.
@@ -41,7 +42,7 @@ CASES: list[Case] = [
     ("refused limits of a check", "check --cells 4 MISSING", b"", 2, b"", DEPTH),
     ("a check by a plan", "check --no-cyclers", b"", 2, b"", b"--no-cyclers"),
     ("a trace", "trace --upto 1 1RZ---", b"", 0, b"0 A 0 0\n1 Z 1 1\n", b""),
-    ("a cut trace", "trace --upto 5 --cells 2 1RA1RA", b"", 1, b"0 A 0 0\n1 A 1 10\n", b""),
+    ("a cut trace", "trace --upto 5 --cells 2 1RA1RA", b"", 1, b"0 A 0 0\n1 A 1 10\n", CUT),
     ("a refused trace", "trace --upto 2 1RB1LB_1LA1RC", b"", 1, b"refused 14\n", b""),
 ]
 

@@ -38,9 +38,9 @@ FORMER = r"`[^`]+` is gone|`[^`]+` is (?=`)|\(it was `[^`]+`\)|in place of `[^`]
 VERDICT = r"(?:<machine> |[\dA-Z_-]+ )?([a-z]+)(?: [LR])?(?: (?:\d+|<[\w ]+>|steps|cells))+"
 FILE = r"[\w./-]*/[\w./-]*|[\w.-]*\.(?:rt|antt|edit|md|py|mjs|html|h|c|rs|v|ml|txt|png|svg|wasm|a|so)"
 COMMAND = r"\./\w+ |(?:bb|budlarem|make(?! -)) |(?:coq|tools|benchmarks|scripts)/\S+ "
-VERSION = r'^(?:#define BB_VERSION "|VERSION = "|## |.*(?:\.version\("|"(?:bb|recurrence) ))([0-9.]+)'
+VERSION = r'^(?:#define BB_VERSION "|VERSION = "|## |.*(?:\.version\("|"(?:bb|cover|recurrence) ))([0-9.]+)'
 VERSIONED = """crates/bb_command/src/command.rt crates/cover/src/command.rt crates/recurrence/src/command.rt crates/bb/src/tests.rt docs/bb.1
-    docs/recurrence.1 include/bb.h python/src/budlarem/_version.py CHANGELOG.md""".split()
+    docs/cover.1 docs/recurrence.1 include/bb.h python/src/budlarem/_version.py CHANGELOG.md""".split()
 DOCUMENTS = [*TOP.glob("*.md"), *TOP.glob("docs/*.md"), TOP / "examples" / "README.md"]
 # Lines, and what is missing of each.
 BROKEN = [
@@ -251,8 +251,15 @@ def test_layers_agree_with_crates() -> None:
         assert modules and set(modules) <= set(backquoted(item)), crate
 
 
-@pytest.mark.needs("argparse-manpage")
 def test_manual_page_of_the_package_is_that_of_its_parser(tmp_path: pathlib.Path) -> None:
+    """Paragraphs are filled, and other lines fit beside the page's indent."""
     page = tmp_path / "budlarem.1"
     subprocess.run(["make", "-s", "-C", str(TOP), "manual", "manual_page=%s" % page], check=True)
-    assert page.read_bytes() == (TOP / "docs" / "budlarem.1").read_bytes()
+    text = page.read_text(encoding="utf-8")
+    assert text == read("docs/budlarem.1") and ".br" not in text
+    kept = [
+        line.replace("\\", "")
+        for block in re.findall(r"\.nf\n(.*?)\.fi", text, re.S)
+        for line in block.split("\n")
+    ]
+    assert len(kept) > 99 and max(map(len, kept)) <= 72

@@ -7,10 +7,10 @@ import os
 import pathlib
 import re
 import shutil
-import subprocess
 
 import pytest
 from support import TOP
+from support.repository import Done, Repository, repository_without_kit
 
 FILES = "Makefile bb cover recurrence tools/run_built tools/build_info.py include/bb.h plain/erase.py plain/build.py"
 CRATES = "bb: arrayvec\ncover: bb_machine\nrecurrence:\nbb_machine:\nbb_c staticlib:\n"
@@ -34,69 +34,27 @@ TARGETS = {
     "npm": "",
 }
 OLD = 'case ${0##*/} in cargo) echo "cargo 1.65.0";; *) echo "rustc 1.63.0";; esac'
-Done = subprocess.CompletedProcess[str]
-
 pytestmark = pytest.mark.needs("cargo", "rustc", "make", "cc")
-
-
-class Repository:
-    """A small repository, and an environment without the kit."""
-
-    def __init__(self, top: pathlib.Path) -> None:
-        self.top = top / "repository"
-        self.bin = top / "bin"
-        self.bin.mkdir()
-        for name in ("cargo", "rustc", "rustfmt"):
-            found = shutil.which(name)
-            if found:
-                (self.bin / name).symlink_to(found)
-        path = "%s:/usr/bin:/bin" % self.bin
-        self.environment: dict[str, str] = {**os.environ, **QUICK, "PATH": path}
-
-    def fill(self) -> None:
-        for name in FILES.split():
-            (self.top / name).parent.mkdir(parents=True, exist_ok=True)
-            shutil.copy(TOP / name, self.top / name)
-        shutil.copytree(TOP / "plain" / "shim", self.top / "plain" / "shim")
-        (self.top / "crates.txt").write_text(CRATES)
-        for name in ("bb", "cover", "recurrence"):
-            self.write("crates/%s/src/main.rt" % name, PROGRAM % name)
-        for name in ("bb_machine", "bb_c"):
-            self.write("crates/%s/src/lib.rt" % name, "//! Nothing.\n")
-
-    def write(self, name: str, text: str) -> None:
-        path = self.top / name
-        path.parent.mkdir(parents=True, exist_ok=True)
-        path.write_text(text)
-
-    def run(self, command: str, **environment: str) -> Done:
-        """Run a command of a shell at the top."""
-        given = {**self.environment, **environment}
-        return subprocess.run(
-            ["sh", "-c", command], cwd=self.top, env=given, capture_output=True, text=True, timeout=300
-        )
-
-    def replace(self, name: str, old: str, new: str) -> None:
-        path = self.top / name
-        assert old in path.read_text()
-        path.write_text(path.read_text().replace(old, new))
-
-    def replace_tools(self, script: str) -> None:
-        """Let a script take the place of cargo and rustc."""
-        for name in ("cargo", "rustc"):
-            (self.bin / name).unlink()
-            (self.bin / name).write_text("#!/bin/sh\n%s\n" % script)
-            (self.bin / name).chmod(0o755)
 
 
 @pytest.fixture
 def repository(tmp_path: pathlib.Path) -> Repository:
     """A small repository whose commands don't find the kit."""
-    if shutil.which("rt", path="/usr/bin:/bin"):
-        pytest.skip("the kit is in /usr/bin")
-    made = Repository(tmp_path)
-    made.fill()
+    made = repository_without_kit(tmp_path, FILES)
+    made.environment.update(QUICK)
+    shutil.copytree(TOP / "plain" / "shim", made.top / "plain" / "shim")
+    made.write("crates.txt", CRATES)
+    for name in ("bb", "cover", "recurrence"):
+        made.write("crates/%s/src/main.rt" % name, PROGRAM % name)
+    for name in ("bb_machine", "bb_c"):
+        made.write("crates/%s/src/lib.rt" % name, "//! Nothing.\n")
     return made
+
+
+def replace_tools(repository: Repository, script: str) -> None:
+    """Let a script take the place of cargo and rustc."""
+    for name in ("cargo", "rustc"):
+        repository.add_program(name, "#!/bin/sh\n%s\n" % script)
 
 
 def require_sentence(done: Done, *words: str, status: int = 3) -> None:
@@ -164,12 +122,12 @@ def test_no_cargo(repository: Repository) -> None:
 
 
 def test_old_cargo(repository: Repository) -> None:
-    repository.replace_tools(OLD)
+    replace_tools(repository, OLD)
     require_sentence(repository.run("./cover"), "cargo 1.65.0 is too old", "1.87", "rustc-web", "cargo-web")
 
 
 def test_cargo_without_a_toolchain(repository: Repository) -> None:
-    repository.replace_tools("echo 'no default is configured' >&2; exit 1")
+    replace_tools(repository, "echo 'no default is configured' >&2; exit 1")
     require_sentence(repository.run("./bb"), "`cargo --version` prints no version", "rustup")
 
 

@@ -3,6 +3,7 @@
 import itertools
 import os
 import pathlib
+import re
 import subprocess
 import sys
 from typing import Callable
@@ -98,6 +99,17 @@ def test_calls_keep_their_contracts(compile_source: Compile, compiler: list[str]
     require("valgrind")
     made = compile_source("tests/library/calls.c", compiler)
     assert run_command([made]) == run_command([*VALGRIND, made]) == (0, b"", b"")
+
+
+@pytest.mark.needs("cc")
+def test_a_program_finds_the_library_that_it_loads(library: pathlib.Path, tmp_path: pathlib.Path) -> None:
+    """The command of docs/library.md gives it the folder."""
+    (command,) = re.findall(r"^    (cc .*-lbb.*)$", (TOP / "docs" / "library.md").read_text(), flags=re.M)
+    command = re.sub(r"(\$PWD/)?crates/bb_c/out", lambda _: str(library.parent), command)
+    made = str(tmp_path / "decide")
+    words = [command.replace("program.c", "examples/c/decide.c"), "-o", made]
+    subprocess.run(" ".join(words), shell=True, check=True, cwd=TOP)
+    assert run_command([made, "1RA1RA"], cwd="/").output == b"1RA1RA translated R 1 2 1 1\n"
 
 
 @pytest.mark.parametrize(

@@ -2,6 +2,7 @@
 
 from __future__ import annotations
 
+import os
 import pathlib
 import re
 import subprocess
@@ -33,7 +34,8 @@ def program(request: pytest.FixtureRequest) -> Program:
     [
         ("--steps 1000000000001", 2, "steps out of range"),
         ("--cells 0", 2, "cells out of range"),
-        ("/no/such/file", 3, "read failed"),
+        ("/no/such/file", 3, "read failed\n/no/such/file: No such file or directory (os error 2)"),
+        (str(TOP), 3, "read failed\n%s: Is a directory (os error 21)" % TOP),
         ("--stepz 1", 2, None),
         ("a b", 2, None),
     ],
@@ -63,13 +65,19 @@ def test_help_and_version(program: Program, word: str) -> None:
 
 
 def test_failed_write(program: Program) -> None:
+    """The reason follows, but not for a closed pipe: the command after it is the reason."""
     sentence = "%s: write failed\n" % program.name
+    cause = "standard output: No space left on device (os error 28)\n"
     with open("/dev/full", "wb") as full:
         done = subprocess.run([program.path], input=VERDICTS, stdout=full, stderr=subprocess.PIPE)
         status, shown = on_terminal([program.path], VERDICTS, full)
+    assert (done.returncode, done.stderr.decode()) == (3, sentence + cause)
+    assert status == 3 and shown.endswith(sentence + cause)
+    reader, writer = os.pipe()
+    os.close(reader)
+    with open(writer, "wb") as closed:
+        done = subprocess.run([program.path], input=VERDICTS, stdout=closed, stderr=subprocess.PIPE)
     assert (done.returncode, done.stderr.decode()) == (3, sentence)
-    cause = sentence + "standard output: No space left on device (os error 28)\n"
-    assert status == 3 and shown.endswith(cause)
 
 
 def test_progress_on_a_terminal(program: Program, tmp_path: pathlib.Path) -> None:
@@ -77,12 +85,3 @@ def test_progress_on_a_terminal(program: Program, tmp_path: pathlib.Path) -> Non
     status, shown = on_terminal([program.path, str(tmp_path / "list")], b"", subprocess.DEVNULL)
     line = PROGRESS[program.name]
     assert status == 0 and re.match(r"\r0%% %s\x1b\[K(\r\d+%% %s\x1b\[K)*\r\x1b\[K$" % (line, line), shown)
-
-
-@pytest.mark.parametrize(
-    "path, cause",
-    [("/no/such/file", "No such file or directory (os error 2)\n"), (str(TOP), "Is a directory")],
-)
-def test_failed_read_on_a_terminal(program: Program, path: str, cause: str) -> None:
-    status, shown = on_terminal([program.path, path], b"", subprocess.DEVNULL)
-    assert status == 3 and "%s: read failed\n%s: %s" % (program.name, path, cause) in shown

@@ -18,14 +18,20 @@ import time
 from typing import Any
 
 import pytest
-from support import TOP, ListMachines, build, require, restore_signals
+from support import TOP, ListMachines, require, restore_signals
 from support.machines import mixed_machines
+from support.pages import read_blocks
 from support.program import GREATEST, CommandResult, as_lines, decide_in_passes, options, options_of_pass
 from support.program import run_command, write_script
 
 # How many blocks of commands stand under each heading.
 BLOCKS = {
-    1: ["Count undefined entries as a step", "Count verdicts", "Check that no line is missing"]
+    1: [
+        "Build the program",
+        "Count undefined entries as a step",
+        "Count verdicts",
+        "Check that no line is missing",
+    ]
     + ["Use all cores without Python", "Copy the program", "Resume after an interruption"]
     + ["Call the engine from a program"],
     2: ["Raise the limits for undecided machines", "Find exact starts and periods"]
@@ -101,19 +107,7 @@ if is_killed:
 """
 
 
-def read_recipes() -> dict[str, list[str]]:
-    """Read the blocks of commands of the document, by the heading above them."""
-    found: dict[str, list[str]] = {}
-    document = (TOP / "docs" / "recipes.md").read_text(encoding="utf-8")
-    for section in re.split(r"^#+ ", document, flags=re.M)[1:]:
-        heading, _, text = section.partition("\n")
-        blocks = re.findall(r"(?:^    .*\n(?:\n(?=    ))?)+", text, flags=re.M)
-        if blocks:
-            found[heading] = [re.sub("^    ", "", block, flags=re.M).rstrip("\n") for block in blocks]
-    return found
-
-
-RECIPES = read_recipes()
+RECIPES = read_blocks("docs/recipes.md")
 
 
 class Folder:
@@ -121,16 +115,15 @@ class Folder:
 
     def __init__(self, path: pathlib.Path, bb: str) -> None:
         self.path, self.bb = path, bb
-        (path / "crates" / "bb" / "out").mkdir(parents=True)
+        (path / "crates").mkdir(parents=True)
         self.place_program(bb)
         for name in ("scripts", "tools", "examples"):
             (path / name).symlink_to(TOP / name)
 
     def place_program(self, program: str) -> None:
-        """Put a program where the recipes look for `bb`, `./bb` and `crates/bb/out/bb`."""
-        for link in (self.path / "bb", self.path / "crates" / "bb" / "out" / "bb"):
-            link.unlink(missing_ok=True)
-            link.symlink_to(program)
+        """Put a program where the recipes look for `bb` and `./bb`."""
+        (self.path / "bb").unlink(missing_ok=True)
+        (self.path / "bb").symlink_to(program)
 
     def write(self, name: str, content: bytes) -> None:
         (self.path / name).write_bytes(content)
@@ -435,11 +428,10 @@ def test_pictures_are_those_of_the_documents(folder: Folder, at: int, name: str)
     assert found.convert("RGB").tobytes() == expected.convert("RGB").tobytes()
 
 
-def test_program_is_copied_from_where_it_is() -> None:
-    """What needs another computer isn't run. A build by cargo stands elsewhere."""
-    proved = build("bb", "crates/bb/out/bb")
+def test_program_is_copied_from_the_path(folder: Folder) -> None:
+    """What needs another computer is printed in place of being run."""
     (command,) = RECIPES["Copy the program"]
-    assert command == "scp %s host:bin/" % proved.relative_to(TOP)
+    assert folder.run("echo " + command).output.decode() == "scp %s/bb host:bin/\n" % folder.path
 
 
 (RESUME,) = RECIPES["Resume after an interruption"]

@@ -82,4 +82,4 @@ def test_recorded_runs_have_no_branch_for_entry_and_move() -> None:
     """In the proved program: such branches would be mispredicted, so `tools/kit` keeps conditional moves."""
     built = build("recurrence", "crates/recurrence/out/recurrence")
     require("objdump")
-    assert conditional_moves(str(built), "record_registers_to") >= 2
+    assert conditional_moves(str(built), "replay.*go_on") >= 2

@@ -16,9 +16,14 @@ OF_PAGE = {"bb.wasm", "bb.html", "bb.mjs"}
 PROGRAMS = ["bb", "cover", "recurrence", "many_cores", "tree_normal_form"]
 ALWAYS = {
     *PROGRAMS,
-    *"CONTENTS README.txt bb.1 budlarem.1 recurrence.1 bb.h decide.c libbb.a libbb.so".split(),
+    *"CONTENTS README.txt bb.1 budlarem.1 cover.1 recurrence.1 bb.h decide.c libbb.a libbb.so".split(),
 }
-ALWAYS |= {"%s.%s" % (name, shell) for name in ("bb", "budlarem") for shell in ("bash", "zsh", "fish")}
+ALWAYS |= {
+    "%s.%s" % (name, shell) for name in (*PROGRAMS[:3], "budlarem") for shell in ("bash", "zsh", "fish")
+}
+
+# The words of a compiler that have a program load the library from its folder.
+LOADED = '-L. -lbb -Wl,-rpath,"$PWD"'
 
 pytestmark = pytest.mark.slow
 
@@ -66,6 +71,7 @@ def test_readme_has_each_file_and_the_command_that_checks_them(release: pathlib.
     page = (release / "README.txt").read_text(encoding="utf-8").splitlines()
     assert {path.name for path in release.iterdir()} - {"README.txt"} <= set(page)
     assert any("`grep '  ' CONTENTS | sha256sum" in line for line in page)
+    assert "`cc program.c %s`" % LOADED in " ".join(" ".join(page).split())
     assert ("no theorem covers that build" not in " ".join(page)) == has_kit()
     subprocess.run("grep '  ' CONTENTS | sha256sum --check --quiet", shell=True, cwd=release, check=True)
 
@@ -80,6 +86,10 @@ def test_program_prints_its_help(release: pathlib.Path, name: str) -> None:
     "command, output",
     [
         ("cc -I. decide.c libbb.a -o ../decide && ../decide 1RB1LB_1LA1RZ", "1RB1LB_1LA1RZ halt 6 4\n"),
+        (
+            'cc -I. decide.c %s -o ../loaded && cd / && "$OLDPWD"/../loaded 1RA1RA' % LOADED,
+            "1RA1RA translated R 1 2 1 1\n",
+        ),
         ("./tree_normal_form --states 2 | ./bb decide | ./cover", "covers 2 states 2 symbols: "),
     ],
 )

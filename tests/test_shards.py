@@ -1,7 +1,6 @@
 """Lists checked whole in shards: `cover --below`, `cover --skeleton`, and the lists made for them."""
 
 import functools
-import hashlib
 import random
 import re
 from typing import Callable, NamedTuple
@@ -10,6 +9,7 @@ import pytest
 from support import ListMachines
 from support.program import LIST_LIMITS, LIST_STEPS, CommandResult, Decide, as_lines, replies
 from support.program import run_command
+from support.shards import shard_line
 from test_cover import Change, Changed, double, leave_out, swap
 
 
@@ -22,14 +22,6 @@ class Sharded(NamedTuple):
 
 
 Shard = Callable[[int, int, int], Sharded]
-
-
-def shard_line(machine: str, lines: list[str]) -> str:
-    """Return the line that stands for a shard in a skeleton."""
-    undecided = [line for line in lines if " undecided " in line]
-    wide = sum(line.count("---") > 1 for line in undecided)
-    digest = hashlib.sha256(as_lines(lines)).hexdigest()
-    return "%s below %d %d %d %s" % (machine, len(lines), len(undecided), wide, digest)
 
 
 @pytest.fixture(scope="module")

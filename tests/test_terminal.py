@@ -1,4 +1,4 @@
-"""What the program prints where standard error is a terminal: causes of faults, hints, and progress."""
+"""What the program prints to standard error beside the fixed lines: causes of faults, hints, and progress."""
 
 from __future__ import annotations
 
@@ -98,7 +98,7 @@ def test_closed_pipe_leaves_the_fixed_line_alone(bb: str) -> None:
 def test_first_bytes_of_an_input_give_a_hint(bb: str, command: str, given: bytes, hint: str) -> None:
     assert run_on_terminal([bb, command], given) == (1, hint)
     plain = subprocess.run([bb, command], input=given, capture_output=True)
-    assert plain.stderr == b"", "the hint is shown on a terminal alone"
+    assert plain.stderr.decode() == hint
 
 
 @pytest.mark.parametrize("word, number", SEPARATED.items())
@@ -106,6 +106,8 @@ def test_number_with_separators_gives_a_hint(bb: str, word: str, number: str) ->
     status, shown = run_on_terminal([bb, "decide", "--steps", word], b"")
     hint = "%s: write the number as %s\n" % (word, number)
     assert status == 2 and (shown.endswith(hint) if number else "write the number" not in shown)
+    plain = subprocess.run([bb, "decide", "--steps", word], capture_output=True, text=True)
+    assert plain.stderr == shown
 
 
 def parse(form: str, text: str) -> list[str]:

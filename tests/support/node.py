@@ -50,7 +50,7 @@ class Engine(contextlib.ExitStack):
         answer: dict[str, Any] = json.loads(self.replies.readline() or "{}")
         return answer
 
-    def call(self, name: str, plan: dict[str, Any], given: bytes, **more: int) -> CallResult:
+    def call(self, name: str, plan: dict[str, Any], given: bytes, **more: Any) -> CallResult:
         """Make a call, with limits and switches by name."""
         self.given.write_bytes(given)
         files = {"given": str(self.given), "out": str(self.out)}
