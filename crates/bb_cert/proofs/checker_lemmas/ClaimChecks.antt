@@ -1,5 +1,5 @@
 -- Why each kind of claim is answered as it is.
-use Rattle.std.proofs.Common.{◌≡◌, ℕ, ◌+◌, ◌<◌, ◌≤◌, max, Some, inl, inr, ap, sym, subst, ◌∙◌, arith}
+use Rattle.std.proofs.Common.{◌≡◌, ℕ, ◌+◌, ◌<◌, ◌≤◌, Some, inl, inr, ap, sym, subst, ◌∙◌, arith}
 use Rattle.std.specs.Prelude.{◌≢◌}
 use Rattle.bb_machine.specs.Limits.{Bounds}
 use Rattle.bb_machine.specs.Machine.{Table}
@@ -11,17 +11,14 @@ use Rattle.bb_sim.specs.Span.{Inside, IsLastInside, span}
 use Rattle.bb_sim.proofs.Facts.{fits_at_halt, halt_is_unique, halts_last, last_step_is_unique}
 use Rattle.bb_cert.specs.declared.checker.answer.Answer.{Answer}
 use Rattle.bb_cert.specs.declared.checker.answer.Answer.TheVariants as answer
-use Rattle.bb_cert.specs.declared.checker.pairs.RecordPair.{RecordPair}
 use Rattle.bb_cert.specs.declared.verdict.Verdict.{Verdict}
-use Rattle.bb_cert.specs.declared.verdict.Verdict.TheVariants.{Halt, Cycler, Backward}
+use Rattle.bb_cert.specs.declared.verdict.Verdict.TheVariants.{Halt, Backward}
 use Rattle.bb_cert.specs.checker.Answer.{IsSettled}
 use Rattle.bb_cert.specs.inside.Checks.{Checks, IsCut, Settles}
-use Rattle.bb_cert.specs.inside.NarrowChecks.{AnswersPairs, claim_up_to}
+use Rattle.bb_cert.specs.inside.NarrowChecks.{AnswersPairs}
 use Rattle.bb_cert.specs.checker.ClaimMeter.{CountsCheck, CountsClaim, CountsWindow, IsOfTree, IsReplayed}
 use Rattle.bb_cert.specs.checker.ClaimMeter.{IsWithinClaim, last_step, levels_of, nodes_of, replay_bounds}
-use Rattle.bb_tree.specs.Tree.{EndsNowhere, EndsWithin}
-use Rattle.bb_tree.specs.WalkMeter.{walked}
-use Rattle.bb_tree.proofs.Facts.{tree_has_one_end}
+use Rattle.bb_tree.specs.Tree.{EndsWithin}
 
 -- the bounds of a run that is to come to a step
 abbrev pub up_to : Bounds → ℕ → Bounds

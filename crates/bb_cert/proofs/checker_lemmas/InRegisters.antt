@@ -1,7 +1,7 @@
 -- The run of a claim in registers.
 use Rattle.std.proofs.Common.{◌≡◌, ℕ, ◌+◌, ◌*◌, ◌^◌, ◌<◌, ◌≤◌, inl, inr, Option, ap, sym, subst, ◌∙◌}
 use Rattle.std.proofs.Common.{arith, refl, w64, Bool, true, false, bit_and}
-use Rattle.std.specs.Prelude.{◌≢◌, ◌↔◌, IsTrue, MatchOption, None, Some}
+use Rattle.std.specs.Prelude.{◌≢◌, ◌↔◌, IsTrue}
 use Rattle.std.specs.Int.{bit_at, from_bool, trailing_zeros}
 use Rattle.std.proofs.lemmas.Bool.{cases_eq}
 use Rattle.std.proofs.lemmas.Int.{ints}
@@ -22,19 +22,16 @@ use Rattle.bb_sim.specs.Span.{Inside, span}
 use Rattle.bb_sim.proofs.Facts.{fits_at_halt, inside_here, next_inside, span_grows}
 use Rattle.bb_narrow.specs.declared.registers.Registers.{Registers}
 use Rattle.bb_narrow.specs.declared.run.NarrowRun.{NarrowRun}
-use Rattle.bb_narrow.specs.declared.cells.BitCells.{BitCells}
-use Rattle.bb_narrow.specs.BitCells.{bits_content, content_of}
+use Rattle.bb_narrow.specs.BitCells.{bits_content}
 use Rattle.bb_narrow.specs.Registers.{EndsWith, IsNarrowRun, IsSameConfiguration, MatchesRunner}
 use Rattle.bb_narrow.proofs.Facts.{at_bit, bits_unique, by_bit, cell-in_word}
-use Rattle.bb_cert.specs.declared.checker.replay.ReplayState.{ReplayState}
 use Rattle.bb_cert.specs.declared.records.Records.{Records}
 use Rattle.bb_cert.specs.declared.verdict.Extent.{Extent}
 use Rattle.bb_cert.specs.declared.verdict.Side.{Side}
 use Rattle.bb_cert.specs.declared.verdict.Verdict.TheVariants.{Cycler, Translated}
 use Rattle.bb_cert.specs.claims.Claim.{Claim}
 use Rattle.bb_cert.specs.inside.NarrowChecks.{AnswersPairs, answer_of}
-use Rattle.bb_cert.specs.records.Follow.{AgreesWithKept, HasSameCells, LiesAs}
-use Rattle.bb_cert.specs.records.Word.{AgreesInWord}
+use Rattle.bb_cert.specs.records.Follow.{HasSameCells}
 use Rattle.bb_cert.proofs.claim_lemmas.Claims.{claims_never_halt}
 use Rattle.bb_cert.proofs.claim_lemmas.Standing.{AreAlike}
 
@@ -157,22 +154,3 @@ pub same_cells_of : (records : Records) (runner : Runner) {a b other_a other_b :
     → HasSameCells records runner a b → HasSameCells records runner other_a other_b
 same_cells_of records runner {a} {b} {other_a} is_a is_b same =
     subst (λ c. HasSameCells records runner other_a c) is_b (subst (λ c. HasSameCells records runner c b) is_a same)
-
--- what is found of records in registers is found of them on such tapes
-pub in_tapes : (replay : ReplayState) (runner : Runner) (saved_bits run_bits : BitCells) (saved run : TapeView)
-    (found : Option Extent) → saved.content ≡ content_of saved_bits → run.content ≡ content_of run_bits
-    → MatchOption found
-    (IsTrue replay.is_record → AgreesInWord replay.records runner saved_bits run_bits → ⊥)
-    (λ extent. IsTrue replay.is_record × AgreesInWord replay.records runner saved_bits run_bits
-    × LiesAs replay.records runner extent)
-    → MatchOption found
-    (IsTrue replay.is_record → AgreesWithKept replay.records runner saved run → ⊥)
-    (λ extent. IsTrue replay.is_record × AgreesWithKept replay.records runner saved run
-    × LiesAs replay.records runner extent)
-in_tapes replay runner saved_bits run_bits saved run None saved_is run_is none =
-    λ makes both. none makes (both.0, same_cells_of replay.records runner saved_is run_is both.1)
-in_tapes replay runner saved_bits run_bits saved run (Some extent) saved_is run_is agree = (
-  agree.0,
-  (agree.1.0, same_cells_of replay.records runner (sym saved_is) (sym run_is) agree.1.1),
-  agree.2,
-)

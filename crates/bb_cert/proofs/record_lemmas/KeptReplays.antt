@@ -1,8 +1,9 @@
 -- A course whose record is kept, and compared with a later one.
-use Rattle.std.proofs.Common.{◌≡◌, ℕ, ◌<◌, ℤ, pos, IsTrue, Bool, Option, None, Some, true, false, refl, sym}
+use Rattle.std.proofs.Common.{◌≡◌, ℕ, ◌<◌, ℤ, pos, IsTrue, Bool, Some, true, false, refl, sym}
 use Rattle.std.proofs.Common.{subst, ap, ◌∙◌}
-use Rattle.std.specs.Prelude.{MatchBool, MatchOption}
+use Rattle.std.specs.Prelude.{MatchBool}
 use Rattle.bb_machine.specs.declared.entry.Next.{Next}
+use Rattle.bb_machine.specs.Limits.{Bounds}
 use Rattle.bb_machine.specs.Machine.{Table}
 use Rattle.bb_tape.specs.Content.{Content}
 use Rattle.bb_tape.specs.TapeView.{TapeView}
@@ -17,7 +18,9 @@ use Rattle.bb_cert.specs.declared.records.Records.{Records}
 use Rattle.bb_cert.specs.declared.verdict.Extent.{Extent}
 use Rattle.bb_cert.specs.declared.verdict.Side.{Side}
 use Rattle.bb_cert.specs.checker.Course.{IsRunnerAt}
-use Rattle.bb_cert.specs.inside.Runs.{IsViewAt, MatchExtent}
+use Rattle.bb_cert.specs.declared.checker.run.Run.{Run}
+use Rattle.bb_cert.specs.declared.checker.run.Run.TheVariants.{InRegisters, OnTape}
+use Rattle.bb_cert.specs.inside.Runs.{IsKeptOnAll, IsViewAt, StandsSaved, StandsThere, made_of, saved_steps}
 use Rattle.bb_cert.specs.records.Agree.{AgreeingRecords}
 use Rattle.bb_cert.specs.inside.Checks.{GoesOn, IsReplay, KeepsStep, MakesRecord}
 use Rattle.bb_cert.specs.inside.NarrowChecks.{IsFollowedFromStart, IsKeptAt, IsKeptUpTo}
@@ -183,17 +186,23 @@ module _ {table : Table} {side : Side} {first second : ℕ} {replay : ReplayStat
       (numbered_at table replay.records saved (steps_of runner) known_on.followed apart)
       (rw at less) (rw at pair.agree))
 
--- what was found of them
-pub found_at : {table : Table} {side : Side} {first second : ℕ} {replay : ReplayState}
-    {runner : Runner} {run saved : TapeView} (is : IsPairRun table side first second replay runner run saved)
-    (found : Option Extent)
-    → MatchOption found
-    (IsTrue replay.is_record → AgreesWithKept replay.records runner saved run → ⊥)
-    (λ extent. IsTrue replay.is_record × AgreesWithKept replay.records runner saved run
-    × LiesAs replay.records runner extent)
-    → MatchExtent table side first second found
-found_at is None none = no_pair_at is none
-found_at is (Some extent) agree = (pair_at is agree.0 agree.1, extent_at is agree.0 agree.1 agree.2)
+-- a step that makes no record isn't the second of a pair
+pub no_record : (table : Table) (bounds : Bounds) (replay : ReplayState) (run : Run) (tape saved : TapeView)
+    → StandsThere table bounds run tape → StandsSaved table bounds run saved → saved_steps run < made_of run
+    → IsKeptOnAll table replay.records.side (saved_steps run) (made_of run) replay
+    → (IsTrue replay.is_record → ⊥)
+    → AgreeingRecords table replay.records.side (saved_steps run) (made_of run) → ⊥
+no_record table bounds replay (InRegisters packed before) tape saved one other order kept none =
+    let here : IsViewAt table before.steps other.view =
+    record { runner = other.runner; stands = other.stands; at = sym other.steps_is } in
+    let is : IsPairRun table replay.records.side before.steps packed.run.steps replay one.runner one.view other.view =
+    record { kept = kept other.view here; stands = one.stands; at = sym one.steps_is; order = order } in
+    no_pair_at is (λ makes. absurd (none makes))
+no_record table bounds replay (OnTape runner before) tape saved one other order kept none =
+    let here : IsViewAt table (steps_of before) saved = record { runner = before; stands = other; at = refl } in
+    let is : IsPairRun table replay.records.side (steps_of before) (steps_of runner) replay runner tape saved =
+    record { kept = kept saved here; stands = one; at = refl; order = order } in
+    no_pair_at is (λ makes. absurd (none makes))
 
 abbrev placed : Next → ℤ → Content → Configuration
 placed state head tape = record { state = state; head = head; tape = tape }

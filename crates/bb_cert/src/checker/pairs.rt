@@ -141,14 +141,25 @@ fn agreeing_extent<T: Tape>(
         result }
     ensures tapes { PairHasCells T.view limits.now.cells pair.new }
 {
+    if !replay.is_record {
+        return None;
+    }
     match run {
         Run::InRegisters { packed, saved } => {
             let runner = packed.run.runner(machine, limits);
             let cells = BitCells::of_bits(packed.run.registers.bits);
             let saved_cells = BitCells::of_bits(saved.registers.bits);
-            replay.agreement_in_registers(&runner, &cells, &saved_cells)
+            if !replay.records.agrees_in_registers(&runner, &cells, &saved_cells) {
+                return None;
+            }
+            Some(replay.records.extent(&runner))
         }
-        Run::OnTape { runner, .. } => replay.agreement(runner, &pair.run, &mut pair.saved),
+        Run::OnTape { runner, .. } => {
+            if !replay.records.agrees(runner, &pair.run, &mut pair.saved) {
+                return None;
+            }
+            Some(replay.records.extent(runner))
+        }
     }
 }
 

@@ -1,5 +1,5 @@
 //! The run of a claim, up to the steps named in it.
-ghost use Rattle.std.specs.Prelude.{◌≡◌, ◌≤◌, false, IfOk, IfSome, IsTrue, MatchBool, MatchOption};
+ghost use Rattle.std.specs.Prelude.{◌≡◌, ◌≤◌, false, IfOk, IsTrue, MatchBool, MatchOption};
 ghost use Rattle.std.specs.Prelude.{OnErr, OnOk};
 ghost use Rattle.bb_sim.specs.Meter.{IsWithinRun, zero_meter};
 ghost use Rattle.bb_sim.specs.Runner.{steps_of};
@@ -8,18 +8,15 @@ ghost use Rattle.bb_cert.specs.checker.Pair.{PairHasCells};
 ghost use Rattle.bb_cert.specs.inside.Checks.{GoesOn, IsUnderWay, Passes, goes_further, goes_nowhere};
 ghost use Rattle.bb_cert.specs.inside.Runs.{IsAnswered, IsPackedPair, IsRun, MatchProgress};
 ghost use Rattle.bb_cert.specs.inside.Runs.{StandsSaved, made_of, packed_steps, saved_steps};
-ghost use Rattle.bb_cert.specs.records.Follow.{AgreesWithKept, IsComparable, IsKeptInStateOf, LiesAs};
 ghost use Rattle.bb_cert.specs.records.Follow.{with_kept};
-ghost use Rattle.bb_cert.specs.records.Word.{AgreesInWord, IsComparableInWord};
 
 use crate::checker::answer::Answer;
 use crate::checker::checking::Pair;
 use crate::checker::course::Course;
 use crate::checker::run::{PackedRun, Progress, Run, Steps};
 use crate::records::{Records, widened_side};
-use crate::verdict::Extent;
 use bb_machine::{Limits, Machine};
-use bb_narrow::{BitCells, NarrowRun};
+use bb_narrow::NarrowRun;
 use bb_sim::{Meter, Runner};
 use bb_tape::{Memory, Tape};
 
@@ -52,59 +49,6 @@ impl ReplayState {
         if self.is_record {
             self.records.keep_record(runner);
         }
-    }
-
-    /// The extent of the kept record and the one made by the runner's last step, if it made one and they
-    /// agree.
-    pub(crate) fn agreement<T: Tape>(
-        &self,
-        runner: &Runner,
-        run: &T,
-        saved: &mut T,
-    ) -> Option<Extent>
-        requires limit { (T.view saved.old).limit ≡ (T.view run.now).limit }
-        requires comparable { IsTrue self.now.is_record → IsKeptInStateOf self.now.records runner.now
-            → IsComparable self.now.records runner.now (T.view saved.old) (T.view run.now) }
-        ensures agree { MatchOption result
-            (IsTrue self.now.is_record
-            → AgreesWithKept self.now.records runner.now (T.view saved.old) (T.view run.now) → ⊥)
-            (λ extent. IsTrue self.now.is_record
-            × AgreesWithKept self.now.records runner.now (T.view saved.old) (T.view run.now)
-            × LiesAs self.now.records runner.now extent) }
-        ensures limit { (T.view saved.new).limit ≡ (T.view saved.old).limit }
-    {
-        if !self.is_record {
-            return None;
-        }
-        if !self.records.agrees(runner, run, saved) {
-            return None;
-        }
-        Some(self.records.extent(runner))
-    }
-
-    /// `agreement` for a run in registers, with the cells of the run and those of the kept record.
-    pub(crate) fn agreement_in_registers(
-        &self,
-        runner: &Runner,
-        run: &BitCells,
-        saved: &BitCells,
-    ) -> Option<Extent>
-        requires { IsTrue self.now.is_record → IsKeptInStateOf self.now.records runner.now
-            → IsComparableInWord self.now.records runner.now saved.now run.now }
-        ensures { MatchOption result
-            (IsTrue self.now.is_record
-            → AgreesInWord self.now.records runner.now saved.now run.now → ⊥)
-            (λ extent. IsTrue self.now.is_record
-            × AgreesInWord self.now.records runner.now saved.now run.now
-            × LiesAs self.now.records runner.now extent) }
-    {
-        if !self.is_record {
-            return None;
-        }
-        if !self.records.agrees_in_registers(runner, run, saved) {
-            return None;
-        }
-        Some(self.records.extent(runner))
     }
 }
 
