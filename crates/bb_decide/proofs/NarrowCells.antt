@@ -146,9 +146,6 @@ module _ {table : Table} {bounds : Bounds} {side : Side} {narrow : NarrowRecords
       let below = at.comparison.is_run.at.within in
       (omega (arith, ints, h), omega (arith, ints, h, below))
 
-inside_word : (view : TapeView) (p : ℤ) → IsInWord view.low → IsInWord view.high → IsInside view p → IsInWord p
-inside_word view p low high inside = (omega (arith, ints, low, inside), omega (arith, ints, high, inside))
-
 stretch_in_word : (view : TapeView) (from : ℤ) (len : ℕ) → IsInWord view.low → IsInWord view.high → 0 < len
     → IsStretch view from len → IsStretchInWord from len
 stretch_in_word view from zero low high some inside = absurd (omega (arith, some))

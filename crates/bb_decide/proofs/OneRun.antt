@@ -1,6 +1,6 @@
 -- What one single-pass run means for the verdict, and what it costs.
 use Rattle.std.proofs.Common.{◌≡◌, ℕ, ◌+◌, ◌<◌, ◌≤◌, inl, inr, Some, None, IsTrue, true, false, Option, ℤ}
-use Rattle.std.proofs.Common.{refl, ap, sym}
+use Rattle.std.proofs.Common.{ap, sym}
 use Rattle.std.proofs.Common.{◌∙◌, arith}
 use Rattle.std.proofs.lemmas.Bool.{cases_lt}
 use Rattle.bb_machine.specs.Limits.{Bounds}
@@ -20,8 +20,8 @@ use Rattle.bb_cert.proofs.Facts.{agreeing_records_never_halt, agreeing_records_n
 use Rattle.bb_cert.proofs.Facts.{repeats_never_halt}
 use Rattle.bb_decide.specs.declared.search_result.SearchResult.{SearchResult}
 use Rattle.bb_decide.specs.declared.search_result.SearchResult.TheVariants.{Found, Ran}
-use Rattle.bb_decide.specs.Cycle.{CountsSearch, FindsCycle, HasNoCycle, IsCycle}
-use Rattle.bb_decide.specs.Fingerprint.{AgreesByChance, MatchesPartner, most_steps, named_step}
+use Rattle.bb_decide.specs.Cycle.{CountsSearch, FindsCycle, HasNoCycle}
+use Rattle.bb_decide.specs.Fingerprint.{AgreesByChance, most_steps, named_step}
 use Rattle.bb_decide.specs.Translation.{FindsTranslation, HasNoTranslation, IsFirstTranslation}
 use Rattle.bb_decide.specs.inside.SearchResult.{CostsAlone, ResultCosts, EndsBoth, EndsSearches, RanAs, MakesSinglePass}
 use Rattle.bb_decide.specs.OneRun.{IsStoppedAt}
@@ -94,20 +94,6 @@ module _ (table : Table) (bounds : Bounds) (key : ℤ → ℕ) (old new : Meter)
   single_pass_costs (Found (Translated side first second extent)) single_pass none =
       cycle_costs (Found (Translated side first second extent)) tt single_pass.1
   single_pass_costs (Found verdict) single_pass none = absurd single_pass.0
-
--- a cycle looks as its partner does, whatever the keys
-pub cycle_looks : {table : Table} {bounds : Bounds} (key : ℤ → ℕ) {a t : ℕ} → IsCycle table bounds a t
-    → MatchesPartner key table a t
-cycle_looks key cycle = record {
-  partner = cycle.partner;
-  one = cycle.same.here;
-  other = cycle.same.here;
-  at_partner = cycle.same.at_first;
-  at_step = cycle.same.at_second;
-  state = refl;
-  head = refl;
-  current = refl;
-}
 
 -- where the single-pass run was stopped
 module _ {table : Table} {bounds : Bounds} {key : ℤ → ℕ} {n : ℕ} (here : IsStoppedAt key table bounds n) where

@@ -12,7 +12,7 @@ ghost use Rattle.bb_decide.specs.Bench.{BenchHasCells};
 ghost use Rattle.bb_decide.specs.FewCells.{DecidesFewCells};
 ghost use Rattle.bb_decide.specs.Fingerprint.{CostsWhatItNames};
 ghost use Rattle.bb_decide.specs.OneRun.{BreaksOff, CountsRefused, CountsRuns};
-ghost use Rattle.bb_decide.specs.inside.SearchResult.{AddsRuns, ResultCosts, EndsBoth, EndsSearches, PlanCosts};
+ghost use Rattle.bb_decide.specs.inside.SearchResult.{AddsRuns, EndsSearches, PlanCosts};
 ghost use Rattle.bb_decide.specs.inside.SearchResult.{found_of};
 ghost use Rattle.bb_decide.specs.inside.Search.{IsPromised, IsWithinRuns};
 ghost use Rattle.bb_decide.specs.Sure.{KeepsEarlier};
@@ -126,7 +126,8 @@ fn verdict_in_one_run<T: Tape, K: FingerprintKeys>(
     }
 }
 
-/// The result of the searches in use, in one run if both are, or else the outcome of their run.
+/// The result of the searches in use, or else the outcome of their run. Both are made in one run; after a
+/// repeated fingerprint the exact search for cycles follows, and if that finds nothing, the search for records.
 fn search_by_plan<T: Tape, K: FingerprintKeys>(
     machine: &Machine,
     limits: &Limits,
@@ -160,32 +161,6 @@ fn search_by_plan<T: Tape, K: FingerprintKeys>(
     if !plan.cyclers {
         return seek_translation(machine, limits, bench, meter);
     }
-    search_both(machine, limits, keys, bench, meter)
-}
-
-/// One run for both searches. After a repeated fingerprint it makes the exact search for cycles, and if that
-/// finds nothing, the search for records.
-fn search_both<T: Tape, K: FingerprintKeys>(
-    machine: &Machine,
-    limits: &Limits,
-    keys: &K,
-    bench: &mut Bench<T>,
-    meter: &mut Meter,
-) -> Result<SearchResult, Memory>
-    requires tapes { BenchHasCells T.view limits.now.cells bench.old }
-    requires steps { meter.old.steps ≡ 0 }
-    ensures ended { IfOk result (EndsBoth machine.now limits.now) }
-    ensures adds { OnOk result
-        (AddsRuns (K.key_of keys.now) machine.now limits.now true true meter.old meter.new) }
-    ensures cut { OnErr result (BreaksOff (K.key_of keys.now) machine.now limits.now true true
-        (T.view bench.new.run).content meter.old meter.new) }
-    ensures costs { IfOk result
-        (ResultCosts (K.key_of keys.now) machine.now limits.now meter.new.steps) }
-    ensures within { IsWithinRuns 3 limits.now meter.old meter.new }
-    ensures promised { IsPromised found_of machine.now T.GROWS result }
-    ensures tapes { BenchHasCells T.view limits.now.cells bench.new }
-    ensures path { bench.new.path ≡ bench.old.path }
-{
     match run_single_pass(machine, limits, keys, bench, meter)? {
         Some(search_result) => return Ok(search_result),
         None => {}

@@ -117,6 +117,7 @@ impl SinglePass {
 /// Runs a machine until it halts, a limit is met, a record agrees with its partner or, in registers, a
 /// configuration is that of its partner. None at the first later step with the state, position and
 /// fingerprint of its partner, the greatest power of two below it: the two configurations may be the same.
+/// A machine that fits the registers begins there, and goes on on the bench where it leaves them.
 ///
 /// After an error the contents of the tapes are unspecified; the next call resets them.
 #[inline(never)]
@@ -132,13 +133,33 @@ pub fn run_single_pass<T: Tape, K: FingerprintKeys>(
     ensures { RunsSinglePass T.GROWS T.view machine.now limits.now (K.key_of keys.now) bench.old bench.new
         meter.old meter.new result }
 {
-    if fits_registers(machine) {
-        return run_from_registers(machine, limits, keys, bench, meter);
+    if !fits_registers(machine) {
+        let Ok(search_result) = run_on_bench(machine, limits, keys, bench, meter) else {
+            return Err(Memory);
+        };
+        return Ok(search_result);
     }
-    let Ok(search_result) = run_on_bench(machine, limits, keys, bench, meter) else {
-        return Err(Memory);
-    };
-    Ok(search_result)
+    limits.show_accepted();
+    let end = run_narrow_pass(machine, limits);
+    let run = end.pass.run;
+    match end.result {
+        NarrowResult::Found(verdict) => {
+            run.count(run.steps, limits, meter);
+            Ok(Some(SearchResult::Found(verdict)))
+        }
+        NarrowResult::Ran(outcome) => {
+            run.count(run.last_step(outcome), limits, meter);
+            Ok(Some(SearchResult::Ran(outcome)))
+        }
+        NarrowResult::Outside => {
+            let pass = end.pass;
+            let Ok(search_result) = leave_registers(&pass, machine, limits, keys, bench, meter)
+            else {
+                return Err(Memory);
+            };
+            Ok(search_result)
+        }
+    }
 }
 
 /// The single-pass run of a machine that doesn't fit the registers.
@@ -161,45 +182,6 @@ fn run_on_bench<T: Tape, K: FingerprintKeys>(
 {
     let begun = SinglePass::start(machine, &mut bench.run);
     continue_with(None, machine, limits, keys, begun, bench, meter)
-}
-
-/// The single-pass run of a machine that fits the registers: it begins there, and goes on on the bench where
-/// it leaves them.
-fn run_from_registers<T: Tape, K: FingerprintKeys>(
-    machine: &Machine,
-    limits: &Limits,
-    keys: &K,
-    bench: &mut Bench<T>,
-    meter: &mut Meter,
-) -> Result<Option<SearchResult>, Memory>
-    requires symbols { symbols_of machine.now ≡ 2 }
-    requires states { length machine.now ≤ 7 }
-    requires tapes { BenchHasCells T.view limits.now.cells bench.old }
-    requires room { meter.old.steps ≤ 2 * limits.now.steps }
-    ensures { RunsSinglePass T.GROWS T.view machine.now limits.now (K.key_of keys.now) bench.old bench.new
-        meter.old meter.new result }
-{
-    limits.show_accepted();
-    let end = run_narrow_pass(machine, limits);
-    let run = end.pass.run;
-    match end.result {
-        NarrowResult::Found(verdict) => {
-            run.count(run.steps, limits, meter);
-            Ok(Some(SearchResult::Found(verdict)))
-        }
-        NarrowResult::Ran(outcome) => {
-            run.count(run.last_step(outcome), limits, meter);
-            Ok(Some(SearchResult::Ran(outcome)))
-        }
-        NarrowResult::Outside => {
-            let pass = end.pass;
-            let Ok(search_result) = leave_registers(&pass, machine, limits, keys, bench, meter)
-            else {
-                return Err(Memory);
-            };
-            Ok(search_result)
-        }
-    }
 }
 
 /// Continues a single-pass run on the bench, from its last configuration in registers.

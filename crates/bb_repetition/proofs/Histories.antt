@@ -1,9 +1,9 @@
 -- The recorded entries of a run: equal places are equal transitions.
 use Rattle.std.proofs.Common.{◌≡◌, ℕ, ◌+◌, ◌-◌, ◌*◌, ◌/◌, ◌%◌, ◌<◌, ◌≤◌, Bool, true, false, List}
 use Rattle.std.proofs.Common.{length, Option, Some}
-use Rattle.std.proofs.Common.{inl, inr, refl, ap, sym, subst, ◌∙◌, slice_index_or, slice_set, arith}
-use Rattle.std.proofs.Common.{get_or-set_same, get_or-set_other, drop}
-use Rattle.std.proofs.lemmas.Bool.{cases_eq, cases_lt}
+use Rattle.std.proofs.Common.{inl, inr, refl, ap, sym, subst, ◌∙◌, slice_index_or, arith}
+use Rattle.std.proofs.Common.{drop}
+use Rattle.std.proofs.lemmas.Bool.{cases_lt}
 use Rattle.std.proofs.lemmas.List.{ext_get_or, get_or-drop, get_or-take, length-drop, length-take-le}
 use Rattle.std.specs.List.{slice_range}
 use Rattle.std.proofs.Math.Nat.{mul_assoc, mul_comm}
@@ -67,22 +67,6 @@ uses_place table n q s place at few is =
     record { state = q; symbol = s; inside = few; is_place = is; at = at }
 
 -- ---- one step more
-
-pub none_recorded : (table : Table) (places : List ℕ) (m : ℕ) → m < 0
-    → UsesPlace table m (slice_index_or places m 0)
-none_recorded table places m soon = absurd (omega (arith, soon))
-
-pub recorded_on : (table : Table) (n place : ℕ) (places : List ℕ) → n < length places → UsesPlace table n place
-    → ((m : ℕ) → m < n → UsesPlace table m (slice_index_or places m 0))
-    → (m : ℕ) → m < n + 1 → UsesPlace table m (slice_index_or (slice_set places n place) m 0)
-recorded_on table n place places room here before m soon = elim (cases_eq m n) [
-  | inl same ↦
-      subst (λ k. UsesPlace table k (slice_index_or (slice_set places n place) k 0)) (sym same)
-      (subst (UsesPlace table n) (sym (get_or-set_same places n place 0 room)) here)
-  | inr other ↦
-      subst (UsesPlace table m) (sym (get_or-set_other places n m place 0 other))
-      (before m (omega (arith, soon, other)))
-]
 
 -- ---- a start, step by step back
 

@@ -1,6 +1,6 @@
 -- How far the recorded entries move the head.
 use Rattle.std.proofs.Common.{◌≡◌, ℕ, suc, ◌+◌, ◌-◌, ◌/◌, ◌%◌, ◌<◌, ◌≤◌, None, refl, ap, sym, subst, ◌∙◌, arith, length}
-use Rattle.std.proofs.Common.{ℤ, pos, neg_ℤ, ◌+ℤ◌, ◌≤ℤ◌}
+use Rattle.std.proofs.Common.{ℤ, pos, neg_ℤ, ◌+ℤ◌}
 use Rattle.std.proofs.lemmas.Int.{ints}
 use Rattle.bb_machine.specs.declared.entry.Dir.{Dir}
 use Rattle.bb_machine.specs.declared.entry.Dir.TheVariants.{L, R}
@@ -28,11 +28,6 @@ abbrev pub offset_of_entry : Entry → ℤ
 offset_of_entry (Go write L to) = neg_ℤ (pos 1)
 offset_of_entry (Go write R to) = pos 1
 offset_of_entry Undefined = pos 1
-
-pub offset_near : (entry : Entry) → (neg_ℤ (pos 1) ≤ℤ offset_of_entry entry) × (offset_of_entry entry ≤ℤ pos 1)
-offset_near (Go write L to) = (omega (arith, ints), omega (arith, ints))
-offset_near (Go write R to) = (omega (arith, ints), omega (arith, ints))
-offset_near Undefined = (omega (arith, ints), omega (arith, ints))
 
 -- a step moves the head as its entry says
 module _ (table : Table) (never : Never table) (n q s : ℕ) (at : UsesEntry table n q s) where

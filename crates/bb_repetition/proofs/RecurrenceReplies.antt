@@ -1,5 +1,5 @@
 -- Replies to lines, from results for verdicts, and the cost of a result.
-use Rattle.std.proofs.Common.{◌≡◌, ℕ, ◌-◌, ◌*◌, ◌<◌, ◌≤◌, ◌^◌, Bool, List, inl, inr, refl, ap, sym, ◌∙◌, arith}
+use Rattle.std.proofs.Common.{◌≡◌, ℕ, ◌-◌, ◌*◌, ◌<◌, ◌≤◌, ◌^◌, inl, inr, refl, ap, sym, ◌∙◌, arith}
 use Rattle.std.proofs.lemmas.Bool.{cases_lt}
 use Rattle.std.proofs.Math.Nat.{mul-le-mul_right, one-le-pow}
 use Rattle.bb_machine.specs.Limits.{Bounds, IsAccepted}
@@ -7,17 +7,14 @@ use Rattle.bb_machine.specs.Machine.{Table}
 use Rattle.bb_sim.specs.declared.meter.Meter.{Meter}
 use Rattle.bb_cert.specs.declared.verdict.Verdict.{Verdict}
 use Rattle.bb_cert.specs.declared.verdict.Verdict.TheVariants.{Backward, Cycler, Halt, Translated, Undecided}
-use Rattle.bb_cert.specs.declared.verdict.reader.Line.TheVariants.{Claim}
 use Rattle.bb_cert.specs.checker.Answer.{NamesTooMuch}
 use Rattle.bb_cert.specs.checker.ClaimMeter.{CountsWindow, levels_of, nodes_of}
-use Rattle.bb_cert.specs.verdict.Line.{IsLineOf}
 use Rattle.bb_repetition.specs.declared.uses.LastUses.{LastUses}
 use Rattle.bb_repetition.specs.declared.verdict.Finding.{Finding}
 use Rattle.bb_repetition.specs.declared.verdict.Finding.TheVariants.{Answered, NoPair, Recurs}
 use Rattle.bb_repetition.specs.Finding.{CountsFinding, IsFinding, NamesPair}
 use Rattle.bb_repetition.specs.Recurrence.{CountsLong}
-use Rattle.bb_repetition.specs.RecurrenceReply.{IsRecurrenceReply}
-use Rattle.bb_repetition.specs.Writing.{IsFindingText, IsKnown}
+use Rattle.bb_repetition.specs.Writing.{IsKnown}
 use Rattle.bb_repetition.proofs.ConfirmedPairs.{few_of, not_named}
 use Rattle.bb_repetition.proofs.Counting.{long_few}
 use Rattle.bb_repetition.proofs.Reductions.{few_primes}
@@ -40,33 +37,6 @@ known_of table bounds verdict uses (Recurs found) is =
     }
 known_of table bounds verdict uses (Answered answer) is = tt
 known_of table bounds verdict uses NoPair is = tt
-
-pub reply_of : (bounds : Bounds) (entries : Bool) (line reply : List ℕ) (table : Table) (verdict : Verdict)
-    (uses : LastUses) (finding : Finding) → IsLineOf (Claim table verdict) line
-    → IsFinding table bounds verdict uses finding
-    → IsFindingText table entries finding reply → IsRecurrenceReply bounds entries line reply
-reply_of bounds entries line reply table verdict uses (Recurs found) of is written = inl (record {
-  table = table;
-  verdict = verdict;
-  of = of;
-  pair = (is.1.first, is.1.second, is.1.names);
-  is_ok = is.0;
-  numbers = written.numbers;
-  are_numbers = written.are_numbers;
-  is_reply = written.is_text;
-})
-reply_of bounds entries line reply table verdict uses (Answered answer) of is written = inr (inl (record {
-  table = table;
-  verdict = verdict;
-  of = of;
-  pair = is.2;
-  given = answer;
-  not_ok = is.0;
-  is_answer = is.1;
-  is_reply = written;
-}))
-reply_of bounds entries line reply table verdict uses NoPair of is written =
-    inr (inr (inl (record { said = Claim table verdict; of = of; no_pair = is; is_reply = written })))
 
 -- ---- pairs
 

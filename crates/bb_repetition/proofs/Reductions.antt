@@ -176,17 +176,6 @@ module _ (table : Table) (first distance period rest divisor : ℕ)
         open_or_none = open_after;
       }
 
-pub tried_later : (table : Table) (first distance period rest divisor next : ℕ)
-    → IsTried table first distance period rest divisor → HasNoneBelow rest next
-    → IsTried table first distance period rest next
-tried_later table first distance period rest divisor next here none = record {
-  repeats = here.repeats;
-  within = here.within;
-  some = here.some;
-  none = none;
-  open_or_none = here.open_or_none;
-}
-
 more_primes : (p distance rest rest' : ℕ) → 2 ^ p * rest ≤ distance → 2 * rest' ≤ rest
     → 2 ^ suc p * rest' ≤ distance
 more_primes p distance rest rest' few half =

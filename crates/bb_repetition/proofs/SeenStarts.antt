@@ -14,14 +14,6 @@ differ_of : (table : Table) (n m : ℕ) (x y : Transition) → transition_at tab
     → (x ≡ y → ⊥) → transition_at table m ≢ transition_at table n
 differ_of table n m x y at_n at_m apart same = apart cc
 
--- before the first step
-pub seen_at_first : (table : Table) (distance : ℕ) → IsSeenStart table 0 distance 0
-seen_at_first table distance = record {
-  no_later = omega arith;
-  same = λ n late soon. absurd (omega (arith, soon));
-  differs = λ n is. absurd (omega (arith, is));
-}
-
 pub seen_on : (table : Table) (n distance start start' : ℕ) (x y : Transition) (same : Bool)
     → transition_at table n ≡ Some x → transition_at table (n + distance) ≡ Some y
     → (IsTrue same ↔ (x ≡ y)) → MatchBool same (start' ≡ start) (start' ≡ n + 1)

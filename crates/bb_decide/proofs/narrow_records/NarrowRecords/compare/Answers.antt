@@ -6,7 +6,7 @@ use Rattle.bb_decide.specs.inside.NarrowRecords.{CanCompareRecord, KnowsHeads}
 use Rattle.bb_decide.proofs.NarrowCells.{small_is}
 use Rattle.bb_decide.proofs.NarrowComparing.{compared_and_agrees, compared_and_keeps, compared_and_stays}
 use Rattle.bb_decide.proofs.narrow_records.NarrowRecords.compare.Goals as goal
-use Rattle.bb_decide.proofs.narrow_records.NarrowRecords.compare.Goals.{After-position_of_bit-head, After-agrees}
+use Rattle.bb_decide.proofs.narrow_records.NarrowRecords.compare.Goals.{After-position_of_bit-head}
 
 -- the two heads heads_known there
 heads_known : (c : After-position_of_bit-head) → CanCompareRecord c.args.machine.now c.args.limits.now c.args.side c.args.self.now

@@ -5,9 +5,9 @@ use Rattle.bb_sim.specs.Span.{Inside}
 use Rattle.bb_sim.proofs.Facts.{count_is_within, inside_here}
 use Rattle.bb_narrow.proofs.Facts.{counted_at_end, counted_so_far}
 use Rattle.bb_decide.proofs.NarrowEnds.{finds_in_registers, not_stopped_in_registers}
-use Rattle.bb_decide.proofs.single_pass.run_from_registers.Given as given
-use Rattle.bb_decide.proofs.single_pass.run_from_registers.Goals as goal
-use Rattle.bb_decide.proofs.single_pass.run_from_registers.Goals.{After-run_narrow_pass-end}
+use Rattle.bb_decide.proofs.single_pass.run_single_pass.Given as given
+use Rattle.bb_decide.proofs.single_pass.run_single_pass.Goals as goal
+use Rattle.bb_decide.proofs.single_pass.run_single_pass.Goals.{After-run_narrow_pass-end}
 
 -- the run in registers is inside
 inside : (g : given.Over) (c : After-run_narrow_pass-end g)
@@ -35,7 +35,8 @@ returns-in-Found g c =
     let known = c.run_narrow_pass-end.ensures.run in
     let ends = rw c.in-Found.is at c.run_narrow_pass-end.ensures.ends in
     let counts = counted_so_far known c.args.meter.now _ refl c.count.ensures in
-    let made = finds_in_registers known c.requires.symbols c.requires.states
+    let made = finds_in_registers known (c.fits_registers.ensures.0 c.if-not-fits_registers.false).0
+    (c.fits_registers.ensures.0 c.if-not-fits_registers.false).1
     (g.K.FingerprintKeys.key_of c.args.keys.now) c.args.meter.now c.count.new.meter c.in-Found.verdict ends.0 ends.1
     counts in
     record {
@@ -62,7 +63,8 @@ returns-in-Ran g c =
         record { last = steps_of end.runner; is_last = end.last; counts = counts },
         end.is_outcome,
         ends.1,
-        not_stopped_in_registers known c.requires.symbols c.requires.states end,
+        not_stopped_in_registers known (c.fits_registers.ensures.0 c.if-not-fits_registers.false).0
+    (c.fits_registers.ensures.0 c.if-not-fits_registers.false).1 end,
       );
       cut = tt;
       within = count_is_within _ _ _ _ _ end.last.inside counts;
