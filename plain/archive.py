@@ -27,7 +27,7 @@ from tools.build_info import header_version  # noqa: E402
 README = """# Budlarem without its proofs
 
 The programs `bb`, `cover` and `recurrence`, and the library for C, in plain Rust. `cargo build --release` builds them into
-target/release, with rustc 1.87 or later and no network; `cargo test` runs their tests.
+target/release, with rustc 1.88 or later and no network; `cargo test` runs their tests.
 
 This build isn't proved. Each contract stands as a comment above its function. `plain.md` says what differs from
 the proved programs, and how a list decided here is confirmed.

@@ -86,7 +86,7 @@ NO_MAIN = "#![cfg_attr(all(unix, not(test)), no_main)]\n"
 # The crates of the registry. The shim of clap names its version too.
 VERSIONS = {"arrayvec": "0.7", "clap": "4", "itoa": "1", "memchr": "2"}
 # The oldest rustc that compiles the workspace.
-RUST = "1.87"
+RUST = "1.88"
 # Dependencies of the kit whose place a crate in `shim` takes.
 SHIMMED = {"clap": "rattle_clap", "linked_list_allocator": "rattle_heap"}
 ERASED = ("thiserror",)

@@ -123,7 +123,7 @@ def test_no_cargo(repository: Repository) -> None:
 
 def test_old_cargo(repository: Repository) -> None:
     replace_tools(repository, OLD)
-    require_sentence(repository.run("./cover"), "cargo 1.65.0 is too old", "1.87", "rustc-web", "cargo-web")
+    require_sentence(repository.run("./cover"), "cargo 1.65.0 is too old", "1.88", "rustc-web", "cargo-web")
 
 
 def test_cargo_without_a_toolchain(repository: Repository) -> None:

@@ -7,6 +7,7 @@ ghost use Rattle.bb_machine.specs.Machine.{entry_of, symbols_of};
 ghost use Rattle.bb_narrow.specs.Packed.{IsPackedEntry, IsTableOf};
 
 use bb_machine::{Entry, Machine, Step};
+use std::hint::select_unpredictable;
 
 /// The most states of a machine whose table fits: nine bits an entry.
 pub(crate) const MOST_STATES: usize = 7;
@@ -88,13 +89,13 @@ impl NarrowTable {
     }
 
     /// The entry for a state and a symbol, in the low nine bits. The low six bits of `state` are nine times
-    /// the state.
+    /// the state. A branch on the symbol would often be mispredicted.
     #[inline(always)]
     pub(crate) fn entry(&self, state: u64, is_one: bool) -> u64
         ensures zero { is_one ≡ false → result ≡ self.now.zero / 2 ^ (state % 64) }
         ensures one { is_one ≡ true → result ≡ self.now.one / 2 ^ (state % 64) }
     {
-        let entries = if is_one { self.one } else { self.zero };
+        let entries = select_unpredictable(is_one, self.one, self.zero);
         entries >> (state & 63)
     }
 }
