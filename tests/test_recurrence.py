@@ -3,8 +3,8 @@
 import subprocess
 
 import pytest
-from support import TOP, ListMachines, build, require
-from support.program import as_lines, conditional_moves, least_time, options, replies, run_command
+from support import TOP, ListMachines, require
+from support.program import as_lines, least_time, options, replies, run_command
 from support.recurrences import GREATEST, GREATEST_REPLY
 
 LIMITS = options((3_000, 1_024, 30, 100))
@@ -76,10 +76,3 @@ def test_pairs_take_little_longer_than_a_check(bb: str, recurrence: str, four_st
     check, found = (least_time(command, verdicts) for command in ([bb, "check"], [recurrence]))
     print("check %.2f s, recurrence %.2f s: %.2f (bar: %.1f)" % (check, found, found / check, BAR))
     assert found <= FAR * BAR * check
-
-
-def test_recorded_runs_have_no_branch_for_entry_and_move() -> None:
-    """In the proved program: such branches would be mispredicted, so `tools/kit` keeps conditional moves."""
-    built = build("recurrence", "crates/recurrence/out/recurrence")
-    require("objdump")
-    assert conditional_moves(str(built), "replay.*go_on") >= 2
