@@ -153,7 +153,7 @@ pub(crate) fn pass_block<T: Tape, K: FingerprintKeys>(
         least: head,
         greatest: head,
     };
-    let end = start.go_on(table, &barrier);
+    let end = start.go_on::<false>(table, &barrier);
     let mut pass = begun;
     end.run.put(machine, limits, &mut pass.runner, tape, from);
     pass.right.pass(from + 32 + position_of_bit(end.least));

@@ -106,7 +106,7 @@ impl NarrowPass {
             least: self.right.nearest,
             greatest: self.left.nearest,
         };
-        let end = start.go_on(table, &barrier);
+        let end = start.go_on::<true>(table, &barrier);
         self.run.registers = end.run.registers;
         self.run.steps = end.run.steps;
         self.right.nearest = end.least;

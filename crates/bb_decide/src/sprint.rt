@@ -12,15 +12,16 @@ pub(crate) struct Sprint {
 }
 
 impl Sprint {
-    /// Makes all steps before a barrier. It works on copies, so the loop has its numbers in registers.
+    /// Makes all steps before a barrier. It works on copies, so the loop has its numbers in registers. `SELECTS`
+    /// is that of `BlockRun::advance`.
     #[inline(always)]
-    pub(crate) fn go_on(&self, table: &NarrowTable, barrier: &Barrier) -> Sprint
+    pub(crate) fn go_on<const SELECTS: bool>(&self, table: &NarrowTable, barrier: &Barrier) -> Sprint
         ensures { SprintsTo table.now barrier.now self.now result }
     {
         let mut sprint = *self;
         let table = *table;
         let barrier = *barrier;
-        while sprint.run.advance(&table, &barrier) {
+        while sprint.run.advance::<SELECTS>(&table, &barrier) {
             let head = sprint.run.registers.head;
             sprint.least = sprint.least.min(head);
             sprint.greatest = sprint.greatest.max(head);

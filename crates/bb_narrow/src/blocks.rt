@@ -48,9 +48,10 @@ pub struct Barrier {
 }
 
 impl BlockRun {
-    /// Makes the next step, if it goes to a state and keeps before the barrier. False if not.
+    /// Makes the next step, if it goes to a state and keeps before the barrier. False if not. `SELECTS` is for
+    /// short runs: the entry is chosen without a branch.
     #[inline(always)]
-    pub fn advance(&mut self, table: &NarrowTable, barrier: &Barrier) -> bool
+    pub fn advance<const SELECTS: bool>(&mut self, table: &NarrowTable, barrier: &Barrier) -> bool
         ensures { MatchBool result (StepsBefore table.now barrier.now self.old self.new)
             ((self.new ≡ self.old)
             × ((next : BlockRun) → StepsBefore table.now barrier.now self.old next → ⊥)) }
@@ -58,7 +59,7 @@ impl BlockRun {
         if self.steps >= barrier.to {
             return false;
         }
-        let next = self.registers.next(table);
+        let next = self.registers.next::<SELECTS>(table);
         if stops(next.entry) || (barrier.window & next.head) == 0 {
             return false;
         }
@@ -204,7 +205,7 @@ fn run_block<T: Tape>(
         head: 0,
         entry: 0,
     };
-    while run.advance(&table, &barrier) {}
+    while run.advance::<false>(&table, &barrier) {}
     run.put(machine, &limits, runner, tape, from);
     meter.steps += run.steps - start.steps;
 }

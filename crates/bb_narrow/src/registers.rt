@@ -45,12 +45,13 @@ impl Registers {
         self.bits & self.head != 0
     }
 
-    /// The registers after the next step, also where its entry goes to no state.
+    /// The registers after the next step, also where its entry goes to no state. `SELECTS` is that of
+    /// `NarrowTable::entry`.
     #[inline(always)]
-    pub(crate) fn next(&self, table: &NarrowTable) -> Registers
+    pub(crate) fn next<const SELECTS: bool>(&self, table: &NarrowTable) -> Registers
         ensures { StepsTo table.now self.now result }
     {
-        let entry = table.entry(self.entry, self.reads_one());
+        let entry = table.entry::<SELECTS>(self.entry, self.reads_one());
         Registers {
             bits: self.flipped_bits(entry),
             head: self.moved_head(entry),

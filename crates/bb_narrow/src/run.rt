@@ -69,7 +69,7 @@ impl NarrowRun {
     {
         machine.show_machine();
         limits.show_accepted();
-        let next = self.registers.next(table);
+        let next = self.registers.next::<true>(table);
         if stops(next.entry) {
             return NarrowMoved::Ended(self.end(machine, limits, next.entry));
         }

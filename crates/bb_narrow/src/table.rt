@@ -89,13 +89,20 @@ impl NarrowTable {
     }
 
     /// The entry for a state and a symbol, in the low nine bits. The low six bits of `state` are nine times
-    /// the state. A branch on the symbol would often be mispredicted.
+    /// the state. `SELECTS` chooses without a branch on the symbol. That is faster in short runs, where a branch
+    /// is often mispredicted, and slower in long ones.
     #[inline(always)]
-    pub(crate) fn entry(&self, state: u64, is_one: bool) -> u64
+    pub(crate) fn entry<const SELECTS: bool>(&self, state: u64, is_one: bool) -> u64
         ensures zero { is_one ≡ false → result ≡ self.now.zero / 2 ^ (state % 64) }
         ensures one { is_one ≡ true → result ≡ self.now.one / 2 ^ (state % 64) }
     {
-        let entries = select_unpredictable(is_one, self.one, self.zero);
+        let entries = if SELECTS {
+            select_unpredictable(is_one, self.one, self.zero)
+        } else if is_one {
+            self.one
+        } else {
+            self.zero
+        };
         entries >> (state & 63)
     }
 }

@@ -3,7 +3,7 @@ use Rattle.bb_decide.specs.inside.Sprints.{SprintsTo}
 use Rattle.bb_decide.proofs.sprint.Sprint.go_on.Given as goal
 
 abbrev pub invariant-loop-table : goal.invariant-loop-table
-invariant-loop-table l = SprintsTo l.fn.table l.fn.barrier l.fn.self l.sprint
+invariant-loop-table g l = SprintsTo l.fn.table l.fn.barrier l.fn.self l.sprint
 
 abbrev pub decreases-loop-table : goal.decreases-loop-table
-decreases-loop-table l = l.barrier.to - l.sprint.run.steps
+decreases-loop-table g l = l.barrier.to - l.sprint.run.steps
