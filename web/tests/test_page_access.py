@@ -212,7 +212,7 @@ def test_page_sends_nothing(tab: Page) -> None:
 
 
 def test_page_at_all_widths(tab: Page) -> None:
-    """A machine of 34 characters and a `translated` verdict fit at a desk, six states too, a line's number always."""
+    """A machine and its line's number are whole in each row, and a `translated` verdict at a desk."""
     tab.plan({}, "check", True)
     tab.open_list(CHAMPION + " translated R 1234 5678 12 34", "1RB1LB_1LA1RZ halt 7")
     assert not tab.js(CLIPPED)
@@ -222,7 +222,7 @@ def test_page_at_all_widths(tab: Page) -> None:
         metrics = {"width": width, "height": 900, "deviceScaleFactor": 1, "mobile": False}
         tab.command("Emulation.setDeviceMetricsOverride", **metrics)
         tab.press("rows", Keys.END)
-        assert soon(lambda: not {SIX if width >= 1_280 else "", "20,000"} & set(tab.js(CLIPPED)))
+        assert soon(lambda: not {SIX, "20,000"} & set(tab.js(CLIPPED)))
         assert tab.rows()[-1][0] == "20,000" and tab.js(WIDTH) <= width
         assert tab.get("machine", "clientWidth") > 0.42 * width - 30
         assert len(set(tab.js(NAVIGATION))) == 1
