@@ -133,14 +133,17 @@ def test_axes_and_pointer(tab: Page) -> None:
     tab.remove_script(made)
 
 
-def shown_step(tab: Page) -> int:
-    """Return the step in the description of the keyboard cursor, or -1."""
+def enter_step(tab: Page) -> int:
+    """Require Enter to show the tape at the described step, and return it."""
     found = re.match(r"Step ([\d,]+)", tab.text("place-text"))
-    return number_of(found[1]) if found else -1
+    assert found
+    tab.press("diagram", Keys.ENTER)
+    assert tab.tape_is_at("%s:" % found[1])
+    return number_of(found[1])
 
 
 def test_keys_name_the_row_that_enter_shows(tab: Page) -> None:
-    """Also if a row is many steps: Enter shows the tape at the described step."""
+    """Also if a row is many steps, or out of view: Enter shows the tape at the described step."""
     tab.open_machine(CHAMPION, "&steps=50000000")
     tab.go_to("1000000")
     assert tab.tape_is_at("1,000,000")
@@ -148,14 +151,8 @@ def test_keys_name_the_row_that_enter_shows(tab: Page) -> None:
     every = tab.wait_until_drawn(lambda view: view["every"] > 10_000)["every"]
     for way in ((Keys.ARROW_DOWN,), (Keys.ARROW_DOWN, Keys.ARROW_RIGHT), (Keys.ARROW_UP,) * 3):
         tab.press("diagram", *way)
-        told = shown_step(tab)
-        assert told >= 0 and told % every == 0
-        tab.press("diagram", Keys.ENTER)
-        assert tab.tape_is_at("{:,}:".format(told))
-
-
-def test_keys_beyond_the_view(tab: Page) -> None:
-    """The cell is described once the picture has it."""
+        assert enter_step(tab) % every == 0
+    # Beyond the view the cell is described once the picture has it.
     tab.open_machine(CHAMPION_OF_FOUR)
     tab.press("diagram", "+", "+")
     top = tab.wait_until_drawn()["top"]
@@ -163,6 +160,4 @@ def test_keys_beyond_the_view(tab: Page) -> None:
         tab.press("diagram", *[Keys.ARROW_DOWN] * 13)
         assert soon(lambda: tab.text("place-text") != "", 2)
     assert tab.wait_until_drawn()["top"] > top
-    told = shown_step(tab)
-    tab.press("diagram", Keys.ENTER)
-    assert tab.tape_is_at("{:,}:".format(told))
+    enter_step(tab)
