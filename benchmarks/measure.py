@@ -262,9 +262,10 @@ def measure_node(bench: Bench, given: bytes) -> None:
         ways = [lambda: float(engine.call("decide", FOUR, given).answer["seconds"])]
         for program in (bench.program, bench.limit):
             ways.append(functools.partial(processor_time_of, [program, *words], engine.given))
-        table.head("The module in Node, in ns of processor time a line", COLUMNS)
+        columns = ["Module", "Program", *COLUMNS[2:]]
+        table.head("The module in Node, in nanoseconds of processor time a line", columns)
         ours, *others = (1e9 * seconds / given.count(b"\n") for seconds in table.least(*ways))
-    table.beside("four states, beside the program", ours, others, NODE_BAR)
+    table.beside("four states", ours, others, NODE_BAR)
 
 
 def processor_time_of(command: Sequence[str], given: pathlib.Path) -> float:

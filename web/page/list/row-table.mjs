@@ -15,12 +15,13 @@ import { FIRST_PASS, LARGER } from "./results.mjs";
 const ROW_PIXELS = 28;
 const TALL_ROW_PIXELS = 48;
 const PHONE = "(max-width: 600px)";
-// The width of a character, and of the last column and the gaps.
-const CHARACTER_PIXELS = 7.26;
+// The width of a character in the columns of numbers and machines, in that of verdicts, and of all else.
+const COLUMN_PIXELS = 7.44;
+const CHARACTER_PIXELS = 7.25;
 const OTHER_PIXELS = 86;
-// The least widths of the number and the verdict, in characters.
-const LEAST_DIGITS = 5;
-const LEAST_VERDICT = 16;
+// The least widths of the number and the verdict.
+const LEAST_NUMBER_PIXELS = 33;
+const LEAST_VERDICT_PIXELS = 120;
 // Browsers limit an element's height; longer lists scale the scroll bar.
 const MOST_PIXELS = 8_000_000;
 
@@ -40,13 +41,13 @@ export class RowTable {
     this.line = /** @type {LinePlace | null} */ (null);
     /** The line whose machine is open. */
     this.openLine = /** @type {LinePlace | null} */ (null);
-    // The characters of the longest machine so far, and of the longest with its verdict.
+    // The characters of the longest machine so far, and the width of the longest with its verdict.
     this.widest = 0;
-    this.longest = 0;
+    this.linePixels = 0;
     this.phone = matchMedia(PHONE);
     this.phone.addEventListener("change", () => this.onResize());
     this.isTall = this.phone.matches;
-    this.digits = LEAST_DIGITS;
+    this.digits = 0;
     this.box = byId("rows");
     this.box.addEventListener("scroll", () => this.onScroll());
     this.box.addEventListener("keydown", (event) => this.onKey(event));
@@ -80,7 +81,7 @@ export class RowTable {
 
   /** Forgets the chosen line. */
   reset() {
-    Object.assign(this, { chosen: -1, gap: 0, line: null, openLine: null, top: 0, widest: 0, longest: 0 });
+    Object.assign(this, { chosen: -1, gap: 0, line: null, openLine: null, top: 0, widest: 0, linePixels: 0 });
   }
 
   /**
@@ -93,7 +94,7 @@ export class RowTable {
     this.rows = rows;
     this.locateChosen(results, rows, isInOrder);
     byId("spacer").style.height = `${this.height}px`;
-    this.digits = Math.max(LEAST_DIGITS, formatNumber(results.lines + results.skipped).length);
+    this.digits = formatNumber(results.lines + results.skipped).length;
     this.box.style.setProperty("--digits", String(this.digits));
     // A full box keeps its height.
     if (fewer * this.pixels <= this.inner) this.inner = this.box.clientHeight;
@@ -122,8 +123,8 @@ export class RowTable {
 
   /** Gives rows one or two lines; returns whether that changed. */
   fitRows() {
-    const needed = (this.digits + this.longest) * CHARACTER_PIXELS + OTHER_PIXELS;
-    const isTall = this.phone.matches || needed > this.width;
+    const numberPixels = Math.max(LEAST_NUMBER_PIXELS, this.digits * COLUMN_PIXELS);
+    const isTall = this.phone.matches || numberPixels + this.linePixels + OTHER_PIXELS > this.width;
     const hasChanged = isTall !== this.isTall;
     this.isTall = isTall;
     this.box.classList.toggle("tall", isTall);
@@ -210,8 +211,8 @@ export class RowTable {
     const about = { role: "row", class: "row", id: `row-${place}`, "aria-rowindex": place + 2 };
     const chosen = { "aria-selected": place === this.chosen, "aria-current": isOpen, "data-place": place };
     this.widest = Math.max(this.widest, machine.length);
-    const verdictLength = Math.max(LEAST_VERDICT, verdict.text.length);
-    this.longest = Math.max(this.longest, machine.length + verdictLength);
+    const verdictPixels = Math.max(LEAST_VERDICT_PIXELS, verdict.text.length * CHARACTER_PIXELS);
+    this.linePixels = Math.max(this.linePixels, machine.length * COLUMN_PIXELS + verdictPixels);
     return create(
       "div",
       { ...about, ...chosen },
