@@ -1,7 +1,6 @@
 /**
- * Reads by the page's reader, for `test_page_lists.py`. A line of JSON is `[line, form]`, a list of `lines`,
- * `bytes` in hexadecimal digits, or a `machine`; the reply is its reading, form or encoding, or the machine's
- * normal form and mirror image. The reader's sentences come first.
+ * Reads for `test_page_lists.py`, by the page's reader: `[line, form]`, a list of `lines`, `bytes` in hexadecimal
+ * digits, or a `machine`, whose normal form and mirror image are the reply. The reader's sentences come first.
  */
 import { createInterface } from "node:readline";
 import { encodingOf } from "../page/input/files.mjs";

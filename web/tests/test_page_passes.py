@@ -55,7 +55,6 @@ def test_second_pass_has_the_bytes_of_the_program(tab: Page, four_states: list[s
     tab.plan({}, "auto")
     tab.answer_file(decided)
     assert "verdict lines, checked" in tab.text("status")
-    print("%d machines" % len(four_states[::every]))
 
 
 @pytest.mark.slow
