@@ -32,6 +32,16 @@ pub struct Step {
     pub tape: u64,
 }
 
+impl Step {
+    /// Whether the run halts behind it without another step.
+    #[inline(always)]
+    pub fn is_last(&self, table: &Table) -> bool {
+        let is_blank = self.tape & self.cell == 0;
+        let entries = if is_blank { table.blank } else { table.one };
+        entries >> (self.entry & STATE) & (STOP | RIGHT) == STOP
+    }
+}
+
 /// A step in assembly, without a branch. `before` becomes the tape. The cell of the head is read from the tape
 /// before the last write, since the head has left the written cell: so no step waits for the write of another.
 #[rustfmt::skip]
@@ -131,34 +141,30 @@ impl Registers {
     #[inline(always)]
     pub fn make_second(&mut self, table: &Table, number: u64) -> Step {
         unsafe { single!(self, table, tape, first_tape, first_entry, entry) }
+        self.second(number)
+    }
+
+    /// The first step of the last pair, so far on.
+    #[inline(always)]
+    pub fn first(&self, number: u64) -> Step {
+        let back = if self.entry & RIGHT != 0 { 1 } else { 63 };
+        Step {
+            number,
+            entry: self.first_entry,
+            cell: self.head.rotate_right(back),
+            tape: self.first_tape,
+        }
+    }
+
+    /// The second step of the last pair, so far on.
+    #[inline(always)]
+    pub fn second(&self, number: u64) -> Step {
         Step {
             number,
             entry: self.entry,
             cell: self.head,
             tape: self.tape,
         }
-    }
-
-    /// The last step, so far on, and the first one of its pair.
-    #[inline(always)]
-    pub fn steps_of_pair(&self, number: u64) -> [Step; 2] {
-        let back = if self.entry & RIGHT != 0 { 1 } else { 63 };
-        let cell = self.head.rotate_right(back);
-        let first = Step {
-            number: number - 1,
-            entry: self.first_entry,
-            cell,
-            tape: self.first_tape,
-        };
-        [
-            first,
-            Step {
-                number,
-                entry: self.entry,
-                cell: self.head,
-                tape: self.tape,
-            },
-        ]
     }
 
     /// Whether the configuration is the kept one.
@@ -175,16 +181,5 @@ impl Registers {
         self.kept_tape = self.tape;
         self.kept_head = self.head;
         self.kept_entry = self.entry;
-    }
-
-    /// Whether the run halts without a step behind its last one.
-    #[inline(always)]
-    pub fn is_undefined(&self, table: &Table, last: &Step) -> bool {
-        let entries = if last.tape & last.cell == 0 {
-            table.blank
-        } else {
-            table.one
-        };
-        entries >> (last.entry & STATE) & (STOP | RIGHT) == STOP
     }
 }

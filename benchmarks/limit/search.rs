@@ -64,9 +64,9 @@ pub fn search<T: Tape, const CYCLES: bool, const RECORDS: bool>(
             let left = run.left.max(1);
             let number = due - 2 * (left - 1);
             if run.entry & STOP | run.visited & run.unseen != 0 {
-                let [first, last] = run.steps_of_pair(number);
+                let (first, second) = (run.first(number - 1), run.second(number));
                 look::<T, RECORDS>(tape, &mut run, &first, limits)?;
-                look::<T, RECORDS>(tape, &mut run, &last, limits)?;
+                look::<T, RECORDS>(tape, &mut run, &second, limits)?;
                 tape.center(&mut run);
             }
             if run.is_kept() && tape.is_same(&run) {
@@ -75,12 +75,12 @@ pub fn search<T: Tape, const CYCLES: bool, const RECORDS: bool>(
             run.left = left - 1;
         }
     }
-    let [_, mut last] = run.steps_of_pair(even);
+    let mut last = run.second(even);
     if limits.steps != even {
         last = run.make_first(table, limits.steps);
         look::<T, RECORDS>(tape, &mut run, &last, limits)?;
     }
-    if run.is_undefined(table, &last) {
+    if last.is_last(table) {
         return Err(Some(Verdict::Halt {
             steps: limits.steps,
             score: tape.score(last.tape),
