@@ -116,12 +116,12 @@ def test_four_states(engine: Engine, four_states: list[str]) -> None:
 @each_way
 @pytest.mark.parametrize("name", ["decide", "check"])
 def test_noise(same: Same, rng: random.Random, name: str) -> None:
-    """Random bytes, invalid UTF-8, lists without a final newline, and a line of 100 MB."""
+    """Random bytes, invalid UTF-8, lists without a final newline, lines of 10 MB, and one of 100 MB."""
     for length in (0, 1, 2, 100, 10_000, 100_000):
         noise = rng.randbytes(length)
         same(name, {}, noise)
         same(name, {}, noise + b"\n<img src=x onerror=alert(1)>\n\n1RZ---")
-    for line in (b"1RB1LB_" * 14_000_000, b"\xff" * 10_000_000, b"1RZ--- halt 1 1" + b" " * 10_000_000):
+    for line in (b"1RB1LB_" * 1_500_000, b"\xff" * 10_000_000, b"1RZ--- halt 1 1" + b" " * 10_000_000):
         same(name, {}, line)
     same(name, {}, b"\xff<b>\n" * 1_000_000 + b"1RB1LB_" * 14_000_000 + b"\n1RZ---\n")
 
