@@ -38,7 +38,7 @@ LIMITS = ["--steps", "1000", "--cells", "200", "--depth", "60"]
 LIST, DRAWN, HALTING_LIST, REFUSED_BYTES = 100_000, 800_000, 1_000_000, 50_000_000
 TREES, CHECKED, RANDOM, KINDS, OPEN_LONG = 4_000, 2_000, 10_000, 3_000, 300
 # What the module in Node may take, beside `limit`: 0.6 of what it took on 30 November 2026.
-NODE_BAR = 2.35
+NODE_BAR = 2.9
 COLUMNS = ["Program", "Peer in one run", "Ratio", "benchmarks/limit", "Ratio", "At most"]
 # What the build by cargo may take, beside the proved one.
 PLAIN_BAR = 1.25

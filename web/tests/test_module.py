@@ -218,7 +218,7 @@ def test_memory_stays(module: pathlib.Path, tmp_path: pathlib.Path) -> None:
 @pytest.mark.parametrize("count", [5, pytest.param(100, marks=pytest.mark.slow)])
 def test_traces(engine: Engine, rng: random.Random, count: int) -> None:
     """Of all rows, which name the lowest position, and of some."""
-    machines = [seldom_halting(rng, rng.randint(2, 5), rng.randint(2, 4)) for _ in range(10 * count)]
+    machines = [seldom_halting(rng, rng.randint(2, 5), rng.randint(2, 4)) for _ in range(5 * count + 25)]
     for machine in [CHAMPION, *machines]:
         steps = rng.randint(100, 4_000)
         reply = engine.call("trace", {"steps": steps}, machine.encode())
@@ -230,7 +230,7 @@ def test_traces(engine: Engine, rng: random.Random, count: int) -> None:
         samples = [rows[first::every] for first in range(51) for every in range(1, 51)]
         reply = engine.call("samples", {**plan, "from": 50, "every": 50}, machine.encode())
         assert reply.reply == as_lines(row.line for sample in samples for row in sample), (machine, plan)
-    print("%d machines" % (11 * count + 1))
+    print("%d machines" % (6 * count + 26))
 
 
 def test_trace_at_the_greatest_limits(engine: Engine) -> None:
