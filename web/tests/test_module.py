@@ -117,7 +117,7 @@ def test_four_states(engine: Engine, four_states: list[str]) -> None:
 @pytest.mark.parametrize("name", ["decide", "check"])
 def test_noise(same: Same, rng: random.Random, name: str) -> None:
     """Random bytes, invalid UTF-8, lists without a final newline, lines of 10 MB, and one of 100 MB."""
-    for length in (0, 1, 2, 100, 10_000, 100_000):
+    for length in (1, 2, 100, 10_000, 100_000):
         noise = rng.randbytes(length)
         same(name, {}, noise)
         same(name, {}, noise + b"\n<img src=x onerror=alert(1)>\n\n1RZ---")
@@ -179,8 +179,7 @@ def test_wrong_numbers_and_names(engine: Engine) -> None:
 def test_greatest_limits(engine: Engine, name: str) -> None:
     given = b"1RB1LB_1LA1RZ\n1RB1LB_1LA1RZ halt 6 4\n"
     engine.require_same(name, MOST, given)
-    held = engine.call(name, MOST, given).answer["held"]
-    print("memory of %s at the greatest limits: %d MB" % (name, held // 10**6))
+    engine.require_same(name, {}, b"")
 
 
 def test_script_of_the_documentation(engine: Engine, tmp_path: pathlib.Path) -> None:
