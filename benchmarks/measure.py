@@ -4,16 +4,18 @@
     benchmarks/measure.py [PROGRAM] [--runs N] [--seed N] [--part PART]...
 
 It builds the two by `rustc -O` (1.65 or later): `peer`, written as one would by hand, and `limit`, written for
-speed alone, though faster ones are possible. It makes its lists from a seed, requires that all write the same
-bytes and end with the same status, runs them in turn, and prints the least times and their ratios, of a search
-the spread of single runs too. The peer has two forms: in one run, and in turn. The lists of deciding are run
-2 N - 1 times. The instructions are those that `valgrind --tool=callgrind` counts, which other work on the machine
-doesn't change. The part `plain` compares the program that `make plain` builds on the same lists, in processor
-time. All parts take some twenty minutes, with `--runs 1` about five. The status is 1 where a figure doesn't hold
-its bar.
+speed alone, with the program's layout of code, for x86-64 with AVX2 and BMI2. It makes its lists from a seed,
+requires that all write the same bytes and end with the same status, runs them in turn, and prints the least times
+and their ratios, of a search the spread of single runs too. The peer has two forms: in one run, and in turn. The
+lists of deciding are run 2 N - 1 times. The part `limit` has the bars beside `limit`, `around` those of
+`budlarem run` and of the module in Node. The instructions are those that `valgrind --tool=callgrind` counts, which
+other work on the machine doesn't change. The part `plain` compares the program that `make plain` builds on the
+same lists, in processor time. All parts take some half hour, with `--runs 1` about eight minutes. The status is 1
+where a figure doesn't hold its bar.
 """
 
 import functools
+import os
 import pathlib
 import random
 import re
@@ -22,17 +24,25 @@ import sys
 import tempfile
 from typing import Callable, NamedTuple, Sequence
 
-from measuring import Cost, Table, has, list_machines, make, parser, program_of, run, take_turns
-from support.machines import CHAMPION, halting_once, uniform
-from support.program import MAX_CELLS, SIMULATION, as_lines, build_peer, kind_of, replies, run_command
-from support.program import unaligned_branches
+import runner
+from measuring import NULL, TOP, Cost, Table, has, list_machines, make, parser, program_of, run, take_turns
+from measuring import use_library
+from support import has_kit
+from support.machines import CHAMPION, CHAMPION_STEPS, halting_once, machine, uniform
+from support.node import Engine
+from support.program import FOUR, MAX_CELLS, SIMULATION, as_lines, build_peer, kind_of, replies, run_command
+from support.program import unaligned_branches, words_of_plan
 
 CHAMPION_LIST = CHAMPION + "\n"
 LIMITS = ["--steps", "1000", "--cells", "200", "--depth", "60"]
 LIST, DRAWN, HALTING_LIST, REFUSED_BYTES = 100_000, 800_000, 1_000_000, 50_000_000
 TREES, CHECKED, RANDOM, KINDS, OPEN_LONG = 4_000, 2_000, 10_000, 3_000, 300
+# What the module in Node may take, beside `limit`: 0.6 of what it took on 30 November 2026.
+NODE_BAR = 2.9
+COLUMNS = ["Program", "Peer in one run", "Ratio", "benchmarks/limit", "Ratio", "At most"]
 # What the build by cargo may take, beside the proved one.
 PLAIN_BAR = 1.25
+THREE_SYMBOLS = "random, three to five states, three symbols"
 # Of so many machines of four states one is in the list whose instructions are counted.
 COUNTED = 100
 
@@ -112,6 +122,37 @@ def cases_in_one_run(program: str, source: random.Random) -> list[Case]:
     ]
 
 
+class Bar(NamedTuple):
+    """A list, of how many lines or steps a figure is one, and the bar of the program beside the last other one."""
+
+    case: Case
+    units: int
+    bar: float
+
+
+def bars(seed: int) -> list[Bar]:
+    """Return what has a bar beside `limit`, and beside the peer where there are three symbols."""
+    source, limits = random.Random(seed), [*LIMITS, "--nodes", "2000"]
+    four, five = list_machines(4).decode(), list_machines(5, "--every", "200").decode()
+    kinds = {
+        "one halting entry": draw(halting_once, source, KINDS, 5),
+        "uniformly drawn": draw(uniform, source, KINDS, 5),
+        "one undefined entry": draw(halting_once, source, KINDS, 5).replace("1RZ", "---"),
+    }
+    three = as_lines(machine(source, source.randint(3, 5), 3) for _ in range(KINDS)).decode()
+    none = ["--steps", "0", *LIMITS[2:], "--no-backward"]
+    lists = [(Case("four states", limits, four), 1.5), (Case("five states, each 200th", limits, five), 1.6)]
+    lists += [(Case("random, five states, %s" % kind, [], lines), 2.0) for kind, lines in kinds.items()]
+    lists += [(Case("four states without a step", none, four), 2.0)]
+    found = [Bar(case, case.lines.count("\n"), bar) for case, bar in lists]
+    long = ["--steps", "50000000"]
+    found += [
+        Bar(Case("the champion simulated, a step", [*SIMULATION, *long], CHAMPION_LIST), CHAMPION_STEPS, 1.4)
+    ]
+    found += [Bar(Case("the champion, all deciders, a step", long, CHAMPION_LIST), CHAMPION_STEPS, 1.6)]
+    return [*found, Bar(Case(THREE_SYMBOLS, [], three), KINDS, 0.7)]
+
+
 def undecided_machines(program: str, options: Sequence[str], lines: str) -> str:
     """Return the lines on whose machines nothing is found: there all ways make the same steps."""
     found = replies([program, "decide", *options], lines.splitlines())
@@ -183,6 +224,52 @@ class Bench:
         costs = self.costs(lines, commands, False)
         assert all(cost.status == 0 for row in costs for cost in row), "a line is refused, or not confirmed"
         return [[cost.processor for cost in row] for row in costs]
+
+
+def measure_limit(bench: Bench, seed: int) -> None:
+    """Print the program's times beside those of the plain programs, with bars."""
+    bench.table.head("Nanoseconds a line, in processor time", COLUMNS)
+    wide = bench.list.with_name("wide")
+    wide.mkdir()
+    peer_of_many_symbols = build_peer(wide, "peer", "--cfg", "wide")
+    for case, units, bar in bars(seed):
+        words, is_two = ["decide", *case.options], case.name != THREE_SYMBOLS
+        peer = bench.peer if is_two else peer_of_many_symbols
+        commands = [[bench.program, *words], [peer, *words, "--one-run"], *([[bench.limit, *words]] * is_two)]
+        costs = bench.costs(case.lines, commands, True, 2 * bench.table.runs - 1)
+        ours, *others = (1e9 * min(cost.processor for cost in row) / units for row in costs)
+        bench.table.beside(case.name, ours, [*others, *([None] * (not is_two))], bar)
+
+
+def measure_around(bench: Bench, _seed: int) -> None:
+    """Print the times of the module in Node and of `budlarem run` beside the program, over four states."""
+    four = list_machines(4)
+    if has("the module in Node", "node"):
+        measure_node(bench, four)
+    use_library()
+    top = bench.list.with_name("four states, four times")
+    runner.measure_run(runner.Bench(bench.table, bench.program, os.cpu_count() or 1, top, 4 * four))
+
+
+def measure_node(bench: Bench, given: bytes) -> None:
+    """Print what the module takes for a list in Node; it must reply as the program does."""
+    module, table = TOP / "web" / "out" / "bb.wasm", bench.table
+    words = ["decide", *(word for option in words_of_plan(FOUR) for word in option.split("="))]
+    with Engine(
+        bench.list.parent, make("web", str(module)) if has_kit() else module, bench.program
+    ) as engine:
+        engine.require_same("decide", FOUR, given)
+        ways = [lambda: float(engine.call("decide", FOUR, given).answer["seconds"])]
+        for program in (bench.program, bench.limit):
+            ways.append(functools.partial(processor_time_of, [program, *words], engine.given))
+        columns = ["Module", "Program", *COLUMNS[2:]]
+        table.head("The module in Node, in nanoseconds of processor time a line", columns)
+        ours, *others = (1e9 * seconds / given.count(b"\n") for seconds in table.least(*ways))
+    table.beside("four states", ours, others, NODE_BAR)
+
+
+def processor_time_of(command: Sequence[str], given: pathlib.Path) -> float:
+    return run((command, given, NULL)).processor
 
 
 def measure_peer(bench: Bench, seed: int) -> None:
@@ -265,7 +352,13 @@ def measure_plain(bench: Bench, seed: int) -> None:
         table.row("instructions a step of the build by cargo", instructions_a_step(built))
 
 
-PARTS = {"peer": measure_peer, "searches": measure_searches, "plain": measure_plain}
+PARTS = {
+    "limit": measure_limit,
+    "around": measure_around,
+    "peer": measure_peer,
+    "searches": measure_searches,
+    "plain": measure_plain,
+}
 
 
 def main() -> int:

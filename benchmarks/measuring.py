@@ -5,8 +5,6 @@ Importing it puts the tests' `support` and the package on the path.
 
 from __future__ import annotations
 
-from __future__ import annotations
-
 import argparse
 import os
 import pathlib
@@ -30,14 +28,15 @@ def make(target: str, path: str) -> pathlib.Path:
 
 
 def use_library() -> None:
-    """Let the package of the repository, here and in processes, use the library that is built."""
-    os.environ["BB_LIBRARY"] = str(make("library", "crates/bb_c/out/libbb.so"))
+    """Let the package of the repository, here and in processes, use the library that is built, or BB_LIBRARY."""
+    if "BB_LIBRARY" not in os.environ:
+        os.environ["BB_LIBRARY"] = str(make("library", "crates/bb_c/out/libbb.so"))
     os.environ["PYTHONPATH"] = str(SOURCE)
 
 
-def list_machines(states: int) -> bytes:
-    """Return the list of all machines of so many states in tree normal form."""
-    command = [str(make("lister", "tools/out/tree_normal_form")), "--states", str(states)]
+def list_machines(states: int, *words: str) -> bytes:
+    """Return the list of all machines of so many states in tree normal form; more words are passed on."""
+    command = [str(make("lister", "tools/out/tree_normal_form")), "--states", str(states), *words]
     return subprocess.run(command, stdout=subprocess.PIPE, check=True).stdout
 
 
@@ -124,6 +123,12 @@ class Table:
         """Print a time, and each other one with how many times it the first is."""
         pairs = ["%.3f s | %.2f" % (beside, seconds / beside) for beside in besides]
         print("| %s | %.3f s | %s |" % (what, seconds, " | ".join(pairs)), flush=True)
+
+    def beside(self, what: str, figure: float, others: Sequence[float | None], bar: float) -> None:
+        """Print a figure, each other one with its ratio to it, and the bar of the last ratio that there is."""
+        ratios = [figure / other for other in others if other]
+        pairs = ["%.3g | %.2f" % (other, figure / other) if other else " | " for other in others]
+        self.row("%s | %.3g | %s" % (what, figure, " | ".join(pairs[:-1])), pairs[-1], ratios[-1], bar)
 
     def row(self, what: str, figure: str, value: float = 0, bar: float | None = None) -> None:
         """Print a figure in words; with a bar, its value must be at most that."""

@@ -32,7 +32,7 @@ from support.page_times import PAUSE, end, traced_views, views
 from support.program import FOUR, MOST, words_of_plan
 from support.runs import WHERE, interrupt
 
-MODULE_BYTES, PAGE_BYTES, MEGABYTE = 105_472, 288_768, 1_000_000
+MODULE_BYTES, PAGE_BYTES, MEGABYTE = 108_544, 294_912, 1_000_000
 TRACED_LINES, SHORT_LINES, REPORTED, LISTS = 1_000, 1_000_000, 1_000, 1_000
 FOUR_STATES = "858,909 machines of four states"
 # Has the page write down how long it takes from the choice of a file until all of it is answered and shown.

@@ -94,38 +94,51 @@ class Bench:
         return found
 
 
-def measure_bars(bench: Bench) -> None:
-    """Print each bar with its figure."""
+def measure_run(bench: Bench, others: Ways = {}) -> dict[str, float]:
+    """Print what `budlarem run` takes beside the program, without the start of Python; return all times."""
     limits, table, words, given = ROWS[0], bench.table, options(ROWS[0]), bench.case.list
-    decide, check = [bench.program, "decide", *words], [bench.program, "check", *words]
-    split = ["split", "-n", "l/%d" % bench.threads, given.name, "part-"]
-    subprocess.run(split, cwd=given.parent, check=True)
-    parts = [(decide, part, part.with_suffix(".out")) for part in sorted(given.parent.glob("part-*"))]
     decided = given.with_name("decided")
-    run((decide, given, decided))
+    run(([bench.program, "decide", *words], given, decided))
     many = ["--threads", str(bench.threads)]
     ways = {
         "program": lambda: bench.decide(limits),
+        "one": lambda: bench.run(limits, "--threads", "1"),
         "one, checked": lambda: bench.run(limits, "--threads", "1", "--check"),
         "several, checked": lambda: bench.run(limits, *many, "--check"),
         "several": lambda: bench.run(limits, *many),
-        **bench.by_parallel(limits),
     }
-    others = {
+    apart = {
         "start": lambda: bench.run(limits, given=os.devnull),
-        "check": lambda: run((check, decided, NULL)),
-        "processes": lambda: run(*parts),
+        "check": lambda: run(([bench.program, "check", *words], decided, NULL)),
     }
-    found = bench.least(limits, ways, others)
-    one, several, deciding = (found[name] - found["start"] for name in list(ways)[1:4])
-    work = found["one, checked; processor"] - found["start; processor"]
+    found = bench.least(limits, {**ways, **others}, apart)
+    for name in list(ways)[1:]:
+        for column in ("", "; processor"):
+            found[name + column] -= found["start" + column]
+    table.head("`budlarem run` beside the program, %d threads, without the start of Python" % bench.threads)
+    one, checked = found["one; processor"], found["one, checked; processor"]
     alone = found["program; processor"] + found["check; processor"]
-    table.head("%d workers, without the start of Python" % bench.threads)
-    table.ratio("one worker, checked, beside the program; processor", work, alone, 1.3)
-    table.ratio("several workers beside one, checked: at least three times as fast", several, one, 1 / 3)
+    table.ratio("one worker; processor", one, found["program; processor"], 1.15)
+    table.ratio("one worker, checked; processor", checked, alone, 1.3)
     both = found["program"] + found["check"]
-    table.ratio("several workers beside the program, checked", several, both, 0.4)
-    table.ratio("deciding beside as many processes", deciding, found["processes"], 1.7)
+    table.ratio("several workers, checked", found["several, checked"], both, 0.33)
+    table.ratio("one worker, checked", found["one, checked"], both)
+    return found
+
+
+def measure_bars(bench: Bench) -> None:
+    """Print each bar with its figure."""
+    limits, table, given = ROWS[0], bench.table, bench.case.list
+    decide = [bench.program, "decide", *options(limits)]
+    split = ["split", "-n", "l/%d" % bench.threads, given.name, "part-"]
+    subprocess.run(split, cwd=given.parent, check=True)
+    parts = [(decide, part, part.with_suffix(".out")) for part in sorted(given.parent.glob("part-*"))]
+    found = measure_run(bench, bench.by_parallel(limits))
+    processes = min(run(*parts).clock for _ in range(table.runs))
+    one, several, deciding = (found[name] for name in ("one, checked", "several, checked", "several"))
+    table.head("%d workers, without the start of Python" % bench.threads)
+    table.ratio("several workers beside one, checked: at least three times as fast", several, one, 1 / 3)
+    table.ratio("deciding beside as many processes", deciding, processes, 1.7)
     table.ratio("deciding beside GNU parallel", deciding, found["GNU parallel"], 1.0)
 
 

@@ -1,5 +1,6 @@
 """Random machines: the checker confirms each verdict, larger limits lose none, and a plain program agrees."""
 
+import pathlib
 import random
 import re
 import subprocess
@@ -13,6 +14,7 @@ from support.simulation import decide_confirmed
 
 KINDS = {"halt", "cycler", "translated", "backward", "undecided"}
 BATCH = 100
+CPU_FACTS = pathlib.Path("/proc/cpuinfo")
 
 
 def is_kept(before: str, after: str) -> bool:
@@ -54,6 +56,8 @@ def peer(tmp_path_factory: pytest.TempPathFactory) -> str:
 def limit(request: pytest.FixtureRequest, tmp_path_factory: pytest.TempPathFactory) -> str:
     """The plain Rust program for speed alone; with `flat` its runs leave the tape of one word at once."""
     require("rustc")
+    if "avx2" not in (facts := CPU_FACTS.read_text(encoding="utf-8")) or "bmi2" not in facts:
+        pytest.skip("this processor has no AVX2 or BMI2")
     return build_peer(tmp_path_factory.mktemp("limit"), "limit", "--cfg", request.param)
 
 

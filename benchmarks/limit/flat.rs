@@ -1,13 +1,15 @@
 //! A flat tape of any width, of which 64 cells are in registers at a time.
 
-use crate::registers::Registers;
+use crate::registers::{Registers, Step};
 use crate::search::{End, Tape};
-use crate::table::{RIGHT, STATE};
+use crate::table::{STATE, Table};
 use crate::{Limits, Verdict};
 use std::ops::RangeInclusive;
 
 /// How many cells a word of the tape has. The window in registers has two words.
 const WORD: usize = 32;
+/// The cells of a window that a run leaves at once: none but the second step of a pair leads beyond them.
+const EDGE: u64 = 3 << 62 | 3;
 /// A state that no entry has, and a cell that no run comes to.
 const NO_STATE: u64 = 63;
 const NO_CELL: usize = usize::MAX;
@@ -27,7 +29,6 @@ struct Record {
 /// A tape, the kept configurations, and a run. Cells are blank outside those from `low` to `high`, where
 /// the head was.
 pub struct Flat {
-    run: Registers,
     cells: Cells,
     kept: Cells,
     kept_cell: usize,
@@ -92,7 +93,6 @@ impl Flat {
         let start = (most_cells / WORD + 3) * WORD;
         let words = 2 * start / WORD + 3;
         Flat {
-            run: Registers::start(1 << WORD),
             cells: Cells(vec![0; words]),
             kept: Cells(vec![0; words]),
             kept_cell: NO_CELL,
@@ -118,7 +118,6 @@ impl Flat {
         self.word = self.start / WORD - 1;
         self.low = self.start;
         self.high = self.start;
-        self.run = Registers::start(1 << WORD);
     }
 
     /// The words in which the head was.
@@ -126,51 +125,30 @@ impl Flat {
         self.low / WORD..=self.high / WORD
     }
 
-    /// The cell of the head.
-    fn cell(&self) -> usize {
-        self.word * WORD + self.run.head.trailing_zeros() as usize
-    }
-
     /// Writes the window back to the tape.
-    fn store(&mut self) {
-        self.cells.0[self.word] = self.run.tape as u32;
-        self.cells.0[self.word + 1] = (self.run.tape >> WORD) as u32;
+    fn store(&mut self, tape: u64) {
+        self.cells.0[self.word] = tape as u32;
+        self.cells.0[self.word + 1] = (tape >> WORD) as u32;
     }
 
-    /// Moves the window by a word to where the head has left it, which is in its middle then.
-    fn move_window(&mut self) {
-        self.store();
-        if self.run.entry & RIGHT != 0 {
-            self.word += 1;
-            self.run.head = 1 << WORD;
-        } else {
-            self.word -= 1;
-            self.run.head = 1 << (WORD - 1);
-        }
-        let first = self.word * WORD;
-        let (low, high) = (self.low.max(first) - first, self.high.min(first + 63) - first);
-        self.run.tape = self.cells.window(self.word);
-        self.run.known = !0 << low & !0 >> (63 - high);
-        self.run.kept_tape = self.kept.window(self.word);
-        self.run.kept_head = match self.kept_cell.wrapping_sub(first) {
-            bit if bit < 64 => 1 << bit,
-            _ => 0,
-        };
+    /// Notes the cells where the head was.
+    fn note(&mut self, run: &mut Registers) {
+        self.right.farthest = self.right.farthest.min(self.cell(run.visited));
+        let last = 63 - run.visited.leading_zeros() as usize;
+        self.left.farthest = self.left.farthest.max(self.word * WORD + last);
+        run.visited = run.head;
     }
 
-    /// Notes how far from each side the head was.
-    fn note_visited(&mut self) {
-        let (first, visited) = (self.word * WORD, self.run.visited);
-        let (least, greatest) = (visited.trailing_zeros(), 63 - visited.leading_zeros());
-        self.right.farthest = self.right.farthest.min(first + least as usize);
-        self.left.farthest = self.left.farthest.max(first + greatest as usize);
+    /// The cell of a bit of the window.
+    fn cell(&self, bit: u64) -> usize {
+        self.word * WORD + bit.trailing_zeros() as usize
     }
 
     /// Compares the record just made with the kept one of its side, and keeps it where its distance from
     /// the start is a power of two. Returns the verdict where both agree.
-    fn record(&mut self, step: u64) -> Option<Verdict> {
-        self.store();
-        let (cell, words, state) = (self.cell(), self.words(), self.run.entry & STATE);
+    fn record(&mut self, cell: usize, step: &Step) -> Option<Verdict> {
+        self.store(step.tape);
+        let (words, state, number) = (self.words(), step.entry & STATE, step.number);
         let (side, kept) = if cell > self.start {
             ('R', &mut self.right)
         } else {
@@ -179,13 +157,13 @@ impl Flat {
         if kept.state == state {
             if let Some(length) = kept.agreement(&self.cells, cell) {
                 let shift = cell.abs_diff(kept.cell);
-                return Some(Verdict::Translated((side, kept.step, step, shift, length)));
+                return Some(Verdict::Translated((side, kept.step, number, shift, length)));
             }
         }
         if cell.abs_diff(self.start).is_power_of_two() {
             kept.cells.0[words.clone()].copy_from_slice(&self.cells.0[words]);
             kept.state = state;
-            kept.step = step;
+            kept.step = number;
             kept.cell = cell;
             kept.farthest = cell;
         }
@@ -194,37 +172,43 @@ impl Flat {
 }
 
 impl Tape for Flat {
-    #[inline(always)]
-    fn run(&mut self) -> &mut Registers {
-        &mut self.run
+    fn start(&self) -> Registers {
+        let mut run = Registers::start(1 << WORD);
+        run.unseen |= EDGE;
+        run
     }
 
-    fn keep(&mut self) {
-        self.store();
+    fn open<const CYCLES: bool, const RECORDS: bool>(
+        &mut self,
+        _: &mut Registers,
+        _: &Table,
+        _: &Limits,
+    ) -> Result<u64, End> {
+        Ok(0)
+    }
+
+    fn keep(&mut self, run: &mut Registers) {
+        self.store(run.tape);
         let words = self.words();
         self.kept.0[words.clone()].copy_from_slice(&self.cells.0[words]);
-        self.kept_cell = self.cell();
-        self.run.keep();
+        self.kept_cell = self.cell(run.head);
+        run.keep();
     }
 
-    fn is_same(&mut self) -> bool {
-        if !self.run.is_kept() {
-            return false;
-        }
-        self.store();
+    fn is_same(&mut self, run: &Registers) -> bool {
+        self.store(run.tape);
         let words = self.words();
         self.cells.0[words.clone()] == self.kept.0[words]
     }
 
-    fn enter<const RECORDS: bool>(&mut self, step: u64, limits: &Limits) -> Result<(), End> {
-        if RECORDS {
-            self.note_visited();
-        }
-        if self.run.head == 0 {
-            self.move_window();
-        }
-        self.run.visited = self.run.head;
-        let cell = self.cell();
+    fn enter<const RECORDS: bool>(
+        &mut self,
+        run: &mut Registers,
+        step: &Step,
+        limits: &Limits,
+    ) -> Result<(), End> {
+        let cell = self.cell(step.cell);
+        self.note(run);
         if self.low <= cell && cell <= self.high {
             return Ok(());
         }
@@ -233,17 +217,44 @@ impl Tape for Flat {
         }
         self.low = self.low.min(cell);
         self.high = self.high.max(cell);
-        self.run.known |= self.run.head;
+        run.unseen &= !step.cell | EDGE;
         if RECORDS {
-            if let Some(found) = self.record(step) {
+            if let Some(found) = self.record(cell, step) {
                 return Err(Some(found));
             }
         }
         Ok(())
     }
 
-    fn score(&mut self) -> u64 {
-        self.store();
+    /// Moves the window by a word where the head is at its edge, which is in its middle then.
+    fn center(&mut self, run: &mut Registers) {
+        if run.head & EDGE == 0 {
+            return;
+        }
+        self.note(run);
+        self.store(run.tape);
+        if run.head >> WORD != 0 {
+            self.word += 1;
+            run.head >>= WORD;
+        } else {
+            self.word -= 1;
+            run.head <<= WORD;
+        }
+        run.visited = run.head;
+        let first = self.word * WORD;
+        let (low, high) = (self.low.max(first) - first, self.high.min(first + 63) - first);
+        run.tape = self.cells.window(self.word);
+        run.first_tape = run.tape;
+        run.unseen = !(!0 << low & !0 >> (63 - high)) | EDGE;
+        run.kept_tape = self.kept.window(self.word);
+        run.kept_head = match self.kept_cell.wrapping_sub(first) {
+            bit if bit < 64 => 1 << bit,
+            _ => 0,
+        };
+    }
+
+    fn score(&mut self, tape: u64) -> u64 {
+        self.store(tape);
         self.cells.0[self.words()]
             .iter()
             .map(|word| word.count_ones() as u64)

@@ -1,12 +1,13 @@
 //! The limit beside the yardstick of `measure.py`: what plain Rust can do where nothing but time counts.
 //!
 //! It takes the words of `peer` for one run and writes the same bytes, for machines of two symbols and up to
-//! seven states. A machine's table is two words. A tape of up to 63 cells is one word and the head one bit, so
-//! that a step takes registers alone, and configurations are compared exactly. A run that needs more cells
-//! begins again on a flat tape, of which 64 cells at a time are in registers. One count of steps ends both at
-//! the limit and at the next power of two. The tree of what could come before a halt is that of `peer`, and
-//! so is the column of a refusal. It proves nothing, and is no part of the program. Build it by
-//! `rustc -O -C codegen-units=1 main.rs`, as `peer`.
+//! seven states. A machine's table is two words. A tape of up to 62 cells is one word and the head one bit, and
+//! configurations are compared exactly. A step is twelve instructions without a branch, in assembly; steps are
+//! made in pairs, with one look at what came up. The first 32 steps are made without a count, and looked at for
+//! a cycle after them. A run that needs more cells begins again on a flat tape, of which 64 cells at a time are
+//! in registers. A line is read 64 bytes at once. A tree is refused at a node that has an endless path before
+//! it. The column of a refusal is that of `peer`, and so is a tree of more than 64 levels. It proves nothing,
+//! and is no part of the program. It takes x86-64 with AVX2 and BMI2.
 
 #[path = "../peer/machine.rs"]
 #[allow(dead_code)]
@@ -20,6 +21,7 @@ mod registers;
 mod search;
 mod table;
 mod text;
+mod tree;
 
 use flat::Flat;
 use machine::Machine;
@@ -30,7 +32,8 @@ use std::io;
 use std::process::ExitCode;
 use table::Table;
 use text::{Answers, Lines};
-use walk::{Frame, backward};
+use tree::{Node, Open};
+use walk::Frame;
 
 /// Two records that agree: their side and steps, how far the two are apart, and how many cells agree.
 pub type Translated = (char, u64, u64, usize, usize);
@@ -88,6 +91,7 @@ struct Room {
     flat: Flat,
     known: Vec<u8>,
     frames: Vec<Frame>,
+    path: Vec<Node>,
 }
 
 impl Room {
@@ -96,14 +100,18 @@ impl Room {
             flat: Flat::new(limits.cells),
             known: vec![0; 2 * limits.depth + 1],
             frames: Vec::with_capacity(limits.depth),
+            path: Vec::with_capacity(limits.depth.min(64)),
         }
     }
 
-    /// The verdict of one run that is watched for cycles, for records, or for both.
+    /// The verdict of one run.
     #[inline(always)]
     fn run<const CYCLES: bool, const RECORDS: bool>(&mut self, table: &Table, limits: &Limits) -> Verdict {
-        let narrow = search::<_, CYCLES, RECORDS>(&mut Narrow::start(), table, limits);
-        narrow.unwrap_or_else(|| self.run_wide::<CYCLES, RECORDS>(table, limits))
+        match search::<_, CYCLES, RECORDS>(&mut Narrow::new(), table, limits) {
+            Ok(()) => Verdict::NoSteps,
+            Err(Some(verdict)) => verdict,
+            Err(None) => self.run_wide::<CYCLES, RECORDS>(table, limits),
+        }
     }
 
     /// The same on the flat tape.
@@ -114,19 +122,23 @@ impl Room {
         limits: &Limits,
     ) -> Verdict {
         self.flat.restart();
-        search::<_, CYCLES, RECORDS>(&mut self.flat, table, limits).expect("a flat tape is wide enough")
+        match search::<_, CYCLES, RECORDS>(&mut self.flat, table, limits) {
+            Ok(()) => Verdict::NoSteps,
+            Err(verdict) => verdict.expect("a flat tape is wide enough"),
+        }
     }
 
     /// The verdict of the tree, or that of the run where it finds nothing.
     #[inline(never)]
-    fn backward(&mut self, line: &[u8], limits: &Limits, open: Verdict) -> Verdict {
-        let Ok(machine) = Machine::read(line) else {
-            return open;
+    fn backward(&mut self, table: &Table, line: &[u8], limits: &Limits, open: Verdict) -> Verdict {
+        let found = match tree::backward(table, line.len() / 7 + 1, limits, &mut self.path) {
+            Ok(found) => Some(found),
+            Err(Open::Undecided) => None,
+            Err(Open::Deep) => Machine::read(line)
+                .ok()
+                .and_then(|machine| walk::backward(&machine, limits, &mut self.known, &mut self.frames)),
         };
-        match backward(&machine, limits, &mut self.known, &mut self.frames) {
-            Some((levels, nodes)) => Verdict::Backward { levels, nodes },
-            None => open,
-        }
+        found.map_or(open, |(levels, nodes)| Verdict::Backward { levels, nodes })
     }
 }
 
@@ -140,7 +152,7 @@ fn decide<const CYCLES: bool, const RECORDS: bool>(limits: &Limits) -> io::Resul
         if let Some((table, length)) = Table::read(line) {
             let mut verdict = room.run::<CYCLES, RECORDS>(&table, limits);
             if limits.backward && matches!(verdict, Verdict::NoSteps | Verdict::NoCells) {
-                verdict = room.backward(&line[..length], limits, verdict);
+                verdict = room.backward(&table, &line[..length], limits, verdict);
             }
             answers.add(line, length, &verdict)?;
             lines.pass(length);

@@ -11,7 +11,9 @@ const BLOCK: usize = 1 << 16;
 /// More than an answer has beside its machine.
 const LONGEST_ANSWER: usize = 128;
 /// The digits of numbers below this one are listed.
-const LISTED: usize = 1_000;
+const LISTED: u64 = 10_000;
+/// Where a listed number has its length.
+const LENGTH_AT: u32 = 56;
 
 /// A list that is read block by block.
 pub struct Lines<R> {
@@ -90,28 +92,32 @@ impl<R: Read> Lines<R> {
     }
 }
 
+/// A space and the digits of a number, and how many bytes these are.
+fn digits_of(number: u64) -> u64 {
+    let (mut text, mut length, mut rest) = (0, 0, number);
+    while length == 0 || rest != 0 {
+        text = text << 8 | b'0' as u64 + rest % 10;
+        (length, rest) = (length + 1, rest / 10);
+    }
+    text << 8 | b' ' as u64 | (length + 1) << LENGTH_AT
+}
+
 /// Answers that are written block by block.
 pub struct Answers<W> {
     writer: W,
     buffer: Vec<u8>,
     to: usize,
     /// The digits of each listed number behind a space, and how many bytes these are.
-    digits: Vec<([u8; 4], usize)>,
+    digits: Vec<u64>,
 }
 
 impl<W: Write> Answers<W> {
     pub fn new(writer: W) -> Answers<W> {
-        let digits = (0..LISTED).map(|number| {
-            let text = format!(" {number}");
-            let mut bytes = [0; 4];
-            bytes[..text.len()].copy_from_slice(text.as_bytes());
-            (bytes, text.len())
-        });
         Answers {
             writer,
             buffer: vec![0; BLOCK + SIGHT + LONGEST_ANSWER],
             to: 0,
-            digits: digits.collect(),
+            digits: (0..LISTED).map(digits_of).collect(),
         }
     }
 
@@ -150,10 +156,10 @@ impl<W: Write> Answers<W> {
         self.buffer[self.to..self.to + LENGTH].copy_from_slice(words);
         self.to += LENGTH;
         for number in numbers {
-            if *number < LISTED as u64 {
-                let (bytes, length) = self.digits[*number as usize];
-                self.buffer[self.to..self.to + 4].copy_from_slice(&bytes);
-                self.to += length;
+            if *number < LISTED {
+                let digits = self.digits[*number as usize];
+                self.buffer[self.to..self.to + 8].copy_from_slice(&digits.to_le_bytes());
+                self.to += (digits >> LENGTH_AT) as usize;
             } else {
                 self.long_number(*number);
             }

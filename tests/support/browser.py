@@ -290,6 +290,13 @@ class Page(contextlib.ExitStack):
         """Return the seconds from a turn of the wheel in the focused diagram until it is drawn again."""
         return self.time_drawing("canvas.focus({ preventScroll: true });" + WHEEL, notches, right, down)
 
+    def resize(self, width: int) -> View:
+        """Give the window a width, or its own with 0; return the view of the diagram drawn again."""
+        metrics = {"width": width, "height": 900 * bool(width), "deviceScaleFactor": 0, "mobile": False}
+        self.command("Emulation.setDeviceMetricsOverride", **metrics)
+        time.sleep(0.3)
+        return self.wait_until_drawn()
+
     def size(self) -> tuple[int, int]:
         return self.get("diagram", "clientWidth"), self.get("diagram", "clientHeight")
 

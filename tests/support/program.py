@@ -33,6 +33,9 @@ ROWS += [(100, 64, 20, 100), (1_000, 64, 20, 100), (1_000, 599, 300, 1_000), (10
 # Limits by name: of the list of all machines of four states, and the greatest.
 FOUR = {"steps": 200, "cells": 256, "depth": 20, "nodes": 1_000}
 MOST = dict(zip(LIMITS, GREATEST))
+# Options of rustc for `benchmarks/limit`: the processor, and the layout of the program's code.
+LIMIT_OPTIONS = ["target-cpu=x86-64-v3"]
+LIMIT_OPTIONS += ["llvm-args=-x86-branches-within-32B-boundaries", "llvm-args=-align-loops=32"]
 # Each machine of whole lists that leads to others halts within so many steps.
 LIST_STEPS = 200
 LIST_LIMITS = ["--steps=200", "--cells=512", "--depth=40", "--nodes=1000"]
@@ -166,9 +169,14 @@ def decide_machines(program: str, machines: Sequence[str], *words: str) -> list[
 
 
 def build_peer(folder: pathlib.Path, name: str, *words: str) -> str:
-    """Build a plain Rust program of the benchmarks, and return its path. It takes rustc 1.65 or later."""
+    """Build a plain Rust program of the benchmarks, and return its path. It takes rustc 1.65 or later.
+
+    `limit` has the program's layout of branches and loops, for a processor with AVX2 and BMI2.
+    """
     source, built = TOP / "benchmarks" / name / "main.rs", str(folder / name)
-    subprocess.run(["rustc", "-O", "-C", "codegen-units=1", *words, "-o", built, str(source)], check=True)
+    options = ["codegen-units=1", *(LIMIT_OPTIONS if name == "limit" else [])]
+    flags = [word for option in options for word in ("-C", option)]
+    subprocess.run(["rustc", "-O", "--edition=2021", *flags, *words, "-o", built, str(source)], check=True)
     return built
 
 

@@ -21,8 +21,6 @@ Same = Callable[[str, Plan, bytes], bytes]
 LISTS = list(read_examples("decide", "check"))
 slow = pytest.mark.slow
 each_way = pytest.mark.parametrize("same", ["engine", "tab"], indirect=True)
-# The size of the module; exact repetition is a fifth of it.
-MOST_BYTES = 108_544
 SMALL = {"steps": 100, "cells": 64, "depth": 20, "nodes": 100}
 REFUSED_LIMITS = (
     "--steps 1000000000001, --cells 0, --cells 67108865, --depth 10001, --nodes 1000000000001, --cells 598, "
@@ -45,8 +43,10 @@ MEMORY = 64 * 65_536
 CALLS = ("decide", "check", "recurrence", "trace")
 
 
-def test_size(module: pathlib.Path) -> None:
-    assert module.stat().st_size <= MOST_BYTES
+# Exact repetition is a fifth of the module.
+@pytest.mark.parametrize("built, most_bytes", [("module", 108_544), ("page", 294_912)])
+def test_size(request: pytest.FixtureRequest, built: str, most_bytes: int) -> None:
+    assert request.getfixturevalue(built).stat().st_size <= most_bytes
 
 
 @pytest.fixture
@@ -63,10 +63,10 @@ def test_example(same: Same, example: Example) -> None:
 
 
 @each_way
-@pytest.mark.parametrize("is_on", [True, False])
-def test_first_list_of_the_readme(same: Same, is_on: bool) -> None:
+def test_first_list_of_the_readme(same: Same) -> None:
     """By all deciders, and by simulation alone."""
-    same("decide", dict.fromkeys(SWITCHES, is_on), README)
+    for is_on in (True, False):
+        same("decide", dict.fromkeys(SWITCHES, is_on), README)
 
 
 @pytest.mark.parametrize(
@@ -113,15 +113,17 @@ def test_four_states(engine: Engine, four_states: list[str]) -> None:
 
 
 @pytest.mark.slow
+@each_way
 @pytest.mark.parametrize("name", ["decide", "check"])
-def test_noise(engine: Engine, rng: random.Random, name: str) -> None:
-    """Random bytes, lists without a final newline, and a line of 10 MB."""
-    for length in (0, 1, 2, 100, 10_000, 100_000):
+def test_noise(same: Same, rng: random.Random, name: str) -> None:
+    """Random bytes, invalid UTF-8, lists without a final newline, lines of 10 MB, and one of 100 MB."""
+    for length in (1, 2, 100, 10_000, 100_000):
         noise = rng.randbytes(length)
-        engine.require_same(name, {}, noise)
-        engine.require_same(name, {}, noise + b"\n\n1RZ---")
+        same(name, {}, noise)
+        same(name, {}, noise + b"\n<img src=x onerror=alert(1)>\n\n1RZ---")
     for line in (b"1RB1LB_" * 1_500_000, b"\xff" * 10_000_000, b"1RZ--- halt 1 1" + b" " * 10_000_000):
-        engine.require_same(name, {}, line)
+        same(name, {}, line)
+    same(name, {}, b"\xff<b>\n" * 1_000_000 + b"1RB1LB_" * 14_000_000 + b"\n1RZ---\n")
 
 
 def test_recurrences(engine: Engine, bb: str, list_machines: ListMachines) -> None:
@@ -177,8 +179,7 @@ def test_wrong_numbers_and_names(engine: Engine) -> None:
 def test_greatest_limits(engine: Engine, name: str) -> None:
     given = b"1RB1LB_1LA1RZ\n1RB1LB_1LA1RZ halt 6 4\n"
     engine.require_same(name, MOST, given)
-    held = engine.call(name, MOST, given).answer["held"]
-    print("memory of %s at the greatest limits: %d MB" % (name, held // 10**6))
+    engine.require_same(name, {}, b"")
 
 
 def test_script_of_the_documentation(engine: Engine, tmp_path: pathlib.Path) -> None:
@@ -214,25 +215,21 @@ def test_memory_stays(module: pathlib.Path, tmp_path: pathlib.Path) -> None:
 
 
 @pytest.mark.parametrize("count", [5, pytest.param(100, marks=pytest.mark.slow)])
-def test_traces_of_some_rows(engine: Engine, rng: random.Random, count: int) -> None:
+def test_traces(engine: Engine, rng: random.Random, count: int) -> None:
+    """Of all rows, which name the lowest position, and of some."""
+    machines = [seldom_halting(rng, rng.randint(2, 5), rng.randint(2, 4)) for _ in range(5 * count + 25)]
+    for machine in [CHAMPION, *machines]:
+        steps = rng.randint(100, 4_000)
+        reply = engine.call("trace", {"steps": steps}, machine.encode())
+        wanted = as_lines(row.line for row in trace(engine.program, machine, steps))
+        assert reply.reply == wanted, (machine, steps)
     for machine in random_machines(count, rng):
         plan = {"steps": rng.randint(0, 200), "cells": rng.randint(1, 60)}
         rows = trace(engine.program, machine, plan["steps"], plan["cells"])
         samples = [rows[first::every] for first in range(51) for every in range(1, 51)]
         reply = engine.call("samples", {**plan, "from": 50, "every": 50}, machine.encode())
         assert reply.reply == as_lines(row.line for sample in samples for row in sample), (machine, plan)
-    print("%d machines" % count)
-
-
-@pytest.mark.parametrize("count", [50, pytest.param(500, marks=pytest.mark.slow)])
-def test_traces_name_the_lowest_position(engine: Engine, rng: random.Random, count: int) -> None:
-    machines = [seldom_halting(rng, rng.randint(2, 5), rng.randint(2, 4)) for _ in range(count)]
-    for machine in [CHAMPION, *machines]:
-        steps = rng.randint(100, 4_000)
-        reply = engine.call("trace", {"steps": steps}, machine.encode())
-        wanted = as_lines(row.line for row in trace(engine.program, machine, steps))
-        assert reply.reply == wanted, (machine, steps)
-    print("%d machines" % (count + 1))
+    print("%d machines" % (6 * count + 26))
 
 
 def test_trace_at_the_greatest_limits(engine: Engine) -> None:

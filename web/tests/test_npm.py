@@ -52,14 +52,11 @@ def test_same_bytes_again(module: object, tmp_path: pathlib.Path) -> None:
     assert one.name == other.name and one.read_bytes() == other.read_bytes()
 
 
-def test_example_of_the_documentation(bb: str, installation: pathlib.Path) -> None:
+def test_examples_of_the_pages(bb: str, installation: pathlib.Path) -> None:
     limits = ["--steps", "100000", "--cells", "4096"]
     verdicts = run_command([bb, "decide", *limits], as_lines(MACHINES)).output
     wanted = (verdicts + run_command([bb, "check", *limits], verdicts).output).decode()
     assert run(installation, documented_script("From npm's package"), MACHINES) == wanted
-
-
-def test_example_of_the_readme(bb: str, installation: pathlib.Path) -> None:
     page = (installation / "node_modules" / "budlarem" / "README.md").read_text(encoding="utf-8")
     script = "".join(line[4:] + "\n" for line in page.splitlines() if line.startswith("    "))
     wanted = run_command([bb, "decide"], as_lines(MACHINES[:1])).output.decode()

@@ -4,7 +4,6 @@ import base64
 import functools
 import http.server
 import pathlib
-import random
 import shutil
 import threading
 import time
@@ -12,26 +11,10 @@ from typing import Any
 
 import pytest
 from support import TOP
-from support.browser import ENDLESS, LONG, Page, soon
+from support.browser import Page, soon
 from support.examples import README
-from support.machines import random_machines
 from support.node import documented_script
-from support.program import FOUR, as_lines, random_plan
-
-MOST_BYTES = 294_912
-# Opens the next undecided line three times, and returns the longest time in milliseconds.
-UNDECIDED = """
-const taken = [0, 0, 0].map(() => {
-  const begun = performance.now();
-  $("open-next").click();
-  return performance.now() - begun;
-});
-return Math.max(...taken);
-"""
-
-
-def test_size(page: pathlib.Path) -> None:
-    assert page.stat().st_size <= MOST_BYTES
+from support.program import FOUR, as_lines
 
 
 def test_first_verdict_and_first_list(tab: Page) -> None:
@@ -43,26 +26,6 @@ def test_first_verdict_and_first_list(tab: Page) -> None:
     assert base64.b64decode(png).startswith(b"\x89PNG")
     assert tab.js("return performance.getEntriesByName('first verdict').length") == 1
     assert tab.rows()[-1] == ["3", "1rB1LB", "refused 2", "\u2013"]
-
-
-def test_machines_out_of_lines(tab: Page) -> None:
-    """Machines are found in other text, and lines without one are counted."""
-    tab.answer_file(b"# a list\n\n  1RB1LB_1LA1RZ # two states\n17, 1RA1RA,x\r\n1rB\nno machine\n")
-    assert tab.save() == tab.program_output("decide", {}, b"1RB1LB_1LA1RZ\n1RA1RA\n1rB\nno machine\n")
-    assert "2 decided, 0 undecided, 2 refused, 2 skipped" in tab.text("status")
-
-
-def test_example_of_the_menu(tab: Page) -> None:
-    tab.choose_example("claims")
-    assert tab.save() == (TOP / "examples" / "claims" / "expected.txt").read_bytes()
-
-
-def test_own_verdicts_are_checked(tab: Page, rng: random.Random) -> None:
-    """Saved verdict lines are detected as such."""
-    decided = tab.require_same("decide", random_plan(rng), as_lines(random_machines(200, rng)))
-    tab.plan({}, "auto")
-    tab.answer_file(decided)
-    assert "verdict lines, checked" in tab.text("status")
 
 
 @pytest.mark.parametrize(
@@ -84,35 +47,6 @@ def test_refused_limits(tab: Page, plan: dict[str, Any], sentences: list[str]) -
         shown = tab.text(name + "-range")
         assert shown.startswith(sentence) and len(shown) > len(sentence)
     assert tab.focus() == names[0]
-
-
-@pytest.mark.slow
-@pytest.mark.parametrize("name", ["decide", "check"])
-def test_noise(tab: Page, rng: random.Random, name: str) -> None:
-    """Invalid UTF-8, lines of noise, and a line of 100 MB."""
-    tab.require_same(name, {}, rng.randbytes(100_000) + b"\n<img src=x onerror=alert(1)>\n1RZ---")
-    tab.require_same(name, {}, b"\xff<b>\n" * 1_000_000)
-    tab.require_same(name, {}, b"1RB1LB_" * 14_000_000 + b"\n1RZ---\n")
-
-
-def test_stop_in_the_middle(tab: Page) -> None:
-    """Decided lines stay after a stop, and the next list runs."""
-    tab.plan(ENDLESS, "decide")
-    tab.submit_file(b"1RB1LB_1LA1RZ\n" * 40 + LONG.encode() + b"\n")
-    tab.until(lambda: tab.text("status").startswith("Running") and "40 decided" in tab.text("status"))
-    tab.click("stop")
-    assert tab.state() == "stopped"
-    assert tab.save() == b"1RB1LB_1LA1RZ halt 6 4\n" * 40
-    tab.require_same("decide", {}, README)
-
-
-def test_link_opens_a_machine(tab: Page) -> None:
-    """With its limits and switches."""
-    tab.open("#machine=1RA1RA&steps=9&cells=700&translated=off&cyclers=off&backward=off")
-    assert tab.save() == b"1RA1RA undecided steps\n"
-    tab.click("link")
-    wanted = "#machine=1RA1RA&steps=9&cells=700&cyclers=off&translated=off&backward=off"
-    assert tab.js("return location.hash") == wanted
 
 
 def test_page_of_the_documentation(browser: Page, module: pathlib.Path, tmp_path: pathlib.Path) -> None:
@@ -143,13 +77,16 @@ def test_four_states(tab: Page, four_states: list[str]) -> None:
     tab.answer_file(given, drop=True)
     taken, longest = time.monotonic() - begun, tab.js("return window.longest") / 1_000
     assert tab.save() == tab.program_output("decide", FOUR, given)
-    beside = tab.js(UNDECIDED) / 1_000
+    tab.js("window.longest = 0")
+    for _ in range(3):
+        tab.click("open-next")
+    beside = tab.js("return window.longest") / 1_000
     tab.js("window.longest = 0")
     tab.choose_option("order", "down")
     tab.until(lambda: "halt 107" in tab.text("shown") or "translated" in tab.text("shown"))
     sorting = tab.js("return window.longest") / 1_000
     print("%d lines in %.1f s; it stood still for %.3f s" % (len(four_states), taken, longest))
-    print("the next undecided line after %.3f s; still for %.3f s while it sorted" % (beside, sorting))
+    print("still for %.3f s at the next undecided lines, for %.3f s while it sorted" % (beside, sorting))
     assert max(longest, beside, sorting) < taken / 2
 
 

@@ -160,7 +160,7 @@ def test_contrasts(tab: Page) -> None:
 
 
 def test_names_and_references(tab: Page) -> None:
-    """Controls have names, and references point at existing unique ids, also while rows scroll."""
+    """Controls have names, references point at unique ids, also while rows scroll, and words fold out by key."""
     tab.open_list(*["1RA1RA"] * 500)
     nodes = [one for one in tab.command("Accessibility.getFullAXTree")["nodes"] if not one["ignored"]]
     named = [one for one in nodes if one["role"]["value"] in NAMED.split()]
@@ -173,6 +173,13 @@ def test_names_and_references(tab: Page) -> None:
     assert not tab.js(REFERENCES)
     assert tab.get("diagram", "role") == "application"
     assert tab.get("file-choose", "tagName") == "BUTTON"
+    words = "halt cycler translated backward undecided refused ok open bad over unread"
+    assert tab.js("return $$('#words dt').map((one) => one.textContent.split(' ')[0])") == words.split()
+    is_shown = "return document.querySelector('#results #words dl').checkVisibility()"
+    assert not tab.js(is_shown)
+    tab.js("document.querySelector('#words summary').id = 'words-summary'")
+    tab.press("words-summary", "\n")
+    assert tab.js(is_shown)
 
 
 def test_live_text(tab: Page) -> None:
@@ -212,21 +219,20 @@ def test_page_sends_nothing(tab: Page) -> None:
 
 
 def test_page_at_all_widths(tab: Page) -> None:
-    """A machine of 34 characters and a `translated` verdict fit at a desk, six states too, a line's number always."""
+    """A machine and its line's number are whole in each row, and a `translated` verdict at a desk."""
     tab.plan({}, "check", True)
     tab.open_list(CHAMPION + " translated R 1234 5678 12 34", "1RB1LB_1LA1RZ halt 7")
     assert not tab.js(CLIPPED)
     tab.plan({"steps": 10}, "decide")
     tab.answer_file(as_lines([SIX] * 20_000))
     for width in (390, 640, 901, 1_000, 1_280, 1_920):
-        metrics = {"width": width, "height": 900, "deviceScaleFactor": 1, "mobile": False}
-        tab.command("Emulation.setDeviceMetricsOverride", **metrics)
+        tab.resize(width)
         tab.press("rows", Keys.END)
-        assert soon(lambda: not {SIX if width >= 1_280 else "", "20,000"} & set(tab.js(CLIPPED)))
+        assert soon(lambda: not {SIX, "20,000"} & set(tab.js(CLIPPED)))
         assert tab.rows()[-1][0] == "20,000" and tab.js(WIDTH) <= width
         assert tab.get("machine", "clientWidth") > 0.42 * width - 30
         assert len(set(tab.js(NAVIGATION))) == 1
-    tab.command("Emulation.clearDeviceMetricsOverride")
+    tab.resize(0)
 
 
 @pytest.mark.slow

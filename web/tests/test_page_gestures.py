@@ -57,8 +57,11 @@ def require_cells(tab: Page) -> None:
 
 
 def test_mouse_moves_the_picture(tab: Page) -> None:
-    """The cell under the mouse stays under it."""
+    """By its first button, and the cell under the mouse stays under it."""
     before = open_near(tab)
+    moves = [("down", 2, 200, 200), ("move", -1, 200, 160), ("move", -1, 200, 120), ("up", 2, 200, 120)]
+    tab.js(EVENTS, moves)
+    assert not soon(lambda: tab.wait_until_drawn() != before, 0.5)
     high, wide = before["high"], before["wide"]
     assert before["every"] == 1 and high >= 6
     first = visible_area(tab)
@@ -82,7 +85,13 @@ def test_mouse_moves_the_picture(tab: Page) -> None:
 
 
 def test_keys_zoom_at_the_mouse(tab: Page) -> None:
-    """The description is of the view, and a click counts before the tape's row comes."""
+    """The description is of the view, and a click counts before the tape's row comes. A late row is dropped."""
+    tab.open_machine(CHAMPION, "&steps=47200000")
+    assert tab.tape_is_at("0:")
+    tab.press("tape", Keys.END, Keys.HOME)
+    assert not soon(lambda: not tab.text("tape-text").startswith("Step 0:"), 2)
+    tab.press("tape", Keys.END)
+    assert tab.tape_is_at("47,176,870: halted")
     before = tab.open_machine(CHAMPION, "&steps=47200000")
     tab.scroll_to_diagram()
     place = (before["x"] + 300.5, before["y"] + 250.5)
@@ -98,14 +107,6 @@ def test_keys_zoom_at_the_mouse(tab: Page) -> None:
     tab.go_to("40")
     assert tab.wait_until_drawn(lambda view: view["every"] == 1)["every"] == 1
     assert tab.text("place-text") == ""
-
-
-def test_other_button_moves_nothing(tab: Page) -> None:
-    before = open_near(tab)
-    tab.js(
-        EVENTS, [("down", 2, 200, 200), ("move", -1, 200, 160), ("move", -1, 200, 120), ("up", 2, 200, 120)]
-    )
-    assert not soon(lambda: tab.wait_until_drawn() != before, 0.5)
 
 
 @pytest.mark.slow

@@ -4,6 +4,7 @@ import pathlib
 import time
 from typing import Callable
 
+from support import TOP
 from support.browser import LONG, Page, soon
 from support.gestures import type_text
 from support.machines import CHAMPION, CHAMPION_OF_FOUR
@@ -47,6 +48,7 @@ def test_first_click_selects_an_example(tab: Page) -> None:
     assert list_of(tab) == "1RA1RA"
     assert select_by_click(tab) == 0
     tab.choose_example("claims")
+    assert tab.save() == (TOP / "examples" / "claims" / "expected.txt").read_bytes()
     assert select_by_click(tab) == "all"
 
 
@@ -62,18 +64,6 @@ def test_clear_empties_the_list(tab: Page) -> None:
     tab.choose_example("claims")
     tab.click("clear")
     assert tab.get("examples", "value") == ""
-
-
-def test_words_fold_out(tab: Page) -> None:
-    """The explanation of kinds and answers opens by keyboard."""
-    words = "return $$('#words dt').map((one) => one.textContent.split(' ')[0])"
-    kinds = ["halt", "cycler", "translated", "backward", "undecided", "refused"]
-    assert tab.js(words) == kinds + ["ok", "open", "bad", "over", "unread"]
-    is_shown = "return document.querySelector('#results #words dl').checkVisibility()"
-    assert not tab.js(is_shown)
-    tab.js("document.querySelector('#words summary').id = 'words-summary'")
-    tab.press("words-summary", "\n")
-    assert tab.js(is_shown)
 
 
 def test_examples_bring_their_settings(tab: Page) -> None:
@@ -99,18 +89,14 @@ def test_examples_bring_their_settings(tab: Page) -> None:
     assert settings() == usual
 
 
-def test_limits_that_are_no_numbers(tab: Page) -> None:
-    """Separators elsewhere than between groups of three digits are refused. The defaults take it back."""
+def test_limits_as_people_write_them(tab: Page) -> None:
+    """With separators between groups of three digits, or by a power of ten; others are refused."""
     for text in ["many", "1,5e3", "1,5", "1,00,000", ",100", "1 5", "1_5", "1,000 000", "1 000 00"]:
         tab.type("steps", text)
         tab.run()
         assert soon(lambda: is_refused(tab, "steps"))
         tab.click("defaults")
         assert not is_refused(tab, "steps") and "number" not in tab.text("steps-range")
-
-
-def test_limits_as_people_write_them(tab: Page) -> None:
-    """With separators between groups of three digits, or by a power of ten."""
     grouped = ("47 176 870", "47\u202f176\u202f870", "47_176_870", " +47,176,870 ")
     written = {"1e3": 1000, "1_000": 1000, "10^3": 1000, "1.5e3": 1500, "1,000": 1000}
     for text, steps in {**dict.fromkeys(grouped, 47_176_870), **written}.items():
@@ -169,17 +155,6 @@ def test_dropped_text(tab: Page) -> None:
     assert list_of(tab) == given
     tab.js(DRAG, "dragend")
     assert tab.js(DROP_TEXT, "h1") and list_of(tab) == "1RA1RA"
-
-
-def test_refused_limit_leaves_the_work_alone(tab: Page) -> None:
-    tab.run_endless("1RB1LB_1LA1RZ", LONG)
-    assert soon(lambda: tab.text("status").startswith("Running"))
-    tab.type("steps", "many")
-    tab.run()
-    assert soon(lambda: is_refused(tab, "steps"))
-    time.sleep(0.3)
-    assert tab.text("status").startswith("Running")
-    tab.click("stop")
 
 
 def test_reload_keeps_a_link_or_the_list_after_it(tab: Page) -> None:

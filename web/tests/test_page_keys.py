@@ -1,9 +1,8 @@
 """The page by keyboard alone, and the keys of the tape."""
 
-
 from support.browser import COLOUR, Page, contrast, soon
 from support.gestures import Keys, press_key, type_text
-from support.machines import CHAMPION, CHAMPION_OF_FOUR
+from support.machines import CHAMPION_OF_FOUR
 
 MACHINE = "1LB0LA_1RA---"
 # Names of the controls in focus order, before and after the verdict.
@@ -106,12 +105,3 @@ def test_keys_of_fields_and_buttons(tab: Page) -> None:
     tab.press("tape", Keys.SPACE)
     assert soon(lambda: tab.text("tape-play") == "Pause")
     tab.press("tape", Keys.SPACE)
-
-
-def test_late_row_is_dropped(tab: Page) -> None:
-    tab.open_machine(CHAMPION, "&steps=50000000")
-    assert tab.tape_is_at("0:")
-    tab.press("tape", Keys.END, Keys.HOME)
-    assert not soon(lambda: not tab.text("tape-text").startswith("Step 0:"), 2)
-    tab.press("tape", Keys.END)
-    assert tab.tape_is_at("47,176,870: halted")

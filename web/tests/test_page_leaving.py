@@ -53,20 +53,25 @@ def test_next_machine_shows_nothing_of_the_one_before(tab: Page) -> None:
 
 
 def test_slow_first_machine_hides_the_one_before(tab: Page) -> None:
-    """The focus moves to the rows, and the next list's machine is shown."""
+    """The focus moves to the rows, a refused limit leaves the work alone, and the next list's machine is shown."""
     tab.open_list("1RA1RA")
     tab.wait_until_drawn()
     tab.focus_on("copy-text")
     tab.run_endless(LONG, "1RA1RA")
     assert soon(lambda: tab.get("machine", "hidden"))
     assert tab.focus() == "rows" and tab.text("status").startswith("Running")
+    tab.type("steps", "many")
+    tab.run()
+    assert soon(lambda: tab.get("steps", "ariaInvalid") == "true")
+    time.sleep(0.3)
+    assert tab.text("status").startswith("Running")
     tab.click("stop")
     tab.open_list(HALT, plan={})
     assert not tab.get("machine", "hidden") and tab.text("machine-text") == HALT
 
 
-def test_machine_decided_again_is_left(tab: Page) -> None:
-    """Another list gets no reply for it."""
+def test_old_machines_are_left(tab: Page) -> None:
+    """Another list gets no reply for one that is decided again, nor is it replaced by the old list's."""
     tab.open_list(CHAMPION, plan={"steps": STEPS // 10}, mode="decide")
     tab.click("again")
     assert tab.text("again") == "Stop"
@@ -74,10 +79,6 @@ def test_machine_decided_again_is_left(tab: Page) -> None:
     time.sleep(3)
     assert tab.text("again") != "Stop" and "halts" not in tab.text("live")
     tab.click("stop")
-
-
-def test_new_list_stays_where_another_is_decided_again(tab: Page) -> None:
-    """Undecided lines of the old list don't replace it."""
     tab.open_list(*[CHAMPION_OF_FOUR] * 150_000, plan={"steps": 50}, mode="decide")
     tab.click("left")
     tab.type("list", "1RA1RA\n")
@@ -86,18 +87,14 @@ def test_new_list_stays_where_another_is_decided_again(tab: Page) -> None:
     assert "1 decided" in tab.text("status") and tab.get("file-shown", "hidden")
 
 
-def test_button_keeps_the_focus(tab: Page) -> None:
-    """If the page scrolls to a machine, the button that opened it keeps the focus."""
-    tab.driver.set_window_size(800, 900)
+def test_focus_of_buttons(tab: Page) -> None:
+    """It moves where the button is hidden or disabled, and stays where the page scrolls to a machine."""
+    tab.resize(800)
     tab.open_list("1RA1RA", HALT, LONG)
     require_focus(tab, "row-next", "row-next")
     press_key(tab, Keys.ENTER)
     assert soon(lambda: tab.text("machine-text") == LONG)
-    tab.driver.set_window_size(1280, 900)
-
-
-def test_hidden_button_gives_its_focus(tab: Page) -> None:
-    """The focus moves to another control when the focused button is hidden or disabled."""
+    tab.resize(0)
     tab.open_machine(HALT)
     assert tab.tape_is_at("0")
     require_focus(tab, "tape-on", "tape", 6)

@@ -2,19 +2,21 @@
 
 import gzip
 import json
+import os
 import pathlib
 import random
 import re
 import time
 from typing import Any, Sequence
 
+import budlarem
 import pytest
 from budlarem._text import LONGEST_LINE
 from budlarem.reading import Form, Skipped
 from budlarem.reading.lines import read_line
 from support import TOP
 from support.browser import Page
-from support.machines import CHAMPION, mixed_machines
+from support.machines import CHAMPION, LETTERS, Change, mixed_machines, random_machines, table_of
 from support.program import as_lines, run_command
 
 Forms = dict[str, Any]
@@ -27,6 +29,8 @@ MORE = (
     *" \t_-.,;:|#*~`'\"[](){}<>!?\\/&01LRABZHabqr=\u200b\xa0\x1b\u00e9\u2013\u2192\U0001d4b3", "---", "...", "1RB",
     "1R_", "  ", "{{TM|", "}}", "q_A: ", "https://x.org/", "tm,", "| machine |", "[[\"1RB\"", "1RB1LB_1LA1RZ",
 )  # fmt: skip
+# Each state and symbol out of order, and two machines of one normal form.
+NAMED = ["2LC1RZ0RA_0LB------_1RA1LB2RC", "1RB2LB1RZ_2LA2RB1LB", "2RB2RZ1LB_1LA2LB1RB"]
 SKIPPED = "3 skipped (empty lines, comments, code fences, rules and headers of tables)"
 
 
@@ -136,6 +140,21 @@ def test_disguised_machines_are_found(rng: random.Random, count: int) -> None:
 
 
 @pytest.mark.needs("node")
+def test_normal_forms_and_mirror_images(
+    library: pathlib.Path, rng: random.Random, monkeypatch: pytest.MonkeyPatch, count: int = 500
+) -> None:
+    monkeypatch.setitem(os.environ, "BB_LIBRARY", str(library))
+    machines = [*NAMED, *random_machines(count, rng)]
+    _, *found = read_by_page([{"machine": machine} for machine in machines])
+    assert [form for form, _ in found] == [budlarem.normal(machine).normal for machine in machines]
+    tables = list(map(table_of, machines))
+    changes = [Change(True, range(len(table)), range(len(table[0]))) for table in tables]
+    mirrored = [change.machine(machine) for change, machine in zip(changes, machines)]
+    assert [mirror for _, mirror in found] == mirrored
+    assert any(len(table) > LETTERS.index("R") for table in tables)
+
+
+@pytest.mark.needs("node")
 @pytest.mark.parametrize("change, status", [("", 0), ('"huge", ', 1)])
 def test_kinds_of_one_letter_are_refused(tmp_path: pathlib.Path, change: str, status: int) -> None:
     """When the module loads."""
@@ -184,16 +203,6 @@ def test_form_of_a_list_is_found(tab: Page, text: str, form: str, rows: list[str
     assert (SKIPPED in tab.text("status")) == text.startswith("machine")
 
 
-def test_form_of_a_list_is_chosen(tab: Page) -> None:
-    """The choice survives a reload."""
-    tab.choose_option("list-form", "machines")
-    tab.open_list("1RA1RA", "17. 1RA1RA")
-    tab.open_row(1)
-    assert "more than the machine 1RA1RA" in tab.text("machine-says")
-    tab.reload()
-    assert tab.get("list-form", "value") == "machines"
-
-
 def test_packed_lists(tab: Page, forms: Forms) -> None:
     """gzip is decompressed. Truncated files, and other encodings and formats are reported."""
     lines = b"1RB1LB_1LA1RZ\n1RA1RA\n" * 40_000
@@ -215,7 +224,7 @@ def test_packed_lists(tab: Page, forms: Forms) -> None:
 
 
 def test_refused_line(tab: Page) -> None:
-    """Its text is shown with a caret under the error, the reason and the line's number."""
+    """Its text is shown with a caret under the error, the reason, which a chosen form may be, and its number."""
     tab.open_list("# a list", "", "1RB1LB 1LA1RZ", "1RB1LH_1LA1RZ")
     first, second = tab.rows()
     assert first[1] == "1RB1LB_1LA1RZ \u2190 1RB1LB 1LA1RZ"
@@ -226,6 +235,12 @@ def test_refused_line(tab: Page) -> None:
     says = tab.text("machine-says")
     assert "H: the halting state is Z here" in says and "refused 14" in says
     assert tab.text("machine-caret").split("\n") == ["1RB1LH_1LA1RZ", "     ^"]
+    tab.choose_option("list-form", "machines")
+    tab.open_list("1RA1RA", "17. 1RA1RA")
+    tab.open_row(1)
+    assert "more than the machine 1RA1RA" in tab.text("machine-says")
+    tab.reload()
+    assert tab.get("list-form", "value") == "machines"
 
 
 def test_lines_that_are_no_verdict_lines(tab: Page) -> None:
@@ -246,7 +261,10 @@ def test_lines_that_are_no_verdict_lines(tab: Page) -> None:
 
 
 def test_each_line_is_counted_once(tab: Page) -> None:
-    """As decided, undecided, refused or skipped; the kinds have the same counts."""
+    """As decided, undecided, refused or skipped; the kinds have the same counts. Machines are found in text."""
+    tab.answer_file(b"# a list\n\n  1RB1LB_1LA1RZ # two states\n17, 1RA1RA,x\r\n1rB\nno machine\n")
+    assert tab.save() == tab.program_output("decide", {}, b"1RB1LB_1LA1RZ\n1RA1RA\n1rB\nno machine\n")
+    assert "2 decided, 0 undecided, 2 refused, 2 skipped" in tab.text("status")
     tab.open_list("1RB1LB_1LA1RZ", "1RA1RA", "no", "# c", "", CHAMPION, plan={"steps": 100})
     assert "2 decided, 1 undecided, 1 refused, 2 skipped" in tab.text("status")
     script = "return $$('#kinds button').map((one) => one.textContent)"

@@ -10,7 +10,7 @@ import pytest
 from support.browser import LONG, Page, soon
 from support.claims import with_other_number
 from support.gestures import Keys
-from support.machines import CHAMPION, CHAMPION_OF_FOUR, HALT, LATE, SWAPPED, TREE, random_machines
+from support.machines import CHAMPION, HALT, LATE, SWAPPED, TREE, random_machines
 from support.program import as_lines
 from support.traces import trace
 
@@ -122,9 +122,15 @@ def test_refuted_claims(tab: Page, rng: random.Random) -> None:
 
 
 def test_text_link_and_picture_are_copied(tab: Page) -> None:
+    """The link has the limits and switches, and opens the machine with them."""
+    tab.open("#machine=1RA1RA&steps=9&cells=700&translated=off&cyclers=off&backward=off")
+    assert tab.save() == b"1RA1RA undecided steps\n"
+    tab.click("link")
+    limits = "#machine=1RA1RA&steps=9&cells=700&cyclers=off&translated=off&backward=off"
+    assert tab.js("return location.hash") == limits
     tab.command("Browser.grantPermissions", permissions=["clipboardReadWrite"])
     tab.js(COPY)
-    tab.open_list("1RA1RA")
+    tab.open_list("1RA1RA", plan={})
     tab.wait_until_drawn()
     for name in ("copy-text", "link", "copy-png"):
         tab.click(name)
@@ -143,6 +149,11 @@ def test_keys_and_buttons_open_other_rows(tab: Page) -> None:
     assert tab.text("machine-text") == HALT
     tab.click("open-next")
     assert tab.text("machine-text") == CHAMPION
+    tab.click("kind-halt")
+    tab.click("save-shown")
+    undecided = "%s undecided steps"
+    kinds = [undecided % CHAMPION, "1RA1RA translated R 1 2 1 1", undecided % mirrored]
+    assert tab.read_download() == as_lines(kinds)
 
 
 def test_late_answers_are_dropped(tab: Page) -> None:
@@ -154,10 +165,3 @@ def test_late_answers_are_dropped(tab: Page) -> None:
     assert "Steps 0 to 100" in tab.text("diagram-text")
     assert tab.text("behind") == ""
     assert "doesn\u2019t say" in tab.text("fact-later")
-
-
-def test_kinds_are_saved_by_themselves(tab: Page) -> None:
-    tab.open_list(HALT, CHAMPION_OF_FOUR, plan={"steps": 50})
-    tab.click("kind-halt")
-    tab.click("save-shown")
-    assert tab.read_download() == b"%s undecided steps\n" % CHAMPION_OF_FOUR.encode()

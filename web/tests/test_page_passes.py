@@ -5,6 +5,7 @@ import time
 
 import pytest
 from support.browser import ENDLESS, LONG, Page
+from support.examples import README
 from support.machines import CHAMPION_OF_FOUR, HALT
 from support.program import as_lines
 
@@ -14,7 +15,7 @@ HALTS_LATE = "halts after 107 steps"
 
 
 def test_first_pass_comes_before_long_machines(tab: Page) -> None:
-    """A stop saves final verdicts, and reports the omitted ones of the first pass."""
+    """A stop saves final verdicts, and reports the omitted ones of the first pass. The next list runs."""
     tab.plan(ENDLESS, "decide")
     tab.submit_file(as_lines([LONG] * 32 + [HALT] * 6_368))
     tab.until(lambda: "Second pass" in tab.text("status"))
@@ -23,7 +24,9 @@ def test_first_pass_comes_before_long_machines(tab: Page) -> None:
     assert tab.rows()[0][2] == "undecided steps first pass"
     tab.click("stop")
     assert "omit 32 lines of the first pass" in tab.text("status")
+    assert tab.state() == "stopped"
     assert tab.save() == as_lines([HALT + " halt 6 4"] * 6_368)
+    tab.require_same("decide", {}, README)
 
 
 def test_long_machine_is_named_while_others_are_decided(tab: Page) -> None:
@@ -40,19 +43,18 @@ def test_long_machine_is_named_while_others_are_decided(tab: Page) -> None:
     assert tab.save().startswith(as_lines([HALT + " halt 6 4"] * 700))
 
 
-def test_second_pass_has_the_bytes_of_the_program(tab: Page) -> None:
-    """Also if it changes a verdict of the first pass."""
+@pytest.mark.parametrize("every", [2_000, pytest.param(100, marks=pytest.mark.slow)])
+def test_second_pass_has_the_bytes_of_the_program(tab: Page, four_states: list[str], every: int) -> None:
+    """Also if it changes a verdict of the first pass. Saved verdict lines are detected as such."""
     given = as_lines([*FOUND_LATER, CHAMPION_OF_FOUR, "no machine", "1RA1RA"] * 20)
     first = tab.program_output("decide", {"steps": 1_000}, given)
     assert first.count(b" backward ") > tab.require_same("decide", {}, given).count(b" backward ")
     assert "econd pass" not in tab.text("status") and "% done" not in tab.text("status")
     assert "first pass" not in str(tab.rows())
-
-
-@pytest.mark.parametrize("every", [2_000, pytest.param(100, marks=pytest.mark.slow)])
-def test_two_passes_over_four_states(tab: Page, four_states: list[str], every: int) -> None:
-    tab.require_same("decide", {"steps": 20_000}, as_lines(four_states[::every]))
-    print("%d machines" % len(four_states[::every]))
+    decided = tab.require_same("decide", {"steps": 20_000}, as_lines(four_states[::every]))
+    tab.plan({}, "auto")
+    tab.answer_file(decided)
+    assert "verdict lines, checked" in tab.text("status")
 
 
 @pytest.mark.slow
@@ -71,15 +73,6 @@ def test_four_states_are_decided_soon(tab: Page, four_states: list[str]) -> None
     program = time.monotonic() - begun
     print("99 %% of four states after %.1f s; the program takes %.1f s for all" % (page, program))
     assert page < program
-
-
-def test_claims_that_are_not_confirmed_are_counted(tab: Page) -> None:
-    """Refuted claims, and those over the limits, aren't counted as decided."""
-    tab.plan({"steps": 50}, "check")
-    claims = [HALT + " halt 6 4", HALT + " halt 7 4", CHAMPION_OF_FOUR + " halt 107 13"]
-    tab.open_list(*claims)
-    assert "1 decided, 0 undecided, 0 refused" in tab.text("status")
-    assert "2 not confirmed" in tab.text("status") and "1 bad, 1 over" in tab.text("status")
 
 
 def test_machine_decided_again_comes_into_its_row(tab: Page) -> None:
@@ -113,9 +106,12 @@ def test_undecided_machines_are_decided_again(tab: Page) -> None:
     assert tab.get("left", "hidden")
 
 
-def test_claim_stays(tab: Page) -> None:
-    """A checked claim is kept when its machine is decided again."""
+def test_checked_claims(tab: Page) -> None:
+    """Only confirmed ones count as decided. One is kept when its machine is decided again."""
     tab.plan({"steps": 50}, "check")
+    tab.open_list(HALT + " halt 6 4", HALT + " halt 7 4", CHAMPION_OF_FOUR + " halt 107 13")
+    assert "1 decided, 0 undecided, 0 refused" in tab.text("status")
+    assert "2 not confirmed" in tab.text("status") and "1 bad, 1 over" in tab.text("status")
     tab.open_list(CHAMPION_OF_FOUR + " undecided steps")
     tab.click("again")
     tab.until(lambda: HALTS_LATE in tab.text("machine-says"))

@@ -134,23 +134,14 @@ def test_whole_run_of_the_champion(tab: Page, engine: Engine, rng: random.Random
 
 def test_resized_window_shows_the_whole(tab: Page) -> None:
     """A chosen view stays."""
-
-    def resize(width: int) -> dict[str, float]:
-        before = tab.size()[0]
-        metrics = {"width": width, "height": 900, "deviceScaleFactor": 1, "mobile": False}
-        tab.command("Emulation.setDeviceMetricsOverride", **metrics)
-        tab.until(lambda: tab.size()[0] != before)
-        time.sleep(0.2)
-        return tab.wait_until_drawn()
-
     tab.open_machine(CHAMPION_OF_FOUR, "&steps=200")
     for width in (390, 1280):
-        resize(width)
+        tab.resize(width)
         assert "; 14 visited cells" in tab.text("diagram-text")
     tab.press("diagram", "+")
     chosen = tab.wait_until_drawn()
-    assert resize(1000)["high"] == chosen["high"]
-    tab.command("Emulation.clearDeviceMetricsOverride")
+    assert tab.resize(1000)["high"] == chosen["high"]
+    tab.resize(0)
 
 
 @pytest.mark.slow
@@ -204,8 +195,15 @@ def test_wheel_zooms_at_the_pointer(tab: Page) -> None:
 
 @pytest.mark.slow
 def test_going_to_a_step(tab: Page, engine: Engine) -> None:
-    """The diagram shows its cells, and the tape its row."""
+    """The tape plays once its row is there. The diagram shows a step's cells, and the tape its row."""
     tab.open_machine(CHAMPION, "&steps=50000000")
+    assert tab.tape_is_at("0:")
+    tab.put("tape-step", "value", "47000000")
+    shown, play = tab.js(GO_AND_PLAY)
+    assert shown.startswith("Going to step 47,000,000") and play == "Pause"
+    assert tab.tape_is_at("47,000,003:")
+    tab.click("tape-play")
+    assert tab.text("tape-play") == "Play"
     tab.go_to("47,176,860")
     tab.until(lambda: "47,176,860" in tab.text("tape-text"))
     view = tab.wait_until_drawn(lambda view: view["every"] == 1)
@@ -268,19 +266,6 @@ def test_tape_ends_where_the_cells_do(tab: Page) -> None:
         tab.press("tape", Keys.SPACE)
         assert soon(lambda: tab.text("tape-play") == "Play", 1.5)
         assert tab.get("tape-play", "disabled") and tab.tape_is_at("7:")
-
-
-@pytest.mark.slow
-def test_tape_plays_once_its_row_is_there(tab: Page) -> None:
-    """From a step whose row takes long."""
-    tab.open_machine(CHAMPION, "&steps=50000000")
-    assert tab.tape_is_at("0:")
-    tab.put("tape-step", "value", "47000000")
-    shown, play = tab.js(GO_AND_PLAY)
-    assert shown.startswith("Going to step 47,000,000") and play == "Pause"
-    assert tab.tape_is_at("47,000,003:")
-    tab.click("tape-play")
-    assert tab.text("tape-play") == "Play"
 
 
 def test_place_under_the_pointer(tab: Page) -> None:

@@ -87,7 +87,7 @@ def test_machines_without_one(tab: Page) -> None:
 
 
 def test_by_keyboard(tab: Page) -> None:
-    """The button is reached behind that of the marked steps; each shows its steps again."""
+    """The button is reached behind that of the marked steps; each shows its steps again. A phone has room."""
     open_exact(tab, LATER)
     start = int(exact_of(tab, LATER)[0])
     tab.press("marked", Keys.TAB)
@@ -96,10 +96,8 @@ def test_by_keyboard(tab: Page) -> None:
     assert tab.tape_is_at(format_number(start))
     tab.focus_on("uses")
     assert tab.focus() == "uses"
-
-
-def test_on_a_phone(phone: Page) -> None:
-    """Nothing exceeds the width, with many states and uses."""
+    tab.resize(390)
     for machine in (QUASIHALTS, LATE):
-        open_exact(phone, machine)
-        assert phone.js("return document.documentElement.scrollWidth") <= 390
+        open_exact(tab, machine)
+        assert tab.js("return document.documentElement.scrollWidth") <= 390
+    tab.resize(0)

@@ -37,8 +37,10 @@ def test_first_line_is_opened(tab: Page) -> None:
 
 
 def test_chosen_line_stays(tab: Page) -> None:
-    """In another order, and among hidden kinds for `p`."""
+    """In another order, and among hidden kinds for `p`. The open line is marked where another one is chosen."""
     tab.open_list(*LINES)
+    tab.press("rows", Keys.HOME, Keys.ARROW_DOWN)
+    assert soon(lambda: tab.js(OPEN) == LINES[:1]) and tab.js(CHOSEN) == LINES[1:2]
     tab.open_row(1)
     tab.js(ORDERS, ["down"])
     assert soon(lambda: machines(tab) != LINES)
@@ -52,39 +54,23 @@ def test_chosen_line_stays(tab: Page) -> None:
     assert is_marked(tab, LINES[3])
 
 
-def test_open_line_is_marked(tab: Page) -> None:
-    """Also where another one is chosen."""
-    tab.open_list(*LINES)
-    tab.press("rows", Keys.HOME, Keys.ARROW_DOWN)
-    assert soon(lambda: tab.js(OPEN) == LINES[:1]) and tab.js(CHOSEN) == LINES[1:2]
-
-
-def test_buttons_of_kinds_stay(tab: Page) -> None:
-    """Buttons are reused, so clicks and focus aren't lost."""
-    tab.js("window.chip = $('kind-halt')")
-    tab.open_list(HALT, HALT)
-    assert tab.js("return window.chip === $('kind-halt')")
-    assert tab.text("kind-halt") == "halt 2"
-
-
 def test_last_order_counts(tab: Page) -> None:
-    """Of two orders chosen at once."""
+    """Of two orders chosen at once. The next list opens its first line, not that of the order."""
     tab.open_list(*LINES)
     tab.js(ORDERS, ["down", "list"])
     time.sleep(1)
     assert machines(tab) == LINES
-
-
-def test_sorted_list_opens_its_first_line(tab: Page) -> None:
-    """The first of the list, not of the order."""
     tab.js(ORDERS, ["down"])
     tab.open_list("1RA1RA", HALT)
     assert soon(lambda: machines(tab) == [HALT, "1RA1RA"] and is_marked(tab, "1RA1RA"))
 
 
-def test_list_of_comments_shows_no_machine(tab: Page) -> None:
-    tab.open_list("1RA1RA")
+def test_lists_without_a_machine_or_with_one_kind(tab: Page) -> None:
+    """A list of comments shows no machine. Buttons of kinds are reused, so clicks and focus aren't lost."""
+    tab.js("window.chip = $('kind-halt')")
     tab.open_list("# nothing")
     assert soon(lambda: tab.get("machine", "hidden"))
-    tab.open_list("1RA1RA")
+    tab.open_list(HALT, HALT)
     assert not tab.get("machine", "hidden")
+    assert tab.js("return window.chip === $('kind-halt')")
+    assert tab.text("kind-halt") == "halt 2"

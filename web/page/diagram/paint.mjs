@@ -15,6 +15,8 @@ const STEPS_APART = 44;
 const POSITIONS_APART = 84;
 const LETTERED = 16;
 // The gap between a step's number and the picture, beside the arrow at the chosen step.
+// Half of the width of a 0 on an axis.
+const ZERO_PIXELS = 5;
 const NUMBER_PIXELS = 9;
 const ARROW_PIXELS = 6;
 // The length of the mark at a number, in the middle pixel of its row or column.
@@ -120,8 +122,10 @@ export class Painter {
     pen.textAlign = "center";
     for (const position of ticks(view.left, cellsPerPixel(view), area.width, POSITIONS_APART)) {
       const x = this.xOf(position) + view.wide / 2;
-      if (x > area.x + 8 && x < this.right - 14) {
-        pen.fillText(formatNumber(position), x, area.y - 11);
+      // The start is numbered also at an edge.
+      const isStart = position === 0 && x >= area.x && x < this.right;
+      if (isStart || (x > area.x + 8 && x < this.right - 14)) {
+        pen.fillText(formatNumber(position), Math.min(x, this.right - ZERO_PIXELS), area.y - 11);
         pen.fillRect(Math.floor(x), area.y - MARK_PIXELS, 1, MARK_PIXELS);
       }
     }

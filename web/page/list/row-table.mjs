@@ -11,10 +11,17 @@ import { LONGEST_SHOWN } from "../../common/text.mjs";
 import { create, byId } from "../dom.mjs";
 import { FIRST_PASS, LARGER } from "./results.mjs";
 
-// Row heights; on a phone rows have two lines.
+// Row heights; rows have two lines on a phone, and where a machine and its verdict don't fit into one.
 const ROW_PIXELS = 28;
-const PHONE_ROW_PIXELS = 48;
+const TALL_ROW_PIXELS = 48;
 const PHONE = "(max-width: 600px)";
+// The width of a character in the columns of numbers and machines, in that of verdicts, and of all else.
+const COLUMN_PIXELS = 7.44;
+const CHARACTER_PIXELS = 7.25;
+const OTHER_PIXELS = 86;
+// The least widths of the number and the verdict.
+const LEAST_NUMBER_PIXELS = 33;
+const LEAST_VERDICT_PIXELS = 120;
 // Browsers limit an element's height; longer lists scale the scroll bar.
 const MOST_PIXELS = 8_000_000;
 
@@ -34,25 +41,30 @@ export class RowTable {
     this.line = /** @type {LinePlace | null} */ (null);
     /** The line whose machine is open. */
     this.openLine = /** @type {LinePlace | null} */ (null);
-    // The characters of the longest machine so far.
+    // The characters of the longest machine so far, and the width of the longest with its verdict.
     this.widest = 0;
+    this.linePixels = 0;
     this.phone = matchMedia(PHONE);
     this.phone.addEventListener("change", () => this.onResize());
+    this.isTall = this.phone.matches;
+    this.digits = 0;
     this.box = byId("rows");
     this.box.addEventListener("scroll", () => this.onScroll());
     this.box.addEventListener("keydown", (event) => this.onKey(event));
     this.box.addEventListener("wheel", (event) => this.onWheel(event), { passive: false });
     byId("shown").addEventListener("click", (event) => this.onClick(event));
-    // The box's inner height; reading it costs a layout.
+    // The box's inner height and width; reading them costs a layout.
     this.inner = 0;
+    this.width = 0;
     new ResizeObserver(() => {
       this.inner = this.box.clientHeight;
-      this.scrollTo(this.top);
+      this.width = this.box.clientWidth;
+      this.onResize();
     }).observe(this.box);
   }
 
   get pixels() {
-    return this.phone.matches ? PHONE_ROW_PIXELS : ROW_PIXELS;
+    return this.isTall ? TALL_ROW_PIXELS : ROW_PIXELS;
   }
 
   get visibleCount() {
@@ -69,7 +81,7 @@ export class RowTable {
 
   /** Forgets the chosen line. */
   reset() {
-    Object.assign(this, { chosen: -1, gap: 0, line: null, openLine: null, top: 0, widest: 0 });
+    Object.assign(this, { chosen: -1, gap: 0, line: null, openLine: null, top: 0, widest: 0, linePixels: 0 });
   }
 
   /**
@@ -82,7 +94,8 @@ export class RowTable {
     this.rows = rows;
     this.locateChosen(results, rows, isInOrder);
     byId("spacer").style.height = `${this.height}px`;
-    this.box.style.setProperty("--digits", String(formatNumber(results.lines + results.skipped).length));
+    this.digits = formatNumber(results.lines + results.skipped).length;
+    this.box.style.setProperty("--digits", String(this.digits));
     // A full box keeps its height.
     if (fewer * this.pixels <= this.inner) this.inner = this.box.clientHeight;
     this.box.setAttribute("aria-rowcount", String(rows.length + 1));
@@ -108,7 +121,18 @@ export class RowTable {
     return this.gap + (this.chosen < 0 && by > 0 ? by - 1 : by);
   }
 
+  /** Gives rows one or two lines; returns whether that changed. */
+  fitRows() {
+    const numberPixels = Math.max(LEAST_NUMBER_PIXELS, this.digits * COLUMN_PIXELS);
+    const isTall = this.phone.matches || numberPixels + this.linePixels + OTHER_PIXELS > this.width;
+    const hasChanged = isTall !== this.isTall;
+    this.isTall = isTall;
+    this.box.classList.toggle("tall", isTall);
+    return hasChanged;
+  }
+
   onResize() {
+    this.fitRows();
     byId("spacer").style.height = `${this.height}px`;
     this.scrollTo(this.top);
   }
@@ -145,6 +169,7 @@ export class RowTable {
       drawn.set(place, this.drawnRowAt(place));
     }
     this.drawn = drawn;
+    if (this.width > 0 && this.fitRows()) return this.onResize();
     this.box.style.setProperty("--widest", String(this.widest));
     const rows = Array.from(drawn.values(), ({ element }) => element);
     if (rows.length !== box.children.length || rows.some((row, k) => row !== box.children[k])) {
@@ -186,6 +211,8 @@ export class RowTable {
     const about = { role: "row", class: "row", id: `row-${place}`, "aria-rowindex": place + 2 };
     const chosen = { "aria-selected": place === this.chosen, "aria-current": isOpen, "data-place": place };
     this.widest = Math.max(this.widest, machine.length);
+    const verdictPixels = Math.max(LEAST_VERDICT_PIXELS, verdict.text.length * CHARACTER_PIXELS);
+    this.linePixels = Math.max(this.linePixels, machine.length * COLUMN_PIXELS + verdictPixels);
     return create(
       "div",
       { ...about, ...chosen },
