@@ -15,7 +15,7 @@ from support.second_checker import COQ, Edit, build_wrong
 CHAMPIONS = {(2, 2): 6, (3, 2): 21, (2, 3): 38}
 SIZES = ((2, 2), (3, 2), (2, 3))
 WRONG = [
-    Edit(name, "Cover.v", *change)
+    Edit(name, "checker/ListChecker.v", *change)
     for name, *change in (
         ("asks for no order", "      if is_next t p M then", "      if true then"),
         ("leaves out an entry", "(S (used_states M)))) in\n  let root", "(used_states M))) in\n  let root"),
@@ -30,7 +30,7 @@ WRONG = [
 
 
 WRONG_ON_SHARDS = [
-    Edit(name, "Cover.v", *change)
+    Edit(name, "checker/ListChecker.v", *change)
     for name, *change in (
         ("takes a shard of no line", "if N.leb 1 n then if", "if true then if"),
         ("takes more undecided lines than lines", "if N.leb u n then", "if true then"),

@@ -19,7 +19,7 @@ Machine = list[list[str]]
 
 HEAD = """(** %(title)s *)
 From Coq Require Import NArith List String.
-From Budlarem Require Import Machines Answers Texts Covers Walks Cover Theorems Covered.
+From Budlarem Require Import Machines Answers LineTexts CompleteLists ShardCounts ListChecker TrueLines CoveredSize.
 %(imports)sImport ListNotations.
 
 """
