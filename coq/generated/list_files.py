@@ -7,6 +7,7 @@ wrong one fails the proof.
 
 from __future__ import annotations
 
+import dataclasses
 import functools
 import itertools
 import re
@@ -41,22 +42,16 @@ Lemma leads : leads %(task)s no_progress lines undecided place.
 Proof. exact (%(proof)s). Qed.
 
 """
-# Of a list of a whole size: no line tells of a halt past the greatest.
-TELLS = """Lemma tells : forallb (tells_at_most %(steps)d %(score)d) lines = true.
-Proof. %(proof)s. Qed.
-
-"""
-KERNEL = "vm_cast_no_check (eq_refl true)"
 BOUNDED = """Theorem bounded : forall M,
   is_machine M = true -> states M = %(states)d -> symbols M = %(symbols)d ->
   halts_within %(most_steps)d %(most_score)d M \\/ never_halts M%(or_open)s.
 Proof.
-  intros M W S K. destruct (covered M W S K) as %(cases)s.
-  exact (soon_within %(steps)d %(score)d lines M tells H).
+  intros M W S K.
+  destruct (bounded_by lines undecided place %(states)d %(symbols)d leads eq_refl M W S K) as [H|[H|H]];
+    [left; exact H|%(never)s|].
+  %(open_case)s
 Qed.
 """
-OPEN_CASES = "[H|H]; [left|right; exact H]"
-SETTLED_CASES = "[H|[H|H]]; [left|right; exact H|destruct (none_left M H)]"
 WHOLE = """Theorem covered : forall M,
   is_machine M = true -> states M = %(states)d -> symbols M = %(symbols)d ->
   halts_soon lines M \\/ never_halts M \\/ completes_one_of undecided M.
@@ -80,7 +75,7 @@ Theorem covered : forall M, is_machine M = true -> states M = %(states)d -> symb
 Proof.
   intros M W S K. destruct (covered_by lines undecided place %(states)d %(symbols)d leads eq_refl M W S K)
     as [H|[H|H]]; [left; exact H|right; left; exact H|right].
-  exact (assumed_by assumed undecided open M are_machines %(proof)s leave_open H).
+  exact (%(settle)s).
 Qed.
 %(bounded)sEnd Assumed.
 Print Assumptions covered.
@@ -108,6 +103,20 @@ Print Assumptions covered.
 
 
 @dataclass(frozen=True)
+class Counts:
+    """The counts of a place, in the order of Coq's record; no machine of a theorem's list is assumed there."""
+
+    read: int = 0
+    shards: int = 0
+    lines: int = 0
+    undecided: int = 0
+    wide: int = 0
+    assumed: int = 0
+    most_steps: int = 0
+    most_score: int = 0
+
+
+@dataclass(frozen=True)
 class Job:
     """What a theorem is asked of: the lines, the first machine of a shard, and whether there are shards."""
 
@@ -122,11 +131,14 @@ class Job:
         return self.below is None and not self.is_skeleton
 
     @functools.cached_property
-    def greatest(self) -> tuple[int, int]:
-        """The greatest steps, and the greatest score, of the halts among the lines."""
-        halts = [re.search(r" halt (\d+) (\d+)$", line) for line in self.lines]
-        found = [(int(halt[1]), int(halt[2])) for halt in halts if halt]
-        return max((steps for steps, _ in found), default=0), max((score for _, score in found), default=0)
+    def counts(self) -> Counts:
+        """The counts of all lines."""
+        return functools.reduce(add_line, self.lines, Counts())
+
+    @property
+    def bound(self) -> tuple[int, int]:
+        """The most steps of a machine that halts, and its most cells not 0: one above the greatest halt."""
+        return self.counts.most_steps + 1, self.counts.most_score + 1
 
     @property
     def task(self) -> str:
@@ -200,7 +212,7 @@ def frame_term(parent: str, child: str, is_top: bool) -> str:
     return "Frame %s %d %d [%s]" % (machine_term(parent), q, r, "; ".join(map(entry_term, ways)))
 
 
-def place_term(path: Sequence[str], following: str | None, counts: Sequence[int]) -> str:
+def place_term(path: Sequence[str], following: str | None, counts: Counts) -> str:
     """The place before a machine, below the machines that lead to it, or the place at the end."""
     frames = []
     if following is not None:
@@ -208,26 +220,38 @@ def place_term(path: Sequence[str], following: str | None, counts: Sequence[int]
         pairs = list(zip(whole, whole[1:]))
         frames = [frame_term(one, other, at == len(pairs) - 1) for at, (one, other) in enumerate(pairs)]
     stack = ";\n    ".join(frame for frame in reversed(frames) if frame)
-    counts_term = "(Counts %s)" % " ".join("%d%%N" % count for count in counts)
+    counts_term = "(Counts %s)" % " ".join("%d%%N" % count for count in dataclasses.astuple(counts))
     return "Progress (Some %s) [%s] %s" % (machine_term(path[0]), stack, counts_term)
 
 
-def count_line(counts: list[int], machine: str, verdict: str) -> None:
-    """Add a line to the counts: lines read, shards, all lines, undecided, wide."""
-    counts[0] += 1
-    if verdict.startswith("below "):
-        lines, undecided, wide = map(int, verdict.split(" ")[1:4])
-        added = (1, lines, undecided, wide)
-    else:
-        is_open = verdict in UNDECIDED
-        added = (0, 1, int(is_open), int(is_open and machine.count("---") > 1))
-    for at, more in enumerate(added, 1):
-        counts[at] += more
+def add_line(counts: Counts, line: str) -> Counts:
+    """The counts with one line more."""
+    machine, _, verdict = line.partition(" ")
+    numbers = [int(number) for number in re.findall(r"\b\d+\b", verdict)[:3]]
+    lines, undecided, wide = (
+        1,
+        int(verdict in UNDECIDED),
+        int(verdict in UNDECIDED and machine.count("---") > 1),
+    )
+    is_shard, is_halt = verdict.startswith("below "), verdict.startswith("halt ")
+    if is_shard:
+        lines, undecided, wide = numbers
+    steps, score = numbers if is_halt else (0, 0)
+    return Counts(
+        counts.read + 1,
+        counts.shards + int(is_shard),
+        counts.lines + lines,
+        counts.undecided + undecided,
+        counts.wide + wide,
+        counts.assumed,
+        max(counts.most_steps, steps),
+        max(counts.most_score, score),
+    )
 
 
 def cut(job: Job, most: int) -> Iterator[Part]:
     """The parts of a list, of at most so many lines. An incomplete list has some part or a ValueError."""
-    counts, before = [0] * 5, "no_progress"
+    counts, before = Counts(), "no_progress"
     path: list[str] = []
     least = count_defined_entries(job.lines[0].split(" ")[0])
     machines = [line.split(" ", 1)[0] for line in job.lines]
@@ -237,7 +261,7 @@ def cut(job: Job, most: int) -> Iterator[Part]:
         for line in lines:
             machine, _, verdict = line.partition(" ")
             path[count_defined_entries(machine) - least :] = [machine]
-            count_line(counts, machine, verdict)
+            counts = add_line(counts, line)
             if verdict in UNDECIDED:
                 undecided.append(machine)
         end = start + len(lines)
@@ -255,66 +279,64 @@ def texts_term(texts: Sequence[str]) -> str:
     return "lines_of [\n  %s\n]%%bytes" % ";\n  ".join('"%s"' % text for text in texts)
 
 
-def tells_text(job: Job, proof: str) -> str:
-    """The lemma that bounds the halts of some lines; nothing where some stand for shards."""
-    steps, score = job.greatest
-    return TELLS % {"steps": steps, "score": score, "proof": proof} if job.is_whole else ""
-
-
 def part_text(job: Job, part: Part) -> str:
     """The definitions and the lemma of a part."""
     first = "" if job.below is None else "Definition first : machine := %s.\n" % machine_term(job.below)
     fields = {"lines": texts_term(part.lines), "undecided": texts_term(part.undecided), "task": job.task}
-    text = first + PART % {**fields, "before": part.before, "after": part.after}
-    return text + tells_text(job, KERNEL)
+    return first + PART % {**fields, "before": part.before, "after": part.after}
 
 
 def joined_text(job: Job, names: Sequence[str]) -> str:
     """The lines of all parts, and the lemma that they lead from the beginning of the walk to its end."""
-    proof, tells = names[-1] + ".leads", names[-1] + ".tells"
+    proof = names[-1] + ".leads"
     for name in reversed(names[:-1]):
         proof = "leads_on _ _ _ _ _ _ _ _ %s.leads (%s)" % (name, proof)
-        tells = "tells_on _ _ _ _ %s.tells (%s)" % (name, tells)
     fields = {"lines": " ++ ".join(name + ".lines" for name in names), "last": names[-1], "proof": proof}
     fields["undecided"] = " ++ ".join(name + ".undecided" for name in names)
     first = "" if job.below is None else "Definition first : machine := %s.first.\n" % names[0]
-    return first + JOINED % {**fields, "task": job.task} + tells_text(job, "exact (%s)" % tells)
+    return first + JOINED % {**fields, "task": job.task}
 
 
-def bounded_text(job: Job, size: dict[str, object], left: Sequence[str], name: str) -> str:
-    """The theorem that bounds all halts of a size; `name` is that of the texts of the machines left open."""
-    steps, score = job.greatest
-    fields = dict(size, steps=steps, score=score, most_steps=steps + 1, most_score=score + 1)
-    fields["or_open"] = " \\/ completes_one_of %s M" % name if left else ""
-    fields["cases"] = OPEN_CASES if left else SETTLED_CASES
+def bounded_text(job: Job, size: dict[str, object], left: Sequence[str], settle: str) -> str:
+    """The theorem that bounds all halts of a size; `settle` is the proof for undecided machines, if assumed."""
+    steps, score = job.bound
+    fields = dict(size, most_steps=steps, most_score=score, never="right; exact H", or_open="")
+    fields["open_case"] = "destruct (none_left M H)."
+    if left:
+        fields["never"] = "right; left; exact H"
+        fields["or_open"] = " \\/ completes_one_of %s M" % ("open" if job.assumed else "undecided")
+        fields["open_case"] = "right. exact (%s)." % settle if job.assumed else "right; right; exact H."
+    elif job.assumed:
+        fields["open_case"] = "destruct (%s) as [N|N]; [right; exact N|destruct (none_left M N)]." % settle
     return BOUNDED % fields
+
+
+def settle_term(job: Job) -> str:
+    """The proof that completions of undecided machines never halt, or complete one that isn't assumed."""
+    proof = "(Forall_nil _)"
+    for number in range(len(job.assumed), 0, -1):
+        proof = "(Forall_cons _ nonhalt_%d %s)" % (number, proof)
+    return "assumed_by assumed undecided open M are_machines %s leave_open H" % proof
 
 
 def end_text(job: Job, undecided: Sequence[str]) -> str:
     """The theorem of the whole list, in which these machines are undecided."""
     groups = groups_of(job.lines[0].split(" ")[0])
-    counts = [0] * 5
-    for line in job.lines:
-        machine, _, verdict = line.partition(" ")
-        count_line(counts, machine, verdict)
     fields: dict[str, object] = {"states": len(groups), "symbols": len(groups[0])}
-    fields["counts"] = "%d %d %d" % (counts[2], counts[3], counts[4])
+    fields["counts"] = "%d %d %d" % (job.counts.lines, job.counts.undecided, job.counts.wide)
     if job.below is not None:
         return (SHARD_SKELETON if job.is_skeleton else SHARD) % fields
     if job.is_skeleton:
         return SKELETON % fields
     left = [machine for machine in undecided if machine not in set(job.assumed)]
-    fields["bounded"] = bounded_text(job, fields, left, "open" if job.assumed else "undecided")
+    fields["settle"] = settle_term(job)
+    fields["bounded"] = bounded_text(job, fields, left, settle_term(job))
     if not job.assumed:
         return WHOLE % fields
     fields["hypotheses"] = "\n".join(
         "Hypothesis nonhalt_%d : never_halts %s." % (number, machine_term(machine))
         for number, machine in enumerate(job.assumed, 1)
     )
-    proof = "(Forall_nil _)"
-    for number in range(len(job.assumed), 0, -1):
-        proof = "(Forall_cons _ nonhalt_%d %s)" % (number, proof)
-    fields["proof"] = proof
     fields["machines"] = ";\n  ".join(map(machine_term, job.assumed))
     fields["open"] = texts_term(left)
     return ASSUMED % fields

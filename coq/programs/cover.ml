@@ -1,8 +1,8 @@
 (* The program over the proved checker of lists, and not proved itself: the words, the bytes of FILE or of
    standard input, the line, and the exit status. *)
 
-let usage =
-  "usage: cover [--steps T] [--cells S] [--depth D] [--nodes N] [--below MACHINE] [--skeleton] [FILE]"
+let usage = "usage: cover [--steps T] [--cells S] [--depth D] [--nodes N] [--below MACHINE] [--skeleton]\n"
+  ^ "             [--assume FILE] [FILE]"
 
 let help = usage ^ "
 
@@ -15,6 +15,7 @@ size, and that each claim holds. Prints one line, as cover does.
   --nodes N        nodes of a tree, 0 to 1000000000000 (default: 1000000000000)
   --below MACHINE  the machine at which the walk begins (default: one with no entry)
   --skeleton       take lines that stand for shards, and add up their counts
+  --assume FILE    count the undecided lines of its machines apart: lines MACHINE nonhalt
 
 Status 0: the list covers its size; 1: it doesn't; 2: words, limits or machine were refused; 3: a fault.
 "
@@ -34,6 +35,7 @@ let numbers = [
   "--nodes", (0, 1_000_000_000_000, ref None)]
 let below = ref None
 let skeleton = ref false
+let assume = ref None
 let file = ref None
 
 let value name = let _, most, given = List.assoc name numbers in Option.value !given ~default:most
@@ -52,8 +54,12 @@ let set_number name text =
   | None -> refuse (text ^ " is no number for " ^ name)
 
 let is_option word = String.length word > 1 && word.[0] = '-'
-let takes_value name = name = "--below" || List.mem_assoc name numbers
-let set name text = if name = "--below" then set_once below name text else set_number name text
+let texts = ["--below", below; "--assume", assume]
+let takes_value name = List.mem_assoc name texts || List.mem_assoc name numbers
+let set name text =
+  match List.assoc_opt name texts with
+  | Some cell -> set_once cell name text
+  | None -> set_number name text
 let take word = if !file = None then file := Some word else refuse ("unexpected " ^ word)
 
 let rec read_words words =
@@ -110,6 +116,23 @@ let column text =
     if n < String.length text && begins_machine (String.sub text 0 (n + 1)) then grow (n + 1) else n in
   1 + grow 0
 
+(* The machines of the lines of a file; empty lines have none. *)
+let assumed_in path =
+  let refuse_line number =
+    stop 2 ("cover: line " ^ string_of_int number ^ " of the file of --assume isn't MACHINE nonhalt") in
+  let machine_in number line =
+    let at = Option.value (String.index_opt line ' ') ~default:0 in
+    if String.sub line at (String.length line - at) <> " nonhalt" then refuse_line number;
+    match Lists.machine_of (characters (String.sub line 0 at)) with
+    | Some machine -> machine
+    | None -> refuse_line number in
+  let rec read channel number found =
+    match input_line channel with
+    | exception End_of_file -> close_in channel; List.rev found
+    | "" -> read channel (number + 1) found
+    | line -> read channel (number + 1) (machine_in number line :: found) in
+  try read (open_in_bin path) 1 [] with Sys_error _ -> stop 3 "cover: read failed"
+
 let task () =
   List.iter (fun (name, _) -> check_range name) numbers;
   if 2 * value "--depth" - 1 > value "--cells" then stop 2 "cover: depth does not fit in cells";
@@ -122,7 +145,9 @@ let task () =
     | None ->
       let at = string_of_int (column text) in
       stop 2 ("cover: the text of --below is no machine: refused at column " ^ at) in
-  Lists.{ bounds; below = Option.map first !below; skeleton = !skeleton }
+  let below = Option.map first !below in
+  let assumed = match !assume with None -> [] | Some path -> assumed_in path in
+  Lists.{ bounds; below; skeleton = !skeleton; assumed }
 
 let rec read_all task channel buffer reader =
   match input channel buffer 0 (Bytes.length buffer) with

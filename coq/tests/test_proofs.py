@@ -11,17 +11,42 @@ from support.second_checker import COQ, PROGRAMS, Claims, Edit, answer, build_wr
 from support.second_checker import quick_claims, replace_once
 
 CLOSED = "Closed under the global context"
-STATED = ("Statements", "generated/TrueLines", "generated/CoveredSize")
+STATED = ("Statements", "CoqBB5", "generated/TrueLines", "generated/CoveredSize")
 # An environment in which nothing but the system's programs is found.
 PLAIN = {"PATH": "/usr/bin:/bin"}
 
 
 WRONG = [
-    Edit("compares no cells", "checker/ClaimChecker.v", "same_first (back y) (behind z) (behind y) else", "true else"),
-    Edit("compares no cells behind the head", "checker/ClaimChecker.v", "if same_cells (behind z) (behind y)", "if true"),
-    Edit("forgets the start", "checker/ClaimChecker.v", "else if matches_start b then None", "else if false then None"),
-    Edit("takes a record that is none", "checker/ClaimChecker.v", "if is_nil (ahead z) then if", "if true then if"),
-    Edit("counts a node twice", "checker/ClaimChecker.v", "(N.pred k) (match h'", "(N.pred (N.pred k)) (match h'"),
+    Edit(
+        "compares no cells",
+        "checker/ClaimChecker.v",
+        "same_first (back y) (behind z) (behind y) else",
+        "true else",
+    ),
+    Edit(
+        "compares no cells behind the head",
+        "checker/ClaimChecker.v",
+        "if same_cells (behind z) (behind y)",
+        "if true",
+    ),
+    Edit(
+        "forgets the start",
+        "checker/ClaimChecker.v",
+        "else if matches_start b then None",
+        "else if false then None",
+    ),
+    Edit(
+        "takes a record that is none",
+        "checker/ClaimChecker.v",
+        "if is_nil (ahead z) then if",
+        "if true then if",
+    ),
+    Edit(
+        "counts a node twice",
+        "checker/ClaimChecker.v",
+        "(N.pred k) (match h'",
+        "(N.pred (N.pred k)) (match h'",
+    ),
     Edit(
         "answers over to a false claim",
         "checker/LineChecker.v",
@@ -36,7 +61,12 @@ WRONG = [
         "if is_stop (zstep M z) then match run M (N.pred n) zstart with More y | Stop y => N.eqb (score y) w"
         " end else false",
     ),
-    Edit("counts the cell that a step into Z leads to", "checker/LineChecker.v", "map (map without_Z) M in", "M in"),
+    Edit(
+        "counts the cell that a step into Z leads to",
+        "checker/LineChecker.v",
+        "map (map without_Z) M in",
+        "M in",
+    ),
 ]
 
 
@@ -79,12 +109,24 @@ WORDS = {
         "Import ListNotations.",
         "Import ListNotations.\nAxiom planted : False.",
     ),
-    "parameters": ("checker/ClaimChecker.v", "Import ListNotations.", "Import ListNotations.\nParameters planted : False."),
+    "parameters": (
+        "checker/ClaimChecker.v",
+        "Import ListNotations.",
+        "Import ListNotations.\nParameters planted : False.",
+    ),
     "an admitted theorem": ("generated/TrueLines.v", "  - now apply IH.\nQed.", "Admitted."),
     "another": ("generated/CoveredSize.v", "Proof. apply flat_map_app. Qed.", "Proof. Admitted."),
     "a goal given up": ("Statements.v", "Proof. exact (Claims.check_holds M v). Qed.", "Proof. admit. Qed."),
-    "a check left out": ("checker/ListChecker.v", "Import ListNotations.", "Import ListNotations.\nUnset Guard Checking."),
-    "a context": ("proofs/WorkedLines.v", "Import ListNotations.", "Import ListNotations.\nContext (planted : False)."),
+    "a check left out": (
+        "checker/ListChecker.v",
+        "Import ListNotations.",
+        "Import ListNotations.\nUnset Guard Checking.",
+    ),
+    "a context": (
+        "proofs/WorkedLines.v",
+        "Import ListNotations.",
+        "Import ListNotations.\nContext (planted : False).",
+    ),
 }
 
 
@@ -101,7 +143,9 @@ def test_word_that_leaves_something_unproved_fails_the_build(tmp_path: pathlib.P
 def test_variable_of_no_section_fails_the_build(tmp_path: pathlib.Path) -> None:
     folder = copy_folder(tmp_path, built=True)
     replace_once(
-        folder / "generated/TrueLines.v", "Import ListNotations.", "Import ListNotations.\nVariable planted : False."
+        folder / "generated/TrueLines.v",
+        "Import ListNotations.",
+        "Import ListNotations.\nVariable planted : False.",
     )
     require_failure(folder, "local-declaration")
 
@@ -116,7 +160,11 @@ def assume_in(path: pathlib.Path, proof: str) -> None:
 @pytest.mark.parametrize(
     "file, theorem, proof",
     [
-        ("generated/TrueLines.v", "generated/TrueLines", "Proof.\n  induction lines as [|t lines IH]; simpl; [tauto|]."),
+        (
+            "generated/TrueLines.v",
+            "generated/TrueLines",
+            "Proof.\n  induction lines as [|t lines IH]; simpl; [tauto|].",
+        ),
         ("generated/CoveredSize.v", "generated/CoveredSize", "Proof. intros [A B] [C D]."),
         pytest.param(
             "proofs/Settling.v",
@@ -157,7 +205,9 @@ def test_axiom_that_no_theorem_uses_fails_the_check(tmp_path: pathlib.Path) -> N
     """The build can't see a context of a type and more; `coqchk` does."""
     folder = copy_folder(tmp_path, built=True)
     replace_once(
-        folder / "generated/TrueLines.v", "Import ListNotations.", "Import ListNotations.\nContext {A : Type} (a : A)."
+        folder / "generated/TrueLines.v",
+        "Import ListNotations.",
+        "Import ListNotations.\nContext {A : Type} (a : A).",
     )
     assert run_command(["make", "-C", str(folder)]).status == 0
     done = run_command(["make", "-C", str(folder), "check"])

@@ -1,3 +1,4 @@
+pub mod Assumption
 pub mod CommandLine
 pub mod Report
 pub mod Status
