@@ -1,7 +1,7 @@
 //! The file of machines that are assumed never to halt.
-ghost use Rattle.std.specs.Prelude.{◌≡◌, ◌≢◌, ◌↔◌, ℕ, List, IfNone, IfSome, false, true};
-ghost use Rattle.bb_lines.specs.Watched.{is_marked};
-ghost use Rattle.cover.specs.Assumption.{IsAssumption};
+ghost use Rattle.std.specs.Prelude.{◌≡◌, ◌≢◌, ◌↔◌, ℕ, List, IfNone, IfOk, IfSome, false, map, true};
+ghost use Rattle.bb_lines.specs.Watched.{is_marked, watched_inner};
+ghost use Rattle.cover.specs.Assumption.{IsAssumption, ReadsAssumed};
 
 use crate::report::machine_text;
 use bb_cert::LINE_BUFFER;
@@ -14,9 +14,6 @@ use std::alloc::{AllocError, Global};
 use std::fmt;
 use std::fmt::{Display, Formatter};
 use std::io::Read;
-
-/// What a line says after its machine.
-const WORD: &[u8] = b" nonhalt";
 
 /// The sink for the lines of the file. An empty line names no machine.
 #[derive(Drop)]
@@ -32,8 +29,10 @@ impl LineSink for AssumedLines {
     ghost use Rattle.std.specs.Prelude.{◌+◌, true};
     ghost use Rattle.std.proofs.Common.{rules};
     ghost use Rattle.bb_cert.specs.declared.verdict.line.TheConstants.{LINE_BUFFER};
+    ghost use Rattle.cover.specs.Assumption.{TookLine};
+    ghost use Rattle.cover.specs.KeptAssumption.{took_line_of_kept};
 
-    ghost took = { λ _ line sink. Unit {0} };
+    ghost took = { λ old line new. TookLine old line new };
 
     ghost keeps = { λ _ sink. Unit {0} };
 
@@ -41,7 +40,7 @@ impl LineSink for AssumedLines {
 
     ghost GROWS = { true };
 
-    ghost KEEP = { LINE_BUFFER };
+    ghost KEEP = { LINE_BUFFER + 1 };
 
     ghost keeps_at_first = { λ _. tt };
 
@@ -51,15 +50,18 @@ impl LineSink for AssumedLines {
 
     ghost keeps_few = { Prim.search rules };
 
-    ghost took_by_kept = { λ _ line sink took. tt };
+    ghost took_by_kept = { took_line_of_kept };
 
     fn bytes_kept(&self) -> usize {
-        LINE_BUFFER
+        LINE_BUFFER + 1
     }
 
     fn accept_line(&mut self, line: &[u8]) -> Result<(), AllocError> {
         self.lines = self.lines.saturating_add(1);
-        if line.is_empty() || self.wrong.is_some() {
+        if self.wrong.is_some() {
+            return Ok(());
+        }
+        if line.is_empty() {
             return Ok(());
         }
         let Some(text) = assumed_text(line) else {
@@ -76,7 +78,7 @@ fn assumed_text(line: &[u8]) -> Option<Text>
     ensures found { IfSome result (λ words. IsAssumption words.items line.now) }
     ensures none { IfNone result ((words : List ℕ) → IsAssumption words line.now → ⊥) }
 {
-    let words = line.strip_suffix(WORD)?;
+    let words = line.strip_suffix(b" nonhalt".as_slice())?;
     match Machine::read(words) {
         Ok(machine) => Some(machine_text(&machine)),
         Err(_) => None,
@@ -89,6 +91,9 @@ pub fn read_assumed<R: Read>(
     reader: &mut Watched<R>,
 ) -> Result<Result<Vec<Text>, WrongLine>, Fault>
     requires { is_marked reader.old ≡ false }
+    ensures texts { IfOk result (λ end. IfOk end (λ texts. ReadsAssumed
+        (R.remaining (watched_inner reader.old)) (R.remaining (watched_inner reader.new))
+        (map (λ one. one.items) texts.items))) }
     ensures read { (result ≡ Err Fault.Read) ↔ (is_marked reader.new ≡ true) }
     ensures no_write { result ≢ Err Fault.Write }
 {
@@ -98,10 +103,10 @@ pub fn read_assumed<R: Read>(
         wrong: None,
     };
     drain_lines(reader, &mut sink)?;
-    Ok(match sink.wrong {
-        Some(number) => Err(WrongLine { number }),
-        None => Ok(sink.texts),
-    })
+    match sink.wrong {
+        Some(number) => Ok(Err(WrongLine { number })),
+        None => Ok(Ok(sink.texts)),
+    }
 }
 
 /// The first line of the file that isn't `MACHINE nonhalt`.

@@ -5,8 +5,8 @@ ghost use Rattle.std.specs.Io.KnownBytes.{Appends};
 ghost use Rattle.bb_machine.specs.Machine.{text};
 ghost use Rattle.bb_lines.specs.Ends.{AppendsPrefix};
 ghost use Rattle.bb_lines.specs.Watched.{is_marked, watched_inner};
-ghost use Rattle.cover.specs.Report.{asked_text, beyond_text, bound_text, counted_text, counts_text};
-ghost use Rattle.cover.specs.Report.{outside_text, refused_text};
+ghost use Rattle.cover.specs.Report.{asked_text, beyond_text, counted_text, counts_text, halts_text};
+ghost use Rattle.cover.specs.Report.{open_text, outside_text, refused_text};
 ghost use Rattle.cover.specs.Report.{report_text, root_text, shards_text, undefined_text, unread_text};
 ghost use Rattle.cover.specs.Report.{too_many_text, why_text};
 
@@ -122,14 +122,15 @@ fn covers_text(
 ) -> Result<Vec<u8>, AllocError>
     ensures { IfOk result (λ line. line.items ≡ root_text task.now.below states symbols
         ++ (shards_text task.now.form counts.now.shards ++ (counts_text counts.now
-        ++ (undefined_text task.now.below ++ bound_text task.now.form counts.now)))) }
+        ++ (undefined_text task.now.below ++ (halts_text task.now.form counts.now ++ open_text counts.now))))) }
 {
     let mut line = Vec::new(alloc);
     add_root(&mut line, &task.below, states, symbols)?;
     add_shards(&mut line, task.form, counts.shards)?;
     add_counts(&mut line, counts)?;
     line.extend_from_slice(undefined_word(&task.below))?;
-    add_bound(&mut line, task.form, counts)?;
+    add_halts(&mut line, task.form, counts)?;
+    add_open(&mut line, counts)?;
     Ok(line)
 }
 
@@ -193,16 +194,26 @@ fn undefined_word(below: &Option<Machine>) -> &'static [u8]
     }
 }
 
-/// Adds the greatest halt, and how many lines are open.
-fn add_bound(line: &mut Vec<u8>, form: Form, counts: &Counts) -> Result<(), AllocError>
-    ensures { OnOk result (line.new.items ≡ line.old.items ++ bound_text form counts.now) }
+/// Adds the greatest halt.
+fn add_halts(line: &mut Vec<u8>, form: Form, counts: &Counts) -> Result<(), AllocError>
+    ensures { OnOk result (line.new.items ≡ line.old.items ++ halts_text form counts.now) }
 {
     line.extend_from_slice(b"; halts ")?;
     line.extend_from_slice(outside_words(form))?;
     line.extend_from_slice(b"within ")?;
-    add_counted(line, counts.most_steps, b" step", b" steps")?;
-    line.extend_from_slice(b", score up to ")?;
-    add_number(line, counts.most_score)?;
+    add_counted(
+        line,
+        counts.most_steps,
+        b" step, score up to ",
+        b" steps, score up to ",
+    )?;
+    add_number(line, counts.most_score)
+}
+
+/// Adds how many lines are open, and how many assumed.
+fn add_open(line: &mut Vec<u8>, counts: &Counts) -> Result<(), AllocError>
+    ensures { OnOk result (line.new.items ≡ line.old.items ++ open_text counts.now) }
+{
     line.extend_from_slice(b"; ")?;
     add_number(line, counts.undecided.saturating_sub(counts.assumed))?;
     line.extend_from_slice(b" open, ")?;
