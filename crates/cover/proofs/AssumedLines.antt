@@ -9,15 +9,15 @@ adds_more : (past : List (List ℕ)) (line : List ℕ) (texts after : List (List
     → AddsLine texts line after → AreAssumed (past ++ line ∷ []) after
 adds_more [] [] texts after are adds = adds ∙ are
 adds_more [] (byte ∷ bytes) texts after are adds =
-    subst (AreAssumed ((byte ∷ bytes) ∷ [])) (sym (adds.1.1 ∙ ap (λ ts. ts ++ adds.0 ∷ []) are)) (adds.1.0, refl)
+    subst (AreAssumed ((byte ∷ bytes) ∷ [])) (sym (adds.2 ∙ ap (λ ts. ts ++ adds.0 ∷ []) are)) (adds.1, refl)
 adds_more ([] ∷ past) line texts after are adds = adds_more past line texts after are adds
 adds_more ((c ∷ cs) ∷ past) line [] after are adds = absurd are
 adds_more ((c ∷ cs) ∷ past) [] (t ∷ texts) after are adds =
     subst (AreAssumed ((c ∷ cs) ∷ (past ++ [] ∷ []))) (sym adds)
     (are.0, adds_more past [] texts texts are.1 refl)
 adds_more ((c ∷ cs) ∷ past) (byte ∷ bytes) (t ∷ texts) after are adds =
-    subst (AreAssumed ((c ∷ cs) ∷ (past ++ (byte ∷ bytes) ∷ []))) (sym adds.1.1)
-    (are.0, adds_more past (byte ∷ bytes) texts (texts ++ adds.0 ∷ []) are.1 (adds.0, (adds.1.0, refl)))
+    subst (AreAssumed ((c ∷ cs) ∷ (past ++ (byte ∷ bytes) ∷ []))) (sym adds.2)
+    (are.0, adds_more past (byte ∷ bytes) texts (texts ++ adds.0 ∷ []) are.1 (adds.0, adds.1, refl))
 
 pub all_assumed : (lines : List (List ℕ)) (first last : AssumedLines) → texts_of first ≡ []
     → FoldsTo TookLine first lines last → last.wrong ≡ None → AreAssumed lines (texts_of last)

@@ -22,7 +22,7 @@ too_long : (before : List (List ℕ)) (line : List ℕ) (after : List (List ℕ)
     → LINE_BUFFER < length line → ⊥
 too_long before [] after adds long = omega (arith, long)
 too_long before (byte ∷ bytes) after adds long =
-    let short = assumption_short adds.0 (byte ∷ bytes) adds.1.0 in omega (arith, short, long)
+    let short = assumption_short adds.0 (byte ∷ bytes) adds.1 in omega (arith, short, long)
 
 adds_of_kept : (before : List (List ℕ)) (line : List ℕ) (after : List (List ℕ))
     → AddsLine before (take (LINE_BUFFER + 1) line) after → AddsLine before line after

@@ -207,7 +207,8 @@ fn add_halts(line: &mut Vec<u8>, form: Form, counts: &Counts) -> Result<(), Allo
         b" step, score up to ",
         b" steps, score up to ",
     )?;
-    add_number(line, counts.most_score)
+    add_number(line, counts.most_score)?;
+    Ok(())
 }
 
 /// Adds how many lines are open, and how many assumed.
