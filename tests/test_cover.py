@@ -1,10 +1,12 @@
 """`cover` over whole lists, and over lists with a line left out, doubled, swapped or changed."""
 
+import pathlib
 import random
 import re
-from typing import Callable, Sequence
+from typing import Callable, Collection, Sequence
 
 import pytest
+from support.bounds import summarize_bound
 from support.program import LIST_LIMITS, CommandResult, Decide, as_lines, least_time, run_command
 
 # States and symbols of whole lists.
@@ -20,14 +22,14 @@ Changed = tuple[list[str], int]
 Change = Callable[[list[str], int, random.Random], Changed]
 
 
-def summarize(states: int, symbols: int, lines: Sequence[str]) -> str:
-    """Return the line that `cover` prints for a whole list."""
+def summarize(states: int, symbols: int, lines: Sequence[str], assumed: Collection[str] = ()) -> str:
+    """Return the line that `cover` prints for a whole list, if some machines are assumed never to halt."""
     undecided = [line for line in lines if " undecided " in line]
     wide = sum(line.count("---") > 1 for line in undecided)
     size = "%d %s %d symbols" % (states, "state" if states == 1 else "states", symbols)
     word = "line" if len(lines) == 1 else "lines"
     counts = "%d undecided, %d of them with more than one ---" % (len(undecided), wide)
-    return "covers %s: %d %s, %s\n" % (size, len(lines), word, counts)
+    return "covers %s: %d %s, %s%s\n" % (size, len(lines), word, counts, summarize_bound(lines, assumed))
 
 
 @pytest.mark.parametrize("states, symbols", [*SIZES, *LARGE])
@@ -41,6 +43,36 @@ def test_whole_lists_cover_their_sizes(cover: str, decide_all: Decide, states: i
 def test_list_of_one_line_covers_one_state(cover: str) -> None:
     line = "------ undecided steps"
     assert run_command([cover], as_lines([line])) == (0, summarize(1, 2, [line]).encode(), b"")
+
+
+def test_assumed_machines_are_counted_apart(
+    cover: str, decide_all: Decide, tmp_path: pathlib.Path, rng: random.Random
+) -> None:
+    """Each in its line, whatever their order; those that aren't undecided, or come again, count for nothing."""
+    lines = decide_all(3, 2)
+    undecided = [line.split(" ")[0] for line in lines if " undecided " in line]
+    others = [line.split(" ")[0] for line in lines if " halt " in line][:3]
+    for count in (0, 1, 7, len(undecided)):
+        assumed = rng.sample(undecided, count)
+        given = [machine + " nonhalt" for machine in [*assumed, *others, *assumed[:2]]]
+        (tmp_path / "assumed").write_text("".join(line + "\n" for line in ["", *given]))
+        expected = CommandResult(0, summarize(3, 2, lines, assumed).encode(), b"")
+        assert run_command([cover, "--assume", str(tmp_path / "assumed")], as_lines(lines)) == expected
+
+
+def test_changed_halt_gives_another_bound_or_fails(cover: str, decide_all: Decide) -> None:
+    """A greater halt is refused; a halting machine left undecided takes its halt out of the bound."""
+    lines = decide_all(3, 2)
+    at = next(at for at, line in enumerate(lines) if re.search(r" halt 20 \d+$", line))
+    machine = lines[at].split(" ")[0]
+    for changed, status in [(re.sub(r"halt 20", "halt 21", lines[at]), 1), (machine + " undecided steps", 0)]:
+        given = [*lines[:at], changed, *lines[at + 1 :]]
+        done = run_command([cover], as_lines(given))
+        assert done.status == status
+        assert done.output.decode() == summarize(3, 2, given) or done.output.startswith(
+            b"line %d: " % (at + 1)
+        )
+        assert done.output.decode() != summarize(3, 2, lines)
 
 
 # Each makes a change at a line, counted from 0, and returns the list and the line, counted from 1, at which
@@ -112,10 +144,11 @@ def test_shard_of_impossible_counts_is_no_shard(cover: str, counts: str) -> None
 
 def test_shard_of_possible_counts_is_taken(cover: str) -> None:
     line = "------_------ below %d 5 5 %s" % (MOST_LINES, DIGEST)
-    text = (
-        "covers 2 states 2 symbols, given 1 shard: %d lines, 5 undecided, 5 of them with more than one ---\n"
+    counts = "%d lines, 5 undecided, 5 of them with more than one ---" % MOST_LINES
+    text = "covers 2 states 2 symbols, given 1 shard: %s%s\n"
+    expected = CommandResult(
+        0, (text % (counts, summarize_bound([line], where="outside shards "))).encode(), b""
     )
-    expected = CommandResult(0, (text % MOST_LINES).encode(), b"")
     assert run_command([cover, "--skeleton"], as_lines([line])) == expected
 
 

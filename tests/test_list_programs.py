@@ -58,6 +58,18 @@ def test_refused_trees(cover: str, words: str, error: bytes) -> None:
     assert run_command([cover, *words.split()]) == (2, b"", error)
 
 
+def test_refused_assumptions(cover: str, tmp_path: pathlib.Path) -> None:
+    """The list isn't read: the file comes first, and its first wrong line is named."""
+    path = tmp_path / "assumed"
+    path.write_text("0RA--- nonhalt\n\n0RA--- halt\n0RA---\n")
+    sentence = "cover: line 3 of the file of --assume isn't MACHINE nonhalt\n"
+    assert run_command([cover, "--assume", str(path)], VERDICTS) == (2, b"", sentence.encode())
+    sentence = "cover: read failed\n%s: Is a directory (os error 21)\n" % tmp_path
+    assert run_command([cover, "--assume", str(tmp_path)], VERDICTS) == (3, b"", sentence.encode())
+    twice = run_command([cover, "--assume", str(path), "--assume", str(path)], VERDICTS)
+    assert twice.status == 2 and b"--assume" in twice.error and not twice.output
+
+
 @pytest.mark.parametrize("word", ["--help", "--version"])
 def test_help_and_version(program: Program, word: str) -> None:
     status, output, error = run_command([program.path, word])

@@ -7,7 +7,9 @@ from typing import Callable, NamedTuple
 
 import pytest
 from support import ListMachines
+from support.bounds import greatest_halt, summarize_bound
 from support.program import LIST_LIMITS, LIST_STEPS, CommandResult, Decide, as_lines, replies
+from support.bounds import greatest_halt, summarize_bound
 from support.program import run_command
 from support.shards import shard_line
 from test_cover import Change, Changed, double, leave_out, swap
@@ -62,7 +64,8 @@ def test_skeleton_counts_as_the_list_in_one_piece(
     count = len(made.shards)
     word = "shard" if count == 1 else "shards"
     start = "covers %d states %d symbols, given %d %s: " % (states, symbols, count, word)
-    assert (status, output.decode(), error) == (0, start + whole, b"")
+    bound = summarize_bound(made.skeleton, where="outside shards ")
+    assert (status, output.decode(), error) == (0, start + whole.partition(";")[0] + bound + "\n", b"")
     assert count and sum(map(len, made.shards.values())) < len(made.lines)
 
 
@@ -73,12 +76,19 @@ def test_shards_are_stretches_of_the_list(shard: Shard) -> None:
         assert made.lines[start : start + len(lines)] == lines
 
 
+def test_greatest_halt_is_that_of_the_skeleton_or_of_a_shard(shard: Shard) -> None:
+    made = shard(3, 2, 2)
+    halts = [greatest_halt(lines) for lines in (made.skeleton, *made.shards.values())]
+    assert tuple(map(max, zip(*halts))) == greatest_halt(made.lines) > (0, 0)
+
+
 def test_each_shard_is_a_walk_below_its_machine(cover: str, shard: Shard) -> None:
     made = shard(3, 2, 2)
     stated = {line.split(" ")[0]: line.split(" ") for line in made.skeleton if " below " in line}
     for machine, lines in made.shards.items():
-        end = "%s lines, %s undecided, %s of them with more than one undefined transition\n"
-        expected = "covers below %s: " % machine + end % tuple(stated[machine][2:5])
+        counts = "%s lines, %s undecided, %s of them with more than one undefined transition"
+        end = counts % tuple(stated[machine][2:5]) + summarize_bound(lines)
+        expected = "covers below %s: %s\n" % (machine, end)
         done = run_command([cover, "--below", machine, *LIST_LIMITS], as_lines(lines))
         assert done == CommandResult(0, expected.encode(), b"")
 
@@ -91,7 +101,9 @@ def test_skeleton_below_a_machine(cover: str, list_machines: ListMachines, shard
         items = list_machines(3, "--steps", str(LIST_STEPS), "--below", machine, "--shards", "3")
         skeleton = [stated[item.split(" ")[0]] for item in items]
         words = ["--below", machine]
-        assert counts_of(cover, [*words, "--skeleton"], skeleton) == counts_of(cover, words, lines)
+        whole, sharded = counts_of(cover, words, lines), counts_of(cover, [*words, "--skeleton"], skeleton)
+        assert sharded.partition(";")[0] == whole.partition(";")[0]
+        assert sharded.endswith(summarize_bound(skeleton, where="outside shards ") + "\n")
 
 
 def resize(lines: list[str], at: int, _: random.Random) -> Changed:

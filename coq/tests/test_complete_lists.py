@@ -15,11 +15,13 @@ from support.second_checker import COQ, Edit, build_wrong
 CHAMPIONS = {(2, 2): 6, (3, 2): 21, (2, 3): 38}
 SIZES = ((2, 2), (3, 2), (2, 3))
 WRONG = [
-    Edit(name, "Cover.v", *change)
+    Edit(name, "checker/ListChecker.v", *change)
     for name, *change in (
         ("asks for no order", "      if is_next t p M then", "      if true then"),
         ("leaves out an entry", "(S (used_states M)))) in\n  let root", "(used_states M))) in\n  let root"),
         ("leaves out moves to the left", "[] else to L w)\n    (seq", "[] else [])\n    (seq"),
+        ("keeps the last halt", "(N.max (most_steps n) steps)", "steps"),
+        ("assumes any machine", "(if is_assumed t M then", "(if true then"),
         ("counts an undecided line as decided", "all (undecided n + 1) (if", "all (undecided n) (if"),
         ("takes a halt at any step", "if is_stop (zstep M z) then if N.eqb", "if true then if N.eqb"),
         ("takes another size", "| None => is_blank M end", "| None => true end"),
@@ -30,7 +32,7 @@ WRONG = [
 
 
 WRONG_ON_SHARDS = [
-    Edit(name, "Cover.v", *change)
+    Edit(name, "checker/ListChecker.v", *change)
     for name, *change in (
         ("takes a shard of no line", "if N.leb 1 n then if", "if true then if"),
         ("takes more undecided lines than lines", "if N.leb u n then", "if true then"),
@@ -125,6 +127,28 @@ ENDS = {
 @pytest.mark.parametrize("words, status", [(words, status) for status in ENDS for words in ENDS[status]])
 def test_words_are_answered_alike(cover: str, coq_cover: str, words: str, status: int) -> None:
     assert compare(cover, coq_cover, words.split(" "), b"").status == status
+
+
+@pytest.mark.parametrize("count", [0, 1, 9, 37])
+def test_assumed_machines_are_counted_alike(
+    cover: str, coq_cover: str, decide_all: Decide, tmp_path: pathlib.Path, count: int
+) -> None:
+    lines = decide_all(3, 2)
+    undecided = [line.split(" ")[0] for line in lines if " undecided " in line]
+    (tmp_path / "assumed").write_text("".join(machine + " nonhalt\n" for machine in undecided[:count]))
+    done = compare(cover, coq_cover, ["--assume", str(tmp_path / "assumed")], as_lines(lines))
+    assert done.output.endswith(b"; %d open, %d assumed\n" % (len(undecided) - count, count))
+
+
+@pytest.mark.parametrize(
+    "text", ["0RA--- nonhalts", "0RA---", "\n0RB--- nonhalt", "0RA--- nonhalt\r", " nonhalt"]
+)
+def test_wrong_file_of_assumed_machines_is_answered_alike(
+    cover: str, coq_cover: str, tmp_path: pathlib.Path, text: str
+) -> None:
+    (tmp_path / "assumed").write_bytes(text.encode() + b"\n")
+    done = compare(cover, coq_cover, ["--assume", str(tmp_path / "assumed")], b"------ halt 0 0\n")
+    assert done.status == 2 and b"line %d of the file of --assume" % (text.count("\n") + 1) in done.error
 
 
 def test_missing_file_is_answered_alike(cover: str, coq_cover: str) -> None:
@@ -240,7 +264,7 @@ def test_theorem_of_a_changed_file_fails(decide_all: Decide, tmp_path: pathlib.P
         (halt, re.sub(r"halt (\d+)", lambda found: "halt %d" % (int(found[1]) + 1), halt)),
         ("states M = 2 -> symbols M = 3", "states M = 3 -> symbols M = 2"),
         ("halts_within 38 ", "halts_within 37 "),
-        ("tells_at_most 37 ", "tells_at_most 36 "),
+        (" 37%N ", " 36%N "),
     ]:
         assert old in text, old
         (tmp_path / "Other.v").write_text(text.replace(old, new, 1))
@@ -258,9 +282,10 @@ def test_assumed_machines_become_hypotheses(decide_all: Decide, tmp_path: pathli
     assert "Definition open : list string := []." in text
     assert re.search(r"halts_within 21 \d+ M \\/ never_halts M\.", text)
     assert len(re.findall(r"^Hypothesis nonhalt_\d+ : never_halts ", text, flags=re.M)) == len(undecided)
+    assert b"; 0 open, %d assumed\n" % len(undecided) in done.output
     (tmp_path / "assumed").write_text(undecided[0] + " nonhalts\n")
     done = theorem(tmp_path, lines, ["--assume", str(tmp_path / "assumed")])
-    assert done.status == 2 and b"line 1 is no MACHINE nonhalt" in done.error
+    assert done.status == 2 and b"line 1 of the file of --assume isn't MACHINE nonhalt" in done.error
 
 
 @pytest.mark.usefixtures("coq_cover")
@@ -284,7 +309,7 @@ def test_broken_skeleton_becomes_no_theorem(tmp_path: pathlib.Path, counts: str)
     text = (tmp_path / "Made.v").read_text()
     for old, new in [
         ("below 61 5 3 ", "below %s " % counts),
-        ("61%N 5%N 3%N)", "%N) ".join(counts.split(" ")).replace(") ", " ") + "%N)"),
+        ("61%N 5%N 3%N ", "".join("%s%%N " % count for count in counts.split(" "))),
     ]:
         assert text.count(old) == 1, old
         text = text.replace(old, new)

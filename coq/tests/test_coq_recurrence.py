@@ -21,7 +21,7 @@ FOUR = (1_000, 1_024, 40, 500)
 FIVE = (20_000, 4_096, 40, 500)
 WORDS = ["bad", "over", "open", "unread"]
 WRONG = [
-    Edit(name, "Recurrence.v", *change)
+    Edit(name, "checker/RecurrenceChecker.v", *change)
     for name, *change in (
         ("compares no symbols", "then Nat.eqb (under z) (under y)", "then true"),
         ("takes a repeat for a cycle", "Some (check_cycler M s (s + p))", "Some true"),

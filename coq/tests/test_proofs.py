@@ -11,32 +11,62 @@ from support.second_checker import COQ, PROGRAMS, Claims, Edit, answer, build_wr
 from support.second_checker import quick_claims, replace_once
 
 CLOSED = "Closed under the global context"
-STATED = ("Statements", "Theorems", "Covered")
+STATED = ("Statements", "CoqBB5", "generated/TrueLines", "generated/CoveredSize")
 # An environment in which nothing but the system's programs is found.
 PLAIN = {"PATH": "/usr/bin:/bin"}
 
 
 WRONG = [
-    Edit("compares no cells", "Check.v", "same_first (back y) (behind z) (behind y) else", "true else"),
-    Edit("compares no cells behind the head", "Check.v", "if same_cells (behind z) (behind y)", "if true"),
-    Edit("forgets the start", "Check.v", "else if matches_start b then None", "else if false then None"),
-    Edit("takes a record that is none", "Check.v", "if is_nil (ahead z) then if", "if true then if"),
-    Edit("counts a node twice", "Check.v", "(N.pred k) (match h'", "(N.pred (N.pred k)) (match h'"),
+    Edit(
+        "compares no cells",
+        "checker/ClaimChecker.v",
+        "same_first (back y) (behind z) (behind y) else",
+        "true else",
+    ),
+    Edit(
+        "compares no cells behind the head",
+        "checker/ClaimChecker.v",
+        "if same_cells (behind z) (behind y)",
+        "if true",
+    ),
+    Edit(
+        "forgets the start",
+        "checker/ClaimChecker.v",
+        "else if matches_start b then None",
+        "else if false then None",
+    ),
+    Edit(
+        "takes a record that is none",
+        "checker/ClaimChecker.v",
+        "if is_nil (ahead z) then if",
+        "if true then if",
+    ),
+    Edit(
+        "counts a node twice",
+        "checker/ClaimChecker.v",
+        "(N.pred k) (match h'",
+        "(N.pred (N.pred k)) (match h'",
+    ),
     Edit(
         "answers over to a false claim",
-        "Lines.v",
+        "checker/LineChecker.v",
         "check M v then Ok else Bad",
         "check M v then Ok else Over",
     ),
-    Edit("00 is a number", "Lines.v", "if String.eqb (decimal n) s then", "if true then"),
+    Edit("00 is a number", "checker/LineChecker.v", "if String.eqb (decimal n) s then", "if true then"),
     Edit(
         "takes the score before the halting step",
-        "Check.v",
+        "checker/ClaimChecker.v",
         "if is_stop (zstep M z) then N.eqb (score z) w else false",
         "if is_stop (zstep M z) then match run M (N.pred n) zstart with More y | Stop y => N.eqb (score y) w"
         " end else false",
     ),
-    Edit("counts the cell that a step into Z leads to", "Lines.v", "map (map without_Z) M in", "M in"),
+    Edit(
+        "counts the cell that a step into Z leads to",
+        "checker/LineChecker.v",
+        "map (map without_Z) M in",
+        "M in",
+    ),
 ]
 
 
@@ -75,16 +105,28 @@ def require_failure(folder: pathlib.Path, reason: str, *goals: str) -> None:
 # A file, a text of it, and its change to something that is assumed or left unproved.
 WORDS = {
     "an axiom": (
-        "Proofs/Settling.v",
+        "proofs/Settling.v",
         "Import ListNotations.",
         "Import ListNotations.\nAxiom planted : False.",
     ),
-    "parameters": ("Check.v", "Import ListNotations.", "Import ListNotations.\nParameters planted : False."),
-    "an admitted theorem": ("Theorems.v", "  - now apply IH.\nQed.", "Admitted."),
-    "another": ("Covered.v", "Proof. apply flat_map_app. Qed.", "Proof. Admitted."),
+    "parameters": (
+        "checker/ClaimChecker.v",
+        "Import ListNotations.",
+        "Import ListNotations.\nParameters planted : False.",
+    ),
+    "an admitted theorem": ("generated/TrueLines.v", "  - now apply IH.\nQed.", "Admitted."),
+    "another": ("generated/CoveredSize.v", "Proof. apply flat_map_app. Qed.", "Proof. Admitted."),
     "a goal given up": ("Statements.v", "Proof. exact (Claims.check_holds M v). Qed.", "Proof. admit. Qed."),
-    "a check left out": ("Cover.v", "Import ListNotations.", "Import ListNotations.\nUnset Guard Checking."),
-    "a context": ("Rows.v", "Import ListNotations.", "Import ListNotations.\nContext (planted : False)."),
+    "a check left out": (
+        "checker/ListChecker.v",
+        "Import ListNotations.",
+        "Import ListNotations.\nUnset Guard Checking.",
+    ),
+    "a context": (
+        "proofs/WorkedLines.v",
+        "Import ListNotations.",
+        "Import ListNotations.\nContext (planted : False).",
+    ),
 }
 
 
@@ -101,7 +143,9 @@ def test_word_that_leaves_something_unproved_fails_the_build(tmp_path: pathlib.P
 def test_variable_of_no_section_fails_the_build(tmp_path: pathlib.Path) -> None:
     folder = copy_folder(tmp_path, built=True)
     replace_once(
-        folder / "Theorems.v", "Import ListNotations.", "Import ListNotations.\nVariable planted : False."
+        folder / "generated/TrueLines.v",
+        "Import ListNotations.",
+        "Import ListNotations.\nVariable planted : False.",
     )
     require_failure(folder, "local-declaration")
 
@@ -116,10 +160,14 @@ def assume_in(path: pathlib.Path, proof: str) -> None:
 @pytest.mark.parametrize(
     "file, theorem, proof",
     [
-        ("Theorems.v", "Theorems", "Proof.\n  induction lines as [|t lines IH]; simpl; [tauto|]."),
-        ("Covered.v", "Covered", "Proof. intros [A B] [C D]."),
+        (
+            "generated/TrueLines.v",
+            "generated/TrueLines",
+            "Proof.\n  induction lines as [|t lines IH]; simpl; [tauto|].",
+        ),
+        ("generated/CoveredSize.v", "generated/CoveredSize", "Proof. intros [A B] [C D]."),
         pytest.param(
-            "Proofs/Settling.v",
+            "proofs/Settling.v",
             "Statements",
             "Proof.\n  intros W C U. destruct (covers_leave",
             marks=pytest.mark.slow,
@@ -135,7 +183,11 @@ def test_assumed_axiom_fails_the_build(tmp_path: pathlib.Path, file: str, theore
 @pytest.mark.usefixtures("checker")
 @pytest.mark.parametrize(
     "file, theorem, instead",
-    [("Covered", "covered_by", ""), ("Theorems", "all_hold", ""), ("Covered", "leads_on", "steps_app")],
+    [
+        ("generated/CoveredSize", "covered_by", ""),
+        ("generated/TrueLines", "all_hold", ""),
+        ("generated/CoveredSize", "leads_on", "steps_app"),
+    ],
 )
 def test_theorem_without_its_assumptions_fails_the_build(
     tmp_path: pathlib.Path, file: str, theorem: str, instead: str
@@ -153,12 +205,14 @@ def test_axiom_that_no_theorem_uses_fails_the_check(tmp_path: pathlib.Path) -> N
     """The build can't see a context of a type and more; `coqchk` does."""
     folder = copy_folder(tmp_path, built=True)
     replace_once(
-        folder / "Theorems.v", "Import ListNotations.", "Import ListNotations.\nContext {A : Type} (a : A)."
+        folder / "generated/TrueLines.v",
+        "Import ListNotations.",
+        "Import ListNotations.\nContext {A : Type} (a : A).",
     )
     assert run_command(["make", "-C", str(folder)]).status == 0
     done = run_command(["make", "-C", str(folder), "check"])
     assert done.status != 0 and b"coqchk finds an axiom" in done.error
-    assert b"Axioms:\n" in done.output and b"Budlarem.Theorems.a" in done.output
+    assert b"Axioms:\n" in done.output and b"Budlarem.TrueLines.a" in done.output
     assert not any((folder / "out" / name).exists() for name in PROGRAMS)
 
 

@@ -29,12 +29,17 @@ LISTS = (("5", "--steps", "1000", "--every", "900"), ("2", "--symbols", "3"), ("
 # Limits of steps, cells, levels and nodes, and lines.
 Claims = tuple[Sequence[int], list[str]]
 # What each program is made of: files of Coq without proofs, and files of OCaml.
-OF_LINES = "Machines Answers Check Lines Repetition Recurrence Extract"
+OF_LINES = (
+    "definitions/Machines definitions/Answers checker/ClaimChecker checker/LineChecker"
+    " definitions/ExactRepetition checker/RecurrenceChecker programs/ExtractLineCheckers"
+)
 PROGRAMS = {
-    "checker": (OF_LINES, "checker.mli checker.ml answering.ml main.ml"),
+    "checker": (OF_LINES, "checker.mli checker.ml answering.ml check.ml"),
     "recurrence": (OF_LINES, "checker.mli checker.ml answering.ml recurrence.ml"),
     "cover": (
-        "Machines Answers Covers Walks Check Lines Cover CoverProgram ExtractCover",
+        "definitions/Machines definitions/Answers definitions/CompleteLists definitions/ShardCounts"
+        " checker/ClaimChecker checker/LineChecker checker/ListChecker checker/ListProgram"
+        " programs/ExtractListChecker",
         "lists.mli lists.ml cover.ml",
     ),
 }
@@ -97,7 +102,7 @@ def tight_claims(source: random.Random, verdicts: Sequence[str], count: int) -> 
 
 def quick_claims(bb: str, list_machines: ListMachines, source: random.Random) -> Iterator[tuple[str, Claims]]:
     """Yield the lines that are always compared, each batch with its name."""
-    rows = (COQ / "Rows.v").read_text(encoding="utf-8")
+    rows = (COQ / "proofs" / "WorkedLines.v").read_text(encoding="utf-8")
     yield "worked lines", (DEFAULT, re.findall(r"\"([^\"]*)\"[;\]]", rows))
     verdicts = decide(bb, LIMITS, list_machines(4, "--every", "10"))
     yield "every tenth machine of four states", (LIMITS, verdicts)
@@ -146,17 +151,18 @@ def build_wrong(to: pathlib.Path, edit: Edit, program: str) -> str:
     folder = copy_folder(to, built=True)
     replace_once(folder / edit.file, edit.old, edit.new)
     done = run_command(["make", "-C", str(folder)])
-    failed = re.search(r"Proofs/\w+\.v", done.error.decode())
+    failed = re.search(r"proofs/\w+\.v", done.error.decode())
     assert done.status != 0 and failed
     print("%s: %s fails" % (edit.name, failed[0]))
     out = folder / "unproved"
     out.mkdir()
     modules, sources = (names.split() for names in PROGRAMS[program])
     for name in modules:
-        command = ["coqc", "-q", "-noglob", "-Q", ".", "Budlarem", "-o", name + ".vo", "../%s.v" % name]
+        made = name.rpartition("/")[2] + ".vo"
+        command = ["coqc", "-q", "-noglob", "-Q", ".", "Budlarem", "-o", made, "../%s.v" % name]
         subprocess.run(command, cwd=out, check=True, stdout=subprocess.DEVNULL)
     for source in sources:
-        if (folder / source).exists():
-            shutil.copy(folder / source, out)
+        if (folder / "programs" / source).exists():
+            shutil.copy(folder / "programs" / source, out)
     subprocess.run(["ocamlfind", "ocamlopt", *sources, "-o", program], cwd=out, check=True)
     return str(out / program)

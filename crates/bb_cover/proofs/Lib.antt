@@ -1,5 +1,6 @@
 mod Asks
 mod Contents
+mod Greatest
 mod Halting
 mod Judging
 mod Lefts

@@ -17,8 +17,8 @@ use Rattle.bb_cover.specs.declared.counts.Counts.{Counts}
 use Rattle.bb_cover.specs.declared.task.Task.{Task}
 use Rattle.bb_cover.specs.Claims.{AreTrueLines, IsTrueLine}
 use Rattle.bb_cover.specs.Content.{Item, line_of, lines_of}
-use Rattle.bb_cover.specs.Counts.{AreCounts, HasTotals, is_undecided, is_wide, lines_in, sum_of}
-use Rattle.bb_cover.specs.Counts.{undecided_in, wide_in}
+use Rattle.bb_cover.specs.Counts.{AreCounts, HasTotals, assumed_texts, is_undecided, is_wide, lines_in}
+use Rattle.bb_cover.specs.Counts.{sum_of, undecided_in, wide_in}
 use Rattle.bb_cover.specs.Covering.{AreParts, CoversRoot, DecidesSize, IsJoinedWalk, IsPart, IsWalkBelow}
 use Rattle.bb_cover.specs.Covering.{IsWholeWalk, joined, root_of}
 use Rattle.bb_cover.proofs.Judging.{fine_claim}
@@ -154,7 +154,7 @@ counts_add p a b = sum_by-append (λ x. cond (p x) 1 0) a b
 -- all of it
 
 module _ (task : Task) (all : List (List ℕ)) (counts : Counts) (n k : ℕ) (whole : IsWholeWalk task all n k)
-    (counted : AreCounts whole.items counts) (parts : List (List VerdictLine))
+    (counted : AreCounts (assumed_texts task) whole.items counts) (parts : List (List VerdictLine))
     (are : AreParts whole.items parts) where
   below_root : IsWalkBelow (root_of task.below n k) (joined parts)
   below_root = record {

@@ -1,7 +1,7 @@
 -- How many lines of each kind there are, with one line more.
 use Rattle.std.proofs.Common.{◌≡◌, ℕ, ◌+◌, ◌<◌, ◌≤◌, ◌^◌, Bool, true, false, cond, List, [], ◌∷◌, ◌++◌}
 use Rattle.std.proofs.Common.{length, refl, ap, rules, sym, subst, ◌∙◌, arith, length-append}
-use Rattle.std.specs.Prelude.{count_by}
+use Rattle.std.specs.Prelude.{count_by, max}
 use Rattle.std.proofs.lemmas.List.Sums.{sum_by-append}
 use Rattle.bb_machine.specs.Machine.{Table}
 use Rattle.bb_cert.specs.declared.verdict.Verdict.{Verdict}
@@ -17,7 +17,8 @@ use Rattle.bb_cover.specs.Content.{ArePossible, IsContentLine, Item}
 use Rattle.bb_cover.specs.Counts.{AreCounts, counted, counted_claim, counted_content, counted_shard, is_backward}
 use Rattle.bb_cover.specs.Counts.{is_claim_of, is_cycler, is_halt, is_shard, is_translated, is_undecided, is_wide}
 use Rattle.bb_cover.specs.CoverProgress.{HasRoom}
-use Rattle.bb_cover.specs.Counts.{lines_in, more_if, no_counts, saturated, sum_of, undecided_in, wide_in}
+use Rattle.bb_cover.specs.Counts.{greatest_of, halt_score, halt_steps, is_assumed_in, lines_in, more_if, no_counts}
+use Rattle.bb_cover.specs.Counts.{of_claim, saturated, sum_of, undecided_in, wide_in}
 
 -- a content of which a walk may be told
 
@@ -104,6 +105,21 @@ pub sum_more : (f : Item → ℕ) (items : List Item) (item : Item)
 sum_more f [] item = omega arith
 sum_more f (x ∷ items) item = let rest = sum_more f items item in omega (arith, rest)
 
+greatest_more : (f : Item → ℕ) (items : List Item) (item : Item)
+    → greatest_of f (items ++ item ∷ []) ≡ max (greatest_of f items) (f item)
+greatest_more f [] item = omega arith
+greatest_more f (x ∷ items) item = let rest = greatest_more f items item in omega (arith, rest)
+
+-- the greatest number with one item more, and with one that has none
+
+greatest_with : (f : Item → ℕ) (items : List Item) (item : Item) (old : ℕ) → old ≡ greatest_of f items
+    → max old (f item) ≡ greatest_of f (items ++ item ∷ [])
+greatest_with f items item old is = let more = greatest_more f items item in omega (arith, is, more)
+
+greatest_same : (f : Item → ℕ) (items : List Item) (item : Item) (old : ℕ) → f item ≡ 0
+    → old ≡ greatest_of f items → old ≡ greatest_of f (items ++ item ∷ [])
+greatest_same f items item old none is = let more = greatest_more f items item in omega (arith, none, is, more)
+
 count_if : (b : Bool) (n : ℕ) → n + cond b 1 0 < 2 ^ 64 → more_if b n ≡ n + cond b 1 0
 count_if true n few = omega (arith, few)
 count_if false n few = omega arith
@@ -152,18 +168,18 @@ module _ (all : List Item) (are : AreCountable all) (few : sum_of all_in all < 2
   few_wide = few_sums (λ item. wide_in item.table item.content)
       (λ item is. wide_below item.table item.content is)
 
-pub none_counted : AreCounts [] no_counts
-none_counted = search rules
+pub none_counted : (texts : List (List ℕ)) → AreCounts texts [] no_counts
+none_counted texts = search rules
 
 abbrev with_one : List Item → Table → Content → List Item
 with_one items table content = items ++ record { table = table; content = content } ∷ []
 
-claim_counted : (items : List Item) (table : Table) (verdict : Verdict) (old : Counts)
+claim_counted : (texts : List (List ℕ)) (items : List Item) (table : Table) (verdict : Verdict) (old : Counts)
     → AreCountable (with_one items table (Claim verdict))
-    → sum_of all_in (with_one items table (Claim verdict)) < 2 ^ 64 → AreCounts items old
-    → AreCounts (with_one items table (Claim verdict))
-    (counted_claim old (record { table = table; verdict = verdict }))
-claim_counted items table verdict old may few are =
+    → sum_of all_in (with_one items table (Claim verdict)) < 2 ^ 64 → AreCounts texts items old
+    → AreCounts texts (with_one items table (Claim verdict))
+    (counted_claim texts old (record { table = table; verdict = verdict }))
+claim_counted texts items table verdict old may few are =
     let item : Item = record { table = table; content = Claim verdict } in
     let all = items ++ item ∷ [] in
     let kinds = few_kinds all may few in
@@ -183,14 +199,18 @@ claim_counted items table verdict old may few are =
       wide = sum_if (λ i. wide_in i.table i.content) items item
           (is_wide (record { table = table; verdict = verdict })) old.wide refl are.wide
           (few_wide all may few);
+      assumed = kind_more (λ i. is_assumed_in texts i.table i.content) items item old.assumed are.assumed
+          (kinds _);
+      most_steps = greatest_with (λ i. of_claim halt_steps i.content) items item old.most_steps are.most_steps;
+      most_score = greatest_with (λ i. of_claim halt_score i.content) items item old.most_score are.most_score;
       few = subst (λ n. n < 2 ^ 64) (sym lines) few;
     }
 
-shard_counted : (items : List Item) (table : Table) (shard : ShardCounts) (old : Counts)
+shard_counted : (texts : List (List ℕ)) (items : List Item) (table : Table) (shard : ShardCounts) (old : Counts)
     → AreCountable (with_one items table (Shard shard))
-    → sum_of all_in (with_one items table (Shard shard)) < 2 ^ 64 → AreCounts items old
-    → AreCounts (with_one items table (Shard shard)) (counted_shard old shard)
-shard_counted items table shard old may few are =
+    → sum_of all_in (with_one items table (Shard shard)) < 2 ^ 64 → AreCounts texts items old
+    → AreCounts texts (with_one items table (Shard shard)) (counted_shard old shard)
+shard_counted texts items table shard old may few are =
     let item : Item = record { table = table; content = Shard shard } in
     let all = items ++ item ∷ [] in
     let kinds = few_kinds all may few in
@@ -208,22 +228,28 @@ shard_counted items table shard old may few are =
       undecided = sum_with (λ i. undecided_in i.content) items item old.undecided are.undecided
           (few_undecided all may few);
       wide = sum_with (λ i. wide_in i.table i.content) items item old.wide are.wide (few_wide all may few);
+      assumed = kind_more (λ i. is_assumed_in texts i.table i.content) items item old.assumed are.assumed
+          (kinds _);
+      most_steps = greatest_same (λ i. of_claim halt_steps i.content) items item old.most_steps refl
+          are.most_steps;
+      most_score = greatest_same (λ i. of_claim halt_score i.content) items item old.most_score refl
+          are.most_score;
       few = subst (λ n. n < 2 ^ 64) (sym lines) few;
     }
 
-pub one_counted : (items : List Item) (item : Item) (old new : Counts) → AreCountable (items ++ item ∷ [])
-    → HasRoom old.lines item.content → AreCounts items old → new ≡ counted old item
-    → AreCounts (items ++ item ∷ []) new
-one_counted items item old new may room are is = rw is (by item.content may few)
+pub one_counted : (texts : List (List ℕ)) (items : List Item) (item : Item) (old new : Counts)
+    → AreCountable (items ++ item ∷ []) → HasRoom old.lines item.content → AreCounts texts items old
+    → new ≡ counted texts old item → AreCounts texts (items ++ item ∷ []) new
+one_counted texts items item old new may room are is = rw is (by item.content may few)
   where
     few : sum_of all_in (items ++ item ∷ []) < 2 ^ 64
     few = let more = sum_more all_in items item in let all = are.all in omega (arith, more, all, room)
 
     by : (content : Content) → AreCountable (with_one items item.table content)
         → sum_of all_in (with_one items item.table content) < 2 ^ 64
-        → AreCounts (with_one items item.table content) (counted_content old item.table content)
-    by (Claim verdict) may few = claim_counted items item.table verdict old may few are
-    by (Shard shard) may few = shard_counted items item.table shard old may few are
+        → AreCounts texts (with_one items item.table content) (counted_content texts old item.table content)
+    by (Claim verdict) may few = claim_counted texts items item.table verdict old may few are
+    by (Shard shard) may few = shard_counted texts items item.table shard old may few are
 
 -- so many lines and those of the next item are within all
 sum_within : (first later : List Item) (item : Item)
@@ -231,15 +257,15 @@ sum_within : (first later : List Item) (item : Item)
 sum_within [] later item = omega arith
 sum_within (x ∷ first) later item = let rest = sum_within first later item in omega (arith, rest)
 
-pub room_within : (all first later : List Item) (item : Item) (counts : Counts) → AreCounts first counts
-    → all ≡ first ++ item ∷ later → sum_of all_in all < 2 ^ 64 → HasRoom counts.lines item.content
-room_within all first later item counts are is few =
+pub room_within : (texts : List (List ℕ)) (all first later : List Item) (item : Item) (counts : Counts)
+    → AreCounts texts first counts → all ≡ first ++ item ∷ later → sum_of all_in all < 2 ^ 64 → HasRoom counts.lines item.content
+room_within texts all first later item counts are is few =
     let past = are.all in
     let inside = sum_within first later item in
     let fits = subst (λ items. sum_of all_in items < 2 ^ 64) is few in
     omega (arith, past, inside, fits)
 
 -- the number of the line after these
-pub next_line : (items : List Item) (bytes : List (List ℕ)) (counts : Counts) → AreCounts items counts
-    → length items ≡ length bytes → saturated (counts.read + 1) ≡ saturated (length bytes + 1)
-next_line items bytes counts are same = ap (λ n. saturated (n + 1)) (are.read ∙ same)
+pub next_line : (texts : List (List ℕ)) (items : List Item) (bytes : List (List ℕ)) (counts : Counts)
+    → AreCounts texts items counts → length items ≡ length bytes → saturated (counts.read + 1) ≡ saturated (length bytes + 1)
+next_line texts items bytes counts are same = ap (λ n. saturated (n + 1)) (are.read ∙ same)

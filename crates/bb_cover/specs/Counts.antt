@@ -1,7 +1,9 @@
 -- How many lines of each kind there are.
-use Rattle.std.specs.Prelude.{◌≡◌, ℕ, ◌+◌, ◌-◌, ◌^◌, ◌<◌, min, Bool, true, false, cond, nat_lt, List, count_by}
-use Rattle.std.specs.Prelude.{length, [], ◌∷◌}
-use Rattle.bb_machine.specs.Machine.{Table}
+use Rattle.std.specs.Prelude.{◌≡◌, ℕ, ◌+◌, ◌-◌, ◌^◌, ◌<◌, max, min, Bool, true, false, cond, nat_lt, List}
+use Rattle.std.specs.Prelude.{count_by, length, map, [], ◌∷◌}
+use Rattle.std.specs.List.{list_any}
+use Rattle.std.specs.Str.{bytes_eq}
+use Rattle.bb_machine.specs.Machine.{Table, text}
 use Rattle.bb_cert.specs.declared.verdict.Verdict.{Verdict}
 use Rattle.bb_cert.specs.declared.verdict.Verdict.TheVariants.{Halt, Cycler, Translated, Backward, Undecided}
 use Rattle.laws_of_verdicts.specs.Closed.{VerdictLine}
@@ -9,6 +11,7 @@ use Rattle.bb_cover.specs.declared.content.Content.{Content}
 use Rattle.bb_cover.specs.declared.content.Content.TheVariants.{Claim, Shard}
 use Rattle.bb_cover.specs.declared.content.ShardCounts.{ShardCounts}
 use Rattle.bb_cover.specs.declared.counts.Counts.{Counts}
+use Rattle.bb_cover.specs.declared.task.Task.{Task}
 use Rattle.bb_cover.specs.Content.{Item}
 use Rattle.bb_cover.specs.UndefinedEntries.{undefined_entries_of}
 
@@ -41,6 +44,34 @@ is_undecided = by_kind false false false false true
 abbrev pub is_wide : VerdictLine → Bool
 is_wide line = cond (is_undecided line.verdict) (nat_lt 1 (undefined_entries_of line.table)) false
 
+-- the machine's text is one of these
+abbrev pub is_among : List (List ℕ) → Table → Bool
+is_among texts table = list_any (λ one. bytes_eq one (text table)) texts
+
+-- an undecided line whose machine is assumed never to halt
+abbrev pub is_assumed : List (List ℕ) → VerdictLine → Bool
+is_assumed texts line = cond (is_undecided line.verdict) (is_among texts line.table) false
+
+-- the texts of the machines that a list is checked with as never halting
+abbrev pub assumed_texts : Task → List (List ℕ)
+assumed_texts task = map (λ one. one.items) task.assumed.items
+
+-- the steps and the score of a halt, and 0 of any other verdict
+
+abbrev pub halt_steps : Verdict → ℕ
+halt_steps (Halt steps score) = steps
+halt_steps (Cycler first second) = 0
+halt_steps (Translated side first second extent) = 0
+halt_steps (Backward levels nodes) = 0
+halt_steps (Undecided why) = 0
+
+abbrev pub halt_score : Verdict → ℕ
+halt_score (Halt steps score) = score
+halt_score (Cycler first second) = 0
+halt_score (Translated side first second extent) = 0
+halt_score (Backward levels nodes) = 0
+halt_score (Undecided why) = 0
+
 -- a number of 64 bits, which stops here
 abbrev pub saturated : ℕ → ℕ
 saturated n = min n (2 ^ 64 - 1)
@@ -56,6 +87,9 @@ no_counts = record {
   backward = 0;
   undecided = 0;
   wide = 0;
+  assumed = 0;
+  most_steps = 0;
+  most_score = 0;
 }
 
 -- one more where the test holds
@@ -63,8 +97,8 @@ abbrev pub more_if : Bool → ℕ → ℕ
 more_if b n = cond b (saturated (n + 1)) n
 
 -- the counts with one line more, that of a verdict
-abbrev pub counted_claim : Counts → VerdictLine → Counts
-counted_claim counts line = record counts {
+abbrev pub counted_claim : List (List ℕ) → Counts → VerdictLine → Counts
+counted_claim texts counts line = record counts {
   read = saturated (counts.read + 1);
   lines = saturated (counts.lines + 1);
   halt = more_if (is_halt line.verdict) counts.halt;
@@ -73,6 +107,9 @@ counted_claim counts line = record counts {
   backward = more_if (is_backward line.verdict) counts.backward;
   undecided = more_if (is_undecided line.verdict) counts.undecided;
   wide = more_if (is_wide line) counts.wide;
+  assumed = more_if (is_assumed texts line) counts.assumed;
+  most_steps = max counts.most_steps (halt_steps line.verdict);
+  most_score = max counts.most_score (halt_score line.verdict);
 }
 
 -- that of a shard, whose own lines are counted with it
@@ -85,13 +122,13 @@ counted_shard counts shard = record counts {
   wide = saturated (counts.wide + shard.wide);
 }
 
-abbrev pub counted_content : Counts → Table → Content → Counts
-counted_content counts table (Claim verdict) =
-    counted_claim counts (record { table = table; verdict = verdict })
-counted_content counts table (Shard shard) = counted_shard counts shard
+abbrev pub counted_content : List (List ℕ) → Counts → Table → Content → Counts
+counted_content texts counts table (Claim verdict) =
+    counted_claim texts counts (record { table = table; verdict = verdict })
+counted_content texts counts table (Shard shard) = counted_shard counts shard
 
-abbrev pub counted : Counts → Item → Counts
-counted counts item = counted_content counts item.table item.content
+abbrev pub counted : List (List ℕ) → Counts → Item → Counts
+counted texts counts item = counted_content texts counts item.table item.content
 
 -- whether an item is a shard, and how many lines it stands for, how many of them undecided, and wide
 
@@ -102,6 +139,14 @@ is_shard (Shard shard) = true
 abbrev pub is_claim_of : (Verdict → Bool) → Content → Bool
 is_claim_of test (Claim verdict) = test verdict
 is_claim_of test (Shard shard) = false
+
+abbrev pub is_assumed_in : List (List ℕ) → Table → Content → Bool
+is_assumed_in texts table (Claim verdict) = is_assumed texts (record { table = table; verdict = verdict })
+is_assumed_in texts table (Shard shard) = false
+
+abbrev pub of_claim : (Verdict → ℕ) → Content → ℕ
+of_claim number (Claim verdict) = number verdict
+of_claim number (Shard shard) = 0
 
 abbrev pub lines_in : Content → ℕ
 lines_in (Claim verdict) = 1
@@ -120,8 +165,14 @@ abbrev pub sum_of : (Item → ℕ) → List Item → ℕ
 sum_of f [] = 0
 sum_of f (item ∷ items) = f item + sum_of f items
 
--- these are the counts of the items, whose lines are fewer than 2^64 in all
-pub record AreCounts (items : List Item) (counts : Counts) : Type 0 where
+-- the greatest of a number of items, and 0 of none
+abbrev pub greatest_of : (Item → ℕ) → List Item → ℕ
+greatest_of f [] = 0
+greatest_of f (item ∷ items) = max (f item) (greatest_of f items)
+
+-- these are the counts of the items, whose lines are fewer than 2^64 in all; machines of these texts are
+-- assumed never to halt
+pub record AreCounts (texts : List (List ℕ)) (items : List Item) (counts : Counts) : Type 0 where
   pub read : counts.read ≡ length items
   pub shards : counts.shards ≡ count_by (λ item. is_shard item.content) items
   pub all : counts.lines ≡ sum_of (λ item. lines_in item.content) items
@@ -131,6 +182,9 @@ pub record AreCounts (items : List Item) (counts : Counts) : Type 0 where
   pub backward : counts.backward ≡ count_by (λ item. is_claim_of is_backward item.content) items
   pub undecided : counts.undecided ≡ sum_of (λ item. undecided_in item.content) items
   pub wide : counts.wide ≡ sum_of (λ item. wide_in item.table item.content) items
+  pub assumed : counts.assumed ≡ count_by (λ item. is_assumed_in texts item.table item.content) items
+  pub most_steps : counts.most_steps ≡ greatest_of (λ item. of_claim halt_steps item.content) items
+  pub most_score : counts.most_score ≡ greatest_of (λ item. of_claim halt_score item.content) items
   pub few : counts.lines < 2 ^ 64
 
 -- a list has so many lines, so many of them undecided, and so many of those with more than one `---`

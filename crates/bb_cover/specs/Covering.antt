@@ -1,12 +1,13 @@
 -- The result for a list: it covers a size, or stops at a line. This project's own.
 use Rattle.std.specs.Prelude.{◌≡◌, ◌≢◌, ◌↔◌, ◌⊎◌, ℕ, ◌+◌, ◌^◌, ◌<◌, List, [], ◌∷◌, ◌++◌, length}
-use Rattle.std.specs.Prelude.{Option, Some, None, Result, IfOk, Contains}
+use Rattle.std.specs.Prelude.{Option, Some, None, Result, IfOk, IsTrue, Contains}
 use Rattle.std.specs.Io.KnownBytes.{Consumes, IsAtEnd}
 use Rattle.bb_machine.specs.Machine.{Table, IsMachine, symbols_of}
 use Rattle.bb_sim.specs.Run.{Never}
 use Rattle.bb_cert.specs.claims.Claim as claims
 use Rattle.bb_lines.specs.declared.fault.Fault.{Fault}
 use Rattle.bb_lines.specs.Lines.{lines}
+use Rattle.laws_of_verdicts.specs.Bound.{HaltsWithin, IsLeftOpenBeside}
 use Rattle.laws_of_verdicts.specs.Closed as closed
 use Rattle.laws_of_verdicts.specs.Closed.{HaltsSoon, IsLeftOpen, VerdictLine, blank_table}
 use Rattle.laws_of_verdicts.specs.Walk.{IsWalk}
@@ -22,9 +23,10 @@ use Rattle.bb_cover.specs.Claims.{AreTrueLines}
 use Rattle.bb_cover.specs.declared.content.Content.{Content}
 use Rattle.bb_cover.specs.declared.content.Content.TheVariants.{Claim, Shard}
 use Rattle.bb_cover.specs.declared.content.ShardCounts.{ShardCounts}
+use Rattle.bb_cover.specs.declared.task.Form.TheVariants.{Verdicts}
 use Rattle.bb_cover.specs.declared.task.Task.{Task}
 use Rattle.bb_cover.specs.Content.{Item, line_of, lines_of}
-use Rattle.bb_cover.specs.Counts.{AreCounts, HasTotals, lines_in, saturated, sum_of}
+use Rattle.bb_cover.specs.Counts.{AreCounts, HasTotals, assumed_texts, is_among, lines_in, saturated, sum_of}
 use Rattle.bb_cover.specs.CoverProgress.{IsWrong}
 
 -- the machine at which the walk begins, of so many states and symbols
@@ -93,14 +95,25 @@ pub record IsJoinedWalk (below : Option Table) (counts : Counts) (states symbols
   pub covers : CoversRoot below verdicts states symbols
   pub totals : HasTotals verdicts counts.lines counts.undecided counts.wide
 
+-- if the assumed machines never halt, each machine of the size halts within the greatest steps and score of
+-- the lines' halts, with one more of each, never halts, or completes one of another undecided line
+abbrev pub BoundsSize : List (List ℕ) → List VerdictLine → Counts → ℕ → ℕ → Type 0
+BoundsSize texts verdicts counts states symbols = (machine : Table) → IsMachine machine
+    → length machine ≡ states → symbols_of machine ≡ symbols
+    → ((table : Table) → IsMachine table → IsTrue (is_among texts table) → Never table)
+    → HaltsWithin (counts.most_steps + 1) (counts.most_score + 1) machine
+    ⊎ (Never machine ⊎ IsLeftOpenBeside (is_among texts) verdicts machine)
+
 -- so with the lines of each shard in its place, whatever they are, the list is a whole walk; without shards
--- it is that itself
+-- it is that itself, and bounds the halts of its size
 pub record CoversSize (task : Task) (bytes : List (List ℕ)) (counts : Counts) (states symbols : ℕ)
     : Type 0 where
   pub whole : IsWholeWalk task bytes states symbols
-  pub counted : AreCounts whole.items counts
+  pub counted : AreCounts (assumed_texts task) whole.items counts
   pub joins : (parts : List (List VerdictLine)) → AreParts whole.items parts
       → IsJoinedWalk task.below counts states symbols (joined parts)
+  pub bounds : task.form ≡ Verdicts → task.below ≡ None
+      → BoundsSize (assumed_texts task) (lines_of whole.items) counts states symbols
 
 -- the machines that a walk along these lines has still to visit. Before the first line there is no size; then
 -- it is that of the first line's machine, at which the walk begins.
@@ -127,7 +140,7 @@ pub record StopsAt (task : Task) (bytes : List (List ℕ)) (counts : Counts) (st
   pub has_left : HasLeft task.below size left (lines_of items)
   pub wrong : IsWrongAt task counts.lines size left after stop.why
   pub line : stop.line ≡ saturated (length before + 1)
-  pub counted : AreCounts items counts
+  pub counted : AreCounts (assumed_texts task) items counts
 
 abbrev pub IsFound : Task → List (List ℕ) → Counts → Found → Type 0
 IsFound task bytes counts (Covers states symbols) = CoversSize task bytes counts states symbols

@@ -1,11 +1,13 @@
 //! How many lines of each kind a list has.
-ghost use Rattle.std.specs.Prelude.{◌≡◌, ◌↔◌, ◌+◌, IsTrue, nat_lt};
-ghost use Rattle.bb_cover.specs.Counts.{counted, counted_claim, counted_shard, more_if, no_counts, saturated};
+ghost use Rattle.std.specs.Prelude.{◌≡◌, ◌↔◌, ◌+◌, IsTrue, map, max, nat_lt};
+ghost use Rattle.bb_cover.specs.Counts.{counted, counted_claim, counted_shard, is_among, more_if, no_counts};
+ghost use Rattle.bb_cover.specs.Counts.{saturated};
 ghost use Rattle.bb_cover.specs.CoverProgress.{HasRoom};
 ghost use Rattle.bb_cover.specs.UndefinedEntries.{undefined_entries_of};
 
 use crate::content::{Content, ShardCounts};
 use crate::table::count_undefined_entries;
+use crate::text::{Text, text_of};
 use bb_cert::Verdict;
 use bb_machine::Machine;
 
@@ -30,6 +32,12 @@ pub struct Counts {
     pub undecided: u64,
     /// It is undecided and has more than one `---`, in the list or a shard.
     pub wide: u64,
+    /// It is undecided in the list, and assumed never to halt.
+    pub assumed: u64,
+    /// The greatest steps of the list's halts, without those of shards; 0 if there is none.
+    pub most_steps: u64,
+    /// Their greatest score.
+    pub most_score: u64,
 }
 
 impl Counts {
@@ -47,6 +55,9 @@ impl Counts {
             backward: 0,
             undecided: 0,
             wide: 0,
+            assumed: 0,
+            most_steps: 0,
+            most_score: 0,
         }
     }
 
@@ -62,28 +73,29 @@ impl Counts {
     }
 
     /// Counts a line.
-    pub(crate) fn add(&mut self, machine: &Machine, content: &Content)
-        ensures { self.new ≡ counted self.old (record { table = machine.now; content = content.now }) }
+    pub(crate) fn add(&mut self, assumed: &[Text], machine: &Machine, content: &Content)
+        ensures { self.new ≡ counted (map (λ one. one.items) assumed.now) self.old
+            (record { table = machine.now; content = content.now }) }
     {
         match content {
-            Content::Claim(verdict) => self.add_verdict(machine, verdict),
+            Content::Claim(verdict) => self.add_verdict(assumed, machine, verdict),
             Content::Shard(shard) => self.add_shard(*shard),
         }
     }
 
     /// Counts the line of a verdict.
-    fn add_verdict(&mut self, machine: &Machine, verdict: &Verdict)
-        ensures { self.new
-            ≡ counted_claim self.old (record { table = machine.now; verdict = verdict.now }) }
+    fn add_verdict(&mut self, assumed: &[Text], machine: &Machine, verdict: &Verdict)
+        ensures { self.new ≡ counted_claim (map (λ one. one.items) assumed.now) self.old
+            (record { table = machine.now; verdict = verdict.now }) }
     {
         self.read = self.read.saturating_add(1);
         self.lines = self.lines.saturating_add(1);
         match *verdict {
-            Verdict::Halt { .. } => self.halt = self.halt.saturating_add(1),
+            Verdict::Halt { steps, score } => self.add_halt(steps, score),
             Verdict::Cycler { .. } => self.cycler = self.cycler.saturating_add(1),
             Verdict::Translated { .. } => self.translated = self.translated.saturating_add(1),
             Verdict::Backward { .. } => self.backward = self.backward.saturating_add(1),
-            Verdict::Undecided(_) => self.add_undecided(machine),
+            Verdict::Undecided(_) => self.add_undecided(assumed, machine),
         }
     }
 
@@ -98,16 +110,40 @@ impl Counts {
         self.wide = self.wide.saturating_add(shard.wide);
     }
 
+    /// Counts a halt, as such alone.
+    fn add_halt(&mut self, steps: u64, score: u64)
+        ensures { self.new ≡ record self.old {
+          halt = saturated (self.old.halt + 1);
+          most_steps = max self.old.most_steps steps;
+          most_score = max self.old.most_score score;
+        } }
+    {
+        self.halt = self.halt.saturating_add(1);
+        self.most_steps = self.most_steps.max(steps);
+        self.most_score = self.most_score.max(score);
+    }
+
     /// Counts an undecided line, as such alone.
-    fn add_undecided(&mut self, machine: &Machine)
+    fn add_undecided(&mut self, assumed: &[Text], machine: &Machine)
         ensures { self.new ≡ record self.old {
           undecided = saturated (self.old.undecided + 1);
           wide = more_if (nat_lt 1 (undefined_entries_of machine.now)) self.old.wide;
+          assumed = more_if (is_among (map (λ one. one.items) assumed.now) machine.now) self.old.assumed;
         } }
     {
         self.undecided = self.undecided.saturating_add(1);
+        if is_among(assumed, machine) {
+            self.assumed = self.assumed.saturating_add(1);
+        }
         if count_undefined_entries(machine) > 1 {
             self.wide = self.wide.saturating_add(1);
         }
     }
+}
+
+/// Whether the text of a machine is one of these.
+fn is_among(assumed: &[Text], machine: &Machine) -> bool
+    ensures { result ≡ is_among (map (λ one. one.items) assumed.now) machine.now }
+{
+    assumed.contains(&text_of(machine))
 }

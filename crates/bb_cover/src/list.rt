@@ -5,7 +5,7 @@ ghost use Rattle.bb_machine.specs.Machine.{Table};
 ghost use Rattle.bb_cert.specs.checker.Pair.{PairHasCells};
 ghost use Rattle.bb_tree.specs.Path.{depth_of};
 ghost use Rattle.bb_lines.specs.Watched.{is_marked, watched_inner};
-ghost use Rattle.bb_cover.specs.Counts.{counted, saturated};
+ghost use Rattle.bb_cover.specs.Counts.{assumed_texts, counted, saturated};
 ghost use Rattle.bb_cover.specs.CoverProgress.{GoesOn, IsAsked, IsFoundBy, Starts};
 ghost use Rattle.bb_cover.specs.Covering.{CoverEnds};
 ghost use Rattle.bb_cover.specs.UndefinedEntries.{IsUndefinedOf};
@@ -113,20 +113,20 @@ impl CoverProgress {
     /// The machine is moved then.
     fn visit(
         &mut self,
-        below: &Option<Machine>,
+        task: &Task,
         machine: &mut Machine,
         content: &Content,
         undefined: Option<UndefinedEntry>,
     )
         requires asked { (rest : List Table)
-            × IsAsked below.now self.old.size self.old.walk machine.old rest }
+            × IsAsked task.now.below self.old.size self.old.walk machine.old rest }
         requires unbegun { self.old.size ≡ None → self.old.walk ≡ [] }
         requires undefined { IfSome undefined (IsUndefinedOf machine.old) }
-        ensures goes { GoesOn below.now self.old machine.old undefined self.new }
-        ensures counts { self.new.counts
-            ≡ counted self.old.counts (record { table = machine.old; content = content.now }) }
+        ensures goes { GoesOn task.now.below self.old machine.old undefined self.new }
+        ensures counts { self.new.counts ≡ counted (assumed_texts task.now) self.old.counts
+            (record { table = machine.old; content = content.now }) }
     {
-        self.counts.add(machine, content);
+        self.counts.add(task.assumed.as_slice(), machine, content);
         match self.size {
             None => {
                 self.size = Some(Size {
@@ -247,7 +247,7 @@ impl<T: Tape> LineSink for Checker<'_, T> {
                     return Ok(());
                 }
                 self.progress
-                    .visit(&self.task.below, &mut self.machine, &content, undefined);
+                    .visit(self.task, &mut self.machine, &content, undefined);
                 self.seen.set(self.progress.counts.read);
                 Ok(())
             }

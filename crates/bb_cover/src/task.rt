@@ -1,4 +1,5 @@
 //! The walk that a list has to be.
+use crate::text::Text;
 use bb_machine::{Limits, Machine};
 
 /// The lines that a list may have.
@@ -19,4 +20,6 @@ pub struct Task {
     pub below: Option<Machine>,
     /// The lines that the list may have.
     pub form: Form,
+    /// The texts of machines that are assumed never to halt. Their undecided lines are counted apart.
+    pub assumed: Vec<Text>,
 }

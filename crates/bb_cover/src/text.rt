@@ -1,5 +1,6 @@
 //! The texts of machines, to be shown.
-ghost use Rattle.std.specs.Prelude.{◌<◌, length};
+ghost use Rattle.std.specs.Prelude.{◌≡◌, ◌<◌, length};
+ghost use Rattle.bb_machine.specs.Machine.{text};
 ghost use Rattle.bb_cover.specs.Left.{IsFrame};
 
 use crate::table::entry_with;
@@ -11,12 +12,14 @@ use bb_machine::{Dir, Entry, LINE, Machine, Next};
 pub type Text = ArrayVec<u8, LINE>;
 
 /// The text of a machine.
-pub(crate) fn text_of(machine: &Machine) -> Text {
-    let mut text = ArrayVec::new();
-    for state in 0..machine.states() {
-        add_row(machine, state, &mut text);
-    }
-    text
+pub(crate) fn text_of(machine: &Machine) -> Text
+    ensures { result.items ≡ text machine.now }
+{
+    let mut words = ArrayVec::new();
+    // A machine's text fits: `states` says so.
+    let _ = machine.states();
+    machine.text_into(&mut words);
+    words
 }
 
 /// The text of the next machine of a walk, empty at its end.
@@ -28,16 +31,6 @@ pub(crate) fn next_text(walk: &Walk) -> Text {
         }
     }
     text
-}
-
-/// Adds the entries for a state.
-fn add_row(machine: &Machine, state: u8, text: &mut Text)
-    requires { state < length machine.now }
-{
-    add_bar(state, text);
-    for symbol in 0..machine.symbols() {
-        add_entry(machine.entry(state, symbol), text);
-    }
 }
 
 /// Adds the entries for a state of the next machine: a frame's machine with its undefined transition filled.

@@ -1,2 +1,3 @@
+mod AssumedLines
 mod CommandLines
 mod SentLines

@@ -23,8 +23,8 @@ text_rule name = record (new_rule name) { long = Some name; value_names = 1 }
 abbrev pub cells_rule : Rule
 cells_rule = by_default (codes "67108864") (number_rule (codes "cells"))
 
--- cover [--steps N] [--cells N] [--depth N] [--nodes N] [--below MACHINE] [--skeleton] [FILE]; a limit that
--- isn't given is the greatest
+-- cover [--steps N] [--cells N] [--depth N] [--nodes N] [--below MACHINE] [--skeleton] [--assume FILE] [FILE];
+-- a limit that isn't given is the greatest
 abbrev pub command_line : App
 command_line = record {
   top = record (new_shape (codes "cover")) {
@@ -35,6 +35,7 @@ command_line = record {
         ∷ by_default (codes "1000000000000") (number_rule (codes "nodes"))
         ∷ text_rule (codes "below")
         ∷ switch_rule (codes "skeleton")
+        ∷ text_rule (codes "assume")
         ∷ positional_rule (codes "file")
         ∷ [];
   };
@@ -52,12 +53,15 @@ IsBelow None (Some table) = ⊥
 IsBelow (Some given) None = ⊥
 IsBelow (Some given) (Some table) = IsMachine table × (text table ≡ given)
 
--- the words are a command line, with the list of this file, and the walk that it has to be
+-- the words are a command line, with the list of this file, the walk that it has to be, and the file of the
+-- machines that are assumed never to halt, of which none is read yet
 pub record IsAskedBy (words : List Text) (asked : Asked) : Type 0 where
   pub no_fault : fault_of command_line words ≡ []
   pub limits : asked.task.limits ≡ list_bounds (matches_of command_line words)
   pub below : IsBelow (first_of (codes "below") (matches_of command_line words)) asked.task.below
   pub form : asked.task.form ≡ form_by (is_given (codes "skeleton") (matches_of command_line words))
+  pub unread : asked.task.assumed.items ≡ []
+  pub assume : option_map string_bytes asked.assume ≡ first_of (codes "assume") (matches_of command_line words)
   pub file : option_map string_bytes asked.file ≡ first_of (codes "file") (matches_of command_line words)
 
 -- a text is given, and no machine has it: this is the column of its first error

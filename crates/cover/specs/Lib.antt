@@ -1,3 +1,5 @@
+pub mod Assumption
+pub mod KeptAssumption
 pub mod CommandLine
 pub mod Report
 pub mod Status

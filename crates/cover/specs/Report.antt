@@ -1,5 +1,6 @@
 -- The printed line, byte for byte: this project's own.
-use Rattle.std.specs.Prelude.{ℕ, List, [], ◌∷◌, ◌++◌, Option, Some, None, codes, decimal, if◌then◌else◌, nat_eq}
+use Rattle.std.specs.Prelude.{ℕ, ◌-◌, List, [], ◌∷◌, ◌++◌, Option, Some, None, codes, decimal, if◌then◌else◌}
+use Rattle.std.specs.Prelude.{nat_eq}
 use Rattle.bb_machine.specs.Machine.{Table, text}
 use Rattle.bb_cert.specs.declared.checker.answer.Answer.{Answer}
 use Rattle.bb_cert.specs.declared.checker.answer.Answer.TheVariants.{Ok, Bad, Over, Open}
@@ -38,6 +39,21 @@ abbrev pub undefined_text : Option Table → List ℕ
 undefined_text None = codes "---"
 undefined_text (Some first) = codes "undefined transition"
 
+abbrev pub outside_text : Form → List ℕ
+outside_text Verdicts = []
+outside_text Skeleton = codes "outside shards "
+
+-- the greatest halt
+abbrev pub halts_text : Form → Counts → List ℕ
+halts_text form counts = codes "; halts " ++ (outside_text form ++ (codes "within "
+    ++ (counted_text counts.most_steps (codes " step, score up to ") (codes " steps, score up to ")
+    ++ decimal counts.most_score)))
+
+-- how many lines are open: undecided, and not of an assumed machine
+abbrev pub open_text : Counts → List ℕ
+open_text counts = codes "; " ++ (decimal (counts.undecided - counts.assumed) ++ (codes " open, "
+    ++ (decimal counts.assumed ++ codes " assumed")))
+
 -- the next machine; before the first line none is known
 abbrev pub asked_text : List ℕ → List ℕ
 asked_text [] = codes "a machine with no entry"
@@ -71,7 +87,8 @@ why_text form asked given Beyond = beyond_text
 
 abbrev pub found_text : Task → Cover → Found → List ℕ
 found_text task cover (Covers states symbols) = root_text task.below states symbols
-    ++ (shards_text task.form cover.counts.shards ++ (counts_text cover.counts ++ undefined_text task.below))
+    ++ (shards_text task.form cover.counts.shards ++ (counts_text cover.counts
+    ++ (undefined_text task.below ++ (halts_text task.form cover.counts ++ open_text cover.counts))))
 found_text task cover (Stops stop) = codes "line " ++ (decimal stop.line ++ (codes ": "
     ++ why_text task.form cover.asked.items cover.given.items stop.why))
 

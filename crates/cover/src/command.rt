@@ -1,5 +1,7 @@
 //! The command line: the list, the required walk, and its limits.
 ghost use Rattle.std.specs.Prelude.{◌≡◌, ◌++◌, [], false, true, IfErr, IfOk, IfSome, codes, decimal, map};
+ghost use Rattle.std.specs.Prelude.{option_map};
+ghost use Rattle.std.specs.String.{string_bytes};
 ghost use Rattle.clap.specs.Simple.{new_shape};
 ghost use Rattle.clap.specs.Words.{app_of, first_of, found_of, rows_of, rule_of};
 ghost use Rattle.bb_machine.specs.Column.{IsColumn};
@@ -21,6 +23,8 @@ use std::alloc::{AllocError, Global};
 pub struct Asked {
     /// The required walk, and the limits of its claims.
     pub task: Task,
+    /// The file of machines that are assumed never to halt, if any.
+    pub assume: Option<String>,
     /// The list's file; standard input if none.
     pub file: Option<String>,
 }
@@ -59,7 +63,7 @@ impl From<AllocError> for Refusal {
 }
 
 /// Reads a command line. The first word is the program's name. Words come before limits, and limits before
-/// the machine.
+/// the machine. No machine is assumed yet never to halt.
 pub fn ask(alloc: Global, words: &[&str]) -> Result<Asked, Refusal>
     ensures asked { IfOk result (IsAskedBy (map (λ word. word.now) words.now)) }
     ensures stop { IfErr result (IsStopOf (map (λ word. word.now) words.now)) }
@@ -78,13 +82,16 @@ pub fn ask(alloc: Global, words: &[&str]) -> Result<Asked, Refusal>
         Err(refused) => return Err(Refusal::Machine(refused)),
     };
     let form = form_of(&matches);
+    let assume = assume_file(alloc, &matches)?;
     let file = list_file(alloc, &matches)?;
     Ok(Asked {
         task: Task {
             limits,
             below,
             form,
+            assumed: Vec::new(alloc),
         },
+        assume,
         file,
     })
 }
@@ -109,10 +116,14 @@ depth, as
 writes them. Each claim is checked; the limits are of what a claim may name or
 need. Out: one line. For a complete list it begins with
   covers 4 states 2 symbols: 858909 lines, 8455 undecided
-and tells how many of these have more than one ---. Then each machine of the
-size halts, at most a step later than one of the list, never halts, or completes
-an undecided one, perhaps mirrored or renamed first. Otherwise the line names
-the first wrong line of the list, and the reason.
+and tells how many of these have more than one ---, the greatest steps and score
+of a halt, and how many lines are open. Then each machine of the size halts, at
+most a step later, never halts, or completes an open one, perhaps mirrored or
+renamed first. Otherwise the line names the first wrong line, and the reason.
+
+With --assume the undecided lines of the machines in FILE, lines MACHINE nonhalt,
+are counted as assumed, and not as open: the bound is then given that these
+never halt. Machines inside shards aren't seen.
 
 With --below the walk begins at MACHINE: the list is a shard. A skeleton has in
 place of a shard's lines one line, MACHINE below N U G SHA256: its lines, those
@@ -138,6 +149,7 @@ fn program<'a>(alloc: Global) -> Result<Command<'a>, AllocError>
             "skeleton",
             "Takes lines for shards, and adds up their counts",
         ))?
+        .arg(assume(alloc))?
         .arg(positional(
             alloc,
             "file",
@@ -178,6 +190,17 @@ fn below<'a>(alloc: Global) -> Arg<'a>
         .help("The machine to begin at [default: one with no entry]")
 }
 
+/// The option with the file of machines that are assumed never to halt.
+fn assume<'a>(alloc: Global) -> Arg<'a>
+    ensures rule { rule_of result ≡ text_rule (codes "assume") }
+    ensures local { result.global ≡ false }
+{
+    Arg::new(alloc, "assume")
+        .long("assume")
+        .value_name("FILE")
+        .help("Lines MACHINE nonhalt: counts these machines apart")
+}
+
 /// The limits, if they are accepted.
 fn limits_of(matches: &ArgMatches<'_>) -> Result<Limits, Stop>
     ensures ok { IfOk result (λ limits. limits ≡ list_bounds (rows_of (found_of matches.now))) }
@@ -203,6 +226,17 @@ fn below_of(matches: &ArgMatches<'_>) -> Result<Option<Machine>, Refused>
             Ok(machine) => Ok(Some(machine)),
             Err(refused) => Err(refused),
         },
+        None => Ok(None),
+    }
+}
+
+/// The file of machines that are assumed never to halt, if one is given.
+fn assume_file(alloc: Global, matches: &ArgMatches<'_>) -> Result<Option<String>, AllocError>
+    ensures { IfOk result (λ file.
+        option_map string_bytes file ≡ first_of (codes "assume") (rows_of (found_of matches.now))) }
+{
+    match matches.get_str("assume") {
+        Some(file) => Ok(Some(String::from_str(alloc, file)?)),
         None => Ok(None),
     }
 }

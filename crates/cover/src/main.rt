@@ -5,10 +5,12 @@
 ghost use Rattle.std.specs.Prelude.{◌≡◌};
 ghost use Rattle.cover.specs.Status.{IsRefusalStatus, IsReportStatus};
 
+mod assumed;
 mod command;
 mod report;
 mod serve;
 
+use assumed::read_assumed;
 use bb_cover::Cover;
 use bb_lines::fault::Fault;
 use bb_lines::watched::Watched;
@@ -29,7 +31,10 @@ const PROGRAM: &str = "cover";
 
 fn main(rt: HostRuntime) -> ExitCode {
     let status = match parse_request(&rt) {
-        Ok(asked) => answer_request(&rt, &asked),
+        Ok(mut asked) => match assume_machines(&rt, &mut asked) {
+            Ok(()) => answer_request(&rt, &asked),
+            Err(status) => status,
+        },
         Err(refusal) => report_refusal(&rt, &refusal),
     };
     ExitCode::from(status)
@@ -40,6 +45,34 @@ fn parse_request(rt: &HostRuntime) -> Result<Asked, Refusal> {
     let arguments = read_arguments(rt).map_err(Refusal::Common)?;
     let words = words_of(rt.alloc(), arguments.as_slice())?;
     ask(rt.alloc(), words.as_slice())
+}
+
+/// Reads the machines that are assumed never to halt. `Err` is an exit status, after its message: 2 if a line
+/// is refused, 3 for a fault.
+fn assume_machines(rt: &HostRuntime, asked: &mut Asked) -> Result<(), u8> {
+    let Some(file) = &asked.assume else {
+        return Ok(());
+    };
+    let (end, error) = match open_list(rt, file) {
+        Ok((input, _)) => {
+            let unshown: Option<&Progress<'_, LineCount<'_>>> = None;
+            let mut reader = Watched::new(Observed::new(input, unshown));
+            let end = read_assumed(rt.alloc(), &mut reader);
+            (end, reader.into_inner().into_error())
+        }
+        Err(error) => (Err(Fault::Read), Some(error)),
+    };
+    match end {
+        Ok(Ok(texts)) => {
+            asked.task.assumed = texts;
+            Ok(())
+        }
+        Ok(Err(wrong)) => {
+            let _ = rt.eprintln(wrong);
+            Err(2)
+        }
+        Err(fault) => Err(report_fault(rt, PROGRAM, Some(file.as_str()), fault, error.as_ref())),
+    }
 }
 
 /// Walks along the list, prints the result, and returns the exit status. A file that can't be opened is a

@@ -5,7 +5,8 @@ ghost use Rattle.std.specs.Io.KnownBytes.{Appends};
 ghost use Rattle.bb_machine.specs.Machine.{text};
 ghost use Rattle.bb_lines.specs.Ends.{AppendsPrefix};
 ghost use Rattle.bb_lines.specs.Watched.{is_marked, watched_inner};
-ghost use Rattle.cover.specs.Report.{asked_text, beyond_text, counted_text, counts_text, refused_text};
+ghost use Rattle.cover.specs.Report.{asked_text, beyond_text, counted_text, counts_text, halts_text};
+ghost use Rattle.cover.specs.Report.{open_text, outside_text, refused_text};
 ghost use Rattle.cover.specs.Report.{report_text, root_text, shards_text, undefined_text, unread_text};
 ghost use Rattle.cover.specs.Report.{too_many_text, why_text};
 
@@ -121,13 +122,15 @@ fn covers_text(
 ) -> Result<Vec<u8>, AllocError>
     ensures { IfOk result (λ line. line.items ≡ root_text task.now.below states symbols
         ++ (shards_text task.now.form counts.now.shards ++ (counts_text counts.now
-        ++ undefined_text task.now.below))) }
+        ++ (undefined_text task.now.below ++ (halts_text task.now.form counts.now ++ open_text counts.now))))) }
 {
     let mut line = Vec::new(alloc);
     add_root(&mut line, &task.below, states, symbols)?;
     add_shards(&mut line, task.form, counts.shards)?;
     add_counts(&mut line, counts)?;
     line.extend_from_slice(undefined_word(&task.below))?;
+    add_halts(&mut line, task.form, counts)?;
+    add_open(&mut line, counts)?;
     Ok(line)
 }
 
@@ -188,6 +191,43 @@ fn undefined_word(below: &Option<Machine>) -> &'static [u8]
     match below {
         None => b"---",
         Some(_) => b"undefined transition",
+    }
+}
+
+/// Adds the greatest halt.
+fn add_halts(line: &mut Vec<u8>, form: Form, counts: &Counts) -> Result<(), AllocError>
+    ensures { OnOk result (line.new.items ≡ line.old.items ++ halts_text form counts.now) }
+{
+    line.extend_from_slice(b"; halts ")?;
+    line.extend_from_slice(outside_words(form))?;
+    line.extend_from_slice(b"within ")?;
+    add_counted(
+        line,
+        counts.most_steps,
+        b" step, score up to ",
+        b" steps, score up to ",
+    )?;
+    add_number(line, counts.most_score)?;
+    Ok(())
+}
+
+/// Adds how many lines are open, and how many assumed.
+fn add_open(line: &mut Vec<u8>, counts: &Counts) -> Result<(), AllocError>
+    ensures { OnOk result (line.new.items ≡ line.old.items ++ open_text counts.now) }
+{
+    line.extend_from_slice(b"; ")?;
+    add_number(line, counts.undecided.saturating_sub(counts.assumed))?;
+    line.extend_from_slice(b" open, ")?;
+    add_number(line, counts.assumed)?;
+    line.extend_from_slice(b" assumed")
+}
+
+fn outside_words(form: Form) -> &'static [u8]
+    ensures { result.now ≡ outside_text form }
+{
+    match form {
+        Form::Verdicts => b"",
+        Form::Skeleton => b"outside shards ",
     }
 }
 
@@ -297,7 +337,8 @@ fn add_number(line: &mut Vec<u8>, n: u64) -> Result<(), AllocError>
     line.extend_from_slice(buffer.format(n).as_bytes())
 }
 
-fn machine_text(machine: &Machine) -> Text
+/// The text of a machine.
+pub fn machine_text(machine: &Machine) -> Text
     ensures { result.items ≡ text machine.now }
 {
     let mut words = ArrayVec::new();

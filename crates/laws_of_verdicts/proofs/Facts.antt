@@ -9,3 +9,4 @@ pub use Rattle.laws_of_verdicts.proofs.Fillings.{blank_table-none}
 pub use Rattle.laws_of_verdicts.proofs.NormalForms.{normal_form_covers}
 pub use Rattle.laws_of_verdicts.proofs.Walks.{walks_are_in_normal_form}
 pub use Rattle.laws_of_verdicts.proofs.Shards.{walks_compose}
+pub use Rattle.laws_of_verdicts.proofs.Bounds.{covers_bound_given}

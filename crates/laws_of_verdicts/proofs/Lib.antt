@@ -1,3 +1,4 @@
+mod Bounds
 mod ChangedNotions
 mod ChangedRuns
 mod ChangedTrees

@@ -1,3 +1,4 @@
+pub mod Bound
 pub mod Change
 pub mod Closed
 pub mod Completion

@@ -1,4 +1,5 @@
 //! Laws on verdicts beyond their machine's run within limits, as contracts. A call of each does nothing.
+ghost use Rattle.laws_of_verdicts.specs.Bound.{CoversBound, CoversBoundGiven};
 ghost use Rattle.laws_of_verdicts.specs.Change.{ChangesKeepAnswers, ChangesKeepClaims, ChangesKeepVerdicts};
 ghost use Rattle.laws_of_verdicts.specs.Closed.{CoversDecide, CoversSettle};
 ghost use Rattle.laws_of_verdicts.specs.Completion.{CompletionsKeepAnswers, CompletionsKeepClaims};
@@ -71,6 +72,13 @@ pub fn undefined_halts_complete()
 pub fn covers_settle()
     ensures settle { CoversSettle }
     ensures decide { CoversDecide }
+{}
+
+/// Such a list bounds all halts of its size: one step and one cell beyond its own greatest halt. Machines may
+/// be assumed never to halt; their completions are then not left open.
+pub fn covers_bound()
+    ensures bound { CoversBound }
+    ensures given { CoversBoundGiven }
 {}
 
 /// A list in tree normal form covers its size too: its machines use only the first unused state and symbol,

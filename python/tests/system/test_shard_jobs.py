@@ -28,13 +28,18 @@ def out(tmp_path: pathlib.Path) -> pathlib.Path:
     return tmp_path / "out"
 
 
+def counts_in(line: str) -> str:
+    """The counts in a line of `cover`, without the greatest halt: a skeleton's is that of its own lines."""
+    return line.split(": ")[1].partition(";")[0]
+
+
 @pytest.fixture(scope="module")
 def whole(bb: str, cover: str, list_machines: ListMachines) -> Whole:
     """A function that returns what `cover` counts in the list of so many states in one piece."""
 
     def counts(states: int) -> str:
         verdicts = run_command([bb, "decide"], as_lines(list_machines(states))).output
-        return run_command([cover], verdicts).output.decode().split(": ")[1]
+        return counts_in(run_command([cover], verdicts).output.decode())
 
     return counts
 
@@ -50,7 +55,7 @@ def run(*words: object, status: int = 0, sentence: str = "") -> str:
 
 def test_shards_count_as_the_list_in_one_piece(whole: Whole, out: pathlib.Path) -> None:
     printed = run("shards", out, *PLAN)
-    assert printed == "covers 3 states 2 symbols, given 13 shards: " + whole(3)
+    assert printed.startswith("covers 3 states 2 symbols, given 13 shards: %s; " % whole(3))
     assert run("shards", out) == printed
 
 
@@ -66,7 +71,7 @@ def test_array_jobs(whole: Whole, out: pathlib.Path) -> None:
     for text in (lines[1][:-2], lines[1]):
         cut.write_text(text)
         assert run("shards", out, "--pending") == machines[1] + "\n"
-    assert run("shards", out).split(": ")[1] == whole(3) and cut.read_text().startswith(lines[1])
+    assert counts_in(run("shards", out)) == whole(3) and cut.read_text().startswith(lines[1])
 
 
 def test_summary_and_holdouts(bb: str, list_machines: ListMachines, out: pathlib.Path) -> None:
@@ -140,7 +145,7 @@ def test_shards_over_dask(whole: Whole, tmp_path: pathlib.Path) -> None:
         made.start_worker({"PATH": os.environ["PATH"]}, threads=2)
         command = [sys.executable, "-m", "budlarem", "shards", str(tmp_path / "out"), *PLAN]
         status, output, _ = run_command([*command, "--scheduler", made.address])
-    assert status == 0 and output.decode().split(": ")[1] == whole(3)
+    assert status == 0 and counts_in(output.decode()) == whole(3)
 
 
 def test_another_plan_is_refused(out: pathlib.Path) -> None:

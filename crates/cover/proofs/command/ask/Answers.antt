@@ -34,5 +34,7 @@ returns-clause-asked c =
       limits = c.in-Ok-limits_of.ensures.ok ∙ ap list_bounds rows;
       below = rw rows at c.in-Ok-below_of.ensures.ok;
       form = c.form_of-form.ensures ∙ ap (λ found. form_by (is_given (codes "skeleton") found)) rows;
+      unread = c.new.ensures.items;
+      assume = rw rows at c.in_ok-assume.ensures;
       file = rw rows at c.in_ok-file.ensures;
     }

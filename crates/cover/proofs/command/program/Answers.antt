@@ -10,5 +10,6 @@ returns c =
     let four = with_arg c.in_ok-arg-4.ensures three c.limit-3.ensures.rule c.limit-3.ensures.local in
     let five = with_arg c.in_ok-arg-5.ensures four c.below.ensures.rule c.below.ensures.local in
     let six = with_arg c.in_ok-arg-6.ensures five c.switch.ensures.rule c.switch.ensures.local in
-    IfOk-weaker c.arg-7.result _ _
-    (λ command adds. with_arg adds six c.positional.ensures.rule c.positional.ensures.local) c.arg-7.ensures
+    let seven = with_arg c.in_ok-arg-7.ensures six c.assume.ensures.rule c.assume.ensures.local in
+    IfOk-weaker c.arg-8.result _ _
+    (λ command adds. with_arg adds seven c.positional.ensures.rule c.positional.ensures.local) c.arg-8.ensures
