@@ -11,7 +11,7 @@ write verdicts must write the same; the least of the runs counts. The status is 
   Python needs to start, as a run over no line shows it, is left out.
 - `threads`: one process, one thread, several, and GNU parallel; whole commands.
 - `dask`: one process, and dask with one and three workers, by the summary's time; with few steps four states.
-- `waiting`: a thousand workers that only wait: how many pieces a second are handed out and taken back.
+- `waiting`: a thousand workers that only wait: how many chunks a second are handed out and taken back.
 """
 
 import functools
@@ -40,7 +40,7 @@ QUICK_PASS = (50, 64, 3, 10)
 PARALLEL = ("GNU parallel, 100k", "GNU parallel, 1M", "GNU parallel, 10M")
 # Processes of workers that wait, and how many threads each has.
 WAITING_PROCESSES, WAITING_THREADS = 4, 250
-# Seconds that each piece waits, lines of a piece, and how many pieces there are.
+# Seconds that each chunk waits, lines of a chunk, and how many chunks there are.
 WAITING = ((0.5, 100, 10_000), (0.5, 1_000, 4_000))
 REPLIES = "    return _make_reply(describe_task(DECIDE"
 WAITS = """    time.sleep(%f)
@@ -180,9 +180,9 @@ def measure_dask(bench: Bench, limits: Sequence[int], folder: pathlib.Path) -> N
 
 
 def measure_waiting(bench: Bench, folder: pathlib.Path, share: float) -> None:
-    """Print how many pieces a second workers get that only wait, and say that nothing is decided."""
+    """Print how many chunks a second workers get that only wait, and say that nothing is decided."""
     bench.table.head("%d workers that wait" % (WAITING_PROCESSES * WAITING_THREADS))
-    for seconds, lines, pieces in WAITING:
+    for seconds, lines, chunks in WAITING:
         top = folder / ("waiting-%d" % lines)
         top.mkdir()
         with cluster(0, top) as found:
@@ -190,12 +190,12 @@ def measure_waiting(bench: Bench, folder: pathlib.Path, share: float) -> None:
             for _ in range(WAITING_PROCESSES):
                 found.start_worker(variables, WAITING_THREADS)
             wait_for_workers(found, WAITING_PROCESSES)
-            bench.case.list.write_bytes(as_lines([CHAMPION]) * int(lines * pieces * share))
-            taken = bench.by_dask(QUICK_PASS, found, "--piece", str(lines)).clock
-        count = sum(one["pieces"] for one in bench.summary["passes"])
+            bench.case.list.write_bytes(as_lines([CHAMPION]) * int(lines * chunks * share))
+            taken = bench.by_dask(QUICK_PASS, found, "--chunk", str(lines)).clock
+        count = sum(one["chunks"] for one in bench.summary["passes"])
         assert bench.verdicts.stat().st_size > 0
-        figure = "%d pieces, %.0f a second" % (count, count / taken)
-        bench.table.row("%.1f s, pieces of %d lines" % (seconds, lines), figure)
+        figure = "%d chunks, %.0f a second" % (count, count / taken)
+        bench.table.row("%.1f s, chunks of %d lines" % (seconds, lines), figure)
 
 
 def main() -> int:
@@ -223,7 +223,7 @@ def main() -> int:
             if "threads" in parts:
                 measure_threads(bench(top / ("both lists, %d" % at), both), limits)
             if "dask" in parts:
-                # With few steps, so many lines that pieces are large.
+                # With few steps, so many lines that chunks are large.
                 given = both if at else four * 5
                 measure_dask(bench(top / ("by dask, %d" % at), given), limits, top)
         if "waiting" in parts:

@@ -65,7 +65,8 @@ def options(parser: argparse.ArgumentParser) -> Iterator[str]:
     formatter = parser._get_formatter()
     for action in parser._actions:
         text = formatter._expand_help(action) if action.help else ""
-        if not isinstance(action, (argparse._HelpAction, argparse._SubParsersAction)):
+        is_shown = action.help != argparse.SUPPRESS
+        if is_shown and not isinstance(action, (argparse._HelpAction, argparse._SubParsersAction)):
             yield from (".TP", ".B " + escape(formatter._format_action_invocation(action)))
             yield escape(" ".join(text.split()))
 

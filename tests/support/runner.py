@@ -12,7 +12,8 @@ from typing import Any, Callable, Sequence
 import budlarem
 from budlarem import Limits, commands
 from budlarem.counts import KINDS as KINDS_OF_VERDICTS, VerdictCounts
-from budlarem.runner import chunks, folder, input, journal, local, passes, progress, remote
+from budlarem.runner import backends, chunks, folder, input, pass_folder, passes, progress
+from budlarem.runner.backends import PoolBackend as PoolBackend
 
 from .program import decide_in_passes
 
@@ -26,19 +27,6 @@ KINDS = (
 LIST = KINDS * 37
 SMALL, MIDDLE = Limits(30, 16, 3, 5), Limits(1_000, 128, 20, 100)
 PASSES = (SMALL, MIDDLE)
-
-
-class PoolBackend(remote.ExecutorBackend):
-    """Any executor, with so many workers. Each has a chunk, and as many chunks wait."""
-
-    def __init__(self, executor: Executor, workers: int) -> None:
-        self._executor, self._workers = executor, workers
-
-    def width(self) -> int:
-        return 2 * self._workers
-
-    def submit(self, task: chunks.Task, lines: bytes, limits: chunks.Numbers) -> Future[Any]:
-        return self._executor.submit(task, lines, limits)
 
 
 def expected_verdicts(given: bytes, limits: Sequence[Limits] = PASSES) -> bytes:
@@ -127,7 +115,7 @@ class RunCase(contextlib.ExitStack):
         keep: chunks.Retention = chunks.Retention(),
     ) -> passes.Outcome:
         """A run, by an executor or by two threads."""
-        backend: passes.Backend = local.ThreadBackend(2)
+        backend: backends.Backend = backends.ThreadBackend(2)
         if executor is not None:
             backend = PoolBackend(executor, 2)
         with contextlib.closing(input.ListFile(path or str(self.list))) as listed:
@@ -143,21 +131,30 @@ class RunCase(contextlib.ExitStack):
     def verdicts(self) -> bytes:
         return (self.out / "verdicts.txt").read_bytes()
 
-    def open_last_pass(
-        self, limits: Sequence[Limits], keep: chunks.Retention = chunks.Retention()
-    ) -> journal.PassFolder:
-        """The last of these passes, which is whole."""
+    def open_pass(self, number: int = 1) -> pass_folder.PassFolder:
+        """A pass that is whole."""
         with contextlib.closing(folder.Folder(str(self.out))) as top:
-            found = top.open_pass(limits, keep, chunks.identity())
+            config = top.read_config()
+            assert config is not None
+            found = top.open_pass(config, number)
         self.callback(found.close)
-        found.chunks = found.journal.length
+        names = [path.name for path in (self.out / ("pass-%d" % number)).iterdir()]
+        for name in sorted(names, key=lambda name: int(name.split("-")[0])):
+            record = found.read_record(int(name.split("-")[0]) - 1)
+            assert record is not None and record.name == name
+            found.add(record)
         return found
 
-    def records(self, limits: Sequence[Limits]) -> list[journal.Record]:
-        """What the journal of the last of these passes has."""
-        found = self.open_last_pass(limits).journal
-        records = map(found.read, range(found.length))
-        return [record for record in records if record is not None]
+    def records(self, number: int = 1) -> list[pass_folder.Record]:
+        """What is stored of the chunks of a pass."""
+        found = self.open_pass(number)
+        names = [path.name for path in (self.out / ("pass-%d" % number)).iterdir()]
+        firsts = sorted(int(name.split("-")[0]) - 1 for name in names)
+        return list(filter(None, map(found.read_record, firsts)))
+
+    def chunk(self, number: int = 1) -> pathlib.Path:
+        """The file of the longest chunk of a pass."""
+        return max((self.out / ("pass-%d" % number)).iterdir(), key=lambda path: path.stat().st_size)
 
 
 def call_command(*words: str) -> tuple[int, str]:

@@ -102,8 +102,7 @@ class Case:
         return self.errors.read_text(errors="replace")
 
     def chunks(self) -> int:
-        lines = (line for path in self.out.glob("pass-*/journal") for line in path.read_bytes().split(b"\n"))
-        return sum(line.startswith((b"decided", b"checked")) for line in lines)
+        return sum(not path.name.endswith(".part") for path in self.out.glob("pass-*/*-*"))
 
     def verdicts(self) -> bytes:
         path = self.out / "verdicts.txt"
@@ -174,7 +173,7 @@ def kill_often(case: Case, count: int, chance: random.Random, *words: str) -> in
     """Kill runs at random moments, each resumed by the next; return how many were killed before their end."""
     kills, whole = 0, 0
     while kills < count and whole < count + 5:
-        if kill_after(case, chance.randint(0, 4), "--piece", str(chance.randint(50, 150)), *words):
+        if kill_after(case, chance.randint(0, 4), "--chunk", str(chance.randint(50, 150)), *words):
             kills += 1
         else:
             whole += 1

@@ -75,7 +75,7 @@ def write_blocks(number: int, blocks: Iterable[bytes]) -> None:
         file.writelines(blocks)
 
 
-def write_all(number: int, data: bytes, place: int) -> None:
+def write_at(number: int, data: bytes, place: int) -> None:
     """Writes all bytes to a place of an open file. Raises OSError."""
     rest = memoryview(data)
     while rest:
@@ -168,10 +168,11 @@ class Directory:
 
     def open_or_create(self, name: str) -> int:
         """Opens a file for reading and writing, and creates a missing one."""
-        try:
-            return self.open_file(name, os.O_RDWR)
-        except FileNotFoundError:
-            return self.create_file(name)
+        while True:
+            with contextlib.suppress(FileNotFoundError):
+                return self.open_file(name, os.O_RDWR)
+            with contextlib.suppress(FileExistsError):
+                return self.create_file(name)
 
     def create_part(self, name: str) -> tuple[int, str]:
         """Creates the first free file of `name.part`, `name.2.part` and so on. Returns it, and its name."""
@@ -200,24 +201,18 @@ class Directory:
         with _name_path(self.at(name)), contextlib.suppress(FileNotFoundError):
             os.unlink(name, dir_fd=self.handle)
 
-    def install(self, part: str, name: str, over: FileId | None, source: Directory | None = None) -> None:
-        """Durably names the file `part` of `source` (default: here) `name`. Replaces only the file `over`."""
-        of = self if source is None else source
-        found = self.id_at(name)
+    def install(self, part: str, name: str, over: FileId | None) -> None:
+        """Names the file `part` `name`; `sync` makes that durable. Replaces only the file `over`. Raises
+        FileExistsError."""
+        found, handles = self.id_at(name), {"src_dir_fd": self.handle, "dst_dir_fd": self.handle}
         with _name_path(self.at(name)):
-            if found is not None and found == of.id_at(part):
-                of.remove(part)
-            elif found is not None and found == over:
-                os.rename(part, name, src_dir_fd=of.handle, dst_dir_fd=self.handle)
+            if found is not None and found == over:
+                os.rename(part, name, **handles)
             else:
-                self._install_new(of, part, name)
-        self.sync()
-        if of is not self:
-            of.sync()
+                self._install_new(part, name, handles)
 
-    def _install_new(self, of: Directory, part: str, name: str) -> None:
+    def _install_new(self, part: str, name: str, handles: dict[str, int]) -> None:
         """Gives a file a name that no file has. Raises FileExistsError."""
-        handles = {"src_dir_fd": of.handle, "dst_dir_fd": self.handle}
         try:
             os.link(part, name, **handles, follow_symlinks=False)
         except OSError as error:
@@ -227,7 +222,7 @@ class Directory:
                 raise FileExistsError(errno.EEXIST, "File exists", name) from None
             os.rename(part, name, **handles)
         else:
-            of.remove(part)
+            self.remove(part)
 
     def sync(self) -> None:
         """Returns once the names in it are on the disk."""
@@ -244,6 +239,7 @@ def write_atomically(directory: Directory, name: str, fill: Callable[[int], None
             fill(number)
             os.fsync(number)
         directory.install(part, name, None if over is None else over.id)
+        directory.sync()
     except BaseException:
         written.close()
         with contextlib.suppress(OSError):

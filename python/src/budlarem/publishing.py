@@ -19,7 +19,7 @@ import textwrap
 from typing import Any, BinaryIO, Callable, Iterable, Iterator, NoReturn, Sequence, Union
 
 from ._calls import BatchPace, map_in_order
-from ._files import Checksum, FileTarget, read_json
+from ._files import Checksum, Directory, FileTarget
 from ._library import is_plain
 from ._text import LONGEST_SHOWN
 from .counts import UNDECIDED, VerdictCounts
@@ -30,6 +30,7 @@ from .runner.chunks import Identity, identity
 from .runner.errors import CheckError, FolderError
 from .runner.folder import FinishedRun, PassTotals
 from .runner.input import ListFile, StreamLines
+from .runner.store import SealError, read_sealed
 from .shards import PLAN, SUMMARY, Plan, cover_skeleton, read_plan
 from .verification import find_unconfirmed
 
@@ -350,11 +351,10 @@ def publish(
         if os.path.exists(os.path.join(given, PLAN)):
             return _write_new(out, _archive_of_shards(given, listed))
         with contextlib.closing(FinishedRun(given)) as run:
-            totals = run.read_journals()
             if run.keep.only_holdouts:
                 lines = ArchivedFile(run.verdicts, HOLDOUTS)
                 _confirm_all(lines, limits, threads, progress)
-                return _write_new(out, _archive_of_holdouts(run, totals, lines, listed))
+                return _write_new(out, _archive_of_holdouts(run, lines, listed))
             archive = archive_of(run.verdicts, run.passes, run.identity)
             run.require_verdicts(archive.inputs[-1].checksum, archive.counts.kinds)
             return _write_new(out, archive)
@@ -366,25 +366,18 @@ def publish(
         raise PublishError("%s was made by another process meanwhile, and stays as it is" % out) from None
 
 
-def _archive_of_holdouts(
-    run: FinishedRun, totals: Sequence[PassTotals | None], lines: ArchivedFile, listed: ArchivedFile | None
-) -> Archive:
-    """The archive of a run that kept its holdouts; `totals` are of its passes. Raises PublishError, FolderError,
-    OSError."""
+def _archive_of_holdouts(run: FinishedRun, lines: ArchivedFile, listed: ArchivedFile | None) -> Archive:
+    """The archive of a run that kept its holdouts. Raises PublishError, FolderError, OSError."""
     folder = os.path.dirname(run.verdicts)
     if listed is None:
         advice = "give the list by --list, so that the rest can be made again"
         raise PublishError(f"{folder} has only the verdicts that --keep {run.keep} kept; {advice}")
-    known = [one for one in totals if one is not None]
-    if len(known) < len(totals):
-        why = "has no journal of pass %d, and only that says what was dropped" % (totals.index(None) + 1)
-        raise PublishError(f"{folder} {why}; decide the list again")
-    if not all(one.is_checked for one in known):
+    if not all(one.is_checked for one in run.totals):
         advice = "decide the list with --check, in another folder"
         raise PublishError(f"{folder} dropped verdicts that no checker confirmed; {advice}")
     if (count := _count_around(listed, lines)) != run.lines:
         raise PublishError(f"{listed.path} has {count} lines, and the run in {folder} had {run.lines}")
-    counts = _counts_of(known)
+    counts = _counts_of(run.totals)
     run.require_verdicts(lines.checksum, counts.kinds)
     _require_kept(lines, counts)
     passes = tuple(run.passes)
@@ -421,7 +414,7 @@ def _require_kept(lines: ArchivedFile, counts: VerdictCounts) -> None:
         kept.add(line.decode())
     for kind in (*UNDECIDED, "refused"):
         if kept.kinds[kind] != counts.kinds[kind]:
-            why = f"has {kept.kinds[kind]} lines of {kind}, and the journals have {counts.kinds[kind]}"
+            why = f"has {kept.kinds[kind]} lines of {kind}, and the summary has {counts.kinds[kind]}"
             raise PublishError(f"{lines.path} {why}; run that folder's command again")
 
 
@@ -444,32 +437,49 @@ def _archive_of_shards(folder: str, listed: ArchivedFile | None) -> Archive:
     """The archive of a finished folder of shards. Raises PublishError, FolderError, CheckError, RunError."""
     if listed is not None:
         raise PublishError("%s has shards, which have their own list; leave --list out" % folder)
-    plan, path = read_plan(folder), os.path.join(folder, SUMMARY)
-    try:
-        with open(path, encoding="utf-8") as file:
-            summary = read_json(file.read())
-        counts, cover = VerdictCounts.of_fields(summary), str(summary["cover"])
-        known = dict(summary["sha256"])
-    except FileNotFoundError:
-        raise PublishError("%s isn't finished; `budlarem shards %s` resumes" % (folder, folder)) from None
-    except (AttributeError, KeyError, TypeError, ValueError) as error:
-        raise PublishError("%s isn't as `budlarem shards` writes it: %s" % (path, error)) from None
+    with contextlib.closing(Directory.open(folder)) as top:
+        (plan, _), path = read_plan(top), top.at(SUMMARY)
+        try:
+            summary = read_sealed(top, SUMMARY)
+        except SealError as error:
+            raise PublishError(
+                "%s: %s; `budlarem shards %s` writes it again" % (path, error, folder)
+            ) from None
+    if summary is None:
+        raise PublishError("%s isn't finished; `budlarem shards %s` resumes" % (folder, folder))
+    if summary["plan"] != json.loads(json.dumps(dataclasses.asdict(plan))):
+        raise PublishError("%s is of another plan than plan.json; `budlarem shards %s`" % (path, folder))
+    counts, cover = VerdictCounts.of_fields(summary), str(summary["cover"])
     files = tuple(ArchivedFile(os.path.join(folder, name), name) for name in (SKELETON, HOLDOUTS))
     for given in files:
         collections.deque(given.blocks(), maxlen=0)
-        if given.sha256 != known.get(given.name):
+        if given.sha256 != summary["sha256"][given.name]:
             raise PublishError(f"{given.path} isn't that of the summary; run `budlarem shards {folder}`")
-    found = cover_skeleton(files[0].path, plan).rstrip("\n")
+    found = cover_skeleton(files[0].blocks(), files[0].path, plan).rstrip("\n")
     if found != cover:
         raise PublishError("%s has %r, and cover prints %r" % (path, cover, found))
     checked = (
-        "cover --below confirmed every claim of each shard, and that the shard is the whole walk below its"
-    )
-    checked += " machine. cover --skeleton confirmed the skeleton when this archive was made: it %s" % found
+        "Each shard was checked by cover --below when it was done: every claim, and that it is the whole walk"
+        " below its machine. %s cover --skeleton confirmed the skeleton when this archive was made: it %s"
+    ) % (_verified_text(summary["verified"]), found)
     confirmed = sum(counts.kinds.values()) - counts.count_undecided()
-    about = {"greatest": counts.greatest, "plan": dataclasses.asdict(plan), "cover": cover}
+    about = {"greatest": counts.greatest, "plan": summary["plan"], "cover": cover}
+    about["verified"] = summary["verified"]
     page = _holdout_parts(counts, checked, _shards_again(plan))
     return Archive(counts, confirmed, (plan.limits,), None, files, about, *page)
+
+
+def _verified_text(verified: dict[str, int] | None) -> str:
+    if verified is None:
+        return "No shard was done again to compare it."
+    count, total, seed = (verified[name] for name in ("shards", "of", "seed"))
+    if count == total:
+        return "Each shard was done again, with the same result."
+    return "%d of %d shards, drawn by the seed %d, were done again, with the same result." % (
+        count,
+        total,
+        seed,
+    )
 
 
 def _shards_again(plan: Plan) -> list[str]:

@@ -2,15 +2,15 @@
 
 The folder of a sharded list has
 
-- `plan.json`: size, entries, limits
+- `plan.json`: size, entries, limits, with a seal
 - `machines.txt`: the machines of the skeleton, in walk order; one that ends in `below` stands for its shard
-- `shards/MACHINE`: of each finished shard the line, the counts as JSON, and the undecided lines
+- `shards/MACHINE`: the result of each finished shard: its line and counts, sealed, and its undecided lines
 - `skeleton.txt`: the machines decided, and the lines of the shards in their places
 - `holdouts.txt`: the undecided lines, in walk order
-- `summary.json`: the plan, the line of `cover`, the counts, the sha256 of both files
+- `summary.json`: the plan, the line of `cover`, the counts, the sha256 of both files, with a seal
 
-Jobs share nothing but this folder: they may run on the cores, by `xargs`, as array jobs or over dask. Three
-programs in a pipe do the work, found in the PATH: `tree_normal_form` lists, `bb` decides, `cover` checks.
+Shards are done by a backend, or by processes that share this folder, as array jobs. Three programs in a pipe do
+the work, found in the PATH: `tree_normal_form` lists, `bb` decides, `cover` checks.
 """
 
 from __future__ import annotations
@@ -21,25 +21,37 @@ import functools
 import hashlib
 import json
 import os
+import random
 import re
 import shutil
 import subprocess
+import threading
 import time
-from typing import IO, Any, Callable, Iterator, NamedTuple, Sequence
+from typing import IO, Any, Callable, Iterable, Iterator, NamedTuple, Sequence
 
-from ._files import read_json, write_whole
+from ._files import Directory, read_json, write_atomically, write_blocks
 from ._fork import forbid_fork
 from ._library import ReplyBuffer
 from .counts import RecurrenceCounts, VerdictCounts
 from .engine import recurrence_call
 from .limits import Limits
-from .runner.errors import CheckError, FolderError, RunError
+from .runner.backends import Backend
+from .runner.chunks import ChunkReply, identity, open_reply, reply_of
+from .runner.dispatch import Assignment, Dispatcher, Reporter, Request
+from .runner.errors import CheckError, FolderError, ReplyError, RunError
+from .runner.folder import LOCK, remove_leftovers
+from .runner.store import OriginError, Result, SealError, Store, hash_of, locked_folder, read_sealed, seal
+from .walk_order import WalkOrder
 
 LISTER, DECIDER, CHECKER = PROGRAMS = ("tree_normal_form", "bb", "cover")
 FILES = ("plan.json", "machines.txt", "skeleton.txt", "holdouts.txt", "summary.json")
 PLAN, MACHINES, SKELETON, HOLDOUTS, SUMMARY = FILES
+SHARDS = "shards"
 _BLOCK = 1 << 16
 _COVERS = re.compile(r"covers below \S+: (\d+) lines?, (\d+) undecided, (\d+) of them ")
+_UNDECIDED = re.compile(rb"(\S+) undecided (?:steps|cells)")
+# What the reply of a shard answers.
+_TASK = "shard"
 
 
 @dataclasses.dataclass(frozen=True)
@@ -70,6 +82,17 @@ class Plan:
     def options(self) -> list[str]:
         """The options of `bb` and `cover` for the limits."""
         return [word for name in Limits.RANGES for word in ("--" + name, str(getattr(self.limits, name)))]
+
+    def list_machines(self) -> bytes:
+        """The lines of `machines.txt`. Raises RunError."""
+        return b"".join(pipe_blocks([self.list_command("--shards", str(self.entries))]))
+
+    def origin(self) -> dict[str, str]:
+        """What shards that are done here belong to: the plan, the library, the sha256 of each program. Raises
+        RunError."""
+        programs = {name: _program_sha256(_find(name)) for name in PROGRAMS}
+        plan = hash_of(json.dumps(dataclasses.asdict(self)).encode())
+        return {"plan": plan, **dataclasses.asdict(identity()), **programs}
 
 
 class RecurrenceReader:
@@ -130,87 +153,50 @@ class Shard(NamedTuple):
     seconds: float
     recurrences: RecurrenceCounts
 
-
-def create(folder: str, plan: Plan) -> None:
-    """Creates a folder for a plan, unless it has it. Raises FolderError if it has another, RunError."""
-    os.makedirs(os.path.join(folder, "shards"), exist_ok=True)
-    path = os.path.join(folder, PLAN)
-    with contextlib.suppress(FileNotFoundError):
-        if read_plan(folder) != plan:
-            raise FolderError("%s has another plan; choose another folder, or remove it" % path)
-        return
-    machines = pipe_blocks([plan.list_command("--shards", str(plan.entries))])
-    write_whole(os.path.join(folder, MACHINES), machines)
-    write_whole(path, [json.dumps(dataclasses.asdict(plan), indent=1).encode() + b"\n"])
-
-
-def read_plan(folder: str) -> Plan:
-    with open(os.path.join(folder, PLAN), encoding="utf-8") as file:
-        text = file.read()
-    try:
-        fields = read_json(text)
-        fields["limits"] = Limits(**fields["limits"])
-        return Plan(**fields)
-    except (AttributeError, KeyError, TypeError, ValueError) as error:
-        raise FolderError("plan.json is no plan of shards: %s" % error) from None
-
-
-def read_machines(folder: str) -> Iterator[tuple[str, bool]]:
-    """The machines of the skeleton, in walk order, each with whether it is a shard. Raises OSError."""
-    with open(os.path.join(folder, MACHINES), encoding="ascii") as file:
-        for line in file:
-            machine, *below = line.split()
-            yield machine, bool(below)
+    @classmethod
+    def of_result(cls, machine: str, plan: Plan, result: Result) -> Shard:
+        """The shard of a result, which is checked beside its line. Raises ReplyError."""
+        fields, holdouts = result.fields, result.content
+        try:
+            numbers = int(fields["verdict_bytes"]), holdouts, float(fields["seconds"])
+            recurrences = RecurrenceCounts.of_fields(
+                fields.get("recurrences", {"counts": {}, "greatest": {}})
+            )
+            shard = cls(str(fields["line"]), VerdictCounts.of_fields(fields), *numbers, recurrences)
+        except (AttributeError, KeyError, TypeError, ValueError) as error:
+            raise ReplyError("it is no finished shard: %s" % error) from None
+        found = re.fullmatch(re.escape(machine) + r" below (\d+) (\d+) (\d+) [0-9a-f]{64}\n", shard.line)
+        if found is None:
+            raise ReplyError("its line is %.200r" % shard.line)
+        wide, undecided = _check_holdouts(machine, plan, holdouts)
+        counts = sum(shard.counts.kinds.values()), shard.counts.count_undecided()
+        if (*counts, undecided, wide) != (*map(int, found.groups()[:2]), int(found[2]), int(found[3])):
+            raise ReplyError("its line is %r, and it counts %d lines, %d undecided" % (shard.line, *counts))
+        pairs = sum(shard.counts.kinds[kind] for kind in ("cycler", "translated"))
+        if plan.recurrence and recurrences.kinds["recurs"] != pairs:
+            words = (pairs, recurrences.kinds["recurs"])
+            raise ReplyError("it counts %d pairs and %d recurrences" % words)
+        return shard
 
 
-def shard_line(folder: str, machine: str) -> str | None:
-    """The line of a finished shard; None if it isn't finished. Raises OSError."""
-    with contextlib.suppress(FileNotFoundError):
-        with open(os.path.join(folder, "shards", machine), encoding="ascii", errors="replace") as file:
-            line, fields = file.readline(), file.readline()
-        is_line = re.fullmatch(re.escape(machine) + r" below \d+ \d+ \d+ [0-9a-f]{64}\n", line)
-        if is_line and fields.startswith("{") and fields.endswith("}\n"):
-            return line
-    return None
+def _check_holdouts(machine: str, plan: Plan, lines: bytes) -> tuple[int, int]:
+    """How many of the undecided lines of a shard have several `---`, and how many there are. Raises ReplyError
+    for a line that isn't one of a machine below the shard's, in walk order."""
+    order, wide, count = WalkOrder(machine, plan.symbols, plan.list_steps), 0, 0
+    for line in lines.splitlines():
+        found = _UNDECIDED.fullmatch(line)
+        if found is None or not order.accept(found[1].decode("latin-1")):
+            raise ReplyError("its line %d isn't the next undecided one: %.200r" % (count + 1, line))
+        count, wide = count + 1, wide + (line.count(b"---") > 1)
+    if lines and not lines.endswith(b"\n"):
+        raise ReplyError("its last line has no newline")
+    return wide, count
 
 
-def read_shard(folder: str, machine: str) -> Shard:
-    """A finished shard. Raises FolderError if its file was changed, OSError."""
-    path = os.path.join(folder, "shards", machine)
-    with open(path, "rb") as file:
-        line, text, holdouts = file.readline().decode("ascii"), file.readline().decode("latin-1"), file.read()
-    try:
-        fields = read_json(text)
-        numbers = int(fields["bytes"]), holdouts, float(fields["seconds"])
-        recurrences = RecurrenceCounts.of_fields(fields.get("recurrences", {"counts": {}, "greatest": {}}))
-        shard = Shard(line, VerdictCounts.of_fields(fields), *numbers, recurrences)
-        lines, undecided = map(int, line.split()[2:4])
-    except (AttributeError, KeyError, TypeError, ValueError) as error:
-        raise FolderError("%s is no finished shard: %s; remove it, and resume" % (path, error)) from None
-    found = sum(shard.counts.kinds.values()), shard.counts.count_undecided(), holdouts.count(b"\n")
-    pairs = sum(shard.counts.kinds[kind] for kind in ("cycler", "translated"))
-    if "recurrences" in fields and recurrences.kinds["recurs"] != pairs:
-        sentence = "%s counts %d pairs and %d recurrences; remove it, and resume"
-        raise FolderError(sentence % (path, pairs, recurrences.kinds["recurs"]))
-    if found != (lines, undecided, undecided):
-        sentence = "%s counts %d lines, %d undecided, and has %d of them; remove it, and resume"
-        raise FolderError(sentence % (path, *found))
-    return shard
-
-
-def pending(folder: str) -> list[str]:
-    """The machines of the shards that aren't finished, in walk order. Raises OSError."""
-    machines = read_machines(folder)
-    return [machine for machine, is_shard in machines if is_shard and shard_line(folder, machine) is None]
-
-
-def run_shard(folder: str, machine: str) -> str:
-    """Lists, decides and checks a shard, unless it is finished. Raises CheckError, RunError."""
-    plan, line = read_plan(folder), shard_line(folder, machine)
-    if line is not None:
-        return line
-    for program in PROGRAMS:
-        _find(program)
+def decide_shard(line: bytes, plan: Plan) -> ChunkReply:
+    """Lists, decides and checks the shard of a machine. The output is a line of fields and the undecided lines.
+    Raises CheckError, RunError."""
+    machine, origin = line.decode("ascii").rstrip("\n"), plan.origin()
     began, reader = time.monotonic(), VerdictReader(plan)
     lister = [LISTER, "--below", machine, "--steps", str(plan.list_steps)]
     blocks = pipe_blocks([lister, [DECIDER, "decide", *plan.options()]])
@@ -218,40 +204,365 @@ def run_shard(folder: str, machine: str) -> str:
     counts = _COVERS.match(found)
     if counts is None:
         raise CheckError("cover refuses the shard of %s: %s" % (machine, found.rstrip("\n")))
-    line = "%s below %s %s\n" % (machine, " ".join(counts.groups()), reader.sha256.hexdigest())
-    fields = {**reader.fields(), "bytes": reader.size, "seconds": round(time.monotonic() - began, 3)}
-    written = [line.encode("ascii"), json.dumps(fields).encode("ascii") + b"\n", *reader.holdouts]
-    write_whole(os.path.join(folder, "shards", machine), written)
-    return line
+    text, seconds = " ".join(counts.groups()), time.monotonic() - began
+    stated = "%s below %s %s\n" % (machine, text, reader.sha256.hexdigest())
+    fields = {"line": stated, **reader.fields(), "verdict_bytes": reader.size, "seconds": round(seconds, 3)}
+    header = json.dumps({"of": origin, **fields}).encode("ascii") + b"\n"
+    return reply_of(_TASK, line, b"".join([header, *reader.holdouts]), seconds)
 
 
-def join(folder: str) -> str:
-    """Writes skeleton, holdouts, summary; returns the line of `cover`. Raises FolderError, CheckError."""
-    plan, left = read_plan(folder), pending(folder)
-    if left:
-        raise FolderError("%d shards aren't finished; the first is %s" % (len(left), left[0]))
-    skeleton, holdouts, summary = (os.path.join(folder, name) for name in FILES[2:])
-    write_whole(skeleton, _skeleton(folder, plan))
-    found = cover_skeleton(skeleton, plan)
-    total = Total(plan)
-    write_whole(holdouts, _holdouts(folder, total))
-    fields = {
-        "plan": dataclasses.asdict(plan),
-        "cover": found.rstrip("\n"),
-        "shards": total.shards,
-        "seconds": round(total.seconds, 3),
-        **total.fields(),
-        "sha256": {SKELETON: sha256_of(skeleton), HOLDOUTS: sha256_of(holdouts)},
-    }
-    write_whole(summary, [json.dumps(fields, indent=1).encode("ascii") + b"\n"])
-    return found
+class DamagedError(Exception):
+    """The result of a shard is cut or changed. `machine` is the shard's."""
+
+    def __init__(self, machine: str, reason: object) -> None:
+        super().__init__("the shard of %s is done again: %s" % (machine, reason))
+        self.machine = machine
 
 
-def cover_skeleton(path: str, plan: Plan) -> str:
-    """The line that `cover` prints of a skeleton. Raises CheckError if it refuses the skeleton, RunError."""
-    with open(path, "rb") as file:
-        blocks = iter(lambda: file.read(_BLOCK), b"")
-        found = _cover(["--skeleton", *plan.options()], blocks, lambda _: None)
+class ShardFolder:
+    """A folder with a plan, by the handle of the opened directory. `report` prints a sentence. Raises FolderError,
+    RunError, OSError."""
+
+    def __init__(self, path: str, report: Callable[[str], None]) -> None:
+        self.path, self._report = path, report
+        with contextlib.ExitStack() as stack:
+            self._top = stack.enter_context(contextlib.closing(Directory.open(path)))
+            self.plan, self._machines = read_plan(self._top)
+            self.store = Store(self._top.subdirectory(SHARDS), self.plan.origin())
+            stack.callback(self.store.close)
+            # Locks of shards under way; shards whose results are damaged, and those that ever were.
+            self.claims = stack.enter_context(contextlib.ExitStack())
+            self._damaged: set[str] = set()
+            self._again: set[str] = set()
+            # It guards the locks while a run ends.
+            self._guard, self._is_ended = threading.Lock(), False
+            self.close = stack.pop_all().close
+
+    def require_name(self) -> None:
+        """Raises MovedError if the folder was moved, removed or replaced."""
+        self._top.require_name()
+        self.store.folder.require_name()
+
+    def machines(self) -> Iterator[tuple[str, bool]]:
+        """The machines of the skeleton, in walk order, each with whether it is a shard. Raises FolderError if they
+        aren't those of the plan, OSError."""
+        with open(self._top.open_file(MACHINES, os.O_RDONLY), "rb") as file:
+            lines = file.read()
+        if hashlib.sha256(lines).hexdigest() != self._machines:
+            how = "remove it, and resume, which lists them again"
+            raise FolderError("%s was cut or changed; %s" % (self._top.at(MACHINES), how))
+        for line in lines.decode("ascii").splitlines():
+            machine, *below = line.split()
+            yield machine, bool(below)
+
+    def shards(self) -> list[str]:
+        return [machine for machine, is_shard in self.machines() if is_shard]
+
+    def pending(self) -> list[str]:
+        """The machines of the shards that aren't finished, in walk order. Raises FolderError."""
+        return [machine for machine in self.shards() if self.line(machine) is None]
+
+    def line(self, machine: str) -> str | None:
+        """The line of a finished shard; None if it isn't. Raises FolderError for one of another plan or program."""
+        if machine in self._damaged:
+            return None
+        try:
+            fields = self.store.read_fields(machine)
+        except OriginError as error:
+            how = "use what it was done with, or choose another folder, or remove it to do it again"
+            raise FolderError("%s: %s; %s" % (self.store.folder.at(machine), error, how)) from None
+        except SealError as error:
+            self.note_damage(DamagedError(machine, error))
+            return None
+        return None if fields is None else str(fields["line"])
+
+    def note_damage(self, error: DamagedError) -> None:
+        """Has a damaged shard done again. Raises RunError if it was done again already."""
+        if error.machine in self._again:
+            raise RunError("%s, for the second time" % error)
+        self._damaged.add(error.machine)
+        self._again.add(error.machine)
+        self._report(str(error))
+
+    def read(self, machine: str) -> Shard:
+        """A finished shard. Raises DamagedError, OSError."""
+        try:
+            if (result := self.store.read(machine)) is None:
+                raise SealError("it was removed")
+            return Shard.of_result(machine, self.plan, result)
+        except (SealError, ReplyError) as error:
+            raise DamagedError(machine, error) from None
+
+    def write(self, machine: str, result: Result) -> None:
+        """Stores the result of a shard. Raises RunError, MovedError, OSError."""
+        self.store.write(machine, result.fields, result.content, machine in self._damaged)
+        self.store.sync()
+        self.require_name()
+        self._damaged.discard(machine)
+
+    def do(
+        self,
+        machines: Iterable[str],
+        backend: Backend,
+        progress: Reporter,
+        finish: Callable[[ShardTask], None],
+    ) -> None:
+        """Does shards. Raises CheckError, FolderError, RunError, OSError."""
+        self._is_ended = False
+        try:
+            Dispatcher(backend, progress, lambda: None, finish).run(self._tasks(machines))
+        finally:
+            with self._guard:
+                self._is_ended = True
+                self.claims.close()
+
+    def _tasks(self, machines: Iterable[str]) -> Iterator[ShardTask]:
+        """A task for each shard, with its lock; those that other processes have come last."""
+        taken = []
+        for machine in machines:
+            # A run that ends meanwhile leaves no lock.
+            with self._guard:
+                if self._is_ended:
+                    return
+                task = ShardTask.claim(self, machine, waits=False)
+            if task is None:
+                taken.append(machine)
+            else:
+                yield task
+        if taken:
+            self._report("waiting for %d shards that other processes do" % len(taken))
+        for machine in taken:
+            yield from filter(None, [ShardTask.claim(self, machine)])
+
+    def do_shard(self, machine: str) -> str:
+        """The line of a shard, which is done unless it is finished. Raises FolderError, CheckError, RunError."""
+        task = ShardTask.claim(self, machine)
+        assert task is not None
+        if (request := task.request()) is not None:
+            task.accept(request.task(request.lines, request.options))
+        return self.line(machine) or ""
+
+    def verify(self, machines: Sequence[str], backend: Backend, progress: Reporter) -> None:
+        """Does shards again, and compares them with their results. Raises CheckError for another one."""
+        tasks = (VerifyTask(self, machine, None) for machine in machines)
+        Dispatcher(backend, progress, lambda: None, lambda task: None).run(tasks)
+
+    def join(self, verified: dict[str, int] | None = None) -> str:
+        """Writes skeleton, holdouts, summary; returns the line of `cover`. `verified` is what was done again. Raises
+        DamagedError, FolderError, CheckError, RunError, OSError."""
+        with locked_folder(self._top, LOCK):
+            return self._join(verified)
+
+    def _join(self, verified: dict[str, int] | None) -> str:
+        if left := self.pending():
+            raise FolderError("%d shards aren't finished; the first is %s" % (len(left), left[0]))
+        remove_leftovers(self._top, FILES)
+        self.store.remove_leftovers()
+        total, sha256 = Total(self.plan), {}
+        sha256[SKELETON] = write_file(self._top, SKELETON, self._skeleton())
+        with open(self._top.open_file(SKELETON, os.O_RDONLY), "rb") as file:
+            blocks = iter(functools.partial(file.read, _BLOCK), b"")
+            found = cover_skeleton(blocks, self._top.at(SKELETON), self.plan)
+        sha256[HOLDOUTS] = write_file(self._top, HOLDOUTS, self._holdouts(total))
+        fields = {
+            "plan": dataclasses.asdict(self.plan),
+            "cover": found.rstrip("\n"),
+            "shards": total.shards,
+            "seconds": round(total.seconds, 3),
+            **total.fields(),
+            "sha256": sha256,
+            "verified": verified or self._verified(sha256),
+        }
+        write_file(self._top, SUMMARY, [seal(fields).encode("ascii")])
+        return found
+
+    def _verified(self, sha256: dict[str, str]) -> dict[str, int] | None:
+        """What was done again before these files were written, by an earlier summary."""
+        with contextlib.suppress(SealError, KeyError, OSError):
+            fields = read_sealed(self._top, SUMMARY) or {}
+            if fields["sha256"] == sha256:
+                found: dict[str, int] | None = fields["verified"]
+                return found
+        return None
+
+    def _skeleton(self) -> Iterator[bytes]:
+        decided = "".join(machine + "\n" for machine, is_shard in self.machines() if not is_shard)
+        command = [_find(DECIDER), "decide", *self.plan.options()]
+        done = subprocess.run(command, input=decided.encode("ascii"), stdout=subprocess.PIPE)
+        _require_success(DECIDER, done.returncode)
+        verdicts = iter(done.stdout.splitlines(keepends=True))
+        for machine, is_shard in self.machines():
+            yield (self.line(machine) or "").encode("ascii") if is_shard else next(verdicts)
+
+    def _holdouts(self, total: Total) -> Iterator[bytes]:
+        """The undecided lines in walk order; adds up the counts of all lines."""
+        with open(self._top.open_file(SKELETON, os.O_RDONLY), "rb") as file:
+            for line in file:
+                machine, word = line.split(b" ", 2)[:2]
+                if word != b"below":
+                    total.read(line)
+                    yield total.holdouts.pop()
+                    continue
+                shard = self.read(machine.decode("ascii"))
+                total.add(shard)
+                yield shard.holdouts
+
+
+class ShardTask(Assignment):
+    """A shard that is to be done and stored, and its lock."""
+
+    plural = "shards"
+
+    def __init__(self, folder: ShardFolder, machine: str, lock: contextlib.ExitStack | None) -> None:
+        self.folder, self.machine, self._lock = folder, machine, lock
+
+    @classmethod
+    def claim(cls, folder: ShardFolder, machine: str, waits: bool = True) -> ShardTask | None:
+        """A task with its lock; None if another process has it and this one doesn't wait."""
+        lock = contextlib.ExitStack()
+        if not lock.enter_context(folder.store.claim(machine, waits)):
+            return None
+        folder.claims.callback(lock.close)
+        return cls(folder, machine, lock)
+
+    def request(self) -> Request | None:
+        """Nothing if another process has done it meanwhile."""
+        if self.folder.line(self.machine) is not None:
+            return None
+        return Request(decide_shard, self.machine.encode("ascii") + b"\n", self.folder.plan)
+
+    def accept(self, reply: object) -> bool:
+        if reply is not None:
+            self.folder.write(self.machine, self._open(reply))
+        if self._lock is not None:
+            self._lock.close()
+        return True
+
+    def _open(self, reply: object) -> Result:
+        """The result of a reply. Raises ReplyError unless it is a shard of the same plan and programs."""
+        written, _ = open_reply(reply, identity(), _TASK, self.machine.encode("ascii") + b"\n")
+        header, _, holdouts = written.partition(b"\n")
+        try:
+            fields = read_json(header.decode("ascii"))
+        except ValueError as error:
+            raise ReplyError("it is no shard: %s" % error) from None
+        origin = fields.pop("of", None)
+        for name, ours in self.folder.store.origin.items():
+            if not isinstance(origin, dict) or origin.get(name) != ours:
+                theirs = origin.get(name) if isinstance(origin, dict) else None
+                raise ReplyError("its %s is %.80s, and here it is %s" % (name, theirs, ours))
+        result = Result(fields, holdouts)
+        Shard.of_result(self.machine, self.folder.plan, result)
+        return result
+
+    def describe(self, error: BaseException) -> str:
+        return "the shard of %s" % self.machine
+
+
+class VerifyTask(ShardTask):
+    """A shard that is done again, and compared with its result."""
+
+    def request(self) -> Request:
+        return Request(decide_shard, self.machine.encode("ascii") + b"\n", self.folder.plan)
+
+    def accept(self, reply: object) -> bool:
+        again = Shard.of_result(self.machine, self.folder.plan, self._open(reply))
+        stored = self.folder.read(self.machine)
+        for name in ("line", "size", "holdouts"):
+            if getattr(again, name) != getattr(stored, name):
+                self._raise_other(name)
+        for name in ("counts", "recurrences"):
+            if getattr(again, name).fields() != getattr(stored, name).fields():
+                self._raise_other(name)
+        return True
+
+    def _raise_other(self, name: str) -> None:
+        path = self.folder.store.folder.at(self.machine)
+        raise CheckError("%s: done again, the shard has other %s; remove it, and resume" % (path, name))
+
+
+def draw(machines: Sequence[str], share: float, seed: int) -> list[str]:
+    """A share of some machines, at least one, drawn by a seed, in their order."""
+    count = min(max(round(share * len(machines)), 1), len(machines))
+    return [machines[place] for place in sorted(random.Random(seed).sample(range(len(machines)), count))]
+
+
+def write_file(top: Directory, name: str, blocks: Iterable[bytes]) -> str:
+    """Writes or replaces a file of the folder, whole or not at all; returns its sha256. Raises RunError, OSError."""
+    sha256 = hashlib.sha256()
+
+    def hashed() -> Iterator[bytes]:
+        for block in blocks:
+            sha256.update(block)
+            yield block
+
+    over = top.pin(name)
+    try:
+        write_atomically(top, name, lambda number: write_blocks(number, hashed()), over).close()
+    except FileExistsError:
+        why = "was made or replaced by another process meanwhile, and stays as it is"
+        raise RunError(f"{top.at(name)} {why}; take it away") from None
+    finally:
+        if over is not None:
+            over.close()
+    return sha256.hexdigest()
+
+
+def create(path: str, plan: Plan | None) -> None:
+    """Creates a folder for a plan, unless it has it; None for that of the folder. Lists its machines. Raises
+    FolderError if it has another plan, or other files of these names; RunError, OSError."""
+    if plan is not None:
+        os.makedirs(path, exist_ok=True)
+    with contextlib.closing(Directory.open(path)) as top, locked_folder(top, LOCK):
+        if plan is not None and top.status(PLAN) is None:
+            for name in (*FILES, SHARDS):
+                if top.status(name) is not None:
+                    raise FolderError("%s is there, without a plan; choose another folder" % top.at(name))
+            machines = hashlib.sha256(plan.list_machines()).hexdigest()
+            write_file(top, PLAN, [seal({**dataclasses.asdict(plan), "machines": machines}).encode()])
+        known, machines = read_plan(top)
+        if plan not in (None, known):
+            raise FolderError("%s has another plan; choose another folder, or remove it" % top.at(PLAN))
+        if top.status(MACHINES) is None:
+            lines = known.list_machines()
+            if hashlib.sha256(lines).hexdigest() != machines:
+                raise FolderError("tree_normal_form lists other machines than those of %s" % top.at(PLAN))
+            write_file(top, MACHINES, [lines])
+
+
+def read_plan(top: Directory) -> tuple[Plan, str]:
+    """The plan in a folder, and the sha256 of its machines. Raises FolderError if it was changed, OSError if there
+    is none."""
+    try:
+        if top.status(PLAN) is None:
+            os.close(top.open_file(PLAN, os.O_RDONLY))
+        if (fields := read_sealed(top, PLAN)) is None:
+            raise SealError("it was cut; restore it, or choose another folder")
+        machines = str(fields.pop("machines"))
+        fields["limits"] = Limits(**fields["limits"])
+        return Plan(**fields), machines
+    except SealError as error:
+        with open(top.open_file(PLAN, os.O_RDONLY), "rb") as file:
+            if file.read(4) == b'{\n "':
+                how = "an earlier version of this package made it; finish it by that version, or choose another folder"
+                raise FolderError("%s: it has no seal: %s" % (top.at(PLAN), how)) from None
+        raise FolderError("%s: %s" % (top.at(PLAN), error)) from None
+
+
+def _program_sha256(path: str) -> str:
+    """The sha256 of a program."""
+    status = os.stat(path)
+    return _sha256_at(path, (status.st_ino, status.st_size, status.st_mtime_ns))
+
+
+@functools.lru_cache(maxsize=None)
+def _sha256_at(path: str, state: tuple[int, int, int]) -> str:
+    return sha256_of(path)
+
+
+def cover_skeleton(blocks: Iterator[bytes], path: str, plan: Plan) -> str:
+    """The line that `cover` prints of the skeleton of a path. Raises CheckError if it refuses it, RunError."""
+    found = _cover(["--skeleton", *plan.options()], blocks, lambda _: None)
     if not found.startswith("covers "):
         raise CheckError("cover refuses %s: %s" % (path, found.rstrip("\n")))
     return found
@@ -289,30 +600,6 @@ class Total(VerdictReader):
         self.counts.merge(shard.counts)
         if self.recurrences is not None:
             self.recurrences.counts.merge(shard.recurrences)
-
-
-def _holdouts(folder: str, total: Total) -> Iterator[bytes]:
-    """The undecided lines in walk order; adds up the counts of all lines."""
-    with open(os.path.join(folder, SKELETON), "rb") as file:
-        for line in file:
-            machine, word = line.split(b" ", 2)[:2]
-            if word != b"below":
-                total.read(line)
-                yield total.holdouts.pop()
-                continue
-            shard = read_shard(folder, machine.decode("ascii"))
-            total.add(shard)
-            yield shard.holdouts
-
-
-def _skeleton(folder: str, plan: Plan) -> Iterator[bytes]:
-    decided = "".join(machine + "\n" for machine, is_shard in read_machines(folder) if not is_shard)
-    command = [_find(DECIDER), "decide", *plan.options()]
-    done = subprocess.run(command, input=decided.encode("ascii"), stdout=subprocess.PIPE)
-    _require_success(DECIDER, done.returncode)
-    verdicts = iter(done.stdout.splitlines(keepends=True))
-    for machine, is_shard in read_machines(folder):
-        yield (shard_line(folder, machine) or "").encode("ascii") if is_shard else next(verdicts)
 
 
 def _find(program: str) -> str:

@@ -57,7 +57,7 @@ def few(bb: str) -> Given:
 def case_of(found: Cluster, name: str, given: bytes, passes: tuple[tuple[int, ...], ...] = PASSES) -> Case:
     """A list that the cluster decides in small chunks."""
     case = Case(found.top / name, given, passes)
-    case.words += ["--scheduler", found.address, "--piece", "100"]
+    case.words += ["--scheduler", found.address, "--chunk", "100"]
     return case
 
 
@@ -122,7 +122,7 @@ def test_deadly_line(bb: str, tmp_path: pathlib.Path) -> None:
         call = "    return _make_reply(describe_task(DECIDE"
         deadly = changed_package(found.top, "runner/chunks.py", [(call, DEADLY + call)])
         case = case_of(found, "deadly", quick + LONG_MACHINE + quick, (QUICK_PASS,))
-        with case.start(str(case.list), "--piece", "8") as process:
+        with case.start(str(case.list), "--chunk", "8") as process:
             while process.poll() is None:
                 found.workers = [worker for worker in found.workers if worker.poll() is None]
                 while len(found.workers) < 3:
@@ -226,5 +226,5 @@ def test_large_chunks(bb: str, tmp_path: pathlib.Path) -> None:
     with cluster(2, tmp_path) as found:
         case = case_of(found, "large", given, (QUICK_PASS,))
         right = expected_verdicts(bb, given, (QUICK_PASS,))
-        case.require_verdicts(right, str(case.list), "--piece", "20000", "--check", status=0)
+        case.require_verdicts(right, str(case.list), "--chunk", "20000", "--check", status=0)
         assert "arning" not in case.output(), case.output()

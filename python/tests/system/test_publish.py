@@ -406,52 +406,38 @@ def test_run_that_kept_its_holdouts() -> None:
     assert unpack("again.tar")["holdouts.txt"] == files["holdouts.txt"]
 
 
-def edited_summaries(text: str) -> dict[str, str]:
-    """Changed texts of a summary, each with the sentence on it."""
-    fields = json.loads(text)
-    limits = {**fields["passes"][0]["limits"], "steps": 40_000_000}
-    passes = [{**fields["passes"][0], "limits": limits}, *fields["passes"][1:]]
-    return {
-        json.dumps({**fields, "passes": passes}): "doesn't match run.json: the limits of the passes differ",
-        json.dumps({**fields, "passes": fields["passes"][:1]}): "the limits of the passes differ",
-        json.dumps({**fields, "kept": "all"}): "the kept verdicts differ",
-        json.dumps({**fields, "lines": 7}): "the numbers of lines differ",
-        json.dumps({**fields, "counts": {**fields["counts"], "halt": 7}}): "doesn't match verdicts.txt",
-        json.dumps({**fields, "counts": None}): "isn't as a run writes it",
-        json.dumps(
-            {**fields, "lines": float("inf")}
-        ): "isn't as a run writes it: Infinity is no number there",
-        text.replace('"lines": ', '"lines": 1e999, "other": ', 1): "1e999 is no number there",
-        "[" * 100_000: "it is nested too deeply",
-        "null": "it is no object of JSON",
-        text[: len(text) // 2]: "isn't as a run writes it",
-    }
-
-
 @pytest.mark.usefixtures("work_in_folder")
 def test_an_edited_summary_is_not_believed() -> None:
     """Limits, counts and what was checked come from sealed files."""
     pathlib.Path("list.txt").write_bytes(as_lines([*mixed_machines(300, 12)]))
     words = ["budlarem", "run", "list.txt", "--out", "run", "--keep", "left", *PASSES]
     publish = ["budlarem", "publish", "out.tar", "--verdicts", "run", "--list", "list.txt"]
-    summary, journal = pathlib.Path("run/summary.json"), pathlib.Path("run/pass-1/journal")
+    summary, sealed = pathlib.Path("run/summary.json"), "summary.json: it was changed: its seal doesn't fit"
     run(*words)
-    summary.write_text(summary.read_text().replace('"checked": false', '"checked": true'))
     run(*publish, status=2, sentence="dropped verdicts that no checker confirmed")
+    summary.write_text(summary.read_text().replace('"checked": false', '"checked": true'))
+    run(*publish, status=2, sentence=sealed)
     shutil.rmtree("run")
     run(*words, "--check")
     text = summary.read_text()
-    for edited, sentence in edited_summaries(text).items():
-        summary.write_text(edited)
-        done = run(*publish, status=2, sentence=sentence)
+    changes = [
+        ('"steps": 300', '"steps": 9300'),
+        ('"halt": ', '"halt": 9'),
+        ('"left"', '"all"'),
+        ('"lines": ', '"lines": 1e999'),
+    ]
+    edited = [text.replace(*change, 1) for change in changes]
+    assert text not in edited
+    for change in (*edited, "[" * 100_000, "null", text + "\n"):
+        summary.write_text(change)
+        done = run(*publish, status=2, sentence=sealed)
         assert done.stderr.count("\n") == 1, done.stderr
+    summary.write_text(text[: len(text) // 2])
+    run(*publish, status=2, sentence="summary.json doesn't match run.json")
     summary.write_text(text)
     run(*publish)
     about = json.loads(unpack("out.tar")["about.json"])
     assert about["passes"] == PASSES[1::2] and about["counts"]["halt"] == json.loads(text)["counts"]["halt"]
-    os.remove("out.tar")
-    journal.unlink()
-    run(*publish, status=2, sentence="run has no journal of pass 1, and only that says what was dropped")
 
 
 @pytest.mark.usefixtures("work_in_folder")
@@ -484,11 +470,14 @@ def test_changed_shards(programs: pathlib.Path) -> None:
     path.write_bytes(holdouts + holdouts)
     run(*publish, status=2, sentence="isn't that of the summary")
     path.write_bytes(holdouts)
-    summary.write_text(fields.replace("covers 3", "covers 4"))
-    run(*publish, status=2, sentence="and cover prints")
-    summary.write_text("{}")
-    run(*publish, status=2, sentence="isn't as `budlarem shards` writes it")
+    for change in (fields.replace("covers 3", "covers 4"), fields.replace('"halt": ', '"halt": 9'), "{}"):
+        summary.write_text(change)
+        run(*publish, status=2, sentence="summary.json: it was changed: its seal doesn't fit")
+    summary.write_text(fields[:100])
+    run(*publish, status=2, sentence="isn't finished")
     summary.write_text(fields)
+    write_script(programs / "cover", "cat > /dev/null; echo covers all")
+    run(*publish, status=2, sentence="and cover prints")
     write_script(programs / "cover", "cat > /dev/null; echo line 1: no; exit 1")
     run(*publish, status=1, sentence="cover refuses walk/skeleton.txt: line 1: no")
     assert not pathlib.Path("out.tar").exists()

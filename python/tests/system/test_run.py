@@ -20,7 +20,7 @@ from support.runs import random_list, require_interrupted, small_disk, stop, wai
 # Limits at which a line costs nothing to speak of.
 QUICK_PASS = (50, 64, 3, 10)
 # Words by which a list takes a second or more.
-SLOWLY = ["--threads", "1", "--piece", "20"]
+SLOWLY = ["--threads", "1", "--chunk", "20"]
 # A process whose wall's clock is an hour earlier each time that it is asked.
 SET_BACK = """import time
 hours = iter(range(2_000_000_000, 0, -3_600))
@@ -31,7 +31,7 @@ LONG_PASS = "steps=%d,cells=%d" % (MAX_STEPS, MAX_CELLS)
 DECIDED = b"1RB1LB_1LA1RZ halt 6 4\n1RA1RA translated R 1 2 1 1\n"
 
 
-@pytest.mark.parametrize("count, lines", [(1, 3_000), pytest.param(20, 20_000, marks=pytest.mark.slow)])
+@pytest.mark.parametrize("count, lines", [(1, 3_000), pytest.param(100, 20_000, marks=pytest.mark.slow)])
 def test_kills(bb: str, tmp_path: pathlib.Path, rng: random.Random, count: int, lines: int) -> None:
     """The runner is killed at random moments before its end, and run again."""
     case = Case(tmp_path / "kills", random_list(lines, rng.randrange(10**9)))
@@ -181,7 +181,7 @@ def test_keep(bb: str, tmp_path: pathlib.Path, rng: random.Random) -> None:
     case.words += ["--keep", "left"]
     kill_often(case, 5, rng, "--threads", "2")
     case.require_verdicts(kept)
-    assert sum(path.stat().st_size for path in case.out.rglob("pieces")) < len(b"".join(right)) // 2
+    assert sum(path.stat().st_size for path in case.out.glob("pass-*/*")) < len(b"".join(right)) // 2
     summary = json.loads((case.out / "summary.json").read_text())
     assert summary["lines"] == len(right) and summary["kept"] == "left", summary
     before = {path: path.read_bytes() for path in case.out.rglob("*") if path.is_file()}
@@ -195,7 +195,7 @@ def test_order(bb: str, tmp_path: pathlib.Path) -> None:
     passes = [(300_000_000, 200_000, 3, 10)]
     given = b"1RB1LB_1LA1RZ\n" * 300 + LONG_MACHINE + b"1RB1LB_1LA1RZ\n" * 20_000
     case = Case(tmp_path / "order", given, passes)
-    with case.start(str(case.list), "--threads", "2", "--piece", "100") as process:
+    with case.start(str(case.list), "--threads", "2", "--chunk", "100") as process:
         stood = wait_until(process, lambda: case.chunks() > 100)
         status = process.wait()
     assert stood and status == 0, case.output()
@@ -208,7 +208,7 @@ def test_slow_kill(bb: str, tmp_path: pathlib.Path) -> None:
     given = b"1RB1LB_1LA1RZ\n" * 40
     case = Case(tmp_path / "pause", given, PASSES[:1])
     reading, writing = os.pipe()
-    with case.start("-", "--piece", "1", stdin=reading) as process:
+    with case.start("-", "--chunk", "1", stdin=reading) as process:
         os.close(reading)
         os.write(writing, given[:-14])
         wait_until(process, lambda: case.chunks() > 0)

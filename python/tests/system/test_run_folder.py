@@ -16,7 +16,7 @@ from support.runs import PASSES, Case, Process, expected_verdicts, random_list, 
 # Limits at which a line costs nothing to speak of, and words by which a list takes a second or more.
 QUICK_PASS = (50, 64, 3, 10)
 TWO_PASSES = [QUICK_PASS, (60, 64, 3, 10)]
-SLOWLY = ["--threads", "1", "--piece", "20"]
+SLOWLY = ["--threads", "1", "--chunk", "20"]
 LINES = 60_000
 MACHINE = b"1RB1LB_1LA1RZ\n"
 
@@ -89,13 +89,13 @@ def test_added_pass(bb: str, tmp_path: pathlib.Path) -> None:
     case.run()
     first = case.verdicts()
     case.words = [word for limits in TWO_PASSES for word in ("--pass", words_of(limits))]
-    case.words += ["--threads", "1", "--piece", "1"]
+    case.words += ["--threads", "1", "--chunk", "1"]
     with case.start() as process:
-        was_seen = wait_until(process, lambda: (case.out / "pass-2" / "journal").exists())
+        was_seen = wait_until(process, lambda: any(case.out.glob("pass-2/*")))
         process.kill()
     assert was_seen and case.verdicts() == first
     right = expected_verdicts(bb, case.list.read_bytes(), TWO_PASSES)
-    case.require_verdicts(right, "--piece", "200", str(case.list))
+    case.require_verdicts(right, "--chunk", "200", str(case.list))
     assert "decided again" not in case.output()
 
 
@@ -118,7 +118,7 @@ MINE: dict[str, dict[str, str]] = {
     "a summary": {"summary.json": "mine"},
     "verdicts": {"verdicts.txt": "mine"},
     "a pass": {"pass-1/diary.txt": "mine"},
-    "pieces": {"pass-1/pieces": "mine"},
+    "a chunk": {"pass-1/1-20": "mine"},
     "a journal": {"pass-1/journal": "mine"},
     "a page beside a pass": {"README.txt": "mine", "pass-1/": ""},
     "a summary beside a pass": {"summary.json": "{}", "pass-1/": ""},
@@ -131,7 +131,7 @@ MINE: dict[str, dict[str, str]] = {
 }
 LINKED = (
     *("run.json", "run.json.part", "README.txt", "verdicts.txt", "summary.json", "lock", "pass-1"),
-    *("pass-1/journal", "pass-1/pieces"),
+    *("pass-1/1-20", "pass-1/1-1"),
 )
 
 
@@ -170,7 +170,7 @@ def require_link(case: Case, name: str) -> None:
             path.unlink()
         if is_there and name == "pass-1":
             precious.mkdir()
-            (precious / "pieces").write_text("mine")
+            (precious / "1-20").write_text("mine")
         elif is_there:
             precious.write_text("mine")
         path.symlink_to(precious)
@@ -186,7 +186,7 @@ def test_begun(bb: str, tmp_path: pathlib.Path) -> None:
     """Links and pipes in a run's folder are refused; parts of somebody else stay, and the run goes on."""
     case = Case(tmp_path / "begun", random_list(300, 51), [QUICK_PASS])
     case.run()
-    for name in ("README.txt", "verdicts.txt", "summary.json", "run.json", "pass-1/journal", "pass-1"):
+    for name in ("README.txt", "verdicts.txt", "summary.json", "run.json", "pass-1/1-1", "pass-1"):
         own = case.out / name
         away = case.out.parent / "away"
         os.rename(own, away)
@@ -207,7 +207,7 @@ def test_begun(bb: str, tmp_path: pathlib.Path) -> None:
     assert {name: data for name, data in snapshot(case.out).items() if name.endswith(".part")} == parts
     assert (case.out.parent / "precious").read_text() == "mine"
     (case.out / "pass-3").mkdir()
-    (case.out / "pass-3" / "pieces").write_text("mine")
+    (case.out / "pass-3" / "1-20").write_text("mine")
     case.words += ["--pass", words_of((70, 64, 3, 10))]
     require_unchanged(case, case.out)
 
@@ -222,7 +222,7 @@ def command(*more: str, given: pathlib.Path | None = None) -> tuple[int, str]:
 
 @pytest.mark.parametrize("passes", [1, pytest.param(2, marks=pytest.mark.slow)])
 def test_mixed(tmp_path: pathlib.Path, passes: int) -> None:
-    """A summary, verdicts or journals of another run over as many machines of each kind are refused."""
+    """A summary or verdicts of another run over as many machines of each kind are refused; chunks aren't read."""
     lines = random_list(2_000, 61).splitlines(keepends=True)
     cases = [
         Case(tmp_path / ("mixed-%d-%d" % (passes, number)), b"".join(given), PASSES[:passes])
@@ -231,25 +231,23 @@ def test_mixed(tmp_path: pathlib.Path, passes: int) -> None:
     for case in cases:
         case.run()
     first, second = (case.out for case in cases)
-    for name in ("verdicts.txt", "summary.json", "pass-1"):
+    for name in ("verdicts.txt", "summary.json", "run.json"):
         mixed = tmp_path / ("mixed-%d-%s" % (passes, name))
         shutil.copytree(first, mixed)
-        if name == "pass-1":
-            shutil.rmtree(mixed / name)
-            shutil.copytree(second / name, mixed / name)
-        else:
-            shutil.copyfile(second / name, mixed / name)
+        shutil.copyfile(second / name, mixed / name)
         archive = tmp_path / ("mixed-%d-%s.tar" % (passes, name))
         status, said = command("publish", str(archive), "--verdicts", str(mixed))
         assert status == 2 and "doesn't match" in said and not archive.exists(), said
-    out = tmp_path / ("whole-%d.tar" % passes)
-    status, said = command("publish", str(out), "--verdicts", str(first), "--list", str(cases[0].list))
-    assert status == 0, said
+    archives = [tmp_path / ("whole-%d-%d.tar" % (passes, number)) for number in range(3)]
+    words = ["--verdicts", str(first), "--list", str(cases[0].list)]
+    assert command("publish", str(archives[0]), *words)[0] == 0
+    shutil.rmtree(first / "pass-1")
+    shutil.copytree(second / "pass-1", first / "pass-1")
+    assert command("publish", str(archives[1]), *words)[0] == 0
     for number in range(1, passes + 1):
         shutil.rmtree(first / ("pass-%d" % number))
-    out.unlink()
-    status, said = command("publish", str(out), "--verdicts", str(first))
-    assert status == 0, said
+    assert command("publish", str(archives[2]), *words)[0] == 0
+    assert len({archive.read_bytes() for archive in archives}) == 1
 
 
 def test_archive(tmp_path: pathlib.Path) -> None:

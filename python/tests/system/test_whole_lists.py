@@ -171,7 +171,7 @@ def test_sample(
 
 def finished_shards(folder: pathlib.Path) -> dict[str, int]:
     """Return the names of the shards that are finished, each with the time of its file in nanoseconds."""
-    files = (path for path in folder.glob("1*") if path.suffix != ".part")
+    files = (path for path in folder.glob("1*") if not path.suffix)
     return {path.name: path.stat().st_mtime_ns for path in files}
 
 

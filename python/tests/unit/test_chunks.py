@@ -14,7 +14,7 @@ import hypothesis
 import pytest
 from budlarem import PublishError, _files, publish
 from budlarem._text import LONGEST_GIVEN
-from budlarem.runner import chunks, errors, input, journal, passes
+from budlarem.runner import chunks, errors, input, passes, store
 from budlarem.runner.errors import ReplyError, RunError
 from hypothesis import strategies as st
 from support.runner import KINDS, LIST, MIDDLE, PASSES, SMALL, RunCase, call_command, counts_of
@@ -80,74 +80,81 @@ def test_a_list_that_changes(case: RunCase) -> None:
             list(listed.blocks)
 
 
-class JournalCase:
-    def __init__(self, case: RunCase) -> None:
-        self.path, self.callback = case.top / "journal", case.callback
-        self.folder = _files.Directory.open(str(case.top))
-        self.callback(self.folder.close)
-        self.counts = counts_of(expected_verdicts(KINDS))
-        self.journal = self.open_journal("key")
-        self.known = list(map(self.record, range(6)))
-        for place in (0, 1, 4, 5):
-            self.journal.write(place, self.known[place])
+class StoreCase:
+    """A store with two results."""
 
-    def open_journal(self, key: str) -> journal.Journal:
-        opened = journal.Journal(self.folder, key)
+    def __init__(self, case: RunCase) -> None:
+        self.path, self.callback = case.top / "store", case.callback
+        self.path.mkdir()
+        self.store = self.open_store({"limits": "steps=5"})
+        for task in ("one", "two"):
+            self.store.write(task, {"counts": [len(task)], "text": "\udcff"}, b"verdicts of " + task.encode())
+
+    def open_store(self, origin: dict[str, str]) -> store.Store:
+        opened = store.Store(_files.Directory.open(str(self.path)), origin)
         self.callback(opened.close)
         return opened
 
-    def record(self, place: int) -> journal.Record:
-        record = journal.Record.of(10 * place, 10, KINDS, b"x" * place, place / 3, self.counts)
-        return dataclasses.replace(record, is_checked=place % 2 == 1, place=1_000 * place)
-
 
 @pytest.fixture
-def journals(case: RunCase) -> JournalCase:
-    return JournalCase(case)
+def stored(case: RunCase) -> StoreCase:
+    return StoreCase(case)
 
 
-def test_records_come_back(journals: JournalCase) -> None:
-    assert os.path.getsize(journals.path) == 6 * journal.WIDTH
-    found = [journals.journal.read(place) for place in range(8)]
-    assert found == [*journals.known[:2], None, None, *journals.known[4:], None, None]
-    assert (journals.journal.end(), journals.known[0].counts_by_kind()) == (5_005, journals.counts)
-    assert journals.known[3].fits(KINDS) and journals.known[3].has(b"xxx")
-    assert not (journals.known[3].fits(KINDS[1:]) or journals.known[3].has(b"xx"))
+def test_results_come_back(stored: StoreCase) -> None:
+    found = stored.store.read("two")
+    assert found is not None and found.content == b"verdicts of two"
+    assert (found.fields["counts"], found.fields["text"]) == ([3], "\udcff")
+    assert stored.store.read_fields("two") == found.fields
+    assert stored.store.read("three") is None and stored.store.read_fields("three") is None
+    assert sorted(os.listdir(stored.path)) == ["one", "two"]
 
 
-def test_a_gap(journals: JournalCase) -> None:
-    assert journals.journal.find_gap(2, 20) == (2, 20)
-    assert journals.journal.find_gap(2, 39) == (3, 11)
-    assert journals.journal.find_gap(6, 60) is None
-    assert [journals.journal.find_gap(2, 20), journals.journal.find_gap(3, 30)] == [(2, 20), (1, 10)]
-
-
-def test_gaps_of_a_foreign_journal(journals: JournalCase) -> None:
-    """Each line is read once, however often is asked what comes."""
-    foreign = journals.open_journal("other")
-    with unittest.mock.patch.object(foreign, "read", wraps=foreign.read) as read:
-        assert [foreign.find_gap(index, index) for index in range(6)] == [None] * 6
-    assert read.call_count <= 6
-
-
-def test_each_changed_byte_is_seen(journals: JournalCase) -> None:
-    data = journals.path.read_bytes()
-    for place in range(journal.WIDTH):
+def test_each_changed_byte_is_seen(stored: StoreCase) -> None:
+    path = stored.path / "one"
+    data = path.read_bytes()
+    for place, bit in itertools.product(range(len(data)), (0, 3, 7)):
         changed = bytearray(data)
-        changed[place] ^= 1
-        journals.path.write_bytes(changed)
-        assert journals.journal.read(0) is None
-        assert journals.journal.read(1) == journals.known[1]
+        changed[place] ^= 1 << bit
+        path.write_bytes(changed)
+        with pytest.raises(store.SealError):
+            stored.store.read("one")
+    for size in range(len(data)):
+        path.write_bytes(data[:size])
+        with pytest.raises(store.SealError):
+            stored.store.read("one")
+    for other in (data + b"x", data + data, b"mine"):
+        path.write_bytes(other)
+        with pytest.raises(store.SealError):
+            stored.store.read("one")
 
 
-def test_cut_moved_and_other_keys(journals: JournalCase) -> None:
-    data = journals.path.read_bytes()
-    journals.path.write_bytes(data[journal.WIDTH :])
-    assert [journals.journal.read(place) for place in range(6)] == [None] * 6
-    journals.path.write_bytes(data[:-1])
-    assert journals.journal.read(5) is None
-    assert journals.journal.read(4) == journals.known[4]
-    assert journals.open_journal("other").read(4) is None
+def test_moved_results_and_other_origins(stored: StoreCase) -> None:
+    (stored.path / "three").write_bytes((stored.path / "two").read_bytes())
+    with pytest.raises(store.SealError, match="it is the result of another task"):
+        stored.store.read("three")
+    for limits in ("steps=6", "none"):
+        with pytest.raises(store.OriginError, match="its limits is steps=5, and here it is " + limits):
+            stored.open_store({"limits": limits} if limits != "none" else {}).read("two")
+
+
+def test_a_lock_of_a_task(stored: StoreCase) -> None:
+    """Another process waits for it, or is told; nothing of it stays, and a killed process's is taken over."""
+    other = stored.open_store({})
+    (stored.path / "one.lock").touch()
+    with stored.store.claim("one") as is_mine, other.claim("two") as is_other:
+        assert is_mine and is_other
+        for claimed in (stored.store, other):
+            with claimed.claim("one", waits=False) as is_free:
+                assert not is_free
+        other.remove_leftovers()
+        assert sorted(os.listdir(stored.path)) == ["one", "one.lock", "two", "two.lock"]
+    assert sorted(os.listdir(stored.path)) == ["one", "two"]
+    (stored.path / "one.part").write_bytes((stored.path / "one").read_bytes()[:30])
+    (stored.path / "two.part").write_text("mine")
+    (stored.path / "three.lock").touch()
+    other.remove_leftovers()
+    assert sorted(os.listdir(stored.path)) == ["one", "two", "two.part"]
 
 
 def test_verdicts_of_a_list() -> None:
@@ -342,8 +349,7 @@ def test_it_names_all_files(case: RunCase) -> None:
     page = (case.out / "README.txt").read_text(encoding="utf-8")
     for path in case.out.iterdir():
         assert "  %s" % path.name in page
-    for path in (case.out / "pass-1").iterdir():
-        assert "`%s`" % path.name in page
+    assert "a file for each chunk of its lines" in page
 
 
 @pytest.mark.parametrize("check", ["", "--check", "--check-here"])
@@ -377,8 +383,8 @@ def test_names_that_begin_as_options_do(case: RunCase, monkeypatch: pytest.Monke
 
 def test_a_folder(case: RunCase) -> None:
     case.list.write_bytes(MACHINE_LINE * 3)
-    case.call(*SMALL_PASS, "--piece", "1")
-    assert os.listdir(case.out / "pass-1") == ["journal"]
+    case.call(*SMALL_PASS, "--chunk", "1")
+    assert sorted(os.listdir(case.out / "pass-1")) == ["1-1", "2-2", "3-3"]
     made = publish(case.top / "new.tar", case.out, case.list)
     assert (made.confirmed, made.open) == (3, 0)
 

@@ -335,7 +335,7 @@ def test_merged_replies_and_errors() -> None:
 
 def place(*words: str) -> Any:
     asked = build_parser().parse_args(["run", "list", "--out", "folder", *words])
-    return command._make_backend(asked, progress.Progress(io.StringIO()))
+    return command.make_backend(asked, progress.Progress(io.StringIO()).print_line)
 
 
 def test_options_and_a_missing_dask() -> None:

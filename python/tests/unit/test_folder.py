@@ -158,7 +158,7 @@ class Crash(BaseException):
     """As a process that is killed."""
 
 
-CALLS = ("link", "rename", "unlink", "mkdir", "fsync", "fdatasync", "ftruncate")
+CALLS = ("link", "rename", "unlink", "mkdir", "fsync")
 
 
 def is_ended(case: RunCase, after: int, limits: Sequence[Limits]) -> bool:
@@ -184,6 +184,8 @@ def is_ended(case: RunCase, after: int, limits: Sequence[Limits]) -> bool:
 
 
 def test_each_call(case: RunCase) -> None:
+    case.list.write_bytes(LIST[: len(LIST) // 14])
+    given = case.list.read_bytes()
     cases: list[tuple[list[Limits], list[Limits]]] = [([], [SMALL]), ([SMALL], [*PASSES]), ([], [*PASSES])]
     for before, limits in cases:
         after, was_ended = 0, True
@@ -193,12 +195,12 @@ def test_each_call(case: RunCase) -> None:
                 case.run_over(limits=before, most=100)
             was_ended = is_ended(case, after, limits)
             case.run_over(limits=limits, most=100)
-            assert case.verdicts() == expected_verdicts(LIST, limits), (after, limits)
+            assert case.verdicts() == expected_verdicts(given, limits), (after, limits)
             assert [path.name for path in case.out.rglob("*.part")] == []
             published = publish(case.top / ("%d-%d.tar" % (after, len(limits) + len(before))), case.out)
-            assert published.confirmed + published.open == 370
+            assert published.confirmed + published.open == given.count(b"\n") + 1
             after += 1
-        assert after > 20
+        assert after > 15
 
 
 def test_a_folder_without_what_it_was_begun_with(case: RunCase) -> None:
@@ -206,8 +208,8 @@ def test_a_folder_without_what_it_was_begun_with(case: RunCase) -> None:
     case.run_over()
     (case.out / "run.json").unlink()
     whole = contents(case.out)
-    texts = dict.fromkeys(("README.txt", "pass-1/journal", "pass-2/notes", "pass-3/pieces"), "mine")
-    texts.update(dict.fromkeys(("verdicts.txt.part", "pass-1/pieces.part"), "mine, too"))
+    texts = dict.fromkeys(("README.txt", "pass-1/1-7", "pass-2/notes", "pass-3/1-20"), "mine")
+    texts.update(dict.fromkeys(("verdicts.txt.part", "pass-1/1-20.part"), "mine, too"))
     texts.update({"summary.json": "{}", "verdicts.txt": "mine\t1\n", "letters": ""})
     for name, text in texts.items():
         shutil.rmtree(case.out)
@@ -224,7 +226,11 @@ def test_a_folder_without_what_it_was_begun_with(case: RunCase) -> None:
 
 
 def test_what_a_killed_run_left_is_removed(case: RunCase) -> None:
-    for name, text in (("run.json", b""), ("summary.json", b'{\n  "li'), ("README.txt", b"Verdicts on the")):
+    for name, text in (
+        ("run.json", b""),
+        ("summary.json", b'{\n  "form'),
+        ("README.txt", b"Verdicts on the"),
+    ):
         case.out.mkdir(exist_ok=True)
         (case.out / (name + ".part")).write_bytes(text)
     (case.out / "verdicts.txt.2.part").write_bytes(expected_verdicts(LIST)[:50])
@@ -233,30 +239,43 @@ def test_what_a_killed_run_left_is_removed(case: RunCase) -> None:
     assert case.verdicts() == expected_verdicts(LIST)
 
 
-def test_a_copy_of_the_chunks_that_was_begun(small: RunCase) -> None:
-    for name in ("pieces.part", "pieces.2.part"):
-        (small.out / "pass-1" / name).write_bytes(expected_verdicts(LIST)[:100])
+def test_chunks_that_were_being_written(small: RunCase) -> None:
+    """A part that begins as a chunk is removed; another one stays."""
+    data = small.chunk().read_bytes()
+    for name, text in (
+        ("1-5.part", data[:300]),
+        ("1-5.2.part", b""),
+        ("6-9.part", b"mine"),
+        ("6-9.lock", b""),
+    ):
+        (small.out / "pass-1" / name).write_bytes(text)
     small.run_over(limits=[SMALL])
-    assert os.listdir(small.out / "pass-1") == ["journal"]
+    assert [path.name for path in (small.out / "pass-1").iterdir() if "." in path.name] == ["6-9.part"]
 
 
 def test_chunks_and_passes_that_are_replaced_meanwhile(case: RunCase) -> None:
-    def replace_chunks() -> None:
-        os.rename(case.out / "pass-1" / "pieces", case.top / "away")
-        (case.out / "pass-1" / "pieces").write_text("mine")
+    """What another made stays, and ends the run with a sentence."""
+
+    def replace_chunk() -> None:
+        (case.out / "pass-1" / "1-1").unlink(missing_ok=True)
+        (case.out / "pass-1" / "1-1").write_text("mine")
 
     def replace_pass() -> None:
         os.rename(case.out / "pass-1", case.top / "moved")
         (case.out / "pass-1").mkdir()
-        (case.out / "pass-1" / "pieces").write_text("mine")
+        (case.out / "pass-1" / "1-1").write_text("mine")
 
-    case.run_over(act(replace_chunks, 3), limits=[SMALL])
-    assert case.verdicts() == expected_verdicts(LIST, [SMALL])
-    assert (case.out / "pass-1" / "pieces").read_text() == "mine"
+    for at in (0, 30):
+        case.out = case.top / str(at)
+        with pytest.raises(RunError, match="1-1 was (cut or changed|made or replaced by another)"):
+            case.run_over(act(replace_chunk, at), limits=[SMALL])
+        assert (case.out / "pass-1" / "1-1").read_text() == "mine"
+        case.run_over(limits=[SMALL])
+        assert case.verdicts() == expected_verdicts(LIST, [SMALL])
     case.out = case.top / "other"
     with pytest.raises(MovedError):
         case.run_over(act(replace_pass, 3), limits=[SMALL])
-    assert (case.out / "pass-1" / "pieces").read_text() == "mine"
+    assert (case.out / "pass-1" / "1-1").read_text() == "mine"
 
 
 def test_folders_of_passes_that_are_not_asked_for(case: RunCase) -> None:
@@ -276,29 +295,7 @@ def test_a_summary_has_the_checksum_of_the_verdicts(case: RunCase) -> None:
         with contextlib.closing(folder.FinishedRun(str(case.out))) as found:
             assert found.checksum == _files.Checksum().add_bytes(case.verdicts())
             assert (found.identity, found.lines) == (chunks.identity(), 370)
-            assert all(found.read_journals())
-
-
-def test_a_summary_of_an_earlier_version(small: RunCase) -> None:
-    """It has no checksum; its counts are held against the verdicts."""
-    path = small.out / "summary.json"
-    text = path.read_text()
-    begin, end = text.index('  "verdicts"'), text.index('  "passes"')
-    path.write_text(text[:begin] + text[end:])
-    publish(small.top / "whole.tar", small.out)
-    lines = small.verdicts().splitlines(keepends=True)
-    (small.out / "verdicts.txt").write_bytes(b"".join(lines[:-1]))
-    with pytest.raises(budlarem.PublishError, match="doesn't match verdicts.txt: it counts"):
-        publish(small.top / "cut.tar", small.out)
-
-
-def test_journals_that_do_not_go_with_a_summary(case: RunCase) -> None:
-    case.run_over()
-    whole = (case.out / "pass-2" / "journal").read_bytes()
-    for change in (whole[:200], whole.replace(b"decided", b"checked", 1), b""):
-        (case.out / "pass-2" / "journal").write_bytes(change)
-        with pytest.raises(budlarem.PublishError, match="pass-2/journal doesn't match summary.json"):
-            publish(case.top / "new.tar", case.out)
+            assert [one.lines for one in found.totals][0] == 370
 
 
 def test_all_names_are_there() -> None:

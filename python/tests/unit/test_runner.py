@@ -11,14 +11,13 @@ import random
 import re
 import shutil
 import unittest.mock
-import zlib
 from concurrent.futures import Future
 from typing import Any, Callable, Sequence
 
 import budlarem
 import pytest
-from budlarem import Limits, _files, counts
-from budlarem.runner import chunks, folder, input, journal, passes
+from budlarem import Limits, _files
+from budlarem.runner import chunks, folder, input, pass_folder, passes
 from budlarem.runner.errors import CheckError, FolderError, MovedError, RunError, UsageError
 from support.runner import KINDS, LIST, MIDDLE, PASSES, SMALL, Answering, KeptProgress, Late, RunCase
 from support.runner import PoolBackend, act, answer_with, counts_of, expected_verdicts, reseal
@@ -35,6 +34,11 @@ def require_verdicts(
 def require_error(case: RunCase, error: type[Exception], text: str, executor: Any = None, **how: Any) -> None:
     with pytest.raises(error, match=text):
         case.run_over(executor, **how)
+
+
+def chunks_of(case: RunCase) -> dict[str, bytes]:
+    """The chunks of the first pass."""
+    return {path.name: path.read_bytes() for path in (case.out / "pass-1").iterdir()}
 
 
 def test_lists_and_passes(case: RunCase) -> None:
@@ -62,19 +66,22 @@ def test_the_summary(case: RunCase) -> None:
 
 def test_lines_keep_their_numbers(case: RunCase) -> None:
     case.run_over()
-    first, second = (case.open_last_pass(PASSES[:count]) for count in (1, 2))
+    first, second = map(case.open_pass, (1, 2))
     for limits, before in (([SMALL], [first]), (PASSES, [first, second])):
         lines = enumerate(expected_verdicts(LIST, limits).splitlines(), 1)
         left = [place for place, line in lines if b" und" in line]
-        assert [journal.list_line_number(before, line) for line in range(len(left))] == left
-    assert journal.list_line_number([], 7) == 8
+        assert [pass_folder.list_line_number(before, line) for line in range(len(left))] == left
+    assert pass_folder.list_line_number([], 7) == 8
 
 
 def test_whole_passes_are_added(small: RunCase) -> None:
-    before, executor = small.records([SMALL]), Answering()
-    require_verdicts(small, executor)
-    assert small.records([SMALL]) == before
-    assert executor.count == len(small.records(PASSES))
+    before, executor = chunks_of(small), Answering()
+    os.link(small.out / "verdicts.txt", small.top / "kept")
+    for _ in range(2):
+        require_verdicts(small, executor)
+        assert chunks_of(small) == before
+        assert executor.count == len(small.records(2))
+    assert (small.top / "kept").read_bytes() == expected_verdicts(LIST, [SMALL])
 
 
 def test_what_stands_is_not_decided_again(case: RunCase) -> None:
@@ -83,7 +90,7 @@ def test_what_stands_is_not_decided_again(case: RunCase) -> None:
     (case.out / "verdicts.txt").write_bytes(b"changed")
     case.run_over(executor)
     assert (executor.count, case.verdicts()) == (0, expected_verdicts(LIST))
-    count = len(case.records([SMALL])) + len(case.records(PASSES))
+    count = len(case.records(1)) + len(case.records(2))
     for _ in range(2):
         case.run_over(executor, check=True)
         assert executor.count == count
@@ -118,7 +125,7 @@ def test_changed_passes_and_libraries(case: RunCase) -> None:
     other = dataclasses.replace(config.identity, library="0" * 64)
     path.write_text(dataclasses.replace(config, identity=other).text())
     require_error(case, FolderError, "another library")
-    for text in (written.replace('"format": 3', '"format": 1'), '{"format": 1, "passes": []}\n'):
+    for text in (written.replace('"format": 4', '"format": 1'), '{"format": 1, "passes": []}\n'):
         path.write_text(text)
         require_error(case, FolderError, "run.json: it has format 1, which another version")
 
@@ -149,7 +156,8 @@ def test_two_runs_in_a_folder(case: RunCase) -> None:
 
 def test_a_list_that_would_be_overwritten(case: RunCase) -> None:
     case.run_over()
-    for path in ("verdicts.txt", "summary.json", "run.json", "pass-2/journal"):
+    own = ("verdicts.txt", "summary.json", "run.json", "pass-2/" + case.chunk(2).name)
+    for path in own:
         other, before = case.top / "another_name", (case.out / path).read_bytes()
         os.link(case.out / path, other)
         for name in (case.out / path, other):
@@ -164,7 +172,10 @@ def test_files_that_were_cut_or_changed(case: RunCase) -> None:
     case.run_over(most=60)
     files = sorted(path for path in case.out.rglob("*") if path.is_file())
     chance = random.Random(1)
+    shutil.copytree(case.out, case.top / "whole")
     for path, how in itertools.product(files, range(4)):
+        shutil.rmtree(case.out)
+        shutil.copytree(case.top / "whole", case.out)
         data = path.read_bytes()
         if how == 0:
             path.unlink()
@@ -188,42 +199,37 @@ def test_chunks_that_are_missing_in_the_middle(case: RunCase) -> None:
     case.run_over(most=3)
     for most in (1, 3, 1_000):
         for number in (1, 2):
-            path = case.out / ("pass-%d" % number) / "journal"
-            data = bytearray(path.read_bytes())
-            count = len(data) // journal.WIDTH
-            for place in (0, count // 3, count // 3 + 1, count // 2, count - 1):
-                data[place * journal.WIDTH : (place + 1) * journal.WIDTH] = bytes(journal.WIDTH)
-            path.write_bytes(data)
-        require_verdicts(case, most=most)
+            names = [record.name for record in case.records(number)]
+            for place in {0, len(names) // 3, len(names) // 3 + 1, len(names) // 2, len(names) - 1}:
+                (case.out / ("pass-%d" % number) / names[place]).unlink()
+        executor = Answering()
+        require_verdicts(case, executor, most=most)
+        assert executor.count < len(names)
 
 
 def test_a_changed_chunk_while_passes_are_merged(small: RunCase) -> None:
-    cut = act(lambda: os.truncate(small.out / "verdicts.txt", 100))
+    """So while the verdicts of one pass are written: nothing is joined that doesn't fit its seal."""
+    cut = act(lambda: os.truncate(small.chunk(), 700))
     require_error(small, RunError, "was cut or changed", cut)
     require_verdicts(small)
+    small.out = small.top / "one"
+    at_end = unittest.mock.Mock(side_effect=lambda: os.truncate(small.chunk(), 700))
+    with unittest.mock.patch.object(pass_folder.PassFolder, "remove_stale", at_end):
+        require_error(small, RunError, "was cut or changed", limits=[SMALL])
+    assert not (small.out / "verdicts.txt").exists()
+    require_verdicts(small, limits=[SMALL])
 
 
-def test_a_folder_of_an_older_version(case: RunCase) -> None:
+@pytest.mark.parametrize("name", ["000000001.txt", "journal", "pieces"])
+def test_a_folder_of_an_older_version(case: RunCase, name: str) -> None:
+    """With its `run.json` and without: it stays as it is."""
     (case.out / "pass-1").mkdir(parents=True)
-    (case.out / "pass-1" / "000000001.txt").write_text("kept")
-    require_error(case, FolderError, "another version of this package wrote")
-
-
-def test_one_pass_is_written_once(small: RunCase) -> None:
-    """The file of the chunks becomes the verdicts, and a later run reads the chunks there."""
-    chunks, verdicts = small.out / "pass-1" / "pieces", small.out / "verdicts.txt"
-    first, journal = verdicts.stat(), (small.out / "pass-1" / "journal").read_bytes()
-    assert (chunks.exists(), first.st_nlink) == (False, 1)
-    assert small.open_last_pass([SMALL]).journal.rename_mark() == len(small.records([SMALL]))
-    small.run_over(limits=[SMALL])
-    assert (small.out / "pass-1" / "journal").read_bytes() == journal
-    assert "decided again" not in small.progress.kept.getvalue()
-    executor = Answering()
-    for _ in range(2):
-        require_verdicts(small, executor, limits=[SMALL], check=True)
-        assert (chunks.exists(), verdicts.stat().st_ino) == (False, first.st_ino)
-    assert executor.count == len(small.records([SMALL]))
-    assert sorted(small.out.rglob("*.part")) == []
+    (case.out / "pass-1" / name).write_text("kept")
+    require_error(case, FolderError, "another version of this package wrote; finish it by that version")
+    old = '{\n  "format": 3,\n  "bytes": "00000400",\n  "passes": []\n}\n'
+    (case.out / "run.json").write_text(old)
+    require_error(case, FolderError, "it has format 3, which another version of this package writes")
+    assert (case.out / "pass-1" / name).read_text() == "kept" and (case.out / "run.json").read_text() == old
 
 
 def test_verdicts_share_no_bytes_with_a_later_run(case: RunCase) -> None:
@@ -236,7 +242,7 @@ def test_verdicts_share_no_bytes_with_a_later_run(case: RunCase) -> None:
         if is_moved:
             (case.out / "verdicts.txt").unlink()
         for path in case.out.rglob("*"):
-            if path.is_file() and (is_moved or path.name == "journal"):
+            if path.is_file() and (is_moved or path.parent.name == "pass-1"):
                 path.unlink()
         require_verdicts(case, limits=[SMALL], most=3)
         assert not kept_lines.samefile(case.out / "verdicts.txt")
@@ -252,48 +258,25 @@ def test_another_run_over_the_passes_of_one(small: RunCase) -> None:
     small.list.write_bytes(KINDS * 20)
     require_verdicts(small, limits=[MIDDLE])
     assert (small.top / "kept").read_bytes() == expected_verdicts(LIST, [SMALL])
-
-
-def test_a_pass_is_added_to_verdicts_that_were_renamed(small: RunCase) -> None:
-    os.link(small.out / "verdicts.txt", small.top / "kept")
-    executor = Answering()
-    require_verdicts(small, executor)
-    for name in ("kept", "out/pass-1/pieces"):
-        assert (small.top / name).read_bytes() == expected_verdicts(LIST, [SMALL])
-    assert executor.count == len(small.records(PASSES))
-    assert small.open_last_pass([SMALL]).journal.rename_mark() is None
-    require_verdicts(small, executor)
-    assert executor.count == len(small.records(PASSES))
+    assert sum(record.lines for record in small.records()) == 200
 
 
 def test_verdicts_that_are_moved_away_while_a_pass_is_added(small: RunCase) -> None:
     require_verdicts(small, act(lambda: os.rename(small.out / "verdicts.txt", small.top / "kept"), 0))
-    for name in ("kept", "out/pass-1/pieces"):
-        assert (small.top / name).read_bytes() == expected_verdicts(LIST, [SMALL])
+    assert (small.top / "kept").read_bytes() == expected_verdicts(LIST, [SMALL])
 
 
-def test_verdicts_that_were_changed_in_place(small: RunCase) -> None:
-    with open(small.out / "verdicts.txt", "r+b") as file:
-        file.write(b"x" * 100)
-    for _ in range(2):
+def test_chunks_that_were_changed_in_place(small: RunCase) -> None:
+    """Each byte of a chunk counts, of its fields and of its verdicts."""
+    for place in (0, 20, 40, 200, -200, -1):
+        path = small.chunk()
+        data = path.read_bytes()
+        changed = bytearray(data)
+        changed[place] ^= 1
+        path.write_bytes(changed)
         require_verdicts(small, limits=[SMALL])
-        assert "is decided again: it was cut or changed" in small.progress.kept.getvalue()
-
-
-def test_a_folder_whose_verdicts_are_a_second_name(small: RunCase) -> None:
-    """So an earlier version of this package left it."""
-    verdicts, kept_lines = small.out / "verdicts.txt", small.top / "kept"
-    chunks = small.out / "pass-1" / "pieces"
-    for change in (b"", b"x" * 100):
-        os.link(verdicts, chunks)
-        os.link(verdicts, kept_lines)
-        with open(kept_lines, "r+b") as file:
-            file.write(change)
-        before = kept_lines.read_bytes()
-        require_verdicts(small, limits=[SMALL])
-        assert kept_lines.read_bytes() == before
-        for path in (chunks, kept_lines):
-            path.unlink(missing_ok=True)
+        assert "chunk %s of pass 1 is decided again: it was " % path.name in small.progress.kept.getvalue()
+        assert len(path.read_bytes()) == len(data)
 
 
 def test_a_folder_that_is_moved_removed_or_replaced(case: RunCase) -> None:
@@ -311,7 +294,7 @@ def test_a_folder_that_is_moved_removed_or_replaced(case: RunCase) -> None:
     case.out = case.top / "moved"
     executor = Answering()
     require_verdicts(case, executor)
-    assert executor.count < len(case.records([SMALL])) + len(case.records(PASSES))
+    assert executor.count < len(case.records(1)) + len(case.records(2))
 
 
 def test_a_folder_that_is_removed(case: RunCase) -> None:
@@ -351,50 +334,30 @@ def test_a_link_to_the_folder_that_is_pointed_elsewhere(case: RunCase) -> None:
     assert list(elsewhere.iterdir()) == []
 
 
-def numbered_chunk(index: int) -> passes.Chunk:
-    text = b"%d\n" % index * (index % 7 + 1)
-    record = journal.Record.of(index, 1, b"", text, 0.0, dict.fromkeys(counts.KINDS, 0))
-    return passes.Chunk(index, index, b"given", 1, record, kept=text)
-
-
 ANY_ORDER = random.Random(3).sample(range(200), 200)
 REFUSED = unittest.mock.Mock(side_effect=OSError(errno.EPERM, "it can't"))
-# The order of chunks, the most bytes that wait, whether the file is in order then, and what is patched.
-ORDERS: dict[str, tuple[list[int], int, bool, tuple[object, str, Any]]] = {
-    "a little out of order": ([2, 0, 1, 5, 4, 3, 6, 8, 7, 9], 50, True, (passes, "_SOON", 1.0)),
-    "one that comes last": ([*range(1, 30), 0], 20, False, (passes, "_SOON", 1.0)),
-    "one that comes late": ([1, 0, 2, 3], 20, False, (passes, "_SOON", 0.0)),
-    "any order where the system can't copy": (ANY_ORDER, 30, False, (os, "copy_file_range", REFUSED)),
-    "no second name": (list(range(20)), 20, True, (os, "link", REFUSED)),
-    "nothing": ([], 20, False, (passes, "_SOON", 1.0)),
-}
 
 
-@pytest.mark.parametrize("order, most, is_in_order, patched", ORDERS.values(), ids=ORDERS)
-def test_chunks_in_some_order(
-    case: RunCase, order: list[int], most: int, is_in_order: bool, patched: tuple[object, str, Any]
-) -> None:
+@pytest.mark.parametrize("links", [os.link, REFUSED])
+@pytest.mark.parametrize("order", [[2, 0, 1, 5, 4, 3], [*range(1, 30), 0], ANY_ORDER, []])
+def test_chunks_in_some_order(case: RunCase, order: list[int], links: Any) -> None:
     """None is lost, and the whole is in the list's order."""
-    case.enter_context(unittest.mock.patch.object(*patched))
     top = case.enter_context(contextlib.closing(folder.Folder(str(case.out))))
-    opened = top.open_pass([SMALL], chunks.Retention(), chunks.identity())
-    writer = passes.Writer(case.enter_context(contextlib.closing(opened)), most)
-    for index in order:
-        writer.add(numbered_chunk(index))
-        writer.flush_late()
-    writer.close()
-    writer.add(numbered_chunk(len(order)))
-    written = writer.pop_written()
-    assert sorted(chunk.index for chunk in written) == list(range(len(order)))
-    for chunk in written:
-        assert chunk.record is not None
-        opened.journal.write(chunk.index, chunk.record)
-    opened.chunks = len(order)
-    top.write_verdicts(opened)
-    whole = b"".join(numbered_chunk(index).kept or b"" for index in range(len(order)))
-    assert case.verdicts() == whole
-    assert opened.checksum() == _files.Checksum(len(whole), zlib.crc32(whole))
-    assert os.path.exists(opened.kept) != is_in_order
+    config = folder.RunConfig([SMALL], chunks.Retention(), chunks.identity(), "list")
+    opened = case.enter_context(contextlib.closing(top.open_pass(config, 1)))
+    texts = [b"%d\n" % index * (index % 7 + 1) for index in range(len(order))]
+    with unittest.mock.patch.object(os, "link", links):
+        for index in order:
+            checksum = _files.Checksum().add_bytes(texts[index])
+            opened.write(
+                record := pass_folder.Record(index, 1, "", 0, False, (0,) * 7, checksum), texts[index]
+            )
+            opened.add(record)
+    assert top.write_verdicts([opened]) == _files.Checksum().add_bytes(b"".join(texts))
+    assert case.verdicts() == b"".join(texts)
+    for _ in order[:1]:
+        with pytest.raises(RunError, match="1-1 was made or replaced by another process"):
+            opened.write(pass_folder.Record(0, 1, "", 0, False, (0,) * 7), b"")
 
 
 def kept_lines(limits: Sequence[Limits], halts: int) -> bytes:
@@ -489,7 +452,7 @@ def test_the_line_is_named(case: RunCase) -> None:
 def test_late_answers_in_another_order(case: RunCase) -> None:
     case.list.write_bytes(b"".join(KINDS.splitlines(keepends=True)[:8]))
     require_verdicts(case, Late(4), most=1, limits=[SMALL])
-    assert len(case.records([SMALL])) == 8
+    assert len(case.records()) == 8
 
 
 def test_one_answer_for_two_chunks(case: RunCase) -> None:
@@ -544,7 +507,7 @@ def test_a_lying_worker_is_found_here(case: RunCase) -> None:
         require_error(case, CheckError, BAD_LINE, Answering(lie), limits=[SMALL], check=True, here=True)
     case.out = case.top / "command"
     backend = PoolBackend(Answering(lie), 2)
-    with unittest.mock.patch("budlarem.commands.run._make_backend", return_value=backend):
+    with unittest.mock.patch("budlarem.commands.run.make_backend", return_value=backend):
         status, said = case.call("--pass", "steps=30,cells=16,depth=3,nodes=5", "--check-here")
     assert status == 1
     assert re.search(BAD_LINE.replace("^", "^budlarem: ") + "1RB1LC_1RC1RB", said, re.M)
@@ -567,14 +530,14 @@ def test_seconds_that_did_not_pass(case: RunCase) -> None:
     for seconds in (1e9, 1e308):
         case.out = case.top / str(seconds)
         require_verdicts(case, Answering(lambda reply, before: (reply[0], seconds, *reply[2:])), most=1_000)
-        assert len(case.records([SMALL])) < 20
+        assert len(case.records()) < 20
         summary = json.loads((case.out / "summary.json").read_text())
         assert summary["passes"][0]["work_seconds"] < 600
 
 
 def test_refusals_and_statuses(case: RunCase) -> None:
     limits = ("steps=1,steps=2", "step=1", "", "steps=-1", "cells=0", "depth=300,cells=10")
-    for words in (*(["--pass", value] for value in limits), ["--threads", "0"], ["--piece", "0"]):
+    for words in (*(["--pass", value] for value in limits), ["--threads", "0"], ["--chunk", "0"]):
         status, said = case.call(*words)
         assert (status, case.out.exists()) == (2, False), words
         assert said.startswith("budlarem: ")

@@ -9,17 +9,18 @@ import argparse
 import contextlib
 import os
 import sys
+from typing import Callable
 
 from .._text import escape_hidden
 from ..limits import Limits, limits_of
+from ..numbers import option_number
+from ..runner.backends import HERE, SENT, Backend, ThreadBackend
 from ..runner.chunks import identity, parse_retention
 from ..runner.errors import CheckError, FolderError, ListError, MovedError, RunError, UsageError
 from ..runner.errors import describe_error
-from ..runner.folder import Folder, require_separate_list
+from ..runner.folder import VERDICTS, Folder, require_separate_list
 from ..runner.input import ListFile, require_form
-from ..runner.journal import VERDICTS
-from ..runner.local import ThreadBackend
-from ..runner.passes import HERE, SENT, Backend, RunOptions, run
+from ..runner.passes import RunOptions, run
 from ..runner.progress import Progress
 from .shared import Subcommands, add_number, add_passes, end_at_signals
 
@@ -46,10 +47,7 @@ def add_command(commands: Subcommands) -> None:
     parser.add_argument("--out", required=True, metavar="FOLDER", help="the folder for the verdicts")
     help = "limits of a pass, each of them optional; the next pass decides its holdouts"
     add_passes(parser, help + " (default: one pass, at the defaults of bb)")
-    add_number(parser, "--threads", "cores used (default: all)")
-    parser.add_argument("--scheduler", metavar="ADDRESS", help="of dask, whose workers decide the chunks")
-    for name, (_, what) in TLS.items():
-        parser.add_argument("--" + name, metavar="FILE", help="dask's option: %s" % what)
+    add_places(parser, "decide the chunks")
     parser.add_argument("--check", action="store_true", help="have the checker confirm each verdict")
     help = "the same, in this process and not by workers"
     parser.add_argument("--check-here", action="store_true", help=help)
@@ -57,7 +55,8 @@ def add_command(commands: Subcommands) -> None:
     help += " after more than N steps (default: all)"
     parser.add_argument("--keep", action="append", metavar="left|halts=N", help=help)
     help = f"the most lines of a chunk (default: {HERE.lines:,}, over dask {SENT.lines:,})"
-    add_number(parser, "--piece", help, metavar="LINES")
+    add_number(parser, "--chunk", help, metavar="LINES")
+    parser.add_argument("--piece", dest="chunk", type=option_number, help=argparse.SUPPRESS)
 
 
 def install_signal_handlers(progress: Progress, folder: str) -> None:
@@ -66,29 +65,45 @@ def install_signal_handlers(progress: Progress, folder: str) -> None:
     end_at_signals(lambda what: f"{progress.erase_sequence()}budlarem: {what}{_RESUME} in {place}\n")
 
 
-def _make_backend(asked: argparse.Namespace, progress: Progress) -> Backend:
-    """The backend that the options name. Raises UsageError, RunError."""
+def add_places(parser: argparse.ArgumentParser, work: str) -> None:
+    """Adds the options for places to work."""
+    add_number(parser, "--threads", "cores used (default: all)")
+    parser.add_argument("--scheduler", metavar="ADDRESS", help="of dask, whose workers %s" % work)
+    for name, (_, what) in TLS.items():
+        parser.add_argument("--" + name, metavar="FILE", help="dask's option: %s" % what)
+
+
+def _tls_files(asked: argparse.Namespace) -> dict[str, str]:
+    """The files of the options of TLS, by the argument of dask's client."""
     named = ((name, getattr(asked, name.replace("-", "_"))) for name in TLS)
-    files = {name: path for name, path in named if path is not None}
-    if asked.scheduler is not None:
-        if asked.threads is not None:
-            raise UsageError("--threads is for this computer, --scheduler for others; give one of them")
-        for name, path in files.items():
-            try:
+    return {TLS[name][0]: path for name, path in named if path is not None}
+
+
+def require_places(asked: argparse.Namespace) -> None:
+    """Raises UsageError for options of places that contradict each other, or a file that can't be read."""
+    if asked.scheduler is not None and asked.threads is not None:
+        raise UsageError("--threads is for this computer, --scheduler for others; give one of them")
+    if asked.threads is not None and asked.threads < 1:
+        raise UsageError("--threads is %d, but must be 1 or more" % asked.threads)
+    if asked.scheduler is None and _tls_files(asked):
+        raise UsageError("--tls-ca-file, --tls-cert and --tls-key are for --scheduler, which isn't given")
+    for name in TLS:
+        try:
+            if (path := getattr(asked, name.replace("-", "_"))) is not None:
                 open(path, "rb").close()
-            except OSError as error:
-                raise UsageError("--%s %s can't be read: %s" % (name, path, error.strerror)) from None
+        except OSError as error:
+            raise UsageError("--%s %s can't be read: %s" % (name, path, error.strerror)) from None
+
+
+def make_backend(asked: argparse.Namespace, report: Callable[[str], None]) -> Backend:
+    """The backend that the options name. Raises UsageError, RunError."""
+    require_places(asked)
+    if asked.scheduler is not None:
         # Its imports take a while.
         from ..runner.dask import DaskBackend
 
-        security = {TLS[name][0]: path for name, path in files.items()}
-        return DaskBackend(asked.scheduler, security, progress.print_line)
-    if files:
-        raise UsageError("--tls-ca-file, --tls-cert and --tls-key are for --scheduler, which isn't given")
-    count = len(os.sched_getaffinity(0)) if asked.threads is None else asked.threads
-    if count < 1:
-        raise UsageError("--threads is %d, but must be 1 or more" % count)
-    return ThreadBackend(count)
+        return DaskBackend(asked.scheduler, _tls_files(asked), report)
+    return ThreadBackend(asked.threads or len(os.sched_getaffinity(0)))
 
 
 def fill_closed(is_input_read: bool) -> None:
@@ -113,8 +128,8 @@ def do_run(asked: argparse.Namespace) -> int:
     fill_closed(asked.list == "-")
     progress = Progress()
     passes = [limits_of(word) for word in asked.passes] if asked.passes else [Limits()]
-    if asked.piece is not None and asked.piece < 1:
-        raise UsageError("--piece is %d, but must be 1 or more" % asked.piece)
+    if asked.chunk is not None and asked.chunk < 1:
+        raise UsageError("--chunk is %d, but must be 1 or more" % asked.chunk)
     install_signal_handlers(progress, asked.out)
     try:
         return _decide_list(asked, passes, progress)
@@ -136,7 +151,7 @@ def do_run(asked: argparse.Namespace) -> int:
 
 def _decide_list(asked: argparse.Namespace, passes: list[Limits], progress: Progress) -> int:
     """Decides a list; returns 0 or 1. Raises all other errors."""
-    backend = _make_backend(asked, progress)
+    backend = make_backend(asked, progress.print_line)
     with contextlib.ExitStack() as stack:
         try:
             source = stack.enter_context(contextlib.closing(ListFile(asked.list)))
@@ -152,7 +167,7 @@ def _decide_list(asked: argparse.Namespace, passes: list[Limits], progress: Prog
             identity(),
             progress,
             source.name,
-            most_lines=asked.piece,
+            most_lines=asked.chunk,
             is_checked=asked.check or asked.check_here,
             is_checked_here=asked.check_here,
             keep=parse_retention(asked.keep),

@@ -7,19 +7,19 @@ fault; 130 after an interruption. Finished shards are kept, and the same command
 from __future__ import annotations
 
 import argparse
+import contextlib
 import dataclasses
-import functools
-import importlib
-import os
+import random
+import re
 import sys
-from concurrent.futures import FIRST_EXCEPTION, Executor, Future, ThreadPoolExecutor, wait
-from typing import Callable
 
-from .._text import escape_hidden
+from .._text import escape_hidden, escape_message
 from ..limits import Limits
+from ..runner.backends import Backend
 from ..runner.errors import FolderError, UsageError
 from ..runner.progress import TerminalLine
-from ..shards import Plan, create, join, pending, read_machines, read_plan, run_shard
+from ..shards import DamagedError, Plan, ShardFolder, ShardTask, create, draw
+from .run import add_places, make_backend, require_places
 from .shared import Subcommands, add_command, add_number, end_at_signals
 
 # The options of a plan beside --states: default, least, most and help.
@@ -30,15 +30,40 @@ _SIZES = {
 }
 _SHARDS = """Lists, decides and checks all machines of a size in shards: each the walk below one machine, an array
 job of its own. FOLDER gets the plan, a file for each finished shard, the skeleton with a line for each, the
-undecided lines, and a summary; the line that cover prints of the skeleton goes to standard output. The programs
+undecided lines, and a summary; the line of cover on the skeleton goes to standard output. The programs
 tree_normal_form, bb and cover are found in the PATH.
 
-Without --states, FOLDER has a plan already, and the shards that aren't finished are run. --plan only makes the
+Without --states, FOLDER has a plan already, and its unfinished shards are run. --plan only makes the
 plan. --pending prints the machines of the unfinished shards, one a line, as for
-`budlarem shards FOLDER --pending | xargs -P 4 -n 1 budlarem shard FOLDER`."""
+`budlarem shards FOLDER --pending | xargs -P 4 -n 1 budlarem shard FOLDER`. --verify does finished shards again, and
+compares them: all, or a share such as 0.1, drawn by a seed. The seed is printed, and the summary has it."""
 
-_SHARD = """Lists, decides and checks one shard of FOLDER, which `budlarem shards` has planned, and prints its line:
-MACHINE below N U G SHA256. A finished shard isn't run again."""
+_SHARD = """Lists, decides and checks one shard of a FOLDER planned by `budlarem shards`, and prints its line:
+MACHINE below N U G SHA256. A finished shard isn't run again, and the command waits for one under way elsewhere."""
+
+
+class _Progress:
+    """The number of finished shards, on a terminal."""
+
+    def __init__(self) -> None:
+        self._line, self._done, self._all, self._verb = TerminalLine(), 0, 0, ""
+
+    def start(self, count: int, verb: str = "done") -> None:
+        self._done, self._all, self._verb = 0, count, verb
+
+    def finish(self, task: ShardTask) -> None:
+        self._done += 1
+
+    def tick(self, status: str = "") -> None:
+        parts = ["%d of %d shards %s" % (self._done, self._all, self._verb), *filter(None, [status])]
+        self._line.show(lambda: ", ".join(parts))
+
+    def print_line(self, text: str) -> None:
+        self._line.clear()
+        print("budlarem: %s" % escape_message(text), file=sys.stderr)
+
+    def clear(self) -> None:
+        self._line.clear()
 
 
 def do_shards(asked: argparse.Namespace) -> int:
@@ -46,24 +71,62 @@ def do_shards(asked: argparse.Namespace) -> int:
     _require_one_use(asked)
     resumes = "`budlarem shards %s` resumes\n" % escape_hidden(asked.folder)
     end_at_signals(lambda what: "budlarem: %s; %s" % (what, resumes))
-    if plan is not None:
-        create(asked.folder, plan)
-    else:
-        read_plan(asked.folder)
-    if asked.pending:
-        sys.stdout.writelines(machine + "\n" for machine in pending(asked.folder))
-    elif not asked.plan:
-        _run_all(asked)
-        sys.stdout.write(join(asked.folder))
+    progress = _Progress()
+    create(asked.folder, plan)
+    with contextlib.closing(ShardFolder(asked.folder, progress.print_line)) as folder:
+        if asked.pending:
+            sys.stdout.writelines(machine + "\n" for machine in folder.pending())
+        elif not asked.plan:
+            sys.stdout.write(_run_all(asked, folder, progress))
     return 0
+
+
+def _run_all(asked: argparse.Namespace, folder: ShardFolder, progress: _Progress) -> str:
+    """Does the unfinished shards, verifies some if asked, and joins all; returns the line of `cover`."""
+    backend = make_backend(asked, progress.print_line)
+    try:
+        while True:
+            try:
+                progress.start(len(pending := folder.pending()))
+                folder.do(pending, backend, progress, progress.finish)
+                return folder.join(_verify(asked, folder, backend, progress))
+            except DamagedError as error:
+                folder.note_damage(error)
+    finally:
+        backend.close()
+        progress.clear()
+
+
+def _verify(
+    asked: argparse.Namespace, folder: ShardFolder, backend: Backend, progress: _Progress
+) -> dict[str, int] | None:
+    """Does shards again, if that is asked; returns how many of how many, and the seed."""
+    if asked.verify is None:
+        return None
+    machines, seed = folder.shards(), asked.seed
+    if seed is None:
+        seed = random.SystemRandom().randrange(2**32)
+    drawn = draw(machines, asked.verify, seed)
+    progress.start(len(drawn), "verified")
+    folder.verify(drawn, backend, progress)
+    by = "" if len(drawn) == len(machines) else ", drawn by the seed %d" % seed
+    progress.print_line("%d of %d shards were done again%s: the same" % (len(drawn), len(machines), by))
+    return {"shards": len(drawn), "of": len(machines), "seed": seed}
 
 
 def do_shard(asked: argparse.Namespace) -> int:
-    if (asked.machine, True) not in read_machines(asked.folder):
-        sentence = "%s is no shard of %s; `budlarem shards %s --pending` prints the unfinished ones"
-        raise FolderError(sentence % (asked.machine, asked.folder, asked.folder))
-    sys.stdout.write(run_shard(asked.folder, asked.machine))
+    with contextlib.closing(ShardFolder(asked.folder, _Progress().print_line)) as folder:
+        if (asked.machine, True) not in folder.machines():
+            sentence = "%s is no shard of %s; `budlarem shards %s --pending` prints the unfinished ones"
+            raise FolderError(sentence % (asked.machine, asked.folder, asked.folder))
+        sys.stdout.write(folder.do_shard(asked.machine))
     return 0
+
+
+def _share(text: str) -> float:
+    if not re.fullmatch(r"[0-9]+|[0-9]*[.][0-9]+", text):
+        raise argparse.ArgumentTypeError("%r is no share; give one such as 0.1" % text)
+    return float(text)
 
 
 def _plan_of(asked: argparse.Namespace) -> Plan | None:
@@ -92,46 +155,15 @@ def _require_one_use(asked: argparse.Namespace) -> None:
     """Raises UsageError for options that contradict each other."""
     if asked.plan and asked.pending:
         raise UsageError("--plan makes a plan, --pending prints what it leaves to be run; give one of them")
-    if asked.scheduler is not None and asked.threads is not None:
-        raise UsageError("--threads is for this computer, --scheduler for others; give one of them")
-    if asked.threads is not None and asked.threads < 1:
-        raise UsageError("--threads is %d, but must be 1 or more" % asked.threads)
-    for name in ("threads", "scheduler"):
+    for name in ("threads", "scheduler", "verify"):
         if (asked.plan or asked.pending) and getattr(asked, name) is not None:
             other = "plan" if asked.plan else "pending"
             raise UsageError("--%s is for shards that are run, and --%s runs none" % (name, other))
-
-
-def _run_all(asked: argparse.Namespace) -> None:
-    """Runs the unfinished shards, on the cores or by dask. After the first error no other is started."""
-    machines = pending(asked.folder)
-    if not machines:
-        return
-    job = functools.partial(run_shard, os.path.abspath(asked.folder))
-    if asked.scheduler is None:
-        threads = asked.threads or len(os.sched_getaffinity(0))
-        return _wait_for(ThreadPoolExecutor(threads), job, machines)
-    # Its imports take a while.
-    distributed = importlib.import_module("distributed")
-    with distributed.Client(asked.scheduler, timeout=10) as client:
-        _wait_for(client.get_executor(pure=False), job, machines)
-
-
-def _wait_for(executor: Executor, job: Callable[[str], str], machines: list[str]) -> None:
-    progress = TerminalLine()
-    futures: list[Future[str]] = [executor.submit(job, machine) for machine in machines]
-    try:
-        left = set(futures)
-        while left:
-            done, left = wait(left, timeout=1, return_when=FIRST_EXCEPTION)
-            for future in done:
-                future.result()
-            progress.show(lambda: "%d of %d shards" % (len(futures) - len(left), len(futures)))
-    finally:
-        progress.clear()
-        for future in futures:
-            future.cancel()
-        executor.shutdown(wait=False)
+    if asked.verify is not None and not 0 < asked.verify <= 1:
+        raise UsageError("--verify is %g, but must be above 0 and at most 1" % asked.verify)
+    if asked.seed is not None and asked.verify is None:
+        raise UsageError("--seed draws the shards of --verify, which isn't given")
+    require_places(asked)
 
 
 def add_shards(commands: Subcommands) -> None:
@@ -144,10 +176,12 @@ def add_shards(commands: Subcommands) -> None:
         add_number(shards, "--" + name, "{:,} to {:,} (default: {:,})".format(*Limits.RANGES[name], default))
     help = "find and count the exact recurrence behind each pair too"
     shards.add_argument("--recurrence", action="store_true", default=None, help=help)
-    add_number(shards, "--threads", "cores used (default: all)")
-    shards.add_argument("--scheduler", metavar="ADDRESS", help="of dask, whose workers share FOLDER")
+    add_places(shards, "do the shards")
     shards.add_argument("--plan", action="store_true", help="make the plan, and run nothing")
     shards.add_argument("--pending", action="store_true", help="print the unfinished shards, and run nothing")
+    help = "do finished shards again, and compare: all, or a share, above 0 and at most 1"
+    shards.add_argument("--verify", nargs="?", type=_share, const=1.0, metavar="SHARE", help=help)
+    add_number(shards, "--seed", "of the shards that --verify draws (default: a random one)")
     shard = add_command(commands, "shard", do_shard, "decide and check one shard of a size", _SHARD)
     shard.add_argument("folder", metavar="FOLDER", help="a folder that `budlarem shards` has planned")
     shard.add_argument("machine", metavar="MACHINE", help="the machine below which the shard is")

@@ -1,7 +1,7 @@
-"""Lists of any length, decided in chunks: `budlarem run`.
+"""Tasks of any number, each with a sealed result file: lists in chunks (`budlarem run`), and shards.
 
-`input` reads a list. `passes` cuts it into chunks between lines, and runs one pass after another: a later pass
-decides the holdouts of the earlier one. `local` decides chunks in threads of this process, `remote` by an
-executor of `concurrent.futures`, and `dask` by a cluster. `chunks` validates replies. `folder` stores the
-output of each chunk, and a journal entry once the output is on the disk, and merges the passes at the end.
+`store` writes and reads results. `backends` do tasks: threads of this process, or any executor of
+`concurrent.futures`; `dask` is a cluster. `dispatch` has a backend do tasks, and validates and stores the replies.
+`input` reads a list, `chunks` has its tasks and validates replies, `pass_folder` has the results of a pass. `passes`
+runs one pass after another: a later pass decides the holdouts of the earlier one. `folder` has the files of a run.
 """

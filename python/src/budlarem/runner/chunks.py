@@ -25,12 +25,14 @@ from ..counts import KINDS, find_all
 from ..engine import Call, check_call, decide_call
 from ..limits import Limits, Plan
 from .errors import FatalLineError, ReplyError, UsageError
+from .store import hash_of
 
 Numbers = tuple[int, int, int, int]
 # Output, seconds, version, commit and sha256 of the library; then the digest of the input, the description of
 # the task, and the digest of the output.
 ChunkReply = tuple[bytes, float, str, str, str, str, str, str]
-Task = Callable[[bytes, Numbers], ChunkReply]
+# A function of lines and options, which returns a reply; in this process it needs no digests.
+Task = Callable[[bytes, Any], Any]
 Counts = dict[str, int]
 
 DECIDE, CHECK = "decide", "check"
@@ -62,11 +64,6 @@ def identity() -> Identity:
         return Identity(version(), COMMIT, hashlib.sha256(file.read()).hexdigest())
 
 
-def hash_of(data: bytes) -> str:
-    """The BLAKE2b hash of some bytes, in 64 hexadecimal digits."""
-    return hashlib.blake2b(data, digest_size=32).hexdigest()
-
-
 def digest_of(data: bytes) -> str:
     """The CRC-32 of bytes in transit, in 8 hexadecimal digits, against accidents. Use TLS against attacks."""
     return "%08x" % zlib.crc32(data)
@@ -81,13 +78,27 @@ def reply_of(task: str, lines: bytes, written: bytes, seconds: float) -> ChunkRe
     return (written, seconds, ours.version, ours.commit, ours.library, *digests)
 
 
-def _make_reply(task: str, call: Call, lines: bytes) -> ChunkReply:
-    """Makes a call into the buffer of this thread, which all its chunks share."""
+def _call_here(call: Call, lines: bytes) -> tuple[bytes, float]:
+    """The output and seconds of a call, into the buffer of this thread, which all its chunks share."""
     started, buffer = time.monotonic(), getattr(_thread_state, "buffer", None)
     if not isinstance(buffer, ReplyBuffer):
         buffer = _thread_state.buffer = ReplyBuffer()
     call(buffer, lines)
-    return reply_of(task, lines, buffer.reply().text, time.monotonic() - started)
+    return buffer.reply().text, time.monotonic() - started
+
+
+def _make_reply(task: str, call: Call, lines: bytes) -> ChunkReply:
+    return reply_of(task, lines, *_call_here(call, lines))
+
+
+def decide_here(lines: bytes, limits: Numbers) -> tuple[bytes, float]:
+    """As `decide_chunk`, in this process, where a reply needs no digests."""
+    return _call_here(decide_call(Limits(*limits), Plan()), lines)
+
+
+def check_here(lines: bytes, limits: Numbers) -> tuple[bytes, float]:
+    """As `check_chunk`, in this process."""
+    return _call_here(check_call(Limits(*limits)), lines)
 
 
 def decide_chunk(lines: bytes, limits: Numbers) -> ChunkReply:
@@ -129,10 +140,11 @@ def validate_verdicts(given: bytes, verdicts: bytes) -> Counts:
 
 def validate_answers(verdicts: bytes, answers: bytes) -> None:
     """Raises ReplyError for invalid answers, with `line` set for an unconfirmed verdict."""
-    lines = _split(answers, verdicts.count(b"\n"), "answers")
-    place = next((place for place, line in enumerate(lines) if line not in (b"ok", b"open")), None)
-    if place is None:
+    confirmed, free = answers.count(b"ok\n"), answers.count(b"open\n")
+    if confirmed + free == verdicts.count(b"\n") and 3 * confirmed + 5 * free == len(answers):
         return
+    lines = _split(answers, verdicts.count(b"\n"), "answers")
+    place = next(place for place, line in enumerate(lines) if line not in (b"ok", b"open"))
     if lines[place] not in (b"bad", b"over", b"unread"):
         raise ReplyError("%s is no answer of the checker" % quote_line(lines[place]))
     raise ReplyError(lines[place].decode(), place)
@@ -198,7 +210,7 @@ class Job:
 
     task: Task
     lines: bytes
-    limits: Numbers
+    options: Any
     first: int = 0
     future: Future[Any] = dataclasses.field(default_factory=Future)
     turn: int = 0
@@ -208,11 +220,11 @@ def bisect_job(job: Job) -> list[Job]:
     """Jobs for the halves of a job; the last of both ends it. A single line is a FatalLineError."""
     lines = [line + b"\n" for line in job.lines.split(b"\n")[:-1]]
     if len(lines) < 2:
-        job.future.set_exception(FatalLineError(job.first))
+        job.future.set_exception(FatalLineError(job.first, quote_line(job.lines.rstrip(b"\n"))))
         return []
     middle = len(lines) // 2
     parts = ((lines[:middle], job.first), (lines[middle:], job.first + middle))
-    halves = [Job(job.task, b"".join(part), job.limits, first) for part, first in parts]
+    halves = [Job(job.task, b"".join(part), job.options, first) for part, first in parts]
     pending = list(halves)
 
     def end_one(half: Job, _: Future[Any]) -> None:

@@ -21,9 +21,9 @@ import warnings
 from concurrent.futures import CancelledError, Future
 from typing import Any, Callable, Mapping
 
-from .chunks import Job, Numbers, Task, bisect_job
+from .backends import Backend
+from .chunks import Job, Task, bisect_job
 from .errors import RunError
-from .remote import ExecutorBackend
 
 # Seconds between two inquiries, and the timeout of one.
 _OFTEN, _PATIENCE = 1.0, 10.0
@@ -57,7 +57,7 @@ class Submission:
     since: float | None = None
 
 
-class DaskBackend(ExecutorBackend):
+class DaskBackend(Backend):
     """The workers of a scheduler. `security` has the files of dask's TLS options, `report` prints a sentence.
     Raises RunError if no scheduler answers."""
 
@@ -107,8 +107,8 @@ class DaskBackend(ExecutorBackend):
     def status(self) -> str:
         return "%d workers" % self._workers
 
-    def submit(self, task: Task, lines: bytes, limits: Numbers) -> Future[Any]:
-        job = Job(task, lines, limits)
+    def submit(self, task: Task, lines: bytes, options: Any) -> Future[Any]:
+        job = Job(task, lines, options)
         self._submit(job)
         return job.future
 
@@ -124,7 +124,7 @@ class DaskBackend(ExecutorBackend):
         try:
             if submission.connection is None:
                 raise RunError("there is no scheduler")
-            inner = self._executor.submit(job.task, job.lines, job.limits, key=submission.key)
+            inner = self._executor.submit(job.task, job.lines, job.options, key=submission.key)
             submission.own = self._dask.Future(submission.key, self._client)
         except Exception:
             # A closed client raises a bare Exception.

@@ -40,8 +40,8 @@ class ReplyError(Exception):
 class FatalLineError(Exception):
     """Every worker that decided a line died. `line` is its index in the chunk."""
 
-    def __init__(self, line: int) -> None:
-        super().__init__("every worker that decided it died")
+    def __init__(self, line: int, text: str) -> None:
+        super().__init__("every worker that decided it died: %s" % text)
         self.line = line
 
 

@@ -1,5 +1,4 @@
-"""A run, its passes, and the parts that all backends share: cutting the list into chunks, storing their output
-and journal entries, and the summary."""
+"""A run and its passes: cutting the list into chunks, deciding and storing them, and the summary."""
 
 from __future__ import annotations
 
@@ -8,35 +7,25 @@ import contextlib
 import dataclasses
 import datetime
 import functools
-import itertools
-import json
-import threading
 import time
-from typing import Any, Callable, Iterator, NamedTuple, NoReturn, Protocol, Sequence
+from typing import Any, Callable, Iterator, NoReturn, Sequence
 
 from .._files import Checksum
 from ..counts import KINDS, UNDECIDED
 from ..limits import Limits, words_of
-from .chunks import Counts, Identity, Retention, validate_answers, validate_verdicts
-from .errors import CheckError, FolderError, ReplyError
+from .backends import Backend
+from .chunks import CHECK, DECIDE, Counts, Identity, Retention, check_chunk, check_here, decide_chunk
+from .chunks import decide_here, describe_task, open_reply, validate_answers, validate_verdicts
+from .dispatch import Assignment, Dispatcher, Request
+from .errors import CheckError, FatalLineError, FolderError, ReplyError
 from .folder import CHECKS, README, RUN, SUMMARY, Folder, RunConfig
 from .input import ListFile, StreamLines
-from .journal import PassFolder, Record, holdouts_of, list_line_number
+from .pass_folder import PassFolder, Record, holdouts_of, list_line_number
 from .progress import Progress
+from .store import OriginError, SealError, hash_of, seal
 
 # A chunk that was cut before is cut so again, whatever its size.
 _ANY_SIZE = 1 << 62
-
-
-class ChunkSize(NamedTuple):
-    """The most lines and bytes of a chunk."""
-
-    lines: int
-    bytes: int
-
-
-# Larger chunks gain nothing in this process; elsewhere each costs a round trip.
-HERE, SENT = ChunkSize(20_000, 560_000), ChunkSize(80_000, 2_000_000)
 
 
 class ChunkPace:
@@ -48,182 +37,36 @@ class ChunkPace:
 
     def __init__(self, most: int) -> None:
         self.now, self._most, self._largest = 1, most, 0
-        self._lines, self._seconds = 0.0, 0.0
+        self._lines, self.seconds = 0.0, 0.0
 
     def update(self, lines: int, seconds: float, width: int) -> None:
         self._lines = self.MEMORY * self._lines + lines
-        self._seconds = self.MEMORY * self._seconds + seconds
+        self.seconds = self.MEMORY * self.seconds + seconds
         self._largest = max(self._largest, lines)
         target = max(self.SECONDS, width / 2 / self.RATE)
-        fitting = self._lines * target / max(self._seconds, 1e-9)
+        fitting = self._lines * target / max(self.seconds, 1e-9)
         self.now = max(int(min(fitting, self._most, self.GROWTH * self._largest)), 1)
 
 
-@dataclasses.dataclass
-class Chunk:
-    """Lines of a pass: its number and the lines before it, both from 0 on; then the journal's `record`, the
-    output `written`, and the part of it, `kept`, that is still to be stored. `is_resumed` marks a chunk of an
-    earlier run, `is_timed` one that the pace knows; `submitted` is a time of the monotonic clock."""
+@dataclasses.dataclass(frozen=True)
+class RunOptions:
+    """How the passes of a run are decided. `list_name` is for messages; `require_list` raises if the list has
+    changed, and is called before chunks are stored; `most_lines` bounds a chunk; `is_checked_here` has the
+    checker of this process confirm each verdict."""
 
-    index: int
-    first: int
-    given: bytes
-    lines: int
-    record: Record | None = None
-    written: bytes | None = None
-    kept: bytes | None = None
-    is_resumed: bool = False
-    seconds: float = 0.0
-    submitted: float = 0.0
-    is_timed: bool = False
-    tries: int = 0
-    is_confirmed: bool = False
-    counts: Counts = dataclasses.field(default_factory=dict)
+    backend: Backend
+    identity: Identity
+    progress: Progress
+    list_name: str
+    most_lines: int | None = None
+    is_checked: bool = False
+    is_checked_here: bool = False
+    keep: Retention = Retention()
+    require_list: Callable[[], None] = lambda: None
 
-
-class Chunker:
-    """Cuts the lines of a pass as its journal did, else by the pace. `known` is their number, if known."""
-
-    def __init__(self, folder: PassFolder, list_name: str, most: ChunkSize, known: int | None) -> None:
-        self._folder, self._list_name, self._known = folder, list_name, known
-        self._most_bytes = most.bytes
-        self.pace = ChunkPace(most.lines)
-
-    def chunks(self, lines: StreamLines) -> Iterator[Chunk]:
-        """The chunks. Raises FolderError if they aren't those of the journal, RunError, OSError."""
-        for index in itertools.count():
-            first = lines.lines_taken
-            record = self._folder.journal.read(index)
-            if record is not None and record.first != first:
-                record = None
-            count, size, is_fixed = self._room_of(record, index, first)
-            given = lines.take(count, size)
-            found = lines.lines_taken - first
-            if (record is not None and not record.fits(given)) or (is_fixed and found != count):
-                self._raise_mismatch(first, count, found)
-            known = self._known
-            if known is not None and (first + found > known or (not found and first < known)):
-                self._raise_other_list(f"that one had {known} lines")
-            if not given:
-                return
-            yield Chunk(index, first, given, found, record)
-
-    def _room_of(self, record: Record | None, index: int, first: int) -> tuple[int, int, bool]:
-        """The lines and bytes of the next chunk, and whether there must be so many lines."""
-        if record is not None:
-            return record.lines, _ANY_SIZE, True
-        if (gap := self._folder.journal.find_gap(index, first)) is None:
-            return self.pace.now, self._most_bytes, False
-        chunks, count = gap
-        return -(-count // chunks), _ANY_SIZE, True
-
-    def _raise_other_list(self, why: str) -> NoReturn:
-        text = "%s isn't the list that this folder was started with; give that list, or another folder: %s"
-        raise FolderError(text % (self._list_name, why))
-
-    def _raise_mismatch(self, first: int, count: int, found: int) -> NoReturn:
-        if self._folder.number > 1:
-            text = "was decided from other lines than the holdouts of the pass before"
-            raise FolderError(f"{self._folder.path} {text}; remove it and run again")
-        is_short = found < count
-        lines = f"lines {first + 1} to {first + count} differ"
-        self._raise_other_list(f"it ends after line {first + found}" if is_short else lines)
-
-
-# Chunks wait for earlier ones at most so many seconds, and so many bytes of them.
-_SOON, MOST_BYTES = 1.0, 1 << 24
-
-
-class Writer:
-    """Writes chunks one behind another in the list's order, unless one comes much later than those behind it:
-    at most `most` bytes wait, and at most a second. Then they are written ahead of it."""
-
-    def __init__(self, folder: PassFolder, most: int = MOST_BYTES) -> None:
-        self._folder, self._most = folder, most
-        self._changed = threading.Condition()
-        # Chunks that wait, and the bytes of them to be written.
-        self._waiting: dict[int, Chunk] = {}
-        self._size = 0
-        # The next chunk in order, since when it is missing, and later ones that were written ahead.
-        self._next, self._since = 0, time.monotonic()
-        self._ahead: set[int] = set()
-        # Chunks written and not yet synced; the threads that are writing.
-        self._written: collections.deque[Chunk] = collections.deque()
-        self._writing, self._is_closed = 0, False
-
-    def add(self, chunk: Chunk) -> None:
-        """Takes a finished chunk, and writes all chunks that are due."""
-        with self._changed:
-            if self._is_closed:
-                return
-            self._waiting[chunk.index] = chunk
-            self._size += len(chunk.kept or b"")
-            due = self._pop_ready()
-            if self._size > self._most:
-                due += self._pop_all()
-            self._writing += 1
-        self._write(due)
-
-    def flush_late(self) -> None:
-        """Writes chunks that have waited for long."""
-        with self._changed:
-            if self._is_closed or not self._waiting or time.monotonic() - self._since < _SOON:
-                return
-            due = self._pop_all()
-            self._writing += 1
-        self._write(due)
-
-    def close(self) -> None:
-        """Writes all chunks, and returns once no thread is writing. Later chunks are ignored."""
-        with self._changed:
-            self._is_closed = True
-            due = self._pop_all()
-            self._writing += 1
-        try:
-            self._write(due)
-        finally:
-            with self._changed:
-                self._changed.wait_for(lambda: not self._writing)
-
-    def pop_written(self) -> list[Chunk]:
-        return [self._written.popleft() for _ in range(len(self._written))]
-
-    def _pop_ready(self) -> list[Chunk]:
-        """The chunks whose turn it is, with places."""
-        due: list[Chunk] = []
-        while self._next in self._waiting or self._next in self._ahead:
-            self._ahead.discard(self._next)
-            if self._next in self._waiting:
-                due.append(self._assign_place(self._waiting.pop(self._next)))
-            self._next, self._since = self._next + 1, time.monotonic()
-        return due
-
-    def _pop_all(self) -> list[Chunk]:
-        """All waiting chunks, with places."""
-        due = [self._assign_place(self._waiting[index]) for index in sorted(self._waiting)]
-        self._ahead.update(self._waiting)
-        self._waiting = {}
-        return due
-
-    def _assign_place(self, chunk: Chunk) -> Chunk:
-        """Reserves the place of a chunk's output, if that isn't stored yet."""
-        self._size -= len(chunk.kept or b"")
-        if chunk.kept is not None and chunk.record is not None:
-            self._folder.journal.reserve_room(chunk.index)
-            chunk.record = dataclasses.replace(chunk.record, place=self._folder.reserve(len(chunk.kept)))
-        return chunk
-
-    def _write(self, due: list[Chunk]) -> None:
-        try:
-            for chunk in due:
-                if chunk.kept is not None and chunk.record is not None:
-                    self._folder.write(chunk.record.place, chunk.kept)
-                chunk.given, chunk.written, chunk.kept = b"", None, None
-            self._written.extend(due)
-        finally:
-            with self._changed:
-                self._writing -= 1
-                self._changed.notify_all()
+    @property
+    def check(self) -> str:
+        return CHECKS[2 if self.is_checked_here else 1 if self.is_checked else 0]
 
 
 @dataclasses.dataclass
@@ -250,173 +93,224 @@ class PassResult:
             "limits": dataclasses.asdict(self.limits),
             "lines": self.lines,
             "counts": {kind: self.counts[kind] for kind in KINDS},
-            "pieces": self.chunks,
+            "chunks": self.chunks,
             "verdicts": self.checksum.fields(),
             "checked": self.is_checked,
             "work_seconds": self.milliseconds / 1_000,
         }
 
 
-class Backend(Protocol):
-    """Decides the chunks of a pass."""
-
-    def run_pass(self, task: Pass, lines: StreamLines) -> PassResult:
-        """Raises FolderError if the lines aren't those of the journal, CheckError, RunError, OSError."""
-
-
-@dataclasses.dataclass(frozen=True)
-class RunOptions:
-    """How the passes of a run are decided. `list_name` is for messages; `require_list` raises if the list has
-    changed, and is called before chunks are recorded; `most_lines` bounds a chunk; `is_checked_here` has the
-    checker of this process confirm each verdict."""
-
-    backend: Backend
-    identity: Identity
-    progress: Progress
-    list_name: str
-    most_lines: int | None = None
-    is_checked: bool = False
-    is_checked_here: bool = False
-    keep: Retention = Retention()
-    require_list: Callable[[], None] = lambda: None
-
-    @property
-    def check(self) -> str:
-        return CHECKS[2 if self.is_checked_here else 1 if self.is_checked else 0]
-
-
-@dataclasses.dataclass(frozen=True)
-class Pass:
-    """A pass to be run, after the passes `before`. `known` is the number of its lines, if known."""
-
-    folder: PassFolder
-    limits: Limits
-    options: RunOptions
-    before: Sequence[PassFolder]
-    known: int | None
-
-
-# Bounds of the seconds between two syncs, and the least ratio to the time that one takes.
-_SOONEST, _LATEST, _SHARE = 0.1, 1.0, 10.0
+# The seconds between two syncs.
+_SYNC = 1.0
 
 
 class PassRun:
-    """Runs a pass. A subclass decides its chunks."""
+    """Runs the pass of a folder, after the passes `before`. `known` is the number of its lines, if known."""
 
-    CHUNK_SIZE: ChunkSize = HERE
-
-    def __init__(self, task: Pass) -> None:
-        self._folder, self._limits, self._options = task.folder, task.limits, task.options
-        self._before = task.before
-        most = self.CHUNK_SIZE._replace(lines=task.options.most_lines or self.CHUNK_SIZE.lines)
-        self._chunker = Chunker(task.folder, task.options.list_name, most, task.known)
-        self._writer = Writer(task.folder)
-        self._result = PassResult(task.limits)
+    def __init__(
+        self,
+        folder: PassFolder,
+        limits: Limits,
+        options: RunOptions,
+        before: Sequence[PassFolder],
+        known: int | None,
+    ) -> None:
+        self.folder, self.limits, self.options, self._before = folder, limits, options, before
+        self._known = known
+        size = options.backend.chunk_size
+        self._most = size._replace(lines=options.most_lines or size.lines)
+        self.pace = ChunkPace(self._most.lines)
+        self._result = PassResult(limits)
         self._next = 0.0
 
     def run(self, lines: StreamLines) -> PassResult:
-        """Decides the lines of all chunks that aren't stored. Raises the errors of `Backend.run_pass`."""
-        with contextlib.ExitStack() as stack:
-            for end in (self._sync, self._writer.close, self._stop):
-                stack.callback(end)
-            self._decide(lines)
-        self._folder.chunks = self._result.chunks
-        self._result.checksum = self._folder.checksum()
+        """Decides the lines of all chunks but stored ones. Raises FolderError if stored ones have other lines,
+        CheckError, RunError, OSError."""
+        backend, progress = self.options.backend, self.options.progress
+        try:
+            Dispatcher(backend, progress, self._sync_if_due, self._finish).run(self._chunks(lines))
+        finally:
+            self._sync()
+        self.folder.remove_stale()
+        self._result.checksum = self.folder.checksum()
         return self._result
 
-    def _decide(self, lines: StreamLines) -> None:
-        """Decides and stores each chunk."""
-        raise NotImplementedError
+    def _chunks(self, lines: StreamLines) -> Iterator[ChunkTask]:
+        """The chunks, cut as the stored ones are, else by the pace. Raises FolderError, RunError, OSError."""
+        while True:
+            first = lines.lines_taken
+            if stored := self.folder.lines_known(first):
+                given = lines.take(stored, _ANY_SIZE)
+            else:
+                free = self.folder.lines_free(first)
+                given = lines.take(min(self.pace.now, free or _ANY_SIZE), self._most.bytes)
+            count = lines.lines_taken - first
+            if count < stored or not given:
+                self._require_end(first, lines.lines_taken)
+            known = self._known
+            if known is not None and (first + count > known or (not given and first < known)):
+                self._raise_other_list(f"that one had {known} lines")
+            if not given:
+                return
+            yield ChunkTask(self, first, given, count, stored == count)
 
-    def _stop(self) -> None:
-        """Starts no more work."""
+    def _require_end(self, first: int, end: int) -> None:
+        """Raises FolderError for a valid chunk at these lines or behind them: the list had more."""
+        if (record := self.folder.find_chunk(first)) is not None:
+            self.raise_mismatch(record.first, record.lines, max(end - record.first, 0))
 
-    def _is_stored(self, chunk: Chunk) -> bool:
-        """Whether a chunk's output is stored and valid. Raises FolderError if it can't be checked now."""
-        record = chunk.record
-        if record is None:
-            return False
-        kept = self._folder.read(record)
-        try:
-            if kept is None:
-                raise ReplyError("it was cut or changed")
-            if not self._options.keep.only_holdouts:
-                validate_verdicts(chunk.given, kept)
-        except ReplyError as error:
-            where = "chunk %d of pass %d" % (chunk.index + 1, self._folder.number)
-            self._options.progress.print_line("%s is decided again: %s" % (where, error))
-            chunk.record = None
-            return False
-        chunk.counts = record.counts_by_kind()
-        chunk.is_confirmed, chunk.is_resumed, chunk.is_timed = record.is_checked, True, True
-        chunk.seconds = record.milliseconds / 1_000
-        if self._needs_check(chunk):
-            chunk.written = kept
+    def _raise_other_list(self, why: str) -> NoReturn:
+        text = "%s isn't the list that this folder was started with; give that list, or another folder: %s"
+        raise FolderError(text % (self.options.list_name, why))
+
+    def raise_mismatch(self, first: int, count: int, found: int) -> NoReturn:
+        """Raises FolderError for a stored chunk of `count` lines; the list has `found` of them."""
+        if self.folder.number > 1:
+            text = "was decided from other lines than the holdouts of the pass before"
+            raise FolderError(f"{self.folder.path} {text}; remove it and run again")
+        is_short = found < count
+        lines = f"lines {first + 1} to {first + count} differ"
+        self._raise_other_list(f"it ends after line {first + found}" if is_short else lines)
+
+    def describe_lines(self, first: int, last: int | None = None) -> str:
+        """The numbers in the list of some lines of the pass, in words; both ends are included."""
+        ends, suffix = [first, first if last is None else last], ""
+        if self._before and self.options.keep.only_holdouts:
+            ends, suffix = [end + 1 for end in ends], " of the holdouts of pass %d" % len(self._before)
+        else:
+            ends = [list_line_number(self._before, end) for end in ends]
+        return ("line %d" % ends[0] if ends[0] == ends[1] else "lines %d to %d" % (ends[0], ends[1])) + suffix
+
+    def _finish(self, chunk: ChunkTask) -> None:
+        """Notes that a chunk is stored."""
+        assert chunk.record is not None
+        self.folder.add(chunk.record)
+        self._result.add(chunk.record)
+        progress = self.options.progress
+        if chunk.is_resumed:
+            progress.add_resumed(chunk.lines)
+        else:
+            progress.add_decided(chunk.lines)
+            self.pace.update(chunk.lines, chunk.seconds, self.options.backend.width())
+
+    def _sync_if_due(self) -> None:
+        if time.monotonic() >= self._next:
+            self._sync()
+            self._next = time.monotonic() + _SYNC
+
+    def _sync(self) -> None:
+        """Has the stored chunks on the disk. Raises MovedError if the folder was moved, OSError."""
+        self.folder.store.sync()
+        self.folder.require_name()
+
+
+class ChunkTask(Assignment):
+    """Lines of a pass, behind `first` others; then the verdicts `written`, and the `record` of the stored chunk."""
+
+    plural = "chunks"
+
+    def __init__(self, run: PassRun, first: int, given: bytes, lines: int, is_stored: bool) -> None:
+        self.first, self.given, self.lines = first, given, lines
+        self._run, self._is_stored = run, is_stored
+        self.record: Record | None = None
+        self.written: bytes | None = None
+        self.is_resumed, self._is_confirmed, self.seconds = False, False, 0.0
+        self._counts: Counts = {}
+
+    def request(self) -> Request | None:
+        limits, is_here = self._run.limits.numbers(), self._run.options.backend.is_here
+        if self._is_stored or (self.written is not None and self._checks_here()):
+            return None
+        if self.written is None:
+            return Request(decide_here if is_here else decide_chunk, self.given, limits)
+        return Request(check_here if is_here else check_chunk, self.written, limits)
+
+    def accept(self, reply: object) -> bool:
+        """Validates the stored output, a reply or a check; stores a finished chunk."""
+        options = self._run.options
+        if self._is_stored:
+            self._is_stored, self.is_resumed = False, self._load()
+            if not self.is_resumed:
+                return False
+        elif self.written is None:
+            self._open_verdicts(reply)
+        elif not self._checks_here():
+            self._validate_answers(self.written, self._open(CHECK, self.written, reply)[0])
+        if options.is_checked and not self._is_confirmed:
+            if self.written is None or not self._checks_here():
+                return False
+            self._validate_answers(self.written, check_here(self.written, self._run.limits.numbers())[0])
+        self._store()
         return True
 
-    def _needs_check(self, chunk: Chunk) -> bool:
-        return self._options.is_checked and not chunk.is_confirmed
+    def _checks_here(self) -> bool:
+        options = self._run.options
+        return options.is_checked_here and not options.backend.is_here
 
-    def _store(self, chunk: Chunk) -> None:
-        """Stores the output of a chunk, or that it is confirmed now."""
-        if chunk.record is None and chunk.written is not None:
-            chunk.kept = self._options.keep.select(chunk.written)
-            data, seconds, counts = (chunk.given, chunk.kept), chunk.seconds, chunk.counts
-            chunk.record = Record.of(chunk.first, chunk.lines, *data, seconds, counts)
-        if chunk.record is not None:
-            chunk.record = dataclasses.replace(chunk.record, is_checked=chunk.is_confirmed)
-        self._writer.add(chunk)
+    def _load(self) -> bool:
+        """Whether the chunk is stored and valid. Raises FolderError if the stored one has other lines."""
+        options, folder = self._run.options, self._run.folder
+        try:
+            if (found := folder.read(self.first)) is None:
+                return False
+            record, kept = found
+            if not record.fits(self.given):
+                self._run.raise_mismatch(self.first, self.lines, self.lines)
+            if not options.keep.only_holdouts:
+                validate_verdicts(self.given, kept)
+        except OriginError:
+            return False
+        except (SealError, ReplyError) as error:
+            where = "chunk %s of pass %d" % (folder.name_of(self.first), folder.number)
+            options.progress.print_line("%s is decided again: %s" % (where, error))
+            return False
+        self.record, self._is_confirmed = record, record.is_checked
+        if options.is_checked and not self._is_confirmed:
+            self.written, self._counts = kept, record.counts_by_kind()
+            self.seconds = record.milliseconds / 1_000
+        return True
 
-    def _validate_check(self, chunk: Chunk, verdicts: bytes, answers: bytes) -> None:
-        """Validates the answers to a chunk's verdicts. Raises ReplyError, CheckError."""
+    def _open_verdicts(self, reply: object) -> None:
+        """Validates the reply of a decision. Raises ReplyError."""
+        written, seconds = self._open(DECIDE, self.given, reply)
+        self._counts, self.written = validate_verdicts(self.given, written), written
+        self.seconds = min(seconds, time.monotonic() - self.submitted)
+
+    def _open(self, what: str, lines: bytes, reply: object) -> tuple[bytes, float]:
+        """The output and seconds of a reply. Raises ReplyError."""
+        options = self._run.options
+        if options.backend.is_here and isinstance(reply, tuple):
+            return reply[0], reply[1]
+        return open_reply(reply, options.identity, describe_task(what, self._run.limits.numbers()), lines)
+
+    def _validate_answers(self, verdicts: bytes, answers: bytes) -> None:
+        """Validates the checker's answers. Raises ReplyError, CheckError."""
         try:
             validate_answers(verdicts, answers)
         except ReplyError as error:
             if error.line is None:
                 raise
             line = verdicts.split(b"\n")[error.line].decode()
-            where = self._describe_lines(chunk.first + error.line)
+            where = self._run.describe_lines(self.first + error.line)
             raise CheckError("%s: the checker answers %s: %s" % (where, error, line)) from None
-        chunk.is_confirmed = True
+        self._is_confirmed = True
 
-    def _describe_lines(self, first: int, last: int | None = None) -> str:
-        """The numbers in the list of some lines of the pass, in words; both ends are included."""
-        ends, suffix = [first, first if last is None else last], ""
-        if self._before and self._options.keep.only_holdouts:
-            ends, suffix = [end + 1 for end in ends], " of the holdouts of pass %d" % len(self._before)
-        else:
-            ends = [list_line_number(self._before, end) for end in ends]
-        return ("line %d" % ends[0] if ends[0] == ends[1] else "lines %d to %d" % (ends[0], ends[1])) + suffix
+    def _store(self) -> None:
+        """Stores the output of a chunk, unless that is stored. Raises RunError if the list has changed."""
+        if self.written is not None:
+            kept = self._run.options.keep.select(self.written)
+            counts, took = tuple(self._counts[kind] for kind in KINDS), min(self.seconds, 1e9)
+            given, milliseconds = hash_of(self.given), int(took * 1_000)
+            record = Record(self.first, self.lines, given, milliseconds, self._is_confirmed, counts)
+            self._run.options.require_list()
+            self.record = self._run.folder.write(record, kept)
+        self.given, self.written = b"", None
 
-    def _sync_if_due(self) -> None:
-        self._writer.flush_late()
-        now = time.monotonic()
-        if now >= self._next:
-            self._sync()
-            took = time.monotonic() - now
-            self._next = now + min(max(_SOONEST, _SHARE * took), _LATEST)
-
-    def _sync(self) -> None:
-        """Syncs the written chunks, then their journal entries. Raises RunError if the list has changed."""
-        chunks = self._writer.pop_written()
-        changed = [chunk for chunk in chunks if not chunk.is_resumed or self._is_newly_checked(chunk)]
-        if changed:
-            self._options.require_list()
-            self._folder.sync()
-            for chunk in changed:
-                if chunk.record is not None:
-                    self._folder.journal.write(chunk.index, chunk.record)
-            self._folder.journal.sync()
-            self._folder.require_name()
-        progress = self._options.progress
-        for chunk in chunks:
-            if chunk.record is not None:
-                self._result.add(chunk.record)
-            (progress.add_resumed if chunk.is_resumed else progress.add_decided)(chunk.lines)
-
-    def _is_newly_checked(self, chunk: Chunk) -> bool:
-        record = self._folder.journal.read(chunk.index)
-        return chunk.is_confirmed and (record is None or not record.is_checked)
+    def describe(self, error: BaseException) -> str:
+        first, last = self.first, self.first + self.lines - 1
+        if isinstance(error, (ReplyError, FatalLineError)) and error.line is not None:
+            first = last = self.first + error.line
+        return "pass %d, %s" % (self._run.folder.number, self._run.describe_lines(first, last))
 
 
 @dataclasses.dataclass(frozen=True)
@@ -442,13 +336,15 @@ class Outcome:
 
 
 def run(folder: Folder, source: ListFile, passes: Sequence[Limits], options: RunOptions) -> Outcome:
-    """Decides a list, and writes verdicts and summary into a folder. Raises the errors of `Backend.run_pass`."""
+    """Decides a list, and writes verdicts and summary into a folder. Raises the errors of `PassRun.run`."""
     try:
         return _run_passes(folder, source, passes, options)
     except OSError:
         # Nothing can be made in a folder that was removed.
         folder.require_name()
         raise
+    finally:
+        options.backend.close()
 
 
 def _run_passes(folder: Folder, source: ListFile, passes: Sequence[Limits], options: RunOptions) -> Outcome:
@@ -460,27 +356,22 @@ def _run_passes(folder: Folder, source: ListFile, passes: Sequence[Limits], opti
     with contextlib.ExitStack() as stack:
         for number, limits in enumerate(passes, 1):
             folder.require_name()
-            found = folder.open_pass(passes[:number], options.keep, options.identity)
+            found = folder.open_pass(config, number)
             stack.callback(found.close)
             lines = StreamLines(holdouts_of(folders[-1])) if results else source.lines()
             known = sum(results[-1].counts[kind] for kind in UNDECIDED) if results else config.list_lines
             total = functools.partial(_estimate_total, source, lines, known)
             options.progress.start(number, len(passes), total)
-            task = Pass(found, limits, options, tuple(folders), known)
-            results.append(options.backend.run_pass(task, lines))
+            results.append(PassRun(found, limits, options, tuple(folders), known).run(lines))
             folders.append(found)
             if config.list_lines is None:
                 config.list_lines = results[0].lines
                 folder.write(RUN, config.text())
         folder.require_name()
-        checksum = results[0].checksum
-        if len(folders) == 1:
-            folder.write_verdicts(folders[0])
-        else:
-            checksum = folder.merge_verdicts(folders)
+        checksum = folder.write_verdicts(folders)
     outcome = Outcome.of(results)
-    fields = summary_of(source.name, results, outcome, options, started, checksum)
-    folder.write(SUMMARY, json.dumps(fields, indent=2) + "\n")
+    fields = summary_of(config, results, outcome, options, started, checksum)
+    folder.write(SUMMARY, seal(fields))
     folder.require_name()
     options.progress.clear()
     return outcome
@@ -541,7 +432,7 @@ def _require_same(folder: Folder, config: RunConfig, passes: Sequence[Limits], o
 
 
 def summary_of(
-    list_name: str,
+    config: RunConfig,
     results: Sequence[PassResult],
     outcome: Outcome,
     options: RunOptions,
@@ -553,7 +444,8 @@ def summary_of(
     utc = datetime.timezone.utc
     times = [datetime.datetime.fromtimestamp(started[0] + after, utc) for after in (0, seconds)]
     return {
-        "list": list_name,
+        "run": config.hash(),
+        "list": config.list_name,
         "lines": outcome.lines,
         "counts": {kind: outcome.counts[kind] for kind in KINDS},
         "kept": str(options.keep),

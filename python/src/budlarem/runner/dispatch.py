@@ -1,0 +1,180 @@
+"""Has the tasks of a run done by a backend: submits them, and validates and stores the replies in threads."""
+
+from __future__ import annotations
+
+import queue
+import time
+from concurrent.futures import CancelledError, Future, ThreadPoolExecutor
+from typing import Any, Callable, Iterator, NamedTuple, Protocol
+
+from .backends import Backend
+from .chunks import Task
+from .errors import CheckError, FatalLineError, ReplyError, RunError, describe_error
+
+# The threads for validating and storing replies, and the most tasks of theirs.
+_VALIDATORS, _MOST_VALIDATING = 4, 6
+
+
+class Reporter(Protocol):
+    """Reports on standard error."""
+
+    def tick(self, status: str = "") -> None:
+        """Shows the progress, if that is due."""
+
+    def print_line(self, text: str) -> None:
+        """Prints a message."""
+
+
+class Request(NamedTuple):
+    """The work for a worker: a function of lines and options."""
+
+    task: Task
+    lines: bytes
+    options: Any
+
+
+class Assignment:
+    """A task of a run, from its request to the stored result."""
+
+    # The word for several of them.
+    plural = "tasks"
+    # The number of failures, and when it was submitted last, by the monotonic clock.
+    failures, submitted = 0, 0.0
+
+    def request(self) -> Request | None:
+        """The next work for a worker; None if `accept` needs no reply."""
+        raise NotImplementedError
+
+    def accept(self, reply: object) -> bool:
+        """Validates a reply, and stores the result. Returns True once it is stored, else `request` has more. Called
+        in a thread. Raises ReplyError, CheckError, FolderError, RunError, OSError."""
+        raise NotImplementedError
+
+    def describe(self, error: BaseException) -> str:
+        """Names the task of an error, or its line."""
+        raise NotImplementedError
+
+
+class Dispatcher:
+    """Tasks by a backend. `sync` is called often; `finish` with each finished task."""
+
+    def __init__(
+        self, backend: Backend, progress: Reporter, sync: Callable[[], None], finish: Callable[[Any], None]
+    ) -> None:
+        self._backend, self._progress, self._sync, self._finish = backend, progress, sync, finish
+        self._pending: dict[Future[Any], Assignment] = {}
+        self._validating: dict[Future[bool], Assignment] = {}
+        self._done: queue.SimpleQueue[Future[Any]] = queue.SimpleQueue()
+        self._validators = ThreadPoolExecutor(_VALIDATORS, "budlarem validate")
+        # The list may be slow: a thread of its own reads the next task.
+        self._reader = ThreadPoolExecutor(1, "budlarem read")
+        self._read: Future[Assignment | None] | None = None
+        self._skipped: list[str] = []
+
+    def run(self, tasks: Iterator[Assignment]) -> None:
+        """Does all tasks. Raises their errors, and RunError for failures."""
+        try:
+            plural = self._run(tasks)
+        finally:
+            self._validators.shutdown()
+            self._reader.shutdown(wait=False)
+        if self._skipped:
+            reasons = "; ".join(self._skipped[:3])
+            raise RunError("all but %d %s are stored; %s" % (len(self._skipped), plural, reasons))
+
+    def _run(self, tasks: Iterator[Assignment]) -> str:
+        """Does all tasks; returns the word for several."""
+        is_ended, plural = False, ""
+        while self._pending or self._validating or not is_ended:
+            has_room = len(self._pending) < self._backend.width() and len(self._validating) < _MOST_VALIDATING
+            if self._read is None and not is_ended and has_room:
+                self._read = self._reader.submit(lambda: next(tasks, None))
+                self._read.add_done_callback(self._done.put)
+            self._receive(0.1)
+            if self._read is not None and self._read.done():
+                task, self._read = self._read.result(), None
+                is_ended = task is None
+                if task is not None:
+                    plural = task.plural
+                    self._submit(task)
+        return plural
+
+    def _submit(self, task: Assignment) -> None:
+        """Submits what a task needs next."""
+        if (request := task.request()) is None:
+            self._validate(task, None)
+            return
+        task.submitted = time.monotonic()
+        try:
+            future = self._backend.submit(*request)
+        except RunError:
+            raise
+        except Exception as error:
+            raise RunError("nothing can be submitted: %s" % describe_error(error)) from error
+        if future in self._pending:
+            raise RunError("the executor returned one future for two chunks")
+        self._pending[future] = task
+        future.add_done_callback(self._done.put)
+
+    def _receive(self, seconds: float) -> None:
+        """Handles finished futures, waiting at most `seconds` for the first."""
+        for future in self._drain(seconds):
+            if future in self._pending:
+                self._handle_reply(self._pending.pop(future), future)
+            elif future in self._validating:
+                self._handle_validation(self._validating.pop(future), future)
+        self._sync()
+        self._backend.maintain()
+        self._progress.tick(self._backend.status())
+
+    def _drain(self, seconds: float) -> Iterator[Future[Any]]:
+        """The finished futures; at most as many as are in flight."""
+        for _ in range(len(self._pending) + len(self._validating) + 1):
+            try:
+                yield self._done.get(timeout=seconds) if seconds else self._done.get_nowait()
+            except queue.Empty:
+                return
+            seconds = 0.0
+
+    def _handle_reply(self, task: Assignment, future: Future[Any]) -> None:
+        try:
+            error = future.exception()
+        except CancelledError:
+            error = ReplyError("it was cancelled")
+        if isinstance(error, FatalLineError):
+            # The run fails once all other tasks are stored.
+            self._skipped.append("%s: %s" % (task.describe(error), error))
+            self._progress.print_line(self._skipped[-1])
+        elif error is not None:
+            self._retry(task, error)
+        else:
+            self._validate(task, future.result())
+
+    def _validate(self, task: Assignment, reply: object) -> None:
+        """Has a thread validate a reply; None without one."""
+        future = self._validators.submit(task.accept, reply)
+        self._validating[future] = task
+        future.add_done_callback(self._done.put)
+
+    def _handle_validation(self, task: Assignment, future: Future[bool]) -> None:
+        """Submits a task again if it isn't done. Raises the error of the validation."""
+        error = future.exception()
+        if isinstance(error, ReplyError):
+            self._retry(task, error)
+        elif error is not None:
+            raise error
+        elif future.result():
+            self._finish(task)
+        else:
+            self._submit(task)
+
+    def _retry(self, task: Assignment, error: BaseException) -> None:
+        """Submits a task again. Raises the error, or RunError after some failures."""
+        task.failures += 1
+        if isinstance(error, CheckError) or (self._backend.tries == 1 and not isinstance(error, ReplyError)):
+            raise error
+        text = "%s: %s" % (task.describe(error), describe_error(error))
+        if task.failures >= self._backend.tries:
+            raise RunError("%s; tried %d times" % (text, task.failures)) from error
+        self._progress.print_line("%s; trying again" % text)
+        self._submit(task)

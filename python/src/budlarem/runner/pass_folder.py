@@ -1,0 +1,235 @@
+"""The chunks of a pass, each a result in the pass's folder, named by its first and last line."""
+
+from __future__ import annotations
+
+import bisect
+import collections
+import contextlib
+import dataclasses
+import os
+import re
+from concurrent.futures import Future, ThreadPoolExecutor
+from typing import Any, Callable, Iterable, Iterator, Mapping, Sequence, TypeVar
+
+from .._files import Checksum, Directory, name_errors, write_at
+from ..counts import KINDS, undecided_spans
+from .chunks import Counts
+from .errors import RunError
+from .input import StreamLines
+from .store import SealError, Store, hash_of
+
+PASS_PREFIX = "pass-"
+CHUNK = re.compile("([1-9][0-9]{0,14})-([1-9][0-9]{0,14})")
+# Threads for reading and verifying chunks ahead.
+_READERS = 4
+Item = TypeVar("Item")
+Found = TypeVar("Found")
+
+
+def pass_name(number: int) -> str:
+    return "%s%d" % (PASS_PREFIX, number)
+
+
+def chunk_name(first: int, lines: int) -> str:
+    """The name of the chunk of so many lines behind `first` others."""
+    return "%d-%d" % (first + 1, first + lines)
+
+
+@dataclasses.dataclass(frozen=True)
+class Record:
+    """The fields of a chunk's result: `lines` behind `first` others of the pass, the hash of these lines, the
+    milliseconds of deciding them, whether the checker confirmed them, and the count of each kind.
+    `content` is the checksum of the kept verdict lines."""
+
+    first: int
+    lines: int
+    given: str
+    milliseconds: int
+    is_checked: bool
+    counts: tuple[int, ...]
+    content: Checksum = Checksum()
+
+    @classmethod
+    def of_fields(cls, name: str, fields: Mapping[str, Any]) -> Record:
+        """The record of a sealed result with this name."""
+        found = CHUNK.fullmatch(name)
+        assert found is not None
+        first, last = int(found[1]) - 1, int(found[2])
+        counts = tuple(int(fields["counts"][kind]) for kind in KINDS)
+        took, content = int(fields["milliseconds"]), Checksum.of_fields(fields["content"])
+        return cls(first, last - first, str(fields["given"]), took, bool(fields["checked"]), counts, content)
+
+    @property
+    def name(self) -> str:
+        return chunk_name(self.first, self.lines)
+
+    def fields(self) -> dict[str, Any]:
+        """The fields; the store adds those of the content."""
+        counts, took = self.counts_by_kind(), self.milliseconds
+        return {"given": self.given, "counts": counts, "milliseconds": took, "checked": self.is_checked}
+
+    def fits(self, given: bytes) -> bool:
+        return self.given == hash_of(given)
+
+    def counts_by_kind(self) -> Counts:
+        return dict(zip(KINDS, self.counts))
+
+
+def _map_ahead(function: Callable[[Item], Found], items: Iterable[Item]) -> Iterator[Found]:
+    """The values of a function in order, some made ahead in threads."""
+    ahead: collections.deque[Future[Found]] = collections.deque()
+    with ThreadPoolExecutor(_READERS, "budlarem read") as readers:
+        for item in items:
+            ahead.append(readers.submit(function, item))
+            if len(ahead) > _READERS:
+                yield ahead.popleft().result()
+        while ahead:
+            yield ahead.popleft().result()
+
+
+class PassFolder:
+    """The folder of a pass in the folder of a run. `origin` is that of its chunks."""
+
+    def __init__(self, top: Directory, number: int, origin: Mapping[str, Any]) -> None:
+        self.number = number
+        self._top, self._inside = top, top.subdirectory(pass_name(number))
+        self.path, self.store = self._inside.path, Store(self._inside, origin)
+        # The last line of each stored chunk, by the number of lines before it; these in order.
+        self._lasts: dict[int, int] = {}
+        for found in filter(None, map(CHUNK.fullmatch, self._inside.names())):
+            first, last = int(found[1]) - 1, int(found[2])
+            if first < last:
+                self._lasts[first] = max(last, self._lasts.get(first, 0))
+        self._firsts = sorted(self._lasts)
+        # The lines and checksum of each whole chunk, by the lines before it.
+        self._whole: dict[int, tuple[int, Checksum]] = {}
+
+    def close(self) -> None:
+        self.store.close()
+
+    def require_name(self) -> None:
+        """Raises MovedError if the run's folder or this one was moved, removed or replaced."""
+        self._top.require_name()
+        self._inside.require_name()
+
+    def lines_known(self, first: int) -> int:
+        """The lines of the stored chunk behind so many lines, also of an invalid one; 0 without one."""
+        return self._lasts.get(first, first) - first
+
+    def lines_free(self, first: int) -> int | None:
+        """The lines from there to the next stored chunk; None without one."""
+        place = bisect.bisect_right(self._firsts, first)
+        return self._firsts[place] - first if place < len(self._firsts) else None
+
+    def find_chunk(self, first: int) -> Record | None:
+        """A valid chunk from there on; None without one."""
+        for known in self._firsts[bisect.bisect_left(self._firsts, first) :]:
+            with contextlib.suppress(SealError):
+                if (record := self.read_record(known)) is not None:
+                    return record
+        return None
+
+    def name_of(self, first: int) -> str:
+        """The name of the stored chunk behind so many lines."""
+        return chunk_name(first, self.lines_known(first))
+
+    def remove_stale(self) -> None:
+        """Removes chunks of another list or run, once those of the pass are stored. Raises OSError."""
+        names = {chunk_name(first, lines) for first, (lines, _) in self._whole.items()}
+        for name in self._inside.names():
+            if CHUNK.fullmatch(name) and name not in names:
+                self._inside.remove(name)
+
+    def read_record(self, first: int) -> Record | None:
+        """The record of a stored chunk; None without one. Raises SealError."""
+        name = self.name_of(first)
+        fields = self.store.read_fields(name)
+        return None if fields is None else Record.of_fields(name, fields)
+
+    def read(self, first: int) -> tuple[Record, bytes] | None:
+        """A stored chunk and its output; None without one. Raises SealError."""
+        name = self.name_of(first)
+        result = self.store.read(name)
+        return None if result is None else (Record.of_fields(name, result.fields), result.content)
+
+    def write(self, record: Record, kept: bytes) -> Record:
+        """Stores a chunk, in place of one with the same lines; returns its record. Raises RunError, OSError."""
+        is_known = record.lines == self.lines_known(record.first)
+        content = self.store.write(record.name, record.fields(), kept, is_known)
+        return dataclasses.replace(record, content=content)
+
+    def add(self, record: Record) -> None:
+        """Notes that a chunk is whole."""
+        self._whole[record.first] = record.lines, record.content
+
+    def checksum(self) -> Checksum:
+        """The checksum of all output in the list's order."""
+        total = Checksum()
+        for first in sorted(self._whole):
+            total = total.add(self._whole[first][1])
+        return total
+
+    def read_chunks(self) -> Iterator[tuple[int, bytes]]:
+        """The output of each chunk, with the number of lines before it. Raises RunError for a changed one."""
+        firsts = sorted(self._whole)
+        return zip(firsts, _map_ahead(self._read_whole, firsts))
+
+    def _read_whole(self, first: int) -> bytes:
+        lines, checksum = self._whole[first]
+        name = chunk_name(first, lines)
+        try:
+            if (result := self.store.read(name)) is not None:
+                if Checksum.of_fields(result.fields["content"]) == checksum:
+                    return result.content
+        except SealError:
+            pass
+        why = "was cut or changed since it was stored; run again to decide it again"
+        raise RunError(f"{os.path.join(self.path, name)} {why}")
+
+    def copy_all(self, target: int, path: str) -> None:
+        """Writes all output in the list's order to an open file. Raises RunError, OSError."""
+        places, place = {}, 0
+        for first in sorted(self._whole):
+            places[first], place = place, place + self._whole[first][1].size
+
+        def copy(first: int) -> None:
+            with name_errors(path):
+                write_at(target, self._read_whole(first), places[first])
+
+        collections.deque(_map_ahead(copy, places), maxlen=0)
+
+
+def holdouts_of(folder: PassFolder) -> Iterator[bytes]:
+    """The undecided machines of a pass in order, in blocks of lines. Raises RunError, OSError."""
+    for _, verdicts in folder.read_chunks():
+        spans = undecided_spans(verdicts)
+        if holdouts := b"".join(verdicts[start:place] + b"\n" for start, place, _ in spans):
+            yield holdouts
+
+
+def merge_passes(passes: Sequence[PassFolder]) -> Iterator[bytes]:
+    """The verdict lines of all passes: the line of the next pass on the same machine replaces each undecided
+    line, which is dropped if that one isn't kept. A machine has one verdict wherever it stands in a list. Raises
+    RunError, OSError."""
+    lines = StreamLines(merge_passes(passes[1:]) if len(passes) > 1 else iter(()))
+    for _, verdicts in passes[0].read_chunks():
+        parts, done = [b""], 0
+        for start, place, end in undecided_spans(verdicts) if len(passes) > 1 else ():
+            parts.append(verdicts[done:start])
+            if lines.peek().startswith(verdicts[start : place + 1]):
+                parts.append(lines.take(1, 1))
+            done = end
+        yield b"".join(parts) + verdicts[done:]
+
+
+def list_line_number(before: Sequence[PassFolder], line: int) -> int:
+    """The number in the list, from 1 on, of the line with index `line` in the pass after `before`."""
+    for folder in reversed(before):
+        # The line is the undecided one with this index in the pass before.
+        for first, verdicts in folder.read_chunks():
+            starts = [start for start, _, _ in undecided_spans(verdicts)]
+            if line < len(starts):
+                line = first + verdicts.count(b"\n", 0, starts[line])
+                break
+            line -= len(starts)
+    return line + 1
