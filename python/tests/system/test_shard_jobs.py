@@ -266,7 +266,7 @@ def test_processes_that_share_a_folder(whole: Whole, out: pathlib.Path) -> None:
         done = [(process.communicate(timeout=120), process.returncode) for process in processes]
     assert [status for _, status in done] == [0] * 4, done
     for (printed, _), _ in done[:2]:
-        assert printed.decode().split(": ")[1] == whole(3)
+        assert counts_in(printed.decode()) == whole(3)
     assert done[2][0][0] == done[3][0][0] and done[2][0][0].startswith(machine.encode() + b" below ")
     assert not [path for path in out.rglob("*") if path.suffix in (".part", ".lock")]
 
