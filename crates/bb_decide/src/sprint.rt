@@ -13,7 +13,7 @@ pub(crate) struct Sprint {
 
 impl Sprint {
     /// Makes all steps before a barrier. It works on copies, so the loop has its numbers in registers. `SELECTS`
-    /// is that of `BlockRun::advance`.
+    /// as in `BlockRun::advance`.
     #[inline(always)]
     pub(crate) fn go_on<const SELECTS: bool>(&self, table: &NarrowTable, barrier: &Barrier) -> Sprint
         ensures { SprintsTo table.now barrier.now self.now result }

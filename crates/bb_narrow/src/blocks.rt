@@ -48,8 +48,8 @@ pub struct Barrier {
 }
 
 impl BlockRun {
-    /// Makes the next step, if it goes to a state and keeps before the barrier. False if not. `SELECTS` is for
-    /// short runs: the entry is chosen without a branch.
+    /// Makes the next step, if it goes to a state and keeps before the barrier. False if not. With `SELECTS` it
+    /// chooses the entry without a branch: faster in short runs, slower in long ones.
     #[inline(always)]
     pub fn advance<const SELECTS: bool>(&mut self, table: &NarrowTable, barrier: &Barrier) -> bool
         ensures { MatchBool result (StepsBefore table.now barrier.now self.old self.new)

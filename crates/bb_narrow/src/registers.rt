@@ -45,7 +45,7 @@ impl Registers {
         self.bits & self.head != 0
     }
 
-    /// The registers after the next step, also where its entry goes to no state. `SELECTS` is that of
+    /// The registers after the next step, also where its entry goes to no state. `SELECTS` as in
     /// `NarrowTable::entry`.
     #[inline(always)]
     pub(crate) fn next<const SELECTS: bool>(&self, table: &NarrowTable) -> Registers

@@ -89,8 +89,7 @@ impl NarrowTable {
     }
 
     /// The entry for a state and a symbol, in the low nine bits. The low six bits of `state` are nine times
-    /// the state. `SELECTS` chooses without a branch on the symbol. That is faster in short runs, where a branch
-    /// is often mispredicted, and slower in long ones.
+    /// the state. `SELECTS` chooses without a branch on the symbol: faster in short runs, slower in long ones.
     #[inline(always)]
     pub(crate) fn entry<const SELECTS: bool>(&self, state: u64, is_one: bool) -> u64
         ensures zero { is_one ≡ false → result ≡ self.now.zero / 2 ^ (state % 64) }
