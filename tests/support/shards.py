@@ -5,6 +5,11 @@ import hashlib
 from .program import as_lines
 
 
+def counts_in(line: str) -> str:
+    """Return the counts in a line of `cover`, without the greatest halt: a skeleton's is that of its own lines."""
+    return line.split(": ")[1].partition(";")[0]
+
+
 def shard_line(machine: str, lines: list[str]) -> str:
     """Return the line that stands for a shard in a skeleton."""
     undecided = [line for line in lines if " undecided " in line]

@@ -26,6 +26,7 @@ from support.clusters import cluster
 from support.program import as_lines, replies, run_command, write_script
 from support.recurrences import reply_to_pair
 from support.runner import Answering, reseal
+from support.shards import counts_in
 
 Whole = Callable[[int], str]
 PLAN = ["--states", "3", "--entries", "2"]
@@ -35,11 +36,6 @@ pytestmark = pytest.mark.usefixtures("programs")
 @pytest.fixture
 def out(tmp_path: pathlib.Path) -> pathlib.Path:
     return tmp_path / "out"
-
-
-def counts_in(line: str) -> str:
-    """The counts in a line of `cover`, without the greatest halt: a skeleton's is that of its own lines."""
-    return line.split(": ")[1].partition(";")[0]
 
 
 @pytest.fixture(scope="module")

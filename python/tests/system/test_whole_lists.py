@@ -20,6 +20,7 @@ from support import TOP, ListMachines, restore_signals
 from support.machines import entries_of
 from support.program import as_lines, options_of_pass, run_command
 from support.recurrences import reply_to_pair
+from support.shards import counts_in
 
 sys.path.insert(0, str(TOP))
 
@@ -71,7 +72,7 @@ def test_result_is_that_of_the_list_in_one_piece(
     machines = list_machines(int(states), "--symbols", symbols, "--steps", "1000")
     lines = decide_whole(bb, machines, found["passes"][0]["limits"])
     covered = run_command([cover], as_lines(lines)).output.decode().rstrip()
-    assert found["cover"].split(": ")[1] == covered.split(": ")[1]
+    assert counts_in(found["cover"]) == counts_in(covered)
     digests = [hashlib.sha256(as_lines(each)).hexdigest() for each in (machines, lines)]
     assert [found["sha256"][name] for name in ("list", "verdicts")] == digests
     holdouts = [line.split(" ")[0] for line in lines if " undecided " in line]
