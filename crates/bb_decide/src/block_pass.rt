@@ -1,15 +1,13 @@
 //! The steps of a single-pass run inside a block of 64 cells of its tape, made in registers.
 ghost use Rattle.std.specs.Prelude.{◌≡◌, ◌≢◌, ◌+◌, ◌*◌, ◌-◌, ◌<◌, ◌≤◌, ◌^◌, ℕ, ℤ, neg_ℤ, pos, ◌+ℤ◌, ◌≤ℤ◌, ◌<ℤ◌};
-ghost use Rattle.std.specs.Prelude.{false, true, IfSome, IsTrue, length};
+ghost use Rattle.std.specs.Prelude.{false, IfSome};
 ghost use Rattle.std.specs.Int.{bit_at};
-ghost use Rattle.bb_machine.specs.Machine.{symbols_of};
 ghost use Rattle.bb_machine.specs.declared.entry.Next.TheVariants as next;
 ghost use Rattle.bb_tape.specs.declared.tape.TheConstants.{MAX_CELLS};
-ghost use Rattle.bb_tape.specs.Content.{Content, cell};
+ghost use Rattle.bb_tape.specs.Content.{Content};
 ghost use Rattle.bb_tape.specs.TapeView.{TapeView};
 ghost use Rattle.bb_sim.specs.Runner.{position_of, state_of, steps_of};
 ghost use Rattle.bb_narrow.specs.Blocks.{IsBlockOf};
-ghost use Rattle.bb_narrow.specs.Packed.{IsTableOf};
 ghost use Rattle.bb_decide.specs.Fingerprint.{fingerprint};
 ghost use Rattle.bb_decide.specs.inside.BlockPasses.{CanPass, ChangesTo, IsBarrier, IsBlockTable};
 ghost use Rattle.bb_decide.specs.inside.Searching.{IsUnderWay};

@@ -1,16 +1,13 @@
 //! The single-pass run. It ends at a halt, at two agreeing records, or at a repeated fingerprint.
-ghost use Rattle.std.specs.Prelude.{◌≡◌, ◌+◌, ◌*◌, ◌<◌, ◌≤◌, ◌^◌, ℤ, IfOk, IfSome, IsTrue, OnErr, length};
+ghost use Rattle.std.specs.Prelude.{◌≡◌, ◌+◌, ◌*◌, ◌<◌, ◌≤◌, ◌^◌, ℤ, IfSome, IsTrue, length};
 ghost use Rattle.bb_machine.specs.Machine.{symbols_of};
 ghost use Rattle.bb_sim.specs.Runner.{steps_of};
 ghost use Rattle.bb_narrow.specs.Registers.{FitsRegisters};
-ghost use Rattle.bb_cert.specs.verdict.Verdict.{HasNumbers};
 ghost use Rattle.bb_decide.specs.Bench.{BenchHasCells};
 ghost use Rattle.bb_decide.specs.inside.BlockPasses.{IsBlockTable};
-ghost use Rattle.bb_decide.specs.inside.Follow.{ComparesRecord, IsReady, on_side};
 ghost use Rattle.bb_decide.specs.inside.NarrowPass.{IsInNarrowPass};
 ghost use Rattle.bb_decide.specs.inside.SearchResult.{RunsSinglePass};
 ghost use Rattle.bb_decide.specs.inside.Searching.{IsUnderWay};
-ghost use Rattle.bb_decide.specs.inside.Step.{TakesOver};
 
 use crate::bench::Bench;
 use crate::block_pass::{block_for, block_table, pass_block};
@@ -19,8 +16,8 @@ use crate::keys::FingerprintKeys;
 use crate::narrow_pass::{NarrowPass, NarrowResult, run_narrow_pass};
 use crate::record_search::compare_record;
 use crate::search_result::{SearchResult, count_run, outcome_of};
+use bb_cert::Side;
 use bb_cert::records::{Records, widened_side};
-use bb_cert::{Side, Verdict};
 use bb_machine::{Limits, Machine};
 use bb_narrow::blocks::cells_before;
 use bb_narrow::{NarrowTable, fits_registers};

@@ -15,7 +15,11 @@ impl Sprint {
     /// Makes all steps before a barrier. It works on copies, so the loop has its numbers in registers. `SELECTS`
     /// as in `BlockRun::advance`.
     #[inline(always)]
-    pub(crate) fn go_on<const SELECTS: bool>(&self, table: &NarrowTable, barrier: &Barrier) -> Sprint
+    pub(crate) fn go_on<const SELECTS: bool>(
+        &self,
+        table: &NarrowTable,
+        barrier: &Barrier,
+    ) -> Sprint
         ensures { SprintsTo table.now barrier.now self.now result }
     {
         let mut sprint = *self;

@@ -1,9 +1,8 @@
 //! A run on a tape, made in registers while it stays within a block of 64 cells.
-ghost use Rattle.std.specs.Prelude.{◌≡◌, ◌+◌, ◌<◌, ◌≤◌, ◌%◌, ◌^◌, ◌↔◌, ℤ, neg_ℤ, pos, ◌+ℤ◌, ◌≤ℤ◌, ◌<ℤ◌, false};
+ghost use Rattle.std.specs.Prelude.{◌≡◌, ◌+◌, ◌<◌, ◌≤◌, ◌%◌, ◌^◌, ℤ, neg_ℤ, pos, ◌≤ℤ◌, ◌<ℤ◌, false};
 ghost use Rattle.std.specs.Prelude.{IfOk, IfSome, IsTrue, MatchBool, OnErr, OnOk, length};
 ghost use Rattle.bb_machine.specs.Machine.{symbols_of};
 ghost use Rattle.bb_tape.specs.declared.tape.TheConstants.{MAX_CELLS};
-ghost use Rattle.bb_tape.specs.TapeView.{TapeView};
 ghost use Rattle.bb_sim.specs.declared.meter.Meter.{Meter};
 ghost use Rattle.bb_sim.specs.Meter.{CountsPart, CountsRun, CountsTo, IsWithinRun};
 ghost use Rattle.bb_sim.specs.Outcome.{IsOutcome};

@@ -1,6 +1,5 @@
 //! Sixty-four cells of two symbols in one number.
-ghost use Rattle.std.specs.Prelude.{◌≡◌, ◌↔◌, ◌<◌, ◌≤◌, ℤ, ◌+ℤ◌, ◌≤ℤ◌, ◌<ℤ◌, pos, neg_ℤ, IsTrue};
-ghost use Rattle.bb_tape.specs.Content.{blank, cell, score, with_cell};
+ghost use Rattle.std.specs.Prelude.{◌≡◌, ◌↔◌, ◌<◌, ℤ, ◌+ℤ◌, pos, IsTrue};
 ghost use Rattle.bb_tape.specs.TapeView.{AgreesFrom};
 ghost use Rattle.bb_narrow.specs.BitCells.{IsInWord, IsStretchInWord, bits_content, content_of};
 

@@ -1,6 +1,6 @@
 //! A configuration in registers.
-ghost use Rattle.std.specs.Prelude.{◌≡◌, ◌≢◌, ◌*◌, ◌/◌, ◌%◌, ◌^◌, ◌↔◌, IsTrue, false, true};
-ghost use Rattle.std.specs.Prelude.{bit_and, bit_xor};
+ghost use Rattle.std.specs.Prelude.{◌≡◌, ◌≢◌, ◌/◌, ◌%◌, ◌^◌, ◌↔◌, IsTrue};
+ghost use Rattle.std.specs.Prelude.{bit_and};
 ghost use Rattle.std.specs.Int.{bit_at};
 ghost use Rattle.bb_narrow.specs.Registers.{StepsTo, moved_head, flipped_bits};
 

@@ -1,5 +1,5 @@
 //! A run in registers, step by step.
-ghost use Rattle.std.specs.Prelude.{◌≡◌, ◌≢◌, ◌+◌, ◌-◌, ◌<◌, ◌≤◌, ◌^◌, ◌↔◌, IsTrue, MatchBool, bit_and};
+ghost use Rattle.std.specs.Prelude.{◌≡◌, ◌+◌, ◌-◌, ◌<◌, ◌≤◌, ◌^◌, ◌↔◌, IsTrue};
 ghost use Rattle.bb_sim.specs.Meter.{counted};
 ghost use Rattle.std.specs.Int.{bit_at};
 ghost use Rattle.bb_machine.specs.Machine.{symbols_of};

@@ -1,5 +1,5 @@
 //! Prime divisors, by trial division.
-ghost use Rattle.std.specs.Prelude.{◌≡◌, ℕ, ◌+◌, ◌*◌, ◌%◌, ◌<◌, ◌≤◌, ◌^◌};
+ghost use Rattle.std.specs.Prelude.{◌≡◌, ◌+◌, ◌%◌, ◌<◌, ◌≤◌};
 ghost use Rattle.bb_repetition.specs.Factors.{HasNoneBelow, IsPartWithout};
 
 /// The number without all its factors `divisor`.

@@ -1,5 +1,5 @@
 //! The least period of a run, from a known one.
-ghost use Rattle.std.specs.Prelude.{◌≡◌, ◌+◌, ◌-◌, ◌*◌, ◌/◌, ◌%◌, ◌<◌, ◌≤◌, ◌^◌, IfOk, IsTrue, OnErr, OnOk};
+ghost use Rattle.std.specs.Prelude.{◌≡◌, ◌+◌, ◌-◌, ◌*◌, ◌/◌, ◌%◌, ◌<◌, ◌≤◌, ◌^◌, IfOk, IsTrue, OnErr};
 ghost use Rattle.laws_of_repetition.specs.Repetition.{IsMultipleOf, Repeats};
 ghost use Rattle.bb_repetition.specs.Lockstep.{IsAt, IsOpen};
 ghost use Rattle.bb_repetition.specs.Period.{CountsTests, IsLeastFrom, IsReduced, TellsPeriod};

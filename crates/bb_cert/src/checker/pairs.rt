@@ -149,7 +149,10 @@ fn agreeing_extent<T: Tape>(
             let runner = packed.run.runner(machine, limits);
             let cells = BitCells::of_bits(packed.run.registers.bits);
             let saved_cells = BitCells::of_bits(saved.registers.bits);
-            if !replay.records.agrees_in_registers(&runner, &cells, &saved_cells) {
+            if !replay
+                .records
+                .agrees_in_registers(&runner, &cells, &saved_cells)
+            {
                 return None;
             }
             Some(replay.records.extent(&runner))

@@ -1,9 +1,8 @@
 //! A run of a claim: in registers as long as it keeps within 64 cells, and on a tape from then on.
-ghost use Rattle.std.specs.Prelude.{◌≡◌, ℕ, ◌+◌, ◌<◌, ◌≤◌, ◌↔◌, IfOk, IfSome, IsTrue, OnErr, OnOk, length};
+ghost use Rattle.std.specs.Prelude.{◌≡◌, ℕ, ◌+◌, ◌<◌, ◌↔◌, IfOk, IsTrue, OnErr, OnOk};
 ghost use Rattle.bb_machine.specs.Limits.{Bounds};
-ghost use Rattle.bb_machine.specs.Machine.{Table, symbols_of};
+ghost use Rattle.bb_machine.specs.Machine.{Table};
 ghost use Rattle.bb_tape.specs.TapeView.{TapeView};
-ghost use Rattle.bb_narrow.specs.Packed.{IsTableOf};
 ghost use Rattle.bb_sim.specs.declared.meter.Meter.{Meter};
 ghost use Rattle.bb_sim.specs.Meter.{CountsTo, IsWithinRun, zero_meter};
 ghost use Rattle.bb_sim.specs.Runner.{steps_of};

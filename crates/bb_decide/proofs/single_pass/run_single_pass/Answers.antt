@@ -64,7 +64,7 @@ returns-in-Ran g c =
         end.is_outcome,
         ends.1,
         not_stopped_in_registers known (c.fits_registers.ensures.0 c.if-not-fits_registers.false).0
-    (c.fits_registers.ensures.0 c.if-not-fits_registers.false).1 end,
+            (c.fits_registers.ensures.0 c.if-not-fits_registers.false).1 end,
       );
       cut = tt;
       within = count_is_within _ _ _ _ _ end.last.inside counts;

@@ -67,10 +67,16 @@ module _ (g : given.Over) (c : After-of_bits-saved_cells g) where
   on_views =
       let saved_is = other.at.content ∙ sym c.of_bits-saved_cells.ensures in
       let run_is = one.at.content ∙ sym c.of_bits-cells.ensures in (
-        λ agree. (agree.0, same_cells_of c.args.replay.now.records c.runner-runner.result
-        (sym saved_is) (sym run_is) agree.1),
-        λ agree. (agree.0, same_cells_of c.args.replay.now.records c.runner-runner.result
-        saved_is run_is agree.1),
+        λ agree. (
+          agree.0,
+          same_cells_of c.args.replay.now.records c.runner-runner.result
+              (sym saved_is) (sym run_is) agree.1,
+        ),
+        λ agree. (
+          agree.0,
+          same_cells_of c.args.replay.now.records c.runner-runner.result
+              saved_is run_is agree.1,
+        ),
       )
 
 pub agrees_in_registers-requires : goal.agrees_in_registers-requires
