@@ -10,14 +10,15 @@ ghost use Rattle.bb_terminal.specs.NotBegun.{IsNotBegun};
 ghost use Rattle.bb.specs.Ends.{IsCut, ServeEnds, ServeInOneRunEnds, end_status};
 
 use crate::progress::Counts;
+use bb_cert::ring_pair;
 use bb_command::{Asked, Work};
 use bb_lines::fault::Fault;
 use bb_lines::watched::Watched;
 use bb_machine::{Limits, Machine};
 use bb_run::laws::verdicts_are_borne_out;
 use bb_run::{
-    AnswerCounts, Summary, ring_bench, ring_pair, run_check_with_counts, run_decide,
-    run_decide_in_one_run, run_trace,
+    AnswerCounts, Summary, ring_bench, run_check_with_counts, run_decide, run_decide_in_one_run,
+    run_trace,
 };
 use bb_tape::RingTape;
 use std::alloc::Global;

@@ -12,20 +12,25 @@ use std::fmt::Write;
 use std::process::Abort;
 use std::test::Fail;
 
-/// The request of `decide` with these options.
-fn asked_with(rt: &(impl Abort + AllocGlobal), options: &[&'static str]) -> Asked {
-    let mut words: Vec<&str> = ["bb", "decide"].to_vec(rt.alloc()).expect(rt, "memory");
-    words.extend_from_slice(options).expect(rt, "memory");
-    ask(rt.alloc(), words.as_slice()).expect(rt, "a command line")
+/// The request of a command line, or the reason for none.
+fn ask_with(rt: &(impl Abort + AllocGlobal), words: &[&'static str]) -> Result<Asked, Stop> {
+    ask(rt.alloc(), words_of(rt, words).as_slice())
 }
 
-/// The result and the output of `decide` with these options.
-fn decided(
+/// The words of a command line, the program's name first.
+fn words_of(rt: &(impl Abort + AllocGlobal), words: &[&'static str]) -> Vec<&'static str> {
+    let mut all: Vec<&str> = ["bb"].to_vec(rt.alloc()).expect(rt, "memory");
+    all.extend_from_slice(words).expect(rt, "memory");
+    all
+}
+
+/// The result and the output of a command line.
+fn done(
     rt: &(impl Abort + AllocGlobal),
-    options: &[&'static str],
+    words: &[&'static str],
     input: &[u8],
 ) -> (Result<Summary, Fault>, Vec<u8>) {
-    let asked = asked_with(rt, options);
+    let asked = ask_with(rt, words).expect(rt, "a command line");
     let mut reader = Watched::new(input);
     let mut writer = Watched::new(Vec::new(rt.alloc()));
     let end = serve_in_one_run(
@@ -41,10 +46,10 @@ fn decided(
 /// The same by `serve`: its summary has the cost by the definition of a verdict.
 fn served(
     rt: &(impl Abort + AllocGlobal),
-    options: &[&'static str],
+    words: &[&'static str],
     input: &[u8],
 ) -> (Result<Summary, Fault>, Vec<u8>) {
-    let asked = asked_with(rt, options);
+    let asked = ask_with(rt, words).expect(rt, "a command line");
     let mut reader = Watched::new(input);
     let mut writer = Watched::new(Vec::new(rt.alloc()));
     let end = serve(rt.alloc(), &asked, &mut reader, &mut writer);
@@ -57,12 +62,12 @@ fn refuses_long_lines(rt: HostRuntime) -> Result<(), Fail> {
         rt.alloc(),
     )?;
     input.resize(input.len() + 1_000_000, b'x')?;
-    let (_, written) = decided(&rt, &[], input.as_slice());
+    let (_, written) = done(&rt, &["decide"], input.as_slice());
     assert_eq!(rt; written.as_slice(), b"refused 56\n".as_slice());
     let mut input: Vec<u8> = Vec::new(rt.alloc());
     input.resize(1_000_000, b'_')?;
     input.extend_from_slice(b"\n------")?;
-    let (_, written) = decided(&rt, &[], input.as_slice());
+    let (_, written) = done(&rt, &["decide"], input.as_slice());
     assert_eq!(rt;
         written.as_slice(),
         b"refused 1\n------ halt 0 0\n".as_slice()
@@ -73,9 +78,9 @@ fn refuses_long_lines(rt: HostRuntime) -> Result<(), Fail> {
 /// The program's stored run.
 #[test]
 fn three_lines_are_decided_by_running_alone(rt: HostRuntime) {
-    let options = ["--no-cyclers", "--no-translated", "--no-backward"].as_slice();
+    let words = ["decide", "--no-cyclers", "--no-translated", "--no-backward"].as_slice();
     let input = b"1RB1LB_1LA1RZ\n1RA1RA\n1rB1LB\n".as_slice();
-    for (end, written) in [served(&rt, options, input), decided(&rt, options, input)] {
+    for (end, written) in [served(&rt, words, input), done(&rt, words, input)] {
         assert_eq!(rt;
             written.as_slice(),
             b"1RB1LB_1LA1RZ halt 6 4\n1RA1RA undecided cells\nrefused 2\n".as_slice()
@@ -88,43 +93,21 @@ fn three_lines_are_decided_by_running_alone(rt: HostRuntime) {
     }
 }
 
-/// Checks the cost of a machine by `serve`: steps, nodes and levels by the definition of a verdict. One run
-/// writes the same for no more steps.
-fn assert_cost(
-    rt: &(impl Abort + AllocGlobal),
-    options: &[&'static str],
-    machine: &[u8],
-    counts: [u64; 3],
-) {
-    let (end, written) = served(rt, options, machine);
-    let (in_one_run, same) = decided(rt, options, machine);
-    assert_eq!(rt; written.as_slice(), same.as_slice());
-    let peak = end.expect(rt, "no fault").peak;
-    assert_eq!(rt;
-        [peak.steps, peak.nodes, peak.most_levels],
-        counts,
-        "{machine:?}"
-    );
-    assert!(rt; in_one_run.expect(rt, "no fault").peak.steps <= peak.steps);
-}
-
+/// The cost by the definition of a verdict. One run writes the same for no more steps.
 #[test]
 fn serving_counts_the_cost(rt: HostRuntime) {
-    assert_cost(&rt, &[], b"1RB1LB_1LA1RZ", [6, 0, 0]);
-    assert_cost(&rt, &[], b"0RB---_0LA---", [1_000_004, 0, 0]);
-    assert_cost(&rt, &["--steps=3"], b"0RB---_0LA---", [9, 4, 2]);
-    assert_cost(&rt, &[], b"1RA1RA", [131_072, 0, 0]);
-    assert_cost(&rt, &[], b"1RB0RB_1LA1LA", [1_000_008, 0, 0]);
-    assert_cost(&rt, &[], b"1RB---_1RC---_1RA---", [131_077, 0, 0]);
-    assert_cost(&rt, &[], b"0LB---_0RC1RC_1RA---", [393_214, 0, 0]);
-    assert_cost(&rt, &["--no-cyclers"], b"0RB---_0LA---", [2_000_000, 4, 2]);
-}
-
-#[test]
-fn serving_counts_no_steps_in_one_cell(rt: HostRuntime) {
-    let one_cell = ["--cells=1", "--depth=1", "--no-backward"].as_slice();
-    assert_cost(&rt, &one_cell[..2], b"1RA1RA", [0, 0, 0]);
-    assert_cost(&rt, one_cell, b"1RA1RA", [0, 0, 0]);
+    for (words, counts) in [
+        (["decide"].as_slice(), [1_000_004, 0, 0]),
+        (["decide", "--steps=3"].as_slice(), [9, 4, 2]),
+        (["decide", "--no-cyclers"].as_slice(), [2_000_000, 4, 2]),
+    ] {
+        let (end, written) = served(&rt, words, b"0RB---_0LA---");
+        let (in_one_run, same) = done(&rt, words, b"0RB---_0LA---");
+        assert_eq!(rt; written.as_slice(), same.as_slice());
+        let peak = end.expect(&rt, "no fault").peak;
+        assert_eq!(rt; [peak.steps, peak.nodes, peak.most_levels], counts);
+        assert!(rt; in_one_run.expect(&rt, "no fault").peak.steps <= peak.steps);
+    }
 }
 
 /// The words of an end, and its status.
@@ -136,7 +119,7 @@ fn ends_have_statuses(rt: HostRuntime) {
         (b"\n", 1),
         (b"1RZ---\n1RB1LB_1LA1RC\n", 1),
     ] {
-        assert_eq!(rt; status(&decided(&rt, &[], input).0), code);
+        assert_eq!(rt; status(&done(&rt, &["decide"], input).0), code);
     }
     for fault in [Fault::Memory, Fault::Read, Fault::Write] {
         assert_eq!(rt; status(&Err(fault)), 3);
@@ -149,20 +132,11 @@ fn ends_have_statuses(rt: HostRuntime) {
 
 #[test]
 fn asks_all_deciders(rt: HostRuntime) {
-    let words = ["bb", "decide", "--steps=1000", "--cells=599"];
-    let asked = ask(rt.alloc(), words.as_slice()).expect(&rt, "a command line");
+    let words = ["decide", "--steps=1000", "--cells=599"].as_slice();
     let input = b"1RB1LB_1LA1RZ\n0RB---_0LA---\n1RA1RA\n".as_slice();
-    let mut reader = Watched::new(input);
-    let mut writer = Watched::new(Vec::new(rt.alloc()));
-    let end = serve_in_one_run(
-        rt.alloc(),
-        &asked,
-        &mut reader,
-        &mut writer,
-        &Counts::default(),
-    );
+    let (end, written) = done(&rt, words, input);
     assert_eq!(rt;
-        writer.into_inner().as_slice(),
+        written.as_slice(),
         b"1RB1LB_1LA1RZ halt 6 4\n0RB---_0LA--- cycler 2 4\n1RA1RA translated R 1 2 1 1\n".as_slice()
     );
     assert_eq!(rt; status(&end), 0);
@@ -172,45 +146,25 @@ fn asks_all_deciders(rt: HostRuntime) {
 fn checks(rt: HostRuntime) {
     let claims = b"1RB1LB_1LA1RZ halt 6 4\n0RB---_0LA--- backward 2 4\nrefused 14\n".as_slice();
     for (words, output, code) in [
-        (["bb", "check"].as_slice(), b"ok\nok\nopen\n".as_slice(), 0),
+        (["check"].as_slice(), b"ok\nok\nopen\n".as_slice(), 0),
+        (["check", "--steps=5"].as_slice(), b"over\nok\nopen\n", 1),
         (
-            ["bb", "check", "--steps=5"].as_slice(),
+            ["check", "--cells=3", "--depth=2"].as_slice(),
             b"over\nok\nopen\n",
             1,
         ),
-        (
-            ["bb", "check", "--cells=3", "--depth=2"].as_slice(),
-            b"over\nok\nopen\n",
-            1,
-        ),
-        (
-            ["bb", "check", "--nodes=3"].as_slice(),
-            b"ok\nover\nopen\n",
-            1,
-        ),
+        (["check", "--nodes=3"].as_slice(), b"ok\nover\nopen\n", 1),
     ] {
-        let asked = ask(rt.alloc(), words).expect(&rt, "a command line");
-        let mut writer = Watched::new(Vec::new(rt.alloc()));
-        let mut reader = Watched::new(claims);
-        let end = serve_in_one_run(
-            rt.alloc(),
-            &asked,
-            &mut reader,
-            &mut writer,
-            &Counts::default(),
-        );
-        assert_eq!(rt; writer.into_inner().as_slice(), output);
+        let (end, written) = done(&rt, words, claims);
+        assert_eq!(rt; written.as_slice(), output);
         assert_eq!(rt; status(&end), code);
     }
 }
 
 #[test]
 fn runs_the_champion_of_five_states(rt: HostRuntime) {
-    let (_, written) = decided(
-        &rt,
-        &["--steps=50000000"],
-        b"1RB1LC_1RC1RB_1RD0LE_1LA1LD_1RZ0LA\n",
-    );
+    let words = ["decide", "--steps=50000000"].as_slice();
+    let (_, written) = done(&rt, words, b"1RB1LC_1RC1RB_1RD0LE_1LA1LD_1RZ0LA\n");
     assert_eq!(rt;
         written.as_slice(),
         b"1RB1LC_1RC1RB_1RD0LE_1LA1LD_1RZ0LA halt 47176870 4098\n".as_slice()
@@ -219,14 +173,14 @@ fn runs_the_champion_of_five_states(rt: HostRuntime) {
 
 #[test]
 fn takes_the_greatest_limits(rt: HostRuntime) {
-    let (_, written) = decided(&rt, &["--cells=67108864"], b"1RZ---\n");
+    let (_, written) = done(&rt, &["decide", "--cells=67108864"], b"1RZ---\n");
     assert_eq!(rt; written.as_slice(), b"1RZ--- halt 1 1\n".as_slice());
 }
 
 #[test]
 fn traces(rt: HostRuntime) {
-    let words = ["bb", "trace", "--upto", "3", "1RZ---"];
-    let asked = ask(rt.alloc(), words.as_slice()).expect(&rt, "a command line");
+    let words = ["trace", "--upto", "3", "1RZ---"].as_slice();
+    let asked = ask_with(&rt, words).expect(&rt, "a command line");
     let mut writer = Watched::new(Vec::new(rt.alloc()));
     let mut reader = Watched::new(b"not read".as_slice());
     let end = serve_in_one_run(
@@ -334,9 +288,7 @@ fn gives_the_numbers_of_limits(rt: HostRuntime) {
 
 /// The numbers of these words.
 fn numbers_of(rt: &(impl Abort + AllocGlobal), words: &[&'static str]) -> Numbers {
-    let mut all: Vec<&str> = ["bb"].to_vec(rt.alloc()).expect(rt, "memory");
-    all.extend_from_slice(words).expect(rt, "memory");
-    parse_numbers(rt.alloc(), all.as_slice()).expect(rt, "numbers")
+    parse_numbers(rt.alloc(), words_of(rt, words).as_slice()).expect(rt, "numbers")
 }
 
 /// Wrong command lines, and a part of the message for each.
@@ -407,9 +359,7 @@ fn help_gives_the_ranges_of_limits(rt: HostRuntime) -> Result<(), Fail> {
 }
 
 fn stop(rt: &(impl Abort + AllocGlobal), words: &[&'static str]) -> Stop {
-    let mut all: Vec<&str> = ["bb"].to_vec(rt.alloc()).expect(rt, "memory");
-    all.extend_from_slice(words).expect(rt, "memory");
-    match ask(rt.alloc(), all.as_slice()) {
+    match ask_with(rt, words) {
         Ok(_) => panic!(rt; "asked"),
         Err(stop) => stop,
     }

@@ -10,10 +10,10 @@ ghost use Rattle.bb_c.specs.Buffer.{IsFilled, IsTooShort, IsUntouched};
 ghost use Rattle.bb_c.specs.Call.{IsVerdictLine, bounds_of};
 
 use crate::buffer::{CLEAN, LIMITS, MEMORY, NOT_CLEAN, SHORT, fill_buffer};
-use bb_cert::{Answer, Line, Verdict, check, read_line};
+use bb_cert::{Answer, Line, Verdict, check, read_line, ring_pair};
 use bb_lines::watched::Watched;
 use bb_machine::{Limits, Machine};
-use bb_run::{ring_pair, run_check};
+use bb_run::run_check;
 use bb_sim::Meter;
 use bb_tape::Memory;
 use std::alloc::Global;

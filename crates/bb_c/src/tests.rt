@@ -5,6 +5,7 @@ use crate::buffer::{CLEAN, LIMITS, MEMORY, NOT_CLEAN, SHORT};
 use crate::check_cost::bb_check_cost;
 use crate::checking::{bb_check, bb_check_line};
 use crate::deciding::{bb_decide, bb_decide_line};
+use crate::lines::bb_line_of;
 use crate::recurring::bb_recurrence;
 use crate::tracing::bb_trace;
 use bb_run::CheckCost;
@@ -220,4 +221,17 @@ fn recurrences_are_found(rt: HostRuntime) {
         let status = bb_recurrence(rt.alloc(), 1_000, 64, *entries, PAIRS, &mut out, &mut count);
         assert_reply(&rt, status, &out, count, (1, *replies));
     }
+}
+
+#[test]
+fn lines_of_machines_are_found(rt: HostRuntime) {
+    let mut out = [0; ROOM];
+    let mut count = 0;
+    let list = b"1LA1RB_1LB0RA\n1RZ---\n1RB2LB\n";
+    let status = bb_line_of(rt.alloc(), 1_000, 64, list, &mut out, &mut count);
+    let replies = b"1LA1RB_1LB0RA line 1RA---_------ mirror AB 01 runs
+1RZ--- line ------ same A 01 halt 0 0 1RZ
+unread
+";
+    assert_reply(&rt, status, &out, count, (0, replies));
 }

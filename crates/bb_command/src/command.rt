@@ -29,7 +29,7 @@ ghost use Rattle.bb_command.specs.CommandLine.{
 };
 
 use crate::options::{
-    cells, has_option, limit, list_file, number, positional, steps, stop_of, switch, value,
+    VERSION, cells, has_option, limit, list_file, number, positional, steps, stop_of, switch, value,
 };
 use bb_machine::{LimitFault, Limits, Plan};
 use clap::error::ErrorKind;
@@ -269,7 +269,7 @@ fn program<'a>(alloc: Global) -> Result<Command<'a>, AllocError>
     Command::new(alloc, "bb")
         .about("Simulates and decides Turing machines of up to 25 states and 10 symbols")
         .after_help(ABOUT_ALL)
-        .version("0.2.0")
+        .version(VERSION)
         .disable_help_subcommand(true)
         .subcommand_required(true)
         .subcommand(decide_command(alloc)?)?

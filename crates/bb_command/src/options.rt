@@ -19,6 +19,9 @@ use clap::error::ErrorKind;
 use clap::{Arg, ArgAction, ArgMatches, Error, value_parser};
 use std::alloc::{AllocError, Global};
 
+/// The version that `--version` prints, of all programs here.
+pub const VERSION: &str = "0.2.0";
+
 /// The default number of cells: 2^16.
 const DEFAULT_CELLS: &str = "65536";
 

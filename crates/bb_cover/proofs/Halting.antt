@@ -1,6 +1,5 @@
 -- Where a runner has halted.
-use Rattle.std.proofs.Common.{◌≡◌, ◌≢◌, ℕ, ◌+◌, ◌<◌, ◌≤◌, None, inl, inr, ap, sym, subst, ◌∙◌, arith}
-use Rattle.std.proofs.lemmas.Bool.{cases_eq}
+use Rattle.std.proofs.Common.{◌≡◌, ◌≢◌, ℕ, ◌≤◌, None, ap, sym, subst, ◌∙◌, arith}
 use Rattle.bb_machine.specs.declared.entry.Entry.TheVariants.{Undefined}
 use Rattle.bb_machine.specs.declared.entry.Next.TheVariants as next
 use Rattle.bb_machine.specs.Entry.{IsNextOf}
@@ -13,8 +12,8 @@ use Rattle.bb_sim.specs.Configuration.{Configuration, entry_at, followed}
 use Rattle.bb_sim.specs.declared.runner.Runner.{Runner}
 use Rattle.bb_sim.specs.Run.{HaltsAt}
 use Rattle.bb_sim.specs.Runner.{Stands, position_of, state_of, steps_of}
-use Rattle.bb_sim.specs.Span.{Inside, span}
-use Rattle.bb_sim.proofs.Facts.{halt_is_unique, span_grows}
+use Rattle.bb_sim.specs.Span.{Inside, IsLastInside}
+use Rattle.bb_sim.proofs.Facts.{halt_is_last, halt_is_unique}
 use Rattle.laws_of_verdicts.specs.UndefinedEntry.{HaltsOnUndefined}
 use Rattle.laws_of_verdicts.proofs.Facts.{undefined_here}
 use Rattle.bb_cover.specs.declared.undefined.UndefinedEntry.{UndefinedEntry}
@@ -57,32 +56,52 @@ undefined_of_halt table runner view stands halts undefined in_state at_symbol =
 pub halts_elsewhere : (table : Table) (n steps : ℕ) → HaltsAt table n → n ≢ steps → HaltsAt table steps → ⊥
 halts_elsewhere table n steps here apart there = apart (halt_is_unique table n steps here there)
 
--- it runs on, past the limit of cells
-pub needs_more_cells : (table : Table) (bounds : Bounds) (n steps : ℕ) → (HaltsAt table n → ⊥) → n ≤ steps
-    → bounds.cells < span table (n + 1) → HaltsAt table steps → Inside table bounds steps → ⊥
-needs_more_cells table bounds n steps on low wide halts inside = elim (cases_eq n steps) [
-  | inl same ↦ on (subst (HaltsAt table) (sym same) halts)
-  | inr apart ↦
-      let narrow = inside.within_cells in
-      absurd (omega (arith, span_grows table (n + 1) steps (omega (arith, low, apart)), narrow, wide))
-]
+-- the last step inside is no halt, and none before it is
+pub halts_at_none : (table : Table) (bounds : Bounds) (n : ℕ) → IsLastInside table bounds n
+    → (HaltsAt table n → ⊥) → (steps : ℕ) → HaltsAt table steps → Inside table bounds steps → ⊥
+halts_at_none table bounds n last on steps halts inside =
+    let least = halt_is_last table steps n last.inside.here halts last.inside.exists in
+    let most = last.greatest steps inside in
+    let same : steps ≡ n = omega (arith, least, most) in
+    on (subst (HaltsAt table) same halts)
 
 -- it halts here
-pub ends_so : (table : Table) (bounds cut : Bounds) (n : ℕ) → cut ≡ record bounds { steps = n }
-    → n ≤ bounds.steps → (runner : Runner) (view : TapeView) → Stands table runner view
-    → HaltsAt table (steps_of runner) → Inside table cut (steps_of runner) → (halted : Halted)
-    → halted.score ≡ score view.content → HaltsOn table (steps_of runner) halted.undefined → steps_of runner ≡ n
-    → EndsSo table bounds n halted
-ends_so table bounds cut n is few runner view stands halts inside halted scored on at =
-    subst (λ k. EndsSo table bounds k halted) at (record {
+pub ends_so : (table : Table) (bounds : Bounds) (runner : Runner) (view : TapeView)
+    → Stands table runner view → HaltsAt table (steps_of runner) → Inside table bounds (steps_of runner)
+    → (halted : Halted) → halted.steps ≡ steps_of runner → halted.score ≡ score view.content
+    → HaltsOn table (steps_of runner) halted.undefined → EndsSo table bounds halted.steps halted
+ends_so table bounds runner view stands halts inside halted at scored on =
+    subst (λ k. EndsSo table bounds k halted) (sym at) (record {
       halts = halts;
-      inside = record {
-        here = inside.here;
-        exists = inside.exists;
-        within_steps = omega (arith, at, few);
-        within_cells = let narrow = inside.within_cells in let same = ap (λ (b : Bounds). b.cells) is in
-            omega (arith, narrow, same);
-      };
+      inside = inside;
       scores = record { here = _; exists = stands.at; counted = scored };
       on = on;
     })
+
+-- up to fewer steps the same is inside
+
+pub cut_inside : (table : Table) (bounds cut : Bounds) (n : ℕ) → cut ≡ record bounds { steps = n }
+    → Inside table bounds n → Inside table cut n
+cut_inside table bounds cut n is inside = record {
+  here = inside.here;
+  exists = inside.exists;
+  within_steps = let same = ap (λ (b : Bounds). b.steps) is in omega (arith, same);
+  within_cells = let narrow = inside.within_cells in let same = ap (λ (b : Bounds). b.cells) is in
+      omega (arith, narrow, same);
+}
+
+pub cut_ends : (table : Table) (bounds cut : Bounds) (n : ℕ) → cut ≡ record bounds { steps = n }
+    → n ≤ bounds.steps → (halted : Halted) → EndsSo table cut halted.steps halted → halted.steps ≡ n
+    → EndsSo table bounds n halted
+cut_ends table bounds cut n is few halted ends at = subst (λ k. EndsSo table bounds k halted) at (record {
+  halts = ends.halts;
+  inside = record {
+    here = ends.inside.here;
+    exists = ends.inside.exists;
+    within_steps = omega (arith, at, few);
+    within_cells = let narrow = ends.inside.within_cells in let same = ap (λ (b : Bounds). b.cells) is in
+        omega (arith, narrow, same);
+  };
+  scores = ends.scores;
+  on = ends.on;
+})

@@ -1,14 +1,14 @@
 -- A list with the lines of its shards in their places.
-use Rattle.std.proofs.Common.{◌≡◌, ℕ, zero, suc, ◌+◌, ◌<◌, Bool, cond, List, [], ◌∷◌, ◌++◌, Option, Some, None}
+use Rattle.std.proofs.Common.{◌≡◌, ℕ, ◌+◌, Bool, cond, List, [], ◌∷◌, ◌++◌, Option, Some, None}
 use Rattle.std.proofs.Common.{length, inl, inr, refl, ap, sym, subst, ◌∙◌, arith, length-append}
 use Rattle.std.specs.Prelude.{◌⊎◌, Contains, count_by}
 use Rattle.std.proofs.lemmas.List.Sums.{sum_by-append}
-use Rattle.bb_machine.specs.Machine.{Table, IsMachine, symbols_of}
+use Rattle.bb_machine.specs.Machine.{Table, IsMachine}
 use Rattle.bb_cert.specs.declared.verdict.Why.TheVariants.{Steps}
 use Rattle.bb_cert.specs.claims.Claim as claims
 use Rattle.laws_of_verdicts.specs.Closed as closed
 use Rattle.laws_of_verdicts.specs.Closed.{VerdictLine, blank_table}
-use Rattle.laws_of_verdicts.specs.Walk.{AreWalked, IsWalk, LeadsTo}
+use Rattle.laws_of_verdicts.specs.Walk.{AreWalked, IsWalk}
 use Rattle.laws_of_verdicts.proofs.Facts.{contains_cases, contains_first, contains_right, covers_decide}
 use Rattle.laws_of_verdicts.proofs.Facts.{normal_form_covers, walks_are_in_normal_form, walks_compose}
 use Rattle.bb_cover.specs.declared.content.Content.{Content}
@@ -19,7 +19,7 @@ use Rattle.bb_cover.specs.Claims.{AreTrueLines, IsTrueLine}
 use Rattle.bb_cover.specs.Content.{Item, line_of, lines_of}
 use Rattle.bb_cover.specs.Counts.{AreCounts, HasTotals, assumed_texts, is_undecided, is_wide, lines_in}
 use Rattle.bb_cover.specs.Counts.{sum_of, undecided_in, wide_in}
-use Rattle.bb_cover.specs.Covering.{AreParts, CoversRoot, DecidesSize, IsJoinedWalk, IsPart, IsWalkBelow}
+use Rattle.bb_cover.specs.Covering.{AreParts, CoversRoot, IsJoinedWalk, IsPart, IsWalkBelow}
 use Rattle.bb_cover.specs.Covering.{IsWholeWalk, joined, root_of}
 use Rattle.bb_cover.proofs.Judging.{fine_claim}
 use Rattle.bb_cover.proofs.Steps.{undecided_nowhere}

@@ -5,7 +5,6 @@ use Rattle.bb_cert.specs.declared.checker.answer.Answer.{Answer}
 use Rattle.bb_cert.specs.declared.verdict.Verdict.{Verdict}
 use Rattle.bb_cert.specs.declared.verdict.reader.Line.TheVariants as said
 use Rattle.bb_cert.specs.verdict.Line.{IsLineOf}
-use Rattle.laws_of_verdicts.specs.Closed.{VerdictLine}
 use Rattle.bb_cover.specs.declared.found.Why.{Why}
 use Rattle.bb_cover.specs.declared.found.Why.TheVariants.{Unread, NotNext, Refused, TooMany, TooSoon, Beyond}
 use Rattle.bb_cover.specs.declared.list.Size.{Size}

@@ -9,7 +9,7 @@ use Rattle.bb_cert.specs.declared.verdict.Why.TheVariants.{Steps, Cells}
 use Rattle.bb_cert.specs.declared.verdict.Verdict.{Verdict}
 use Rattle.bb_cert.specs.declared.verdict.Verdict.TheVariants.{Halt, Cycler, Translated, Backward, Undecided}
 use Rattle.bb_cert.specs.declared.verdict.reader.Line.TheVariants as said
-use Rattle.bb_cert.specs.verdict.Line.{IsLineOf, verdict_text}
+use Rattle.bb_cert.specs.verdict.Line.{verdict_text}
 use Rattle.bb_cert.proofs.Facts.{line_unique}
 use Rattle.bb_cover.specs.declared.content.Content.{Content}
 use Rattle.bb_cover.specs.declared.content.Content.TheVariants.{Claim, Shard}

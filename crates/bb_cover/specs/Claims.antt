@@ -5,7 +5,6 @@ use Rattle.bb_machine.specs.Machine.{Table}
 use Rattle.bb_cert.specs.declared.checker.answer.Answer.{Answer}
 use Rattle.bb_cert.specs.declared.verdict.Verdict.{Verdict}
 use Rattle.bb_cert.specs.checker.Answer.{IsAnswer, is_fine}
-use Rattle.laws_of_verdicts.specs.Closed.{VerdictLine}
 use Rattle.laws_of_verdicts.specs.UndefinedEntry.{HasOtherUndefined}
 use Rattle.bb_cover.specs.declared.claim.Judged.{Judged}
 use Rattle.bb_cover.specs.declared.claim.Judged.TheVariants.{Fine, Refused}

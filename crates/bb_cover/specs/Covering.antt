@@ -25,7 +25,7 @@ use Rattle.bb_cover.specs.declared.content.Content.TheVariants.{Claim, Shard}
 use Rattle.bb_cover.specs.declared.content.ShardCounts.{ShardCounts}
 use Rattle.bb_cover.specs.declared.task.Form.TheVariants.{Verdicts}
 use Rattle.bb_cover.specs.declared.task.Task.{Task}
-use Rattle.bb_cover.specs.Content.{Item, line_of, lines_of}
+use Rattle.bb_cover.specs.Content.{Item, lines_of}
 use Rattle.bb_cover.specs.Counts.{AreCounts, HasTotals, assumed_texts, is_among, lines_in, saturated, sum_of}
 use Rattle.bb_cover.specs.CoverProgress.{IsWrong}
 

@@ -8,5 +8,10 @@ pub mod UndefinedEntries
 pub mod Halts
 pub mod KeptBytes
 pub mod Left
+pub mod Line
+pub mod LineEnds
+pub mod LineKeptBytes
+pub mod LineReply
+pub mod Names
 pub mod Numbers
 pub mod Used

@@ -9,9 +9,8 @@ ghost use Rattle.bb_cover.specs.Content.{ArePossible, HasCounts, IsDigest, IsHex
 ghost use Rattle.bb_cover.specs.Content.{Item, shard_text};
 
 use crate::task::Form;
-use bb_cert::{LineContent, Verdict, read_line_in_place};
+use bb_cert::{LineContent, Verdict, read_line_in_place, read_number, split_at_space};
 use bb_machine::Machine;
-use itoa::Buffer;
 
 /// The bytes of a digest: a SHA-256 in hexadecimal.
 const DIGEST: usize = 64;
@@ -136,28 +135,4 @@ fn is_hex_digit(byte: u8) -> bool
     ensures { IsTrue result ↔ IsHexDigit byte }
 {
     byte.is_ascii_digit() || (b'a'..=b'f').contains(&byte)
-}
-
-/// The number with this decimal text, without sign and leading zero.
-fn read_number(digits: &[u8]) -> Option<u64>
-    ensures { MatchOption result
-        ((n : ℕ) → n < 2 ^ 64 → decimal n ≢ digits.now)
-        (λ n. (n < 2 ^ 64) × (decimal n ≡ digits.now)) }
-{
-    let number: u64 = str::from_utf8(digits).ok()?.parse().ok()?;
-    let mut buffer = Buffer::new();
-    if buffer.format(number).as_bytes() != digits {
-        return None;
-    }
-    Some(number)
-}
-
-/// The bytes before the first space, and those after it.
-fn split_at_space(bytes: &[u8]) -> Option<(&[u8], &[u8])>
-    ensures { MatchOption result
-        ((prefix rest : List ℕ) → prefix ++ 32 ∷ rest ≢ bytes.now)
-        (λ parts. All (λ byte. byte ≢ 32) parts.0.now × (parts.0.now ++ 32 ∷ parts.1.now ≡ bytes.now)) }
-{
-    let space = bytes.iter().position(|byte| *byte == b' ')?;
-    Some((&bytes[..space], &bytes[space + 1..]))
 }

@@ -1,5 +1,5 @@
 //! The transition and the score of a halt.
-ghost use Rattle.std.specs.Prelude.{◌≡◌, ◌≤◌, IfOk, IsTrue, MatchOption, OnErr};
+ghost use Rattle.std.specs.Prelude.{◌≡◌, ℕ, ◌≤◌, IfOk, IsTrue, MatchOption, OnErr};
 ghost use Rattle.bb_sim.specs.Run.{HaltsAt, IsScore};
 ghost use Rattle.bb_sim.specs.Runner.{Stands, steps_of};
 ghost use Rattle.bb_sim.specs.Span.{Inside};
@@ -14,6 +14,7 @@ use bb_tape::{Memory, Tape};
 /// A halt.
 #[derive(Clone, Copy, Debug)]
 pub(crate) struct Halted {
+    pub(crate) steps: u64,
     /// How many cells aren't 0.
     pub(crate) score: u64,
     /// Its undefined transition; none for a step into Z.
@@ -36,17 +37,37 @@ pub(crate) fn halt_at<T: Tape>(
     ensures memory { OnErr result (IsTrue T.GROWS) }
 {
     limits.show_accepted();
-    let limits = with_steps(limits, steps);
+    let Some(halted) = first_halt(machine, &limits.with_steps(steps), tape)? else {
+        return Ok(None);
+    };
+    if halted.steps != steps {
+        return Ok(None);
+    }
+    Ok(Some(halted))
+}
+
+/// Runs a machine: how it ends, if it halts within the limits.
+pub(crate) fn first_halt<T: Tape>(
+    machine: &Machine,
+    limits: &Limits,
+    tape: &mut T,
+) -> Result<Option<Halted>, Memory>
+    requires limit { (T.view tape.old).limit ≡ limits.now.cells }
+    ensures ends { IfOk result (λ found. MatchOption found
+        ((steps : ℕ) → HaltsAt machine.now steps → Inside machine.now limits.now steps → ⊥)
+        (λ halted. EndsSo machine.now limits.now halted.steps halted)) }
+    ensures limit { (T.view tape.new).limit ≡ (T.view tape.old).limit }
+    ensures memory { OnErr result (IsTrue T.GROWS) }
+{
+    limits.show_accepted();
     let mut meter = Meter::new();
     let mut runner = Runner::start(machine, tape);
     loop {
-        match runner.advance(machine, tape, &limits, &mut meter)? {
+        match runner.advance(machine, tape, limits, &mut meter)? {
             Moved::Stepped => {}
             Moved::Halted => {
-                if runner.steps() != steps {
-                    return Ok(None);
-                }
                 return Ok(Some(Halted {
+                    steps: runner.steps(),
                     score: tape.score(),
                     undefined: undefined_here(machine, &runner, tape),
                 }));
@@ -54,17 +75,6 @@ pub(crate) fn halt_at<T: Tape>(
             Moved::NoSteps => return Ok(None),
             Moved::NoCells => return Ok(None),
         }
-    }
-}
-
-/// These limits, but with so many steps.
-fn with_steps(limits: &Limits, steps: u64) -> Limits
-    requires { steps ≤ limits.now.steps }
-    ensures { result ≡ record limits.now { steps = steps } }
-{
-    match Limits::new(steps, limits.cells(), limits.depth(), limits.nodes()) {
-        Ok(limits) => limits,
-        Err(_) => unreachable!(),
     }
 }
 

@@ -1,10 +1,13 @@
-//! The texts of machines, to be shown.
-ghost use Rattle.std.specs.Prelude.{◌≡◌, ◌<◌, length};
-ghost use Rattle.bb_machine.specs.Machine.{text};
-ghost use Rattle.bb_cover.specs.Left.{IsFrame};
+//! The texts of machines.
+ghost use Rattle.std.specs.Prelude.{◌≡◌, ◌+◌, ◌<◌, ◌≤◌, ◌++◌, length};
+ghost use Rattle.arrayvec.specs.ArrayVec.{array_vec_len};
+ghost use Rattle.bb_machine.specs.Entry.{IsEntryOf, IsNextOf, dir_letter, entry_text, next_letter};
+ghost use Rattle.bb_machine.specs.Machine.{symbols_of, text};
+ghost use Rattle.bb_machine.specs.declared.machine.TheConstants.{MAX_STATES, MAX_SYMBOLS};
+ghost use Rattle.laws_of_verdicts.specs.Closed.{blank_table, with_entry};
 
-use crate::table::entry_with;
-use crate::walk::{Frame, Walk};
+use crate::undefined::UndefinedEntry;
+use crate::walk::Walk;
 use arrayvec::ArrayVec;
 use bb_machine::{Dir, Entry, LINE, Machine, Next};
 
@@ -24,62 +27,75 @@ pub(crate) fn text_of(machine: &Machine) -> Text
 
 /// The text of the next machine of a walk, empty at its end.
 pub(crate) fn next_text(walk: &Walk) -> Text {
-    let mut text = ArrayVec::new();
-    if let Some(top) = walk.top() {
-        for state in 0..top.machine.states() {
-            add_next_row(top, state, &mut text);
-        }
+    match walk.top() {
+        Some(top) => filled_text(&top.machine, top.undefined, top.asked.entry(top.next)),
+        None => ArrayVec::new(),
     }
-    text
 }
 
-/// Adds the entries for a state of the next machine: a frame's machine with its undefined transition filled.
-fn add_next_row(frame: &Frame, state: u8, text: &mut Text)
-    requires state { state < length frame.now.machine }
-    requires frame { IsFrame 0 frame.now }
+/// The text of a machine with this entry for a state and a symbol.
+pub(crate) fn filled_text(machine: &Machine, undefined: UndefinedEntry, entry: Entry) -> Text
+    requires state { undefined.state < length machine.now }
+    requires symbol { undefined.symbol < symbols_of machine.now }
+    ensures { IsEntryOf MAX_STATES MAX_SYMBOLS entry
+        → result.items ≡ text (with_entry machine.now undefined.state undefined.symbol entry) }
 {
-    add_bar(state, text);
-    let entry = frame.asked.entry(frame.next);
-    for symbol in 0..frame.machine.symbols() {
-        let undefined = frame.undefined;
-        add_entry(
-            entry_with(
-                &frame.machine,
-                undefined.state,
-                undefined.symbol,
-                entry,
-                state,
-                symbol,
-            ),
-            text,
-        );
-    }
+    let row = 3 * machine.symbols() as usize + 1;
+    let place = undefined.state as usize * row + 3 * undefined.symbol as usize;
+    let own = text_of(machine);
+    let (before, from) = own.as_slice().split_at(place);
+    let (_, after) = from.split_at(3);
+    let mut words: Text = ArrayVec::new();
+    append(before, &mut words);
+    append(&bytes_of(entry), &mut words);
+    append(after, &mut words);
+    words
 }
 
-/// Adds the separator before a state's entries.
-fn add_bar(state: u8, text: &mut Text) {
-    if state > 0 {
-        let _added = text.try_push(b'_');
-    }
+/// Appends bytes.
+pub(crate) fn append<const CAP: usize>(bytes: &[u8], words: &mut ArrayVec<u8, CAP>)
+    requires room { array_vec_len words.old + length bytes.now ≤ CAP }
+    ensures appended { words.new.items ≡ words.old.items ++ bytes.now }
+    ensures length { array_vec_len words.new ≡ array_vec_len words.old + length bytes.now }
+{
+    let _room = words.try_extend_from_slice(bytes);
 }
 
-/// Adds the three bytes of an entry.
-fn add_entry(entry: Entry, text: &mut Text) {
-    let bytes = match entry {
+/// The text of the machine of the same size with no entry.
+pub(crate) fn blank_text(machine: &Machine) -> Text
+    ensures { result.items ≡ text (blank_table (length machine.now) (symbols_of machine.now)) }
+{
+    machine.show_machine();
+    let own = text_of(machine);
+    let mut words = ArrayVec::new();
+    for byte in own.as_slice() {
+        words.push(if *byte == b'_' { b'_' } else { b'-' });
+    }
+    words
+}
+
+/// The three bytes of an entry.
+pub(crate) fn bytes_of(entry: Entry) -> [u8; 3]
+    ensures { IsEntryOf MAX_STATES MAX_SYMBOLS entry → result ≡ entry_text entry }
+{
+    match entry {
         Entry::Undefined => [b'-', b'-', b'-'],
         Entry::Go { write, dir, next } => [b'0'.wrapping_add(write), letter_of(dir), letter(next)],
-    };
-    let _added = text.try_extend_from_slice(&bytes);
+    }
 }
 
-fn letter_of(dir: Dir) -> u8 {
+fn letter_of(dir: Dir) -> u8
+    ensures { result ≡ dir_letter dir }
+{
     match dir {
         Dir::L => b'L',
         Dir::R => b'R',
     }
 }
 
-fn letter(next: Next) -> u8 {
+fn letter(next: Next) -> u8
+    ensures { IsNextOf MAX_STATES next → result ≡ next_letter next }
+{
     match next {
         Next::State(state) => b'A'.wrapping_add(state),
         Next::Halt => b'Z',

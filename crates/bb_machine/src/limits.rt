@@ -1,5 +1,5 @@
 //! The limits of a run and of a walk.
-ghost use Rattle.std.specs.Prelude.{◌≡◌, IfOk, IfErr};
+ghost use Rattle.std.specs.Prelude.{◌≡◌, ◌≤◌, IfOk, IfErr};
 
 use std::fmt;
 use std::fmt::{Display, Formatter};
@@ -103,6 +103,15 @@ impl Limits {
                 nodes: n,
             })
         }
+    }
+
+    /// These limits, but for the steps: as many, no more than before.
+    #[inline]
+    pub fn with_steps(&self, steps: u64) -> Limits
+        requires { steps ≤ self.now.steps }
+        ensures { result ≡ record self.now { steps = steps } }
+    {
+        Limits { steps, ..*self }
     }
 
     /// States the range of all limits, for proofs. It does nothing at run time.

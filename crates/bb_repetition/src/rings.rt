@@ -4,9 +4,8 @@ ghost use Rattle.bb_tree.specs.Path.{depth_of};
 ghost use Rattle.bb_repetition.specs.Tapes.{TapesHaveCells};
 
 use crate::recurrence::Tapes;
-use bb_cert::Path;
+use bb_cert::{Path, ring_pair};
 use bb_machine::Limits;
-use bb_run::ring_pair;
 use bb_tape::{Memory, RingTape, Tape};
 use std::alloc::Global;
 

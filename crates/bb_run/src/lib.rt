@@ -20,6 +20,6 @@ pub use cost::{CheckCost, LineCost, cost_of_check};
 pub use counts::{AnswerCounts, VerdictCounts};
 pub use deciding::{run_decide, run_decide_in_one_run};
 pub use reply_validation::{KindCounts, Mismatch, ReplyCheck, ReplyKind, validate_replies};
-pub use rings::{ring_bench, ring_pair};
+pub use rings::ring_bench;
 pub use summary::Summary;
 pub use tracing::{run_sampled_trace, run_trace};

@@ -1,10 +1,8 @@
 //! Rings for a whole list, made once: the only memory for deciding or checking a list.
 ghost use Rattle.std.specs.Prelude.{◌≡◌, IfOk};
-ghost use Rattle.bb_cert.specs.checker.Pair.{PairHasCells};
 ghost use Rattle.bb_tree.specs.Path.{depth_of};
 ghost use Rattle.bb_decide.specs.Bench.{BenchHasCells};
 
-use bb_cert::{Pair, Path};
 use bb_decide::Bench;
 use bb_machine::Limits;
 use bb_tape::{Memory, RingTape, Tape};
@@ -20,16 +18,4 @@ pub fn ring_bench(alloc: Global, limits: &Limits) -> Result<Bench<RingTape>, Mem
     let right = RingTape::new(alloc, cells)?;
     let left = RingTape::new(alloc, cells)?;
     Bench::new(alloc, run, right, left, limits)
-}
-
-/// Two rings and a path for claims under these limits.
-pub fn ring_pair(alloc: Global, limits: &Limits) -> Result<(Pair<RingTape>, Path), Memory>
-    ensures tapes { IfOk result (λ made. PairHasCells ⟦<RingTape as Tape>⟧.view limits.now.cells made.0) }
-    ensures path { IfOk result (λ made. depth_of made.1 ≡ limits.now.depth) }
-{
-    let cells = limits.cells();
-    let run = RingTape::new(alloc, cells)?;
-    let saved = RingTape::new(alloc, cells)?;
-    let path = Path::new(alloc, limits.depth())?;
-    Ok((Pair { run, saved }, path))
 }

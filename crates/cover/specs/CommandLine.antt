@@ -1,5 +1,5 @@
 -- The request of the program's words, and the reasons for refusing them: this project's own.
-use Rattle.std.specs.Prelude.{◌≡◌, ◌⊎◌, ℕ, Bool, false, true, List, [], ◌∷◌, Option, Some, None, codes, cond}
+use Rattle.std.specs.Prelude.{◌≡◌, ◌⊎◌, ℕ, Bool, true, List, [], ◌∷◌, Option, Some, None, codes, cond}
 use Rattle.std.specs.Prelude.{option_map}
 use Rattle.std.specs.String.{string_bytes}
 use Rattle.clap.specs.Simple.{new_shape}
@@ -23,8 +23,8 @@ text_rule name = record (new_rule name) { long = Some name; value_names = 1 }
 abbrev pub cells_rule : Rule
 cells_rule = by_default (codes "67108864") (number_rule (codes "cells"))
 
--- cover [--steps N] [--cells N] [--depth N] [--nodes N] [--below MACHINE] [--skeleton] [--assume FILE] [FILE];
--- a limit that isn't given is the greatest
+-- cover [--steps N] [--cells N] [--depth N] [--nodes N] [--below MACHINE] [--skeleton] [--assume FILE]
+-- [--lines] [FILE]; a limit that isn't given is the greatest
 abbrev pub command_line : App
 command_line = record {
   top = record (new_shape (codes "cover")) {
@@ -36,6 +36,7 @@ command_line = record {
         ∷ text_rule (codes "below")
         ∷ switch_rule (codes "skeleton")
         ∷ text_rule (codes "assume")
+        ∷ switch_rule (codes "lines")
         ∷ positional_rule (codes "file")
         ∷ [];
   };
@@ -54,7 +55,8 @@ IsBelow (Some given) None = ⊥
 IsBelow (Some given) (Some table) = IsMachine table × (text table ≡ given)
 
 -- the words are a command line, with the list of this file, the walk that it has to be, and the file of the
--- machines that are assumed never to halt, of which none is read yet
+-- machines that are assumed never to halt, of which none is read yet; with --lines the list is one of
+-- machines
 pub record IsAskedBy (words : List Text) (asked : Asked) : Type 0 where
   pub no_fault : fault_of command_line words ≡ []
   pub limits : asked.task.limits ≡ list_bounds (matches_of command_line words)
@@ -62,6 +64,7 @@ pub record IsAskedBy (words : List Text) (asked : Asked) : Type 0 where
   pub form : asked.task.form ≡ form_by (is_given (codes "skeleton") (matches_of command_line words))
   pub unread : asked.task.assumed.items ≡ []
   pub assume : option_map string_bytes asked.assume ≡ first_of (codes "assume") (matches_of command_line words)
+  pub lines : asked.lines ≡ is_given (codes "lines") (matches_of command_line words)
   pub file : option_map string_bytes asked.file ≡ first_of (codes "file") (matches_of command_line words)
 
 -- a text is given, and no machine has it: this is the column of its first error

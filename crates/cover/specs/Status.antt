@@ -18,6 +18,11 @@ abbrev pub end_status : Result Cover Fault → ℕ
 end_status (Ok cover) = found_status cover.found
 end_status (Err fault) = 3
 
+-- 0 after the lines of a list, 3 for a fault
+abbrev pub lines_status : Result (Unit {0}) Fault → ℕ
+lines_status (Ok done) = 0
+lines_status (Err fault) = 3
+
 -- that of a common stop; 2 where the machine is refused
 abbrev pub refusal_status : Refusal → ℕ
 refusal_status (Common stop) = stop_status stop

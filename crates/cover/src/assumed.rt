@@ -1,7 +1,7 @@
 //! The file of machines that are assumed never to halt.
-ghost use Rattle.std.specs.Prelude.{◌≡◌, ◌≢◌, ◌↔◌, ℕ, List, IfNone, IfOk, IfSome, false, map, true};
+ghost use Rattle.std.specs.Prelude.{◌≡◌, ◌≢◌, ◌↔◌, ℕ, List, IfErr, IfNone, IfOk, IfSome, false, map, true};
 ghost use Rattle.bb_lines.specs.Watched.{is_marked, watched_inner};
-ghost use Rattle.cover.specs.Assumption.{IsAssumption, ReadsAssumed};
+ghost use Rattle.cover.specs.Assumption.{IsAssumption, ReadsAssumed, ReadsWrong};
 
 use crate::report::machine_text;
 use bb_cert::LINE_BUFFER;
@@ -94,6 +94,8 @@ pub fn read_assumed<R: Read>(
     ensures texts { IfOk result (λ end. IfOk end (λ texts. ReadsAssumed
         (R.remaining (watched_inner reader.old)) (R.remaining (watched_inner reader.new))
         (map (λ one. one.items) texts.items))) }
+    ensures wrong { IfOk result (λ end. IfErr end (λ wrong. ReadsWrong
+        (R.remaining (watched_inner reader.old)) (R.remaining (watched_inner reader.new)) wrong.number)) }
     ensures read { (result ≡ Err Fault.Read) ↔ (is_marked reader.new ≡ true) }
     ensures no_write { result ≢ Err Fault.Write }
 {

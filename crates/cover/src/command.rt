@@ -12,7 +12,9 @@ ghost use Rattle.cover.specs.CommandLine.{IsTextRefused, cells_rule};
 ghost use Rattle.cover.specs.Status.{refusal_status};
 
 use bb_command::Stop;
-use bb_command::options::{has_option, limit, list_file, positional, stop_of, switch, value};
+use bb_command::options::{
+    VERSION, has_option, limit, list_file, positional, stop_of, switch, value,
+};
 use bb_cover::{Form, Task};
 use bb_machine::{Limits, Machine, Refused};
 use clap::{Arg, ArgMatches, Command};
@@ -25,6 +27,8 @@ pub struct Asked {
     pub task: Task,
     /// The file of machines that are assumed never to halt, if any.
     pub assume: Option<String>,
+    /// Whether the list is one of machines, and their lines are printed.
+    pub lines: bool,
     /// The list's file; standard input if none.
     pub file: Option<String>,
 }
@@ -83,6 +87,7 @@ pub fn ask(alloc: Global, words: &[&str]) -> Result<Asked, Refusal>
     };
     let form = form_of(&matches);
     let assume = assume_file(alloc, &matches)?;
+    let lines = has_option(&matches, "lines");
     let file = list_file(alloc, &matches)?;
     Ok(Asked {
         task: Task {
@@ -92,6 +97,7 @@ pub fn ask(alloc: Global, words: &[&str]) -> Result<Asked, Refusal>
             assumed: Vec::new(alloc),
         },
         assume,
+        lines,
         file,
     })
 }
@@ -121,14 +127,20 @@ of a halt, and how many lines are open. Then each machine of the size halts, at
 most a step later, never halts, or completes an open one, perhaps mirrored or
 renamed first. Otherwise the line names the first wrong line, and the reason.
 
-With --assume the undecided lines of the machines in FILE, lines MACHINE nonhalt,
-are counted as assumed, and not as open: the bound is then given that these
-never halt. Machines inside shards aren't seen.
+With --assume the undecided lines of the machines in FILE, lines MACHINE
+nonhalt, are counted as assumed, and not as open: the bound is then given that
+these never halt. Machines inside shards aren't seen.
 
 With --below the walk begins at MACHINE: the list is a shard. A skeleton has in
 place of a shard's lines one line, MACHINE below N U G SHA256: its lines, those
 undecided, those of them with more than one ---, and the digest of its file,
 which isn't read.
+
+With --lines the input has a machine on each line, and the output tells its line
+in every list of its size made with the same --steps, which must be given:
+  MACHINE line LINE same|mirror STATES SYMBOLS runs|halt STEPS SCORE ENTRY
+STATES and SYMBOLS are the machine's names of the line's states and symbols, and
+ENTRY is the machine's own where its line halts on ---.
 
 2 times the depth, less 1, must be at most the cells.
 
@@ -150,6 +162,11 @@ fn program<'a>(alloc: Global) -> Result<Command<'a>, AllocError>
             "Takes lines for shards, and adds up their counts",
         ))?
         .arg(assume(alloc))?
+        .arg(switch(
+            alloc,
+            "lines",
+            "Reads machines, and prints the line of each in a list",
+        ))?
         .arg(positional(
             alloc,
             "file",
@@ -166,7 +183,7 @@ fn base_command<'a>(alloc: Global) -> Command<'a>
     Command::new(alloc, "cover")
         .about("Whether a list of verdicts settles every machine of a size")
         .after_help(ABOUT)
-        .version("0.2.0")
+        .version(VERSION)
 }
 
 /// The limit of cells, by default the greatest.

@@ -3,7 +3,7 @@
 #![tactic(auto)]
 
 ghost use Rattle.std.specs.Prelude.{◌≡◌};
-ghost use Rattle.cover.specs.Status.{IsRefusalStatus, IsReportStatus};
+ghost use Rattle.cover.specs.Status.{IsRefusalStatus, IsReportStatus, lines_status};
 
 mod assumed;
 mod command;
@@ -15,12 +15,12 @@ use bb_cover::Cover;
 use bb_lines::fault::Fault;
 use bb_lines::watched::Watched;
 use bb_terminal::arguments::{read_arguments, words_of};
-use bb_terminal::failures::{open_list, report_fault, report_stop};
+use bb_terminal::failures::{is_output_kept, open_list, report_fault, report_stop};
 use bb_terminal::progress::Progress;
 use bb_terminal::streams::Observed;
 use command::{Asked, Refusal, ask};
 use report::{LineCount, MachineText, write_report};
-use serve::{cover_list, status};
+use serve::{cover_list, lines_status, list_lines, status};
 use std::cell::Cell;
 use std::io;
 use std::io::{IsTerminal, Read};
@@ -31,6 +31,7 @@ const PROGRAM: &str = "cover";
 
 fn main(rt: HostRuntime) -> ExitCode {
     let status = match parse_request(&rt) {
+        Ok(asked) if asked.lines => answer_machines(&rt, &asked),
         Ok(mut asked) => match assume_machines(&rt, &mut asked) {
             Ok(()) => answer_request(&rt, &asked),
             Err(status) => status,
@@ -87,6 +88,66 @@ fn answer_request(rt: &HostRuntime, asked: &Asked) -> u8 {
         None => cover_input(rt, asked, None, rt.stdin(), &seen),
     };
     report_end(rt, asked, &end, error.as_ref())
+}
+
+/// Replies to the machines of a list with their lines, and returns the exit status.
+fn answer_machines(rt: &HostRuntime, asked: &Asked) -> u8 {
+    let seen = Cell::new(0);
+    let (end, error) = match &asked.file {
+        Some(file) => match open_list(rt, file) {
+            Ok((file, size)) => reply_to_machines(rt, asked, size, file, &seen),
+            Err(error) => (Err(Fault::Read), Some(error)),
+        },
+        None => reply_to_machines(rt, asked, None, rt.stdin(), &seen),
+    };
+    report_lines_end(rt, asked, &end, error.as_ref())
+}
+
+/// Reports a fault, and returns the exit status.
+fn report_lines_end(
+    rt: &HostRuntime,
+    asked: &Asked,
+    end: &Result<(), Fault>,
+    error: Option<&io::Error>,
+) -> u8
+    ensures { result ≡ lines_status end.now }
+{
+    match end {
+        Ok(()) => lines_status(end),
+        Err(fault) => report_list_fault(rt, asked, *fault, error),
+    }
+}
+
+/// Replies to the machines of a list of `size` bytes, if known, and shows the progress. Returns the result
+/// with the error behind a fault, if any.
+fn reply_to_machines<R: Read + Drop>(
+    rt: &HostRuntime,
+    asked: &Asked,
+    size: Option<u64>,
+    input: R,
+    seen: &Cell<u64>,
+) -> (Result<(), Fault>, Option<io::Error>) {
+    let progress = if rt.stderr().is_terminal() && is_output_kept(rt) {
+        Some(Progress::new(rt, LineCount { seen }, size))
+    } else {
+        None
+    };
+    let shown = progress.as_ref();
+    let mut reader = Watched::new(Observed::new(input, shown));
+    let mut writer = Watched::new(Observed::new(rt.stdout(), shown));
+    let limits = &asked.task.limits;
+    let end = list_lines(rt.alloc(), limits, &mut reader, &mut writer, seen);
+    if let Some(progress) = shown {
+        progress.end();
+    }
+    let read_error = reader.into_inner().into_error();
+    let write_error = writer.into_inner().into_error();
+    let error = match &end {
+        Err(Fault::Read) => read_error,
+        Err(Fault::Write) => write_error,
+        _ => None,
+    };
+    (end, error)
 }
 
 /// Prints the line for a result, or reports a fault, and returns the exit status.

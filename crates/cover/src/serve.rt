@@ -1,20 +1,20 @@
 //! Walks along a list on rings of its own, and returns the result.
-ghost use Rattle.std.specs.Prelude.{◌≡◌, ◌≢◌, ◌↔◌, ◌⊎◌, IfOk, false, true};
-ghost use Rattle.bb_cert.specs.checker.Pair.{PairHasCells};
-ghost use Rattle.bb_tree.specs.Path.{depth_of};
+ghost use Rattle.std.specs.Prelude.{◌≡◌, ◌≢◌, ◌↔◌, ◌⊎◌, false, true};
 ghost use Rattle.bb_lines.specs.Watched.{is_marked, watched_inner};
 ghost use Rattle.bb_cover.specs.Covering.{CoverEnds};
-ghost use Rattle.cover.specs.Status.{end_status};
+ghost use Rattle.bb_cover.specs.LineEnds.{LineEnds};
+ghost use Rattle.bb_terminal.specs.NotBegun.{IsNotBegun};
+ghost use Rattle.cover.specs.Status.{end_status, lines_status};
 
-use bb_cert::{Pair, Path};
-use bb_cover::{Cover, Found, Task, run_cover};
+use bb_cert::ring_pair;
+use bb_cover::{Cover, Found, Task, run_cover, run_lines};
 use bb_lines::fault::Fault;
 use bb_lines::watched::Watched;
 use bb_machine::Limits;
-use bb_tape::{Memory, RingTape, Tape};
+use bb_tape::RingTape;
 use std::alloc::Global;
 use std::cell::Cell;
-use std::io::Read;
+use std::io::{Read, Write};
 
 /// The result of a walk along a list, on rings and a path of its own, allocated once. It is that of
 /// `run_cover`, or an allocation failure before the first read.
@@ -37,16 +37,43 @@ pub fn cover_list<R: Read>(
     }
 }
 
-/// Two rings and a path for claims under these limits.
-fn ring_pair(alloc: Global, limits: &Limits) -> Result<(Pair<RingTape>, Path), Memory>
-    ensures tapes { IfOk result (λ made. PairHasCells ⟦<RingTape as Tape>⟧.view limits.now.cells made.0) }
-    ensures path { IfOk result (λ made. depth_of made.1 ≡ limits.now.depth) }
+/// Replies to the machines of a list with their lines, on a ring of its own, allocated once.
+pub fn list_lines<R: Read, W: Write>(
+    alloc: Global,
+    limits: &Limits,
+    reader: &mut Watched<R>,
+    writer: &mut Watched<W>,
+    seen: &Cell<u64>,
+) -> Result<(), Fault>
+    requires reader { is_marked reader.old ≡ false }
+    requires writer { is_marked writer.old ≡ false }
+
+    // The result of the run, the input read and the output written; or an allocation failure before it
+    // started.
+    ensures ends { LineEnds limits.now
+        (R.remaining (watched_inner reader.old)) (R.remaining (watched_inner reader.new))
+        (W.contents (watched_inner writer.old)) (W.contents (watched_inner writer.new)) result
+        ⊎ IsNotBegun
+        (R.remaining (watched_inner reader.old)) (R.remaining (watched_inner reader.new))
+        (W.contents (watched_inner writer.old)) (W.contents (watched_inner writer.new)) result }
+
+    ensures read { (result ≡ Err Fault.Read) ↔ (is_marked reader.new ≡ true) }
+    ensures write { (result ≡ Err Fault.Write) ↔ (is_marked writer.new ≡ true) }
 {
-    let cells = limits.cells();
-    let run = RingTape::new(alloc, cells)?;
-    let saved = RingTape::new(alloc, cells)?;
-    let path = Path::new(alloc, limits.depth())?;
-    Ok((Pair { run, saved }, path))
+    let Ok(mut tape) = RingTape::new(alloc, limits.cells()) else {
+        return Err(Fault::Memory);
+    };
+    run_lines(reader, writer, limits, &mut tape, seen)
+}
+
+/// The exit status after the lines of a list: 0, or 3 for a fault.
+pub fn lines_status(end: &Result<(), Fault>) -> u8
+    ensures { result ≡ lines_status end.now }
+{
+    match end {
+        Ok(()) => 0,
+        Err(_) => 3,
+    }
 }
 
 /// The program's exit status: 0 if the list covers its size, 1 if it doesn't, 3 for a fault.

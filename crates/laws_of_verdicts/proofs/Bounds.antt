@@ -1,7 +1,7 @@
 -- Why a list that covers a size bounds the halts of its machines.
-use Rattle.std.proofs.Common.{◌≡◌, ℕ, ◌+◌, ◌≤◌, List, length, inl, inr, refl, sym, subst, arith}
+use Rattle.std.proofs.Common.{◌≡◌, ℕ, ◌+◌, List, inl, inr, refl, arith}
 use Rattle.std.specs.Prelude.{◌⊎◌, Bool, true, false, IsTrue}
-use Rattle.bb_machine.specs.Machine.{Table, IsMachine, symbols_of}
+use Rattle.bb_machine.specs.Machine.{Table, IsMachine}
 use Rattle.bb_sim.specs.Run.{Never}
 use Rattle.laws_of_verdicts.specs.Bound.{CoversBound, CoversBoundGiven, HaltsWithin, IsLeftOpenBeside, TellsAtMost}
 use Rattle.laws_of_verdicts.specs.Closed.{HaltsSoon, IsClosed, IsLeftOpen, VerdictLine}

@@ -9,7 +9,8 @@ use Rattle.bb_machine.specs.declared.entry.Next.{Next}
 use Rattle.bb_machine.specs.declared.entry.Next.TheVariants.{State, Halt}
 use Rattle.bb_machine.specs.Machine.{Table, IsMachine, entry_of, symbols_of}
 use Rattle.bb_sim.specs.Run.{Never}
-use Rattle.laws_of_verdicts.specs.Change.{Change, IsChanged, Renaming, changed_entry, changed_next, turned}
+use Rattle.laws_of_verdicts.specs.Change.{Change, IsChanged, Renaming, changed_entry, changed_next, either}
+use Rattle.laws_of_verdicts.specs.Change.{turned}
 use Rattle.laws_of_verdicts.specs.Closed.{with_entry}
 use Rattle.laws_of_verdicts.specs.UndefinedEntry.{HaltsOnUndefined, HasOtherUndefined}
 use Rattle.laws_of_verdicts.proofs.ChangedRuns.{back, changed_back, cell_at, conf_image, image_of}
@@ -26,12 +27,6 @@ both_names a b = record {
   old_of_new = λ n. ap a.old (b.old_of_new (a.new n)) ∙ a.old_of_new n;
   new_of_old = λ n. ap b.new (a.new_of_old (b.old n)) ∙ b.new_of_old n;
 }
-
--- swapped by one of them
-abbrev either : Bool → Bool → Bool
-either false n = n
-either true false = true
-either true true = false
 
 abbrev pub composed : Change → Change → Change
 composed a b = record {

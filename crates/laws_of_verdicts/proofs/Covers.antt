@@ -2,7 +2,6 @@
 use Rattle.std.proofs.Common.{◌≡◌, ℕ, zero, suc, ◌+◌, ◌<◌, ◌≤◌, List, length, inl, inr, refl, ap₂, sym}
 use Rattle.std.proofs.Common.{subst, replicate, ◌∙◌, arith}
 use Rattle.std.specs.Prelude.{◌⊎◌}
-use Rattle.std.specs.List.{AllByRecursion}
 use Rattle.std.proofs.lemmas.List.{length-replicate}
 use Rattle.std.proofs.lemmas.Bool.{cases_eq}
 use Rattle.bb_machine.specs.declared.entry.Dir.{Dir}
@@ -10,7 +9,7 @@ use Rattle.bb_machine.specs.declared.entry.Entry.{Entry}
 use Rattle.bb_machine.specs.declared.entry.Entry.TheVariants.{Undefined, Go}
 use Rattle.bb_machine.specs.declared.entry.Next.TheVariants as to
 use Rattle.bb_machine.specs.Entry.{IsEntryOf}
-use Rattle.bb_machine.specs.Machine.{Table, IsGroup, IsMachine, entry_of, symbols_of}
+use Rattle.bb_machine.specs.Machine.{Table, IsMachine, entry_of, symbols_of}
 use Rattle.bb_machine.proofs.Facts.{entry_named}
 use Rattle.bb_sim.specs.Run.{IsScore, Never}
 use Rattle.bb_cert.specs.declared.verdict.Verdict.{Verdict}
@@ -28,7 +27,8 @@ use Rattle.laws_of_verdicts.proofs.ChangedRuns.{changed_back, conf_image, turned
 use Rattle.laws_of_verdicts.proofs.Completions.{completions_never_halt}
 use Rattle.laws_of_verdicts.proofs.Composed.{composed, filled_changed, undefined_changed, is_composed}
 use Rattle.laws_of_verdicts.proofs.Composed.{never_changed, no_Z_before, other_undefined_changed}
-use Rattle.laws_of_verdicts.proofs.Fillings.{HasNoZ, blank_table-none, entry-either, undefined_entries}
+use Rattle.laws_of_verdicts.proofs.Fillings.{HasNoZ, blank_machine, blank_table-none, entry-either, symbols_of_blank}
+use Rattle.laws_of_verdicts.proofs.Fillings.{undefined_entries}
 use Rattle.laws_of_verdicts.proofs.Fillings.{undefined_entries-with_entry, length-with_entry, machine-with_entry}
 use Rattle.laws_of_verdicts.proofs.Fillings.{no_Z-with_entry, other_undefined, some_undefined, symbols_of-with_entry}
 use Rattle.laws_of_verdicts.proofs.UndefinedHalts.{HaltsInTable, full_never_halts, halts_next, halts_on_undefined}
@@ -44,7 +44,7 @@ record Stage (lines : List VerdictLine) (machine table : Table) : Type 0 where
   no_Z : HasNoZ table
 
 -- a completion has the entry that fills a gap
-still_completes : (table machine : Table) → IsMachine table → IsCompletion table machine → (q s : ℕ)
+pub still_completes : (table machine : Table) → IsMachine table → IsCompletion table machine → (q s : ℕ)
     (entry : Entry) → q < length table → s < symbols_of table → entry_of machine q s ≡ entry
     → IsCompletion (with_entry table q s entry) machine
 still_completes table machine is completes q s entry below inside e = record {
@@ -239,36 +239,17 @@ walk lines closed machine is (suc count) table e stage =
 
 -- the machine with no entry
 
-all_of_replicate : {X : Type 0} (P : X → Type 0) (n : ℕ) (x : X) → P x → AllByRecursion P (replicate n x)
-all_of_replicate P zero x here = tt
-all_of_replicate P (suc n) x here = (here, all_of_replicate P n x here)
-
-symbols_of_undefined_entries : (n k : ℕ) → 0 < n → symbols_of (blank_table n k) ≡ k
-symbols_of_undefined_entries zero k some = absurd (omega arith)
-symbols_of_undefined_entries (suc n) k some = length-replicate k Undefined
-
 first_stage : (lines : List VerdictLine) (machine : Table) → IsMachine machine
     → HasMachine lines (blank_table (length machine) (symbols_of machine))
     → Stage lines machine (blank_table (length machine) (symbols_of machine))
 first_stage lines machine is has =
     let n = length machine in
     let k = symbols_of machine in
-    let states : length (blank_table n k) ≡ n = length-replicate n (replicate k Undefined) in
-    let symbols = symbols_of_undefined_entries n k is.some_state in
     record {
       of_list = has;
-      is_machine = record {
-        some_state = rw states is.some_state;
-        states = rw states is.states;
-        two_symbols = rw symbols is.two_symbols;
-        symbols = rw symbols is.symbols;
-        groups = rw (states, symbols) (all_of_replicate (IsGroup n k) n (replicate k Undefined) (record {
-          full = length-replicate k Undefined;
-          entries = all_of_replicate (IsEntryOf n k) k Undefined tt;
-        }));
-      };
-      states = states;
-      symbols = symbols;
+      is_machine = blank_machine machine is;
+      states = length-replicate n (replicate k Undefined);
+      symbols = symbols_of_blank n k is.some_state;
       completes = record { kept = λ q s some. absurd (some (blank_table-none n k q s)) };
       no_Z = record { none = λ q s write dir e. let none = blank_table-none n k q s in cc (e, none) };
     }

@@ -4,7 +4,7 @@ use Rattle.std.proofs.Common.{replicate, refl, ap, ap₂, sym, ◌∙◌, arith}
 use Rattle.std.specs.Prelude.{◌⊎◌}
 use Rattle.std.specs.List.{AllByRecursion}
 use Rattle.std.proofs.lemmas.Bool.{cases_eq}
-use Rattle.std.proofs.lemmas.List.{length-set, get_or-set_same, get_or-set_other}
+use Rattle.std.proofs.lemmas.List.{length-replicate, length-set, get_or-set_same, get_or-set_other}
 use Rattle.std.proofs.lemmas.List.Elements.{All-from_recursion}
 use Rattle.bb_machine.specs.declared.entry.Dir.TheVariants.{L}
 use Rattle.bb_machine.specs.declared.entry.Entry.{Entry}
@@ -226,3 +226,29 @@ blank_table-none (suc n) k zero s = none k s where
   none (suc k) zero = refl
   none (suc k) (suc s) = none k s
 blank_table-none (suc n) k (suc q) s = blank_table-none n k q s
+
+all_of_replicate : {X : Type 0} (P : X → Type 0) (n : ℕ) (x : X) → P x → AllByRecursion P (replicate n x)
+all_of_replicate P zero x here = tt
+all_of_replicate P (suc n) x here = (here, all_of_replicate P n x here)
+
+pub symbols_of_blank : (n k : ℕ) → 0 < n → symbols_of (blank_table n k) ≡ k
+symbols_of_blank zero k some = absurd (omega arith)
+symbols_of_blank (suc n) k some = length-replicate k Undefined
+
+pub blank_machine : (machine : Table) → IsMachine machine
+    → IsMachine (blank_table (length machine) (symbols_of machine))
+blank_machine machine is =
+    let n = length machine in
+    let k = symbols_of machine in
+    let states : length (blank_table n k) ≡ n = length-replicate n (replicate k Undefined) in
+    let symbols = symbols_of_blank n k is.some_state in
+    record {
+      some_state = rw states is.some_state;
+      states = rw states is.states;
+      two_symbols = rw symbols is.two_symbols;
+      symbols = rw symbols is.symbols;
+      groups = rw (states, symbols) (all_of_replicate (IsGroup n k) n (replicate k Undefined) (record {
+        full = length-replicate k Undefined;
+        entries = all_of_replicate (IsEntryOf n k) k Undefined tt;
+      }));
+    }

@@ -12,6 +12,7 @@ mod Fillings
 mod Found
 mod UndefinedHalts
 mod LaterSteps
+mod LinesOf
 mod NormalForms
 mod Sums
 mod Walks

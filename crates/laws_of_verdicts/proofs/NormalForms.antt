@@ -1,5 +1,5 @@
 -- Why a list in tree normal form is closed: states and symbols that a machine doesn't use can be swapped.
-use Rattle.std.proofs.Common.{◌≡◌, ◌≢◌, ◌↔◌, ℕ, ◌<◌, min, Bool, true, false, cond, nat_eq, List}
+use Rattle.std.proofs.Common.{◌≡◌, ◌≢◌, ◌↔◌, ℕ, ◌<◌, min, Bool, true, false, List}
 use Rattle.std.proofs.Common.{Some, length, ℤ, inl, inr, refl, ap, ap₂, sym, subst, ◌∙◌, arith}
 use Rattle.std.specs.Prelude.{◌⊎◌}
 use Rattle.std.proofs.lemmas.Bool.Decides.{nat_tests}
@@ -16,7 +16,8 @@ use Rattle.bb_tape.proofs.Facts.{by_position, cell-blank, cell-with_cell-other, 
 use Rattle.bb_sim.specs.Configuration.{Configuration, start, followed, entry_at, next}
 use Rattle.bb_sim.specs.Run.{conf}
 use Rattle.bb_sim.proofs.Facts.{led, run_named}
-use Rattle.laws_of_verdicts.specs.Change.{Change, IsChanged, Renaming, changed_entry, changed_next, turned}
+use Rattle.laws_of_verdicts.specs.Change.{Change, IsChanged, Renaming, changed_entry, changed_next, swapped}
+use Rattle.laws_of_verdicts.specs.Change.{turned}
 use Rattle.laws_of_verdicts.specs.Closed.{HasMachine, VerdictLine, blank_table, with_entry}
 use Rattle.laws_of_verdicts.specs.UndefinedEntry.{HaltsOnUndefined}
 use Rattle.laws_of_verdicts.specs.NormalForm.{Asks, IsEmpty, Lists, NormalFormCovers}
@@ -61,30 +62,27 @@ module _ (table : Table) (states symbols : ℕ) (uses : UsesFirst table states s
   run_within = along table (IsWithin states symbols) start_within (λ c d leads before.
       followed_within c d _ (entry_within c.state (cell c.tape c.head)) before leads)
 
-  undefined_within : (n q s : ℕ) → HaltsOnUndefined table n q s → (q < states) × (s < symbols)
+  pub undefined_within : (n q s : ℕ) → HaltsOnUndefined table n q s → (q < states) × (s < symbols)
   undefined_within n q s undefined =
       let within = run_within n undefined.last undefined.exists in
       (subst (IsNextOf states) undefined.in_state within.state, omega (arith, within.cells undefined.last.head))
 
 -- two names swapped
 
-abbrev swapped : ℕ → ℕ → ℕ → ℕ
-swapped a b x = cond (nat_eq x a) b (cond (nat_eq x b) a x)
-
-swapped-twice : (a b x : ℕ) → swapped a b (swapped a b x) ≡ x
+pub swapped-twice : (a b x : ℕ) → swapped a b (swapped a b x) ≡ x
 swapped-twice a b x = grind (arith, nat_tests)
 
-swapped-first : (a b : ℕ) → swapped a b a ≡ b
+pub swapped-first : (a b : ℕ) → swapped a b a ≡ b
 swapped-first a b = grind (arith, nat_tests)
 
 swapped-below : (a b m x : ℕ) → a < m → b < m → x < m → swapped a b x < m
 swapped-below a b m x below below_too less = grind (arith, nat_tests)
 
 -- where both are unused, or one the other, all that are used keep their names
-swapped-used : (x m y : ℕ) → y < m → swapped (min x m) x y ≡ y
+pub swapped-used : (x m y : ℕ) → y < m → swapped (min x m) x y ≡ y
 swapped-used x m y less = grind (arith, nat_tests)
 
-abbrev swap : ℕ → ℕ → Renaming
+abbrev pub swap : ℕ → ℕ → Renaming
 swap a b = record {
   new = swapped a b;
   old = swapped a b;
@@ -96,7 +94,7 @@ swap a b = record {
 module _ (table : Table) (states symbols : ℕ) (uses : UsesFirst table states symbols) (write t : ℕ)
     (small : write < symbols_of table) (low : t < length table) (mirrored : Bool)
     (unseen : (mirrored ≡ false) ⊎ IsEmpty table) where
-  abbrev change : Change
+  abbrev pub change : Change
   change = record {
     mirrored = mirrored;
     states = swap (min t states) t;
@@ -178,7 +176,7 @@ module _ (table : Table) (states symbols : ℕ) (uses : UsesFirst table states s
 
   module _ (machine : IsMachine table) (q s : ℕ) (used : (q < states) × (s < symbols))
       (named : (q < length table) × (s < symbols_of table)) (move : Dir) where
-    filled : IsChanged change
+    pub filled : IsChanged change
         (with_entry table q s (Go (min write symbols) move (to.State (min t states))))
         (with_entry table q s (Go write (turned mirrored move) (to.State t)))
     filled =
@@ -204,7 +202,7 @@ module _ (table : Table) (states symbols : ℕ) (uses : UsesFirst table states s
     }
 
 -- the state and symbol where a machine halts are its own
-undefined_named : (table : Table) → IsMachine table → (n q s : ℕ) → HaltsOnUndefined table n q s
+pub undefined_named : (table : Table) → IsMachine table → (n q s : ℕ) → HaltsOnUndefined table n q s
     → (q < length table) × (s < symbols_of table)
 undefined_named table machine n q s undefined =
     let named = run_named table machine n undefined.last undefined.exists in
@@ -242,7 +240,7 @@ entry_same Undefined = refl
 entry_same (Go write move (to.State q)) = refl
 entry_same (Go write move to.Halt) = refl
 
-same_machine : (table : Table) → IsChanged unchanged table table
+pub same_machine : (table : Table) → IsChanged unchanged table table
 same_machine table = record {
   states = refl;
   symbols = refl;

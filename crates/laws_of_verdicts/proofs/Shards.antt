@@ -1,5 +1,5 @@
 -- Why walks compose.
-use Rattle.std.proofs.Common.{◌≡◌, List, [], ◌∷◌, ◌++◌, refl, ap, sym, subst, ◌∙◌, ◌↔◌, append_assoc}
+use Rattle.std.proofs.Common.{List, [], ◌∷◌, ◌++◌, refl, ap, sym, subst, append_assoc}
 use Rattle.bb_machine.specs.Machine.{Table}
 use Rattle.laws_of_verdicts.specs.Closed.{VerdictLine}
 use Rattle.laws_of_verdicts.specs.Walk.{AreTwoWalks, IsWalk, WalksCompose}

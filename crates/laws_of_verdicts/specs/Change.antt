@@ -1,6 +1,6 @@
 -- Changes of a machine that preserve its behaviour: left and right swapped, its states renamed, its symbols
 -- renamed. These notions are this project's own.
-use Rattle.std.specs.Prelude.{◌≡◌, ℕ, ◌<◌, ◌↔◌, Bool, true, false, length}
+use Rattle.std.specs.Prelude.{◌≡◌, ℕ, ◌<◌, ◌↔◌, Bool, true, false, cond, length, nat_eq}
 use Rattle.bb_machine.specs.declared.entry.Dir.{Dir}
 use Rattle.bb_machine.specs.declared.entry.Dir.TheVariants as dir
 use Rattle.bb_machine.specs.declared.entry.Entry.{Entry}
@@ -26,6 +26,10 @@ pub record Renaming : Type 0 where
   pub old_of_new : (n : ℕ) → old (new n) ≡ n
   pub new_of_old : (n : ℕ) → new (old n) ≡ n
 
+-- two names swapped, all others kept
+abbrev pub swapped : ℕ → ℕ → ℕ → ℕ
+swapped a b x = cond (nat_eq x a) b (cond (nat_eq x b) a x)
+
 -- left and right swapped or not, the states renamed, the symbols renamed; A stays A, 0 stays 0, Z stays Z
 pub record Change : Type 0 where
   pub mirrored : Bool
@@ -45,6 +49,12 @@ abbrev pub turned_side : Bool → Side → Side
 turned_side false on = on
 turned_side true side.L = side.R
 turned_side true side.R = side.L
+
+-- whether just one of two is true
+abbrev pub either : Bool → Bool → Bool
+either false other = other
+either true false = true
+either true true = false
 
 abbrev pub changed_next : Change → Next → Next
 changed_next change (next.State q) = next.State (change.states.new q)

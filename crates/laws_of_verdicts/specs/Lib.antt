@@ -6,5 +6,6 @@ pub mod EveryStart
 pub mod Found
 pub mod UndefinedEntry
 pub mod LaterSteps
+pub mod LineOf
 pub mod NormalForm
 pub mod Walk

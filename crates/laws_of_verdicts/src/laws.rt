@@ -7,6 +7,7 @@ ghost use Rattle.laws_of_verdicts.specs.Completion.{CompletionsKeepVerdicts, Com
 ghost use Rattle.laws_of_verdicts.specs.EveryStart.{EveryStartHaltsSoonOrNever};
 ghost use Rattle.laws_of_verdicts.specs.Found.{CyclersAreFound};
 ghost use Rattle.laws_of_verdicts.specs.UndefinedEntry.{FilledEntriesHaltNext, UndefinedEntriesKeepHalts};
+ghost use Rattle.laws_of_verdicts.specs.LineOf.{LinesKeepAnswers, LinesKeepPairs, LinesSettle};
 ghost use Rattle.laws_of_verdicts.specs.LaterSteps.{CyclersComeAgain, TranslatedCyclersMoveOn};
 ghost use Rattle.laws_of_verdicts.specs.NormalForm.{NormalFormCovers};
 ghost use Rattle.laws_of_verdicts.specs.Walk.{WalksAreInNormalForm, WalksCompose};
@@ -98,4 +99,13 @@ pub fn walks_compose()
 /// the steps of the claim at most.
 pub fn cyclers_are_found()
     ensures { CyclersAreFound }
+{}
+
+/// A true verdict on a machine's line settles the machine. A pair, and the checker's `ok` to it, are the
+/// machine's own, but for the side of a translated cycler. A halt is the machine's, or one step later, or the
+/// machine never halts.
+pub fn lines_settle()
+    ensures settle { LinesSettle }
+    ensures pair { LinesKeepPairs }
+    ensures answer { LinesKeepAnswers }
 {}

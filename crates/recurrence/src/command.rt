@@ -7,7 +7,7 @@ ghost use Rattle.recurrence.specs.CommandLine.{IsAskedBy, IsStopOf, command_line
 
 use bb_command::Stop;
 use bb_command::options::{
-    cells, has_option, list_file, positional, steps, stop_of, switch, value,
+    VERSION, cells, has_option, list_file, positional, steps, stop_of, switch, value,
 };
 use bb_machine::Limits;
 use clap::{ArgMatches, Command};
@@ -98,7 +98,7 @@ fn base_command<'a>(alloc: Global) -> Command<'a>
     Command::new(alloc, "recurrence")
         .about("The exact start, period, shift and last uses of machines that repeat for ever")
         .after_help(ABOUT)
-        .version("0.2.0")
+        .version(VERSION)
 }
 
 /// The limits, if they are accepted. A pair has no tree.

@@ -102,18 +102,18 @@ fn begins_text(bytes: &[u8], states: usize, symbols: usize) -> bool
     true
 }
 
-/// Whether a byte is the digit of one of so many symbols.
+/// Whether a byte is the digit of one of so many symbols, at most ten.
 fn is_symbol(byte: u8, symbols: usize) -> bool {
-    byte.is_ascii_digit() && (byte.wrapping_sub(b'0') as usize) < symbols
+    b'0' <= byte && ((byte - b'0') as usize) < symbols
 }
 
 fn is_side(byte: u8) -> bool {
     byte == b'L' || byte == b'R'
 }
 
-/// Whether a byte is the letter of one of so many states, or of the halting one.
+/// Whether a byte is the letter of one of so many states, at most 25, or of the halting one.
 fn is_next(byte: u8, states: usize) -> bool {
-    byte == b'Z' || byte.is_ascii_uppercase() && (byte.wrapping_sub(b'A') as usize) < states
+    byte == b'Z' || b'A' <= byte && ((byte - b'A') as usize) < states
 }
 
 /// Whether the text of an entry within so many states and symbols starts with the bytes.
@@ -211,93 +211,34 @@ fn larger_machines_are_refused(rt: HostRuntime) -> Result<(), Fail> {
     Ok(())
 }
 
-/// The entry with a 1, a halt and a move to the right.
-const TO_HALT: Entry = Entry::Go {
-    write: 1,
-    dir: Dir::R,
-    next: Next::Halt,
-};
-
-/// A state, a symbol, and their entry.
-type Row = (u8, u8, Entry);
-
-/// Of the five-state champion.
-static ENTRIES: [Row; 2] = [
-    (
-        0,
-        1,
-        Entry::Go {
-            write: 1,
-            dir: Dir::L,
-            next: Next::State(2),
-        },
-    ),
-    (4, 0, TO_HALT),
-];
-
-/// Of the machine `1RB2LB1RZ_2LA2RB1LB`.
-static ENTRIES_OF_THREE_SYMBOLS: [Row; 2] = [
-    (0, 2, TO_HALT),
-    (
-        1,
-        1,
-        Entry::Go {
-            write: 2,
-            dir: Dir::R,
-            next: Next::State(1),
-        },
-    ),
-];
-
-/// A state and a symbol of the five-state champion, and its step; none for the halt.
-static STEPS: [(u8, u8, Option<Step>); 2] = [
-    (
-        0,
-        1,
-        Some(Step {
-            write: 1,
-            offset: -1,
-            state: 2,
-        }),
-    ),
-    (4, 0, None),
-];
-
-/// Reads a machine with so many states and symbols.
-fn sized(rt: &impl Abort, line: &[u8], states: u8, symbols: u8) -> Result<Machine, Fail> {
-    let machine = Machine::read(line)?;
-    assert_eq!(rt; (machine.states(), machine.symbols()), (states, symbols));
-    Ok(machine)
-}
-
-/// Holds the entries of a machine against rows.
-fn has_entries(rt: &impl Abort, machine: &Machine, rows: &[Row]) {
-    for (state, symbol, entry) in rows {
-        assert!(rt; *state < machine.states() && *symbol < machine.symbols());
-        assert_eq!(rt; machine.entry(*state, *symbol), *entry, "{state} {symbol}");
-    }
+fn go(write: u8, dir: Dir, next: Next) -> Entry {
+    Entry::Go { write, dir, next }
 }
 
 #[test]
 fn entries_are_the_table(rt: HostRuntime) -> Result<(), Fail> {
-    has_entries(&rt, &sized(&rt, CHAMPION, 5, 2)?, &ENTRIES);
+    let machine = Machine::read(CHAMPION)?;
+    assert!(rt; machine.states() == 5 && machine.symbols() == 2);
+    assert_eq!(rt; machine.entry(0, 1), go(1, Dir::L, Next::State(2)));
+    assert_eq!(rt; machine.entry(4, 0), go(1, Dir::R, Next::Halt));
+    let machine = Machine::read(b"1RB2LB1RZ_2LA2RB1LB")?;
+    assert!(rt; machine.states() == 2 && machine.symbols() == 3);
+    assert_eq!(rt; machine.entry(0, 2), go(1, Dir::R, Next::Halt));
+    assert_eq!(rt; machine.entry(1, 1), go(2, Dir::R, Next::State(1)));
     Ok(())
 }
 
 #[test]
 fn steps_are_the_table(rt: HostRuntime) -> Result<(), Fail> {
-    let machine = sized(&rt, CHAMPION, 5, 2)?;
-    for (state, symbol, step) in &STEPS {
-        assert!(rt; *state < machine.states() && *symbol < machine.symbols());
-        assert_eq!(rt; machine.step(*state, *symbol), *step, "{state} {symbol}");
-    }
-    Ok(())
-}
-
-#[test]
-fn entries_of_three_symbols_are_the_table(rt: HostRuntime) -> Result<(), Fail> {
-    let machine = sized(&rt, b"1RB2LB1RZ_2LA2RB1LB", 2, 3)?;
-    has_entries(&rt, &machine, &ENTRIES_OF_THREE_SYMBOLS);
+    let machine = Machine::read(CHAMPION)?;
+    assert!(rt; machine.states() == 5 && machine.symbols() == 2);
+    let step = Step {
+        write: 1,
+        offset: -1,
+        state: 2,
+    };
+    assert_eq!(rt; machine.step(0, 1), Some(step));
+    assert_eq!(rt; machine.step(4, 0), None);
     Ok(())
 }
 

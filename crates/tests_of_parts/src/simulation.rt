@@ -141,84 +141,91 @@ fn follows<T: Tape>(rt: &impl Abort, mut tape: T, text: &[u8], run: &[Seen])
     }
 }
 
-/// The outcome of a simulation, and its counts.
-type End = (&'static [u8], u64, u64, Outcome, u64, u64);
-
-/// The text, the limits of steps and cells, the outcome, the steps counted and the most cells.
-static ENDS: [End; 12] = [
-    (b"1RA1RA", 3, 4, Outcome::NoSteps, 3, 4),
-    (b"1RA1RA", 4, 4, Outcome::NoCells, 3, 4),
-    (b"------", 0, 1, Outcome::Halt { steps: 0, score: 0 }, 0, 1),
-    (b"1RZ---", 0, 1, Outcome::NoSteps, 0, 1),
-    (b"1RZ---", 1, 1, Outcome::Halt { steps: 1, score: 1 }, 1, 1),
-    (
-        b"1RB1LB_1LA1RZ",
-        6,
-        4,
-        Outcome::Halt { steps: 6, score: 4 },
-        6,
-        4,
-    ),
-    (b"1RB1LB_1LA1RZ", 5, 4, Outcome::NoSteps, 5, 4),
-    (b"1RB1LB_1LA1RZ", 6, 3, Outcome::NoCells, 3, 3),
-    (
-        b"1RB1LB_1LA---",
-        5,
-        4,
-        Outcome::Halt { steps: 5, score: 4 },
-        5,
-        4,
-    ),
-    (
-        b"1RB1RZ_1LB0RC_1LC1LA",
-        21,
-        5,
-        Outcome::Halt {
-            steps: 21,
-            score: 5,
-        },
-        21,
-        5,
-    ),
-    (
-        b"1RB1RZ_0RC1RB_1LC1LA",
-        1000,
-        64,
-        Outcome::Halt {
-            steps: 14,
-            score: 6,
-        },
-        14,
-        6,
-    ),
-    (
-        b"1RB1LB_1LA0LC_1RZ1LD_1RD0RA",
-        1000,
-        64,
-        Outcome::Halt {
-            steps: 107,
-            score: 13,
-        },
-        107,
-        14,
-    ),
+/// The text, the limits of steps and cells, the steps and the score of the halt, and the most cells.
+static HALTS: [(&[u8], u64, u64, u64, u64, u64); 7] = [
+    (b"------", 0, 1, 0, 0, 1),
+    (b"1RZ---", 1, 1, 1, 1, 1),
+    (b"1RB1LB_1LA1RZ", 6, 4, 6, 4, 4),
+    (b"1RB1LB_1LA---", 5, 4, 5, 4, 4),
+    (b"1RB1RZ_1LB0RC_1LC1LA", 21, 5, 21, 5, 5),
+    (b"1RB1RZ_0RC1RB_1LC1LA", 1000, 64, 14, 6, 6),
+    (b"1RB1LB_1LA0LC_1RZ1LD_1RD0RA", 1000, 64, 107, 13, 14),
 ];
 
-/// Holds a simulation against how it was worked out to end.
-fn ends<T: Tape>(rt: &impl Abort, mut tape: T, end: &End)
-    requires { (T.view tape).limit ≡ end.now.2 }
+/// The text, the limits of steps and cells, the outcome at one of them, the steps counted and the most cells.
+static STOPS: [(&[u8], u64, u64, Outcome, u64, u64); 5] = [
+    (b"1RA1RA", 3, 4, Outcome::NoSteps, 3, 4),
+    (b"1RA1RA", 4, 4, Outcome::NoCells, 3, 4),
+    (b"1RZ---", 0, 1, Outcome::NoSteps, 0, 1),
+    (b"1RB1LB_1LA1RZ", 5, 4, Outcome::NoSteps, 5, 4),
+    (b"1RB1LB_1LA1RZ", 6, 3, Outcome::NoCells, 3, 3),
+];
+
+/// Simulates a machine, and compares outcome, steps and cells with the expected ones.
+fn ends<T: Tape>(
+    rt: &impl Abort,
+    mut tape: T,
+    text: &[u8],
+    limits: &Limits,
+    expected: (Outcome, u64, u64),
+)
+    requires { (T.view tape).limit ≡ limits.now.cells }
 {
-    let (text, most_steps, cells, outcome, steps, most_cells) = *end;
     let machine = Machine::read(text).expect(rt, "a machine");
-    let limits = Limits::new(most_steps, cells, 0, 0).expect(rt, "limits");
     let mut meter = Meter::new();
-    let found = simulate(&machine, &mut tape, &limits, &mut meter);
-    assert!(rt;
-        found.is_ok_and(|found| found == outcome),
-        "{most_steps} steps of {text:?}"
+    assert!(rt; limits.steps() <= 1000);
+    let found = simulate(&machine, &mut tape, limits, &mut meter).expect(rt, "memory");
+    assert_eq!(rt;
+        (found, meter.steps, meter.most_cells),
+        expected,
+        "{text:?} in {limits:?}"
     );
-    assert_eq!(rt; meter.steps, steps);
-    assert_eq!(rt; meter.most_cells, most_cells);
+}
+
+/// The same on a map and on a ring.
+fn ends_on_both(
+    rt: &(impl Abort + AllocGlobal),
+    text: &[u8],
+    most_steps: u64,
+    cells: u64,
+    expected: (Outcome, u64, u64),
+) {
+    let limits = Limits::new(most_steps, cells, 0, 0).expect(rt, "limits");
+    ends(
+        rt,
+        MapTape::new(rt.alloc(), limits.cells()),
+        text,
+        &limits,
+        expected,
+    );
+    let ring = RingTape::new(rt.alloc(), limits.cells()).expect(rt, "memory");
+    ends(rt, ring, text, &limits, expected);
+}
+
+#[test]
+fn ends_at_its_limits(rt: HostRuntime) {
+    for (text, most_steps, most_cells, steps, score, cells) in &HALTS {
+        let outcome = Outcome::Halt {
+            steps: *steps,
+            score: *score,
+        };
+        ends_on_both(
+            &rt,
+            text,
+            *most_steps,
+            *most_cells,
+            (outcome, *steps, *cells),
+        );
+    }
+    for (text, most_steps, most_cells, outcome, steps, cells) in &STOPS {
+        ends_on_both(
+            &rt,
+            text,
+            *most_steps,
+            *most_cells,
+            (*outcome, *steps, *cells),
+        );
+    }
 }
 
 #[test]
@@ -229,26 +236,9 @@ fn runs_step_by_step_on_a_map(rt: HostRuntime) {
 }
 
 #[test]
-fn ends_at_its_limits_on_a_map(rt: HostRuntime) {
-    for end in &ENDS {
-        assert!(rt; 1 <= end.2 && end.2 <= 64);
-        ends(&rt, MapTape::new(rt.alloc(), end.2), end);
-    }
-}
-
-#[test]
 fn runs_step_by_step_on_a_ring(rt: HostRuntime) {
     for (text, run) in &RUNS {
         let tape = RingTape::new(rt.alloc(), CELLS).expect(&rt, "memory");
         follows(&rt, tape, text, run);
-    }
-}
-
-#[test]
-fn ends_at_its_limits_on_a_ring(rt: HostRuntime) {
-    for end in &ENDS {
-        assert!(rt; 1 <= end.2 && end.2 <= 64);
-        let tape = RingTape::new(rt.alloc(), end.2).expect(&rt, "memory");
-        ends(&rt, tape, end);
     }
 }

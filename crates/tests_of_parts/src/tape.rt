@@ -1,29 +1,15 @@
 //! Worked rows, on the trait through its bound, and memory refused in turn.
 
-ghost use Rattle.std.specs.Prelude.{◌≡◌, ◌≤◌, IfOk, OnOk, pos};
-ghost use Rattle.bb_tape.specs.TapeView.{fresh, IsBeside, IsInside};
+ghost use Rattle.std.specs.Prelude.{◌≡◌, pos};
+ghost use Rattle.bb_tape.specs.TapeView.{fresh, IsBeside};
 
 mod ring;
 
 use bb_tape::widening::widen_to;
-use bb_tape::{MAX_SYMBOL, MapTape, RingTape, Tape, TapeFault};
+use bb_tape::{MapTape, RingTape, Tape, TapeFault};
 use linked_list_allocator::LocalHeap;
 use std::process::Abort;
 use std::test::Fail;
-
-/// The symbol of a cell after a write, undone then.
-fn written_and_undone<T: Tape>(tape: &mut T, p: i64, v: u8) -> Result<u8, TapeFault>
-    requires inside { IsInside (T.view tape.old) p }
-    requires symbol { v ≤ MAX_SYMBOL }
-    ensures value { IfOk result (λ x. x ≡ v) }
-    ensures undone { OnOk result (T.view tape.new ≡ T.view tape.old) }
-{
-    let before = tape.read(p);
-    tape.write(p, v)?;
-    let written = tape.read(p);
-    tape.write(p, before)?;
-    Ok(written)
-}
 
 /// Rows on two blank tapes with limit 3.
 fn rows_with_three_cells<T: Tape>(rt: &impl Abort, tape: &mut T, other: &mut T) -> Result<(), Fail>
@@ -49,7 +35,6 @@ fn writes_in_three_cells<T: Tape>(rt: &impl Abort, tape: &mut T) -> Result<(), F
     assert_eq!(rt; (tape.read(1), tape.read(2), tape.score()), (10, 0, 1));
     tape.write(1, 0)?;
     assert_eq!(rt; tape.score(), 0);
-    assert_eq!(rt; written_and_undone(tape, 0, 7)?, 7);
     tape.write(0, 1)?;
     tape.reset();
     assert_eq!(rt; (tape.read(0), tape.low(), tape.high()), (0, 0, 0));
@@ -91,6 +76,7 @@ fn blocks_in_two_hundred_cells<T: Tape>(rt: &impl Abort, tape: &mut T) -> Result
 {
     widen_to(tape, -64)?;
     widen_to(tape, 66)?;
+    assert_eq!(rt; (tape.low(), tape.high(), tape.limit()), (-64, 66, 200));
     tape.write(2, 10)?;
     tape.write(63, 1)?;
     tape.write(64, 3)?;
@@ -102,6 +88,29 @@ fn blocks_in_two_hundred_cells<T: Tape>(rt: &impl Abort, tape: &mut T) -> Result
     );
     tape.put_block(-64, 6)?;
     assert_eq!(rt; (tape.block(-64), tape.read(-63), tape.score()), (6, 1, 66));
+    Ok(())
+}
+
+/// Copies of a narrow and of a wide window, on blank tapes with limit 200.
+fn copies_in_two_hundred_cells<T: Tape>(
+    rt: &impl Abort,
+    tape: &mut T,
+    other: &mut T,
+) -> Result<(), Fail>
+    requires tape { T.view tape.old ≡ fresh 200 }
+    requires other { T.view other.old ≡ fresh 200 }
+{
+    widen_to(tape, -2)?;
+    tape.write(-2, 4)?;
+    other.copy_from(tape)?;
+    assert_eq!(rt; (other.low(), other.high(), other.read(-2)), (-2, 0, 4));
+    tape.reset();
+    assert_eq!(rt; write_upwards(tape, 0, 150), 150);
+    other.copy_from(tape)?;
+    assert!(rt; has_written(other, 150) && other.same(tape));
+    widen_to(tape, 12)?;
+    tape.write(12, 0)?;
+    assert_eq!(rt; (tape.read(12), tape.score()), (0, 149));
     Ok(())
 }
 
@@ -120,6 +129,11 @@ fn rows_over_a_map(rt: HostRuntime) -> Result<(), Fail> {
         &rt,
         &mut MapTape::new(alloc, 3),
         &mut MapTape::new(alloc, 3),
+    )?;
+    copies_in_two_hundred_cells(
+        &rt,
+        &mut MapTape::new(alloc, 200),
+        &mut MapTape::new(alloc, 200),
     )?;
     assert!(rt; <MapTape as Tape>::GROWS);
     Ok(())
@@ -140,6 +154,11 @@ fn rows_over_a_ring(rt: HostRuntime) -> Result<(), Fail> {
         &rt,
         &mut RingTape::new(alloc, 3)?,
         &mut RingTape::new(alloc, 3)?,
+    )?;
+    copies_in_two_hundred_cells(
+        &rt,
+        &mut RingTape::new(alloc, 200)?,
+        &mut RingTape::new(alloc, 200)?,
     )?;
     let mut one = RingTape::new(alloc, 1)?;
     assert!(rt; one.visit(0).is_ok() && one.visit(1).is_err() && one.visit(-1).is_err());

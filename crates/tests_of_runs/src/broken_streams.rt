@@ -1,95 +1,139 @@
 //! Lists and traces over broken streams: the output so far, and the fault.
 
 use crate::support::engine::Engine;
-use crate::support::rows::{ALL, DEFAULTS};
+use crate::support::rows::{ALL, DEFAULTS, limits_of};
 use crate::support::streams::{Pieces, Sink, assert_failed};
+use bb_cert::ring_pair;
 use bb_lines::fault::Fault;
 use bb_lines::watched::Watched;
 use bb_machine::Limits;
-use bb_run::{ring_bench, run_trace};
+use bb_run::{ring_bench, run_check, run_trace};
 use bb_tape::MapTape;
 use std::io::ErrorKind;
 use std::process::Abort;
 
-const INPUT: &[u8; 14] = b"------\n\n------";
+/// What is done with a list.
+#[derive(Clone, Copy, Debug)]
+enum Work {
+    Decide(Engine),
+    Check,
+}
 
-const OUTPUT: &[u8; 42] = b"------ halt 0 0\nrefused 1\n------ halt 0 0\n";
+/// A list that isn't clean, and its output; how many bytes of output there are once so many were read, from each
+/// complete line on.
+struct List {
+    works: &'static [Work],
+    input: &'static [u8],
+    output: &'static [u8],
+    written: &'static [(usize, usize)],
+}
 
-/// Decides a list on rings over these streams, and answers whether it was clean.
-fn decided(
+static LISTS: [List; 2] = [
+    List {
+        works: &[Work::Decide(Engine::InTurn), Work::Decide(Engine::InOneRun)],
+        input: b"------\n\n------",
+        output: b"------ halt 0 0\nrefused 1\n------ halt 0 0\n",
+        written: &[(7, 16), (8, 26)],
+    },
+    List {
+        works: &[Work::Check],
+        input: b"------ halt 0 0\nrefused 1\n\n1RZ--- halt 0",
+        output: b"ok\nopen\nunread\nunread\n",
+        written: &[(16, 3), (26, 8), (27, 15)],
+    },
+];
+
+/// Decides or checks a list on rings over these streams, and answers whether it was clean.
+fn answered(
     rt: &(impl Abort + AllocGlobal),
-    engine: Engine,
+    work: Work,
     reader: Pieces,
     sink: &mut Sink,
 ) -> Result<bool, Fault> {
-    let [steps, cells, depth, nodes] = DEFAULTS;
-    let limits = Limits::new(steps, cells, depth, nodes).expect(rt, "limits");
-    let mut bench = ring_bench(rt.alloc(), &limits).expect(rt, "memory");
+    let limits = limits_of(rt, &DEFAULTS);
     let mut reader = Watched::new(reader);
     let mut writer = Watched::new(sink);
-    let end = engine.decide(&mut reader, &mut writer, &limits, ALL, &mut bench);
+    let end = match work {
+        Work::Decide(engine) => {
+            let mut bench = ring_bench(rt.alloc(), &limits).expect(rt, "memory");
+            engine.decide(&mut reader, &mut writer, &limits, ALL, &mut bench)
+        }
+        Work::Check => {
+            let (mut pair, mut path) = ring_pair(rt.alloc(), &limits).expect(rt, "memory");
+            run_check(&mut reader, &mut writer, &limits, &mut pair, &mut path)
+        }
+    };
     assert_failed(rt, reader.failed(), end, Fault::Read);
     assert_failed(rt, writer.failed(), end, Fault::Write);
     Ok(end?.clean)
 }
 
-/// A list over these streams ends so, and the sink has these bytes then.
-fn assert_decided(
+/// A list over these streams ends so, and the sink has these bytes then. It is flushed once, at the end.
+fn assert_answered(
     rt: &(impl Abort + AllocGlobal),
-    engine: Engine,
+    work: Work,
     reader: Pieces,
     mut sink: Sink,
     end: Result<bool, Fault>,
     written: &[u8],
 ) {
-    assert_eq!(rt; decided(rt, engine, reader, &mut sink), end, "{engine:?}");
-    assert_eq!(rt; sink.bytes.as_slice(), written, "{engine:?}");
-}
-
-/// The list in one piece.
-fn whole() -> Pieces {
-    Pieces::of(INPUT, 14, 14)
+    assert_eq!(rt; answered(rt, work, reader, &mut sink), end, "{work:?}");
+    assert_eq!(rt; sink.bytes.as_slice(), written, "{work:?}");
+    assert_eq!(rt;
+        sink.flushes,
+        u64::from(end.is_ok() || !sink.can_flush),
+        "{work:?}"
+    );
 }
 
 #[test]
 fn a_list_comes_in_any_pieces(rt: HostRuntime) {
-    for engine in Engine::BOTH {
-        for most in [1, 14] {
-            for first in 1..15 {
-                let reader = Pieces::of(INPUT, first, most);
-                assert_decided(&rt, engine, reader, Sink::of(128, 128), Ok(false), OUTPUT);
+    for list in &LISTS {
+        for work in list.works {
+            for most in [1, list.input.len()] {
+                for first in 1..=list.input.len() {
+                    let reader = Pieces::of(list.input, first, most);
+                    let sink = Sink::of(128, 128);
+                    assert_answered(&rt, *work, reader, sink, Ok(false), list.output);
+                }
             }
         }
     }
 }
 
+/// The output of a list of which so many bytes were read.
+fn output_after(list: &List, read: usize) -> &'static [u8] {
+    let lines = list.written.iter().rev();
+    let written = lines
+        .filter(|(from, _)| *from <= read)
+        .map(|(_, written)| *written)
+        .next();
+    list.output
+        .get(..written.unwrap_or(0))
+        .unwrap_or(list.output)
+}
+
 #[test]
 fn a_read_of_a_list_fails(rt: HostRuntime) {
-    for engine in Engine::BOTH {
-        for error in [ErrorKind::Interrupted, ErrorKind::BrokenPipe] {
-            for k in 0..15 {
-                let written = match k {
-                    0..=6 => 0,
-                    7 => 16,
-                    _ => 26,
-                };
-                let reader = Pieces::failing(INPUT, 1, k, error);
-                let sink = Sink::of(128, 128);
-                assert_decided(
-                    &rt,
-                    engine,
-                    reader,
-                    sink,
-                    Err(Fault::Read),
-                    &OUTPUT[..written],
-                );
+    for list in &LISTS {
+        for work in list.works {
+            for error in [ErrorKind::Interrupted, ErrorKind::BrokenPipe] {
+                for k in 0..=list.input.len() {
+                    let reader = Pieces::failing(list.input, 1, k as u64, error);
+                    let sink = Sink::of(128, 128);
+                    let written = output_after(list, k);
+                    assert_answered(&rt, *work, reader, sink, Err(Fault::Read), written);
+                }
             }
         }
+    }
+    for engine in Engine::BOTH {
         let reader = Pieces::failing(b"1RZ---\n0RB", 10, 1, ErrorKind::Interrupted);
         let sink = Sink::of(128, 128);
-        assert_decided(
+        let work = Work::Decide(engine);
+        assert_answered(
             &rt,
-            engine,
+            work,
             reader,
             sink,
             Err(Fault::Read),
@@ -100,22 +144,28 @@ fn a_read_of_a_list_fails(rt: HostRuntime) {
 
 #[test]
 fn a_write_of_a_list_fails(rt: HostRuntime) {
-    for engine in Engine::BOTH {
-        for room in 0..42 {
-            let sink = Sink::of(128, room);
-            assert_decided(
-                &rt,
-                engine,
-                whole(),
-                sink,
-                Err(Fault::Write),
-                &OUTPUT[..room],
-            );
+    for list in &LISTS {
+        for work in list.works {
+            for (room, _) in list.output.iter().enumerate() {
+                let reader = Pieces::of(list.input, 64, 64);
+                let sink = Sink::of(128, room);
+                assert_answered(
+                    &rt,
+                    *work,
+                    reader,
+                    sink,
+                    Err(Fault::Write),
+                    &list.output[..room],
+                );
+            }
         }
+    }
+    for engine in Engine::BOTH {
         let reader = Pieces::of(b"1RZ---", 6, 6);
-        assert_decided(
+        let work = Work::Decide(engine);
+        assert_answered(
             &rt,
-            engine,
+            work,
             reader,
             Sink::of(128, 3),
             Err(Fault::Write),
@@ -127,24 +177,17 @@ fn a_write_of_a_list_fails(rt: HostRuntime) {
 /// A list into writers that accept no byte, can't be flushed, or accept a byte a call.
 #[test]
 fn a_list_goes_into_odd_sinks(rt: HostRuntime) {
-    for engine in Engine::BOTH {
-        assert_decided(
-            &rt,
-            engine,
-            whole(),
-            Sink::of(0, 128),
-            Err(Fault::Write),
-            b"",
-        );
-        assert_decided(
-            &rt,
-            engine,
-            whole(),
-            Sink::without_flush(),
-            Err(Fault::Write),
-            OUTPUT,
-        );
-        assert_decided(&rt, engine, whole(), Sink::of(1, 128), Ok(false), OUTPUT);
+    for list in &LISTS {
+        for work in list.works {
+            for (sink, end, written) in [
+                (Sink::of(0, 128), Err(Fault::Write), b"".as_slice()),
+                (Sink::without_flush(), Err(Fault::Write), list.output),
+                (Sink::of(1, 128), Ok(false), list.output),
+            ] {
+                let reader = Pieces::of(list.input, 64, 64);
+                assert_answered(&rt, *work, reader, sink, end, written);
+            }
+        }
     }
 }
 

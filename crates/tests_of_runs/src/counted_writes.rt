@@ -5,7 +5,7 @@ use crate::support::checking::checked;
 use crate::support::counting_tape::{NEVER, counting_tape};
 use crate::support::deciding::decided;
 use crate::support::engine::Engine;
-use crate::support::rows::{ALL, DEFAULTS, Four};
+use crate::support::rows::{ALL, DEFAULTS, Four, limits_of};
 use bb_cert::{Pair, Path, walk};
 use bb_decide::Bench;
 use bb_machine::{Limits, Machine};
@@ -59,7 +59,7 @@ fn writes_on_both(
     four: &Four,
     line: &[u8],
 ) -> (u64, u64) {
-    let limits = Limits::new(four[0], four[1], four[2], four[3]).expect(rt, "limits");
+    let limits = limits_of(rt, four);
     let rings = (
         RingTape::new(rt.alloc(), limits.cells()).expect(rt, "memory"),
         RingTape::new(rt.alloc(), limits.cells()).expect(rt, "memory"),
@@ -162,7 +162,7 @@ fn writes_of_checking<T: Tape>(
 
 #[test]
 fn checking_goes_no_further_than_the_claim(rt: HostRuntime) {
-    let limits = Limits::new(1_000_000, 65_536, 300, 1_000_000).expect(&rt, "limits");
+    let limits = limits_of(&rt, &DEFAULTS);
     for (line, answer, steps, nodes, most) in &CHECKED {
         let run = RingTape::new(rt.alloc(), limits.cells()).expect(&rt, "memory");
         let saved = RingTape::new(rt.alloc(), limits.cells()).expect(&rt, "memory");

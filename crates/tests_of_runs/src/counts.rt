@@ -1,11 +1,11 @@
 //! The counts of a list's lines.
 
 use crate::support::rows::ALL;
+use bb_cert::ring_pair;
 use bb_lines::watched::Watched;
 use bb_machine::Limits;
 use bb_run::{
-    AnswerCounts, VerdictCounts, ring_bench, ring_pair, run_check_with_counts,
-    run_decide_in_one_run,
+    AnswerCounts, VerdictCounts, ring_bench, run_check_with_counts, run_decide_in_one_run,
 };
 
 #[test]

@@ -9,7 +9,7 @@ use crate::support::counting_tape::{CountingTape, NEVER, counting_tape};
 use crate::support::engine::Engine;
 use crate::support::rows::{PAIRS, TREES};
 use crate::support::streams::Sink;
-use crate::support::tracing::{traced, traced_on_a_ring};
+use crate::support::tracing::{traced, traced_on_both};
 use bb_cert::{Pair, Path};
 use bb_decide::{Bench, Plan};
 use bb_lines::fault::Fault;
@@ -340,7 +340,7 @@ fn checking_ends_at_each_refusal(rt: HostRuntime) {
 fn tracing_ends_at_each_refusal(rt: HostRuntime) {
     let line = b"1RA1RA".as_slice();
     let limits = Limits::new(30, 64, 0, 0).expect(&rt, "limits");
-    let (_, output) = traced_on_a_ring(&rt, line, &limits);
+    let (_, output) = traced_on_both(&rt, line, &limits);
     for k in 0..30 {
         let mut tape = counting_tape(MapTape::new(rt.alloc(), limits.cells()), k);
         let (end, written) = traced(&rt, &mut tape, &limits, line);

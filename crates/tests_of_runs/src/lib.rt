@@ -6,8 +6,6 @@ mod broken_streams;
 #[cfg(test)]
 mod checked_lists;
 #[cfg(test)]
-mod confirmed_verdicts;
-#[cfg(test)]
 mod counted_refusals;
 #[cfg(test)]
 mod counted_writes;
@@ -20,15 +18,7 @@ mod each_plan;
 #[cfg(test)]
 mod failed_allocations;
 #[cfg(test)]
-mod forged_claims;
-#[cfg(test)]
-mod in_one_run;
-#[cfg(test)]
-mod larger_limits;
-#[cfg(test)]
 mod line_engine;
-#[cfg(test)]
-mod many_symbols;
 #[cfg(test)]
 mod recurrences;
 #[cfg(test)]
@@ -37,3 +27,5 @@ mod support;
 mod traces;
 #[cfg(test)]
 mod validations;
+#[cfg(test)]
+mod weak_keys;

@@ -1,4 +1,4 @@
-//! The engine over streams that come in chunks, fail or accept little, with an easy reply.
+//! The engine with an easy reply: memory refused, high cost and long lines.
 ghost use Rattle.std.specs.Prelude.{◌≡◌, ◌+◌, ◌^◌, ◌-◌, ◌∷◌, ◌++◌, [], take, min, true};
 ghost use Rattle.std.proofs.Common.{rules};
 ghost use Rattle.std.proofs.lemmas.Grind.{common_steps};
@@ -10,7 +10,7 @@ use bb_lines::lines::run;
 use bb_lines::responder::{HIGH_COST, REPLY, Responder};
 use bb_lines::watched::Watched;
 use std::alloc::AllocError;
-use std::io::{ErrorKind, Read, Result};
+use std::io::{Read, Result};
 use std::process::Abort;
 use std::test::Fail;
 
@@ -88,8 +88,6 @@ fn pieces_of(first: usize, most: usize) -> Pieces {
 #[derive(Drop)]
 struct Ended {
     end: std::result::Result<(), Fault>,
-    read_failed: bool,
-    write_failed: bool,
     sink: Sink,
     seen: u64,
 }
@@ -105,14 +103,7 @@ fn shout_all<R: Read + Drop>(reader: R, mut sink: Sink, before_refusal: u64, cos
         seen: &mut seen,
     };
     let end = run(&mut reader, &mut writer, &mut shout);
-    let write_failed = writer.failed();
-    Ended {
-        end,
-        read_failed: reader.failed(),
-        write_failed,
-        sink,
-        seen,
-    }
+    Ended { end, sink, seen }
 }
 
 #[test]
@@ -126,67 +117,9 @@ fn answers_in_any_pieces(rt: HostRuntime) {
                 OUTPUT.as_slice(),
                 "{first} and {most}"
             );
-            assert_eq!(rt; ended.sink.flushes, 1);
             assert_eq!(rt; ended.seen, 3);
-            assert!(rt; !ended.read_failed && !ended.write_failed);
         }
     }
-}
-
-#[test]
-fn writes_what_was_complete_before_a_failed_read(rt: HostRuntime) {
-    for error in [ErrorKind::Interrupted, ErrorKind::BrokenPipe] {
-        for k in 1..16 {
-            let reader = Pieces {
-                before_failure: k - 1,
-                error,
-                ..pieces_of(1, 1)
-            };
-            let ended = shout_all(reader, Sink::of(64, 64), 9, 0);
-            let written = match k {
-                1..=7 => 0,
-                8 => 7,
-                _ => 9,
-            };
-            assert_eq!(rt; ended.end, Err(Fault::Read), "read {k}");
-            assert_eq!(rt; ended.sink.bytes.as_slice(), &OUTPUT[..written], "read {k}");
-            assert_eq!(rt; ended.sink.flushes, 0);
-            assert!(rt; ended.read_failed && !ended.write_failed);
-        }
-    }
-}
-
-/// Runs over a writer, and compares the result and the output with the expected ones.
-fn written_into(
-    rt: &impl Abort,
-    sink: Sink,
-    end: std::result::Result<(), Fault>,
-    written: &[u8],
-) -> Ended {
-    let ended = shout_all(pieces_of(14, 14), sink, 9, 0);
-    assert_eq!(rt; ended.end, end, "{written:?} written");
-    assert_eq!(rt; ended.sink.bytes.as_slice(), written);
-    ended
-}
-
-#[test]
-fn writes_a_beginning_before_a_failed_write(rt: HostRuntime) {
-    for room in 0..16 {
-        let ended = written_into(&rt, Sink::of(64, room), Err(Fault::Write), &OUTPUT[..room]);
-        assert_eq!(rt; ended.sink.flushes, 0);
-        assert!(rt; !ended.read_failed && ended.write_failed);
-    }
-    // a writer that accepts no byte, one that accepts a byte a call, and one with a failing flush
-    let ended = written_into(&rt, Sink::of(0, 64), Err(Fault::Write), &[]);
-    assert_eq!(rt; ended.sink.writes, 1);
-    written_into(&rt, Sink::of(1, 64), Ok(()), OUTPUT.as_slice());
-    let ended = written_into(
-        &rt,
-        Sink::without_flush(),
-        Err(Fault::Write),
-        OUTPUT.as_slice(),
-    );
-    assert_eq!(rt; ended.sink.flushes, 1);
 }
 
 #[test]

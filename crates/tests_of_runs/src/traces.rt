@@ -1,6 +1,6 @@
 //! Traces, with lines worked out by hand.
 
-use crate::support::tracing::{traced_on_a_map, traced_on_a_ring};
+use crate::support::tracing::traced_on_both;
 use bb_lines::watched::Watched;
 use bb_machine::Limits;
 use bb_run::{Summary, run_sampled_trace};
@@ -10,7 +10,7 @@ use bb_tape::RingTape;
 /// A line, the limits of steps and cells, the output, and whether the summary is clean.
 type Row = (&'static [u8], u64, u64, &'static [u8], bool);
 
-static TRACES: [Row; 14] = [
+static TRACES: [Row; 13] = [
     (
         b"1RB1LB_1LA1RZ",
         10,
@@ -41,7 +41,6 @@ static TRACES: [Row; 14] = [
     (b"1RZ---", 5, 1, b"0 A 0 0\n1 Z 1 1\n", true),
     (b"1LB---_0LA0LA", 2, 2, b"0 A 0 0\n1 B -1 01\n", false),
     (b"------", 9, 9, b"0 A 0 0\n", true),
-    (b"1RA1RA", 1, 2, b"0 A 0 0\n1 A 1 10\n", true),
     (b"1RZ---\n", 2, 9, b"refused 7\n", false),
 ];
 
@@ -60,10 +59,7 @@ fn traces_on_both_tapes(rt: HostRuntime) {
             clean: *clean,
             peak: NOTHING_COUNTED,
         };
-        let (end, written) = traced_on_a_ring(&rt, line, &limits);
-        assert_eq!(rt; written.as_slice(), *output);
-        assert_eq!(rt; end, Ok(summary));
-        let (end, written) = traced_on_a_map(&rt, line, &limits);
+        let (end, written) = traced_on_both(&rt, line, &limits);
         assert_eq!(rt; written.as_slice(), *output);
         assert_eq!(rt; end, Ok(summary));
     }

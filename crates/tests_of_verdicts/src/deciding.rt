@@ -3,11 +3,8 @@ ghost use Rattle.std.specs.Prelude.{◌≡◌, IfOk};
 ghost use Rattle.bb_tree.specs.Path.{depth_of};
 ghost use Rattle.bb_decide.specs.Bench.{BenchHasCells};
 
-mod trees;
-mod weak_keys;
-
 use bb_cert::{Line, Verdict, read_line};
-use bb_decide::{Bench, Plan, cyclers, decide, translated};
+use bb_decide::{Bench, Plan, backward, cyclers, decide, translated};
 use bb_machine::{Limits, Machine};
 use bb_sim::Meter;
 use bb_tape::{MapTape, Memory, RingTape, Tape};
@@ -61,57 +58,21 @@ static TRANSLATED_ROWS: [Row; 20] = [
     (b"0LB---_0RA--- cycler 2 4", 1000, 1004),
 ];
 
-/// The machine and the verdict of a line.
-fn read_claim(rt: &impl Abort, line: &[u8]) -> (Machine, Verdict) {
-    match read_line(line) {
-        Some(Line::Claim(machine, verdict)) => (machine, verdict),
-        _ => panic!(rt; "{line:?} is a claim"),
-    }
-}
+/// The line of a machine and its verdict by all deciders; the limits of steps, cells, levels and nodes; its
+/// cost in steps, and the most nodes entered. The trees are drawn by hand.
+type TreeRow = (&'static [u8], [u64; 4], u64, u64);
 
-/// Decides a machine within so many steps.
-fn decided<T: Tape>(
-    bench: &mut Bench<T>,
-    machine: &Machine,
-    most_steps: u64,
-    plan: Plan,
-    meter: &mut Meter,
-) -> Result<Verdict, Fail>
-    requires tapes { BenchHasCells T.view CELLS bench.old }
-    requires path { depth_of bench.old.path ≡ 0 }
-    ensures tapes { BenchHasCells T.view CELLS bench.new }
-    ensures path { depth_of bench.new.path ≡ 0 }
-{
-    let limits = Limits::new(most_steps, CELLS, 0, 0)?;
-    Ok(decide(machine, &limits, plan, bench, meter)?)
-}
-
-/// Decides each machine on three tapes, and compares verdict and steps with the expected ones.
-fn are_decided<T: Tape>(
-    rt: &impl Abort,
-    bench: &mut Bench<T>,
-    translated: bool,
-    rows: &[Row],
-) -> Result<(), Fail>
-    requires tapes { BenchHasCells T.view CELLS bench.old }
-    requires path { depth_of bench.old.path ≡ 0 }
-    ensures tapes { BenchHasCells T.view CELLS bench.new }
-    ensures path { depth_of bench.new.path ≡ 0 }
-{
-    let plan = Plan {
-        cyclers: true,
-        translated,
-        backward: false,
-    };
-    for (line, most_steps, steps) in rows {
-        let (machine, verdict) = read_claim(rt, line);
-        let mut meter = Meter::new();
-        let decided = decided(bench, &machine, *most_steps, plan, &mut meter)?;
-        assert_eq!(rt; decided, verdict, "{most_steps} steps of {line:?}");
-        assert_eq!(rt; meter.steps, *steps, "{most_steps} steps of {line:?}");
-    }
-    Ok(())
-}
+static TREE_ROWS: [TreeRow; 9] = [
+    (b"0RB---_0LA--- backward 2 4", [3, 64, 10, 100], 9, 4),
+    (b"0LB---_0RA--- backward 2 4", [3, 64, 10, 100], 9, 4),
+    (b"0RB---_0LA--- backward 2 4", [3, 3, 2, 4], 9, 4),
+    (b"0RB---_0LA--- undecided steps", [3, 64, 1, 100], 9, 2),
+    (b"0RB---_0LA--- undecided steps", [3, 64, 2, 3], 9, 3),
+    (b"1RA1RA backward 0 0", [1, 64, 0, 0], 3, 0),
+    (b"1RB0RB_1LA1LA backward 0 0", [7, 64, 10, 0], 21, 0),
+    (b"1RB---_1LA--- undecided steps", [1, 64, 10, 100], 3, 6),
+    (b"1RZ--- undecided steps", [0, 64, 10, 100], 0, 1),
+];
 
 /// The line of a machine with the result of one of both searches of its first hundred steps, the steps
 /// counted by each, and the cells counted by the search for a cycle. The other search finds nothing.
@@ -123,98 +84,94 @@ static SEARCHES: [Searched; 3] = [
     (b"1RB0RA_1LA--- translated R 4 8 2 1", [100, 8], 51),
 ];
 
-/// Searches the first hundred steps of a machine for a cycle.
-fn cycle_of<T: Tape>(
-    bench: &mut Bench<T>,
-    machine: &Machine,
-    meter: &mut Meter,
-) -> Result<Option<Verdict>, Fail>
-    requires tapes { BenchHasCells T.view CELLS bench.old }
-    ensures tapes { BenchHasCells T.view CELLS bench.new }
-    ensures path { bench.new.path ≡ bench.old.path }
-{
-    let limits = Limits::new(100, CELLS, 0, 0)?;
-    *meter = Meter::new();
-    Ok(cyclers(machine, &limits, bench, meter)?)
+/// The machine and the verdict of a line.
+fn read_claim(rt: &impl Abort, line: &[u8]) -> (Machine, Verdict) {
+    match read_line(line) {
+        Some(Line::Claim(machine, verdict)) => (machine, verdict),
+        _ => panic!(rt; "{line:?} is a claim"),
+    }
 }
 
-/// Searches the first hundred steps of a machine for agreeing records.
-fn records_of<T: Tape>(
-    bench: &mut Bench<T>,
-    machine: &Machine,
-    meter: &mut Meter,
-) -> Result<Option<Verdict>, Fail>
-    requires tapes { BenchHasCells T.view CELLS bench.old }
-    ensures tapes { BenchHasCells T.view CELLS bench.new }
-    ensures path { bench.new.path ≡ bench.old.path }
-{
-    let limits = Limits::new(100, CELLS, 0, 0)?;
-    *meter = Meter::new();
-    Ok(translated(machine, &limits, bench, meter)?)
-}
-
-/// Compares the found cycle and its counts with the expected ones.
-fn is_cycle(
-    rt: &impl Abort,
-    searched: &Searched,
-    verdict: Verdict,
-    cycle: Option<Verdict>,
-    meter: &Meter,
-) {
-    let (line, steps, most_cells) = searched;
-    let is_found = matches!(verdict, Verdict::Cycler { .. });
-    assert_eq!(rt; cycle, is_found.then_some(verdict), "{line:?}");
-    assert_eq!(rt; meter.steps, steps[0], "{line:?}");
-    assert_eq!(rt; meter.most_cells, *most_cells, "{line:?}");
-}
-
-/// Compares the found records and the steps counted with the expected ones.
-fn are_records(
-    rt: &impl Abort,
-    searched: &Searched,
-    verdict: Verdict,
-    records: Option<Verdict>,
-    meter: &Meter,
-) {
-    let (line, steps, _) = searched;
-    let is_found = matches!(verdict, Verdict::Translated { .. });
-    assert_eq!(rt; records, is_found.then_some(verdict), "{line:?}");
-    assert_eq!(rt; meter.steps, steps[1], "{line:?}");
-}
-
-/// Searches a machine for a cycle, and then for agreeing records, by the searches' own calls.
-fn is_searched<T: Tape>(
+/// Decides a machine, and compares verdict, steps and nodes with the expected ones.
+fn is_decided<T: Tape>(
     rt: &impl Abort,
     bench: &mut Bench<T>,
-    searched: &Searched,
+    limits: &Limits,
+    plan: Plan,
+    row: (&[u8], u64, u64),
 ) -> Result<(), Fail>
-    requires tapes { BenchHasCells T.view CELLS bench.old }
-    ensures tapes { BenchHasCells T.view CELLS bench.new }
-    ensures path { bench.new.path ≡ bench.old.path }
+    requires tapes { BenchHasCells T.view limits.now.cells bench.old }
+    requires path { depth_of bench.old.path ≡ limits.now.depth }
 {
-    let (machine, verdict) = read_claim(rt, searched.0);
+    let (line, steps, most_nodes) = row;
+    let (machine, verdict) = read_claim(rt, line);
     let mut meter = Meter::new();
-    let cycle = cycle_of(bench, &machine, &mut meter)?;
-    is_cycle(rt, searched, verdict, cycle, &meter);
-    let records = records_of(bench, &machine, &mut meter)?;
-    are_records(rt, searched, verdict, records, &meter);
-    Ok(())
-}
-
-/// Searches each machine by both searches.
-fn are_searched<T: Tape>(rt: &impl Abort, bench: &mut Bench<T>) -> Result<(), Fail>
-    requires tapes { BenchHasCells T.view CELLS bench.old }
-    requires path { depth_of bench.old.path ≡ 0 }
-    ensures tapes { BenchHasCells T.view CELLS bench.new }
-    ensures path { depth_of bench.new.path ≡ 0 }
-{
-    for searched in &SEARCHES {
-        is_searched(rt, bench, searched)?;
+    let decided = decide(&machine, limits, plan, bench, &mut meter)?;
+    assert_eq!(rt; decided, verdict, "{line:?} in {limits:?}");
+    assert_eq!(rt; meter.steps, steps, "{line:?} in {limits:?}");
+    assert!(rt; meter.nodes <= most_nodes, "{line:?} in {limits:?}");
+    if let Verdict::Backward { levels, nodes } = verdict {
+        assert_eq!(rt;
+            (meter.nodes, meter.most_levels),
+            (nodes, levels),
+            "{line:?}"
+        );
     }
     Ok(())
 }
 
-/// Three maps of as many cells as the limits allow, and the room for a walk.
+/// The same on maps and on rings.
+fn is_decided_on_both(
+    rt: &(impl Abort + AllocGlobal),
+    limits: &Limits,
+    plan: Plan,
+    row: (&[u8], u64, u64),
+) -> Result<(), Fail> {
+    is_decided(
+        rt,
+        &mut bench_on_maps(rt.alloc(), limits)?,
+        limits,
+        plan,
+        row,
+    )?;
+    let run = RingTape::new(rt.alloc(), limits.cells())?;
+    let right = RingTape::new(rt.alloc(), limits.cells())?;
+    let left = RingTape::new(rt.alloc(), limits.cells())?;
+    let mut bench = Bench::new(rt.alloc(), run, right, left, limits)?;
+    is_decided(rt, &mut bench, limits, plan, row)
+}
+
+#[test]
+fn machines_are_decided(rt: HostRuntime) -> Result<(), Fail> {
+    for (rows, translated) in [(ROWS.as_slice(), false), (TRANSLATED_ROWS.as_slice(), true)] {
+        let plan = Plan {
+            cyclers: true,
+            translated,
+            backward: false,
+        };
+        for (line, most_steps, steps) in rows {
+            let limits = Limits::new(*most_steps, CELLS, 0, 0)?;
+            is_decided_on_both(&rt, &limits, plan, (line, *steps, 0))?;
+        }
+    }
+    Ok(())
+}
+
+#[test]
+fn trees_are_found(rt: HostRuntime) -> Result<(), Fail> {
+    let plan = Plan {
+        cyclers: true,
+        translated: true,
+        backward: true,
+    };
+    for (line, four, steps, most_nodes) in &TREE_ROWS {
+        let limits = Limits::new(four[0], four[1], four[2], four[3])?;
+        is_decided_on_both(&rt, &limits, plan, (line, *steps, *most_nodes))?;
+    }
+    Ok(())
+}
+
+/// A bench of maps.
 fn bench_on_maps(alloc: Global, limits: &Limits) -> Result<Bench<MapTape>, Memory>
     ensures tapes { IfOk result (BenchHasCells ⟦<MapTape as Tape>⟧.view limits.now.cells) }
     ensures path { IfOk result (λ bench. depth_of bench.path ≡ limits.now.depth) }
@@ -225,37 +182,48 @@ fn bench_on_maps(alloc: Global, limits: &Limits) -> Result<Bench<MapTape>, Memor
     Bench::new(alloc, run, right, left, limits)
 }
 
-/// Three rings of as many cells as the limits allow, and the room for a walk.
-fn bench_on_rings(alloc: Global, limits: &Limits) -> Result<Bench<RingTape>, Memory>
-    ensures tapes { IfOk result (BenchHasCells ⟦<RingTape as Tape>⟧.view limits.now.cells) }
-    ensures path { IfOk result (λ bench. depth_of bench.path ≡ limits.now.depth) }
-{
-    let run = RingTape::new(alloc, limits.cells())?;
-    let right = RingTape::new(alloc, limits.cells())?;
-    let left = RingTape::new(alloc, limits.cells())?;
-    Bench::new(alloc, run, right, left, limits)
-}
-
-/// Searches and decides all machines.
-fn machines_are_decided<T: Tape>(rt: &impl Abort, bench: &mut Bench<T>) -> Result<(), Fail>
-    requires tapes { BenchHasCells T.view CELLS bench.old }
-    requires path { depth_of bench.old.path ≡ 0 }
-{
-    are_searched(rt, bench)?;
-    are_decided(rt, bench, false, &ROWS)?;
-    are_decided(rt, bench, true, &TRANSLATED_ROWS)
-}
-
+/// Backward reasoning alone finds the trees. Counts of others stay, and the nodes start at 0.
 #[test]
-fn machines_are_decided_on_maps(rt: HostRuntime) -> Result<(), Fail> {
-    let limits = Limits::new(1000, CELLS, 0, 0)?;
-    let mut bench = bench_on_maps(rt.alloc(), &limits)?;
-    machines_are_decided(&rt, &mut bench)
+fn backward_reasoning_finds_trees(rt: HostRuntime) -> Result<(), Fail> {
+    for (line, four, _, most_nodes) in &TREE_ROWS {
+        let limits = Limits::new(four[0], four[1], four[2], four[3])?;
+        let mut bench = bench_on_maps(rt.alloc(), &limits)?;
+        let (machine, verdict) = read_claim(&rt, line);
+        let mut meter = Meter {
+            steps: 7,
+            most_cells: 5,
+            nodes: 3,
+            most_levels: 9,
+        };
+        let found = backward(&machine, &limits, &mut bench, &mut meter)?;
+        let is_tree = matches!(verdict, Verdict::Backward { .. });
+        assert_eq!(rt; found, is_tree.then_some(verdict), "{line:?}");
+        assert_eq!(rt; (meter.steps, meter.most_cells), (7, 5));
+        assert!(rt; meter.nodes <= *most_nodes, "{line:?}");
+    }
+    Ok(())
 }
 
+/// Each search by its own call.
 #[test]
-fn machines_are_decided_on_rings(rt: HostRuntime) -> Result<(), Fail> {
-    let limits = Limits::new(1000, CELLS, 0, 0)?;
-    let mut bench = bench_on_rings(rt.alloc(), &limits)?;
-    machines_are_decided(&rt, &mut bench)
+fn each_search_finds_its_pairs(rt: HostRuntime) -> Result<(), Fail> {
+    let limits = Limits::new(100, CELLS, 0, 0)?;
+    for (line, steps, most_cells) in &SEARCHES {
+        let mut bench = bench_on_maps(rt.alloc(), &limits)?;
+        let (machine, verdict) = read_claim(&rt, line);
+        let is_cycle = matches!(verdict, Verdict::Cycler { .. });
+        let mut meter = Meter::new();
+        let cycle = cyclers(&machine, &limits, &mut bench, &mut meter)?;
+        assert_eq!(rt; cycle, is_cycle.then_some(verdict), "{line:?}");
+        assert_eq!(rt;
+            (meter.steps, meter.most_cells),
+            (steps[0], *most_cells),
+            "{line:?}"
+        );
+        let mut meter = Meter::new();
+        let records = translated(&machine, &limits, &mut bench, &mut meter)?;
+        assert_eq!(rt; records, (!is_cycle).then_some(verdict), "{line:?}");
+        assert_eq!(rt; meter.steps, steps[1], "{line:?}");
+    }
+    Ok(())
 }

@@ -20,8 +20,9 @@ use crate::verdict::Verdict;
 use bb_machine::{Limits, Machine};
 use bb_narrow::simulate_narrow;
 use bb_sim::{Meter, Outcome};
-use bb_tape::{Memory, Tape};
+use bb_tape::{Memory, RingTape, Tape};
 use bb_tree::{Path, walk};
+use std::alloc::Global;
 
 /// The tapes for checking a claim. Each call resets those it uses.
 #[derive(Drop)]
@@ -30,6 +31,18 @@ pub struct Pair<T> {
     pub run: T,
     /// The tape saved at the first step of a pair.
     pub saved: T,
+}
+
+/// Two rings and a path for claims under these limits.
+pub fn ring_pair(alloc: Global, limits: &Limits) -> Result<(Pair<RingTape>, Path), Memory>
+    ensures tapes { IfOk result (λ made. PairHasCells ⟦<RingTape as Tape>⟧.view limits.now.cells made.0) }
+    ensures path { IfOk result (λ made. depth_of made.1 ≡ limits.now.depth) }
+{
+    let cells = limits.cells();
+    let run = RingTape::new(alloc, cells)?;
+    let saved = RingTape::new(alloc, cells)?;
+    let path = Path::new(alloc, limits.depth())?;
+    Ok((Pair { run, saved }, path))
 }
 
 /// Resets `meter`, checks a verdict's claim on a machine, and records the cost in `meter`. It makes no step
@@ -176,7 +189,7 @@ fn check_claim<A: Course, T: Tape>(
             check_halt(machine, steps, score, limits, &mut pair.run, meter)
         }
         Verdict::Cycler { first, second } => {
-            let limits = with_steps(limits, second);
+            let limits = limits.with_steps(second);
             check_cycler(machine, first, &limits, pair, along, meter)
         }
         Verdict::Translated {
@@ -190,24 +203,13 @@ fn check_claim<A: Course, T: Tape>(
                 first,
                 extent,
             };
-            let limits = with_steps(limits, second);
+            let limits = limits.with_steps(second);
             check_translated(machine, claim, &limits, pair, along, meter)
         }
         Verdict::Backward { levels, nodes } => {
             check_backward(machine, levels, nodes, limits, &mut pair.run, path, meter)
         }
         Verdict::Undecided(_) => Ok(Answer::Open),
-    }
-}
-
-/// These limits, but with so many steps.
-fn with_steps(limits: &Limits, steps: u64) -> Limits
-    requires { steps ≤ limits.now.steps }
-    ensures { result ≡ record limits.now { steps = steps } }
-{
-    match Limits::new(steps, limits.cells(), limits.depth(), limits.nodes()) {
-        Ok(limits) => limits,
-        Err(_) => unreachable!(),
     }
 }
 
@@ -232,7 +234,7 @@ fn check_halt<T: Tape>(
     ensures limit { (T.view tape.new).limit ≡ (T.view tape.old).limit }
     ensures memory { OnErr result (IsTrue T.GROWS) }
 {
-    let limits = with_steps(limits, steps);
+    let limits = limits.with_steps(steps);
     match simulate_narrow(machine, tape, &limits, meter)? {
         Outcome::Halt {
             steps: made,

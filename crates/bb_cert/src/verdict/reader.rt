@@ -164,8 +164,8 @@ fn read_second(bytes: &[u8]) -> Option<(u64, Option<Extent>)>
     Some((second, Some(Extent { shift, length })))
 }
 
-/// The number with this decimal text.
-fn read_number(digits: &[u8]) -> Option<u64>
+/// The number with this decimal text, without sign and leading zeros.
+pub fn read_number(digits: &[u8]) -> Option<u64>
     ensures { MatchOption result
         ((n : ℕ) → n < 2 ^ 64 → decimal n ≢ digits.now)
         (λ n. (n < 2 ^ 64) × (decimal n ≡ digits.now)) }
@@ -205,7 +205,7 @@ fn with_digit(value: u64, digit: u8) -> Option<u64>
 
 /// The bytes before the first space, and those after it.
 #[inline(always)]
-fn split_at_space(bytes: &[u8]) -> Option<(&[u8], &[u8])>
+pub fn split_at_space(bytes: &[u8]) -> Option<(&[u8], &[u8])>
     ensures { MatchOption result
         ((prefix rest : List ℕ) → prefix ++ 32 ∷ rest ≢ bytes.now)
         (λ parts. All (λ byte. byte ≢ 32) parts.0.now × (parts.0.now ++ 32 ∷ parts.1.now ≡ bytes.now)) }

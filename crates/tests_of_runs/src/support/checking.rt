@@ -3,12 +3,11 @@ ghost use Rattle.std.specs.Prelude.{◌≡◌, ◌≤◌};
 ghost use Rattle.bb_cert.specs.checker.Pair.{PairHasCells};
 ghost use Rattle.bb_tree.specs.Path.{depth_of};
 
-use crate::support::rows::Row;
-use bb_cert::{Pair, Path};
+use bb_cert::{Pair, Path, ring_pair};
 use bb_lines::fault::Fault;
 use bb_lines::watched::Watched;
 use bb_machine::Limits;
-use bb_run::{Summary, ring_pair, run_check};
+use bb_run::{Summary, run_check};
 use bb_tape::{MapTape, Tape};
 use std::process::Abort;
 
@@ -31,39 +30,21 @@ pub(crate) fn checked<T: Tape>(
     (end, writer.into_inner())
 }
 
-/// Checks a list on maps.
-pub(crate) fn checked_on_maps(
+/// Checks a list on maps and on rings, with the same output and summary.
+pub(crate) fn checked_on_both(
     rt: &(impl Abort + AllocGlobal),
     limits: &Limits,
     input: &[u8],
-) -> (Result<Summary, Fault>, Vec<u8>) {
-    let mut pair = Pair {
+) -> (Summary, Vec<u8>) {
+    let mut maps = Pair {
         run: MapTape::new(rt.alloc(), limits.cells()),
         saved: MapTape::new(rt.alloc(), limits.cells()),
     };
     let mut path = Path::new(rt.alloc(), limits.depth()).expect(rt, "a path");
-    checked(rt, &mut pair, &mut path, limits, input)
-}
-
-/// The same on rings.
-pub(crate) fn checked_on_rings(
-    rt: &(impl Abort + AllocGlobal),
-    limits: &Limits,
-    input: &[u8],
-) -> (Result<Summary, Fault>, Vec<u8>) {
-    let (mut pair, mut path) = ring_pair(rt.alloc(), limits).expect(rt, "memory");
-    checked(rt, &mut pair, &mut path, limits, input)
-}
-
-/// Each input is checked to its output, on maps and on rings.
-pub(crate) fn assert_checked(rt: &(impl Abort + AllocGlobal), rows: &[Row]) {
-    for (four, input, output, clean) in rows {
-        let limits = Limits::new(four[0], four[1], four[2], four[3]).expect(rt, "limits");
-        let (end, written) = checked_on_maps(rt, &limits, input);
-        assert_eq!(rt; written.as_slice(), *output);
-        let (ring_end, ring_written) = checked_on_rings(rt, &limits, input);
-        assert_eq!(rt; ring_written.as_slice(), *output);
-        assert_eq!(rt; ring_end, end);
-        assert_eq!(rt; end.expect(rt, "no fault").clean, *clean);
-    }
+    let (end, output) = checked(rt, &mut maps, &mut path, limits, input);
+    let (mut rings, mut path) = ring_pair(rt.alloc(), limits).expect(rt, "memory");
+    let (ring_end, ring_output) = checked(rt, &mut rings, &mut path, limits, input);
+    assert_eq!(rt; ring_output.as_slice(), output.as_slice());
+    assert_eq!(rt; ring_end, end);
+    (end.expect(rt, "no fault"), output)
 }

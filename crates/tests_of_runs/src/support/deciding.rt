@@ -3,8 +3,9 @@ ghost use Rattle.std.specs.Prelude.{◌≡◌};
 ghost use Rattle.bb_tree.specs.Path.{depth_of};
 ghost use Rattle.bb_decide.specs.Bench.{BenchHasCells};
 
+use crate::support::checking::checked_on_both;
 use crate::support::engine::Engine;
-use crate::support::rows::Row;
+use crate::support::rows::{Four, limits_of};
 use bb_decide::{Bench, Plan};
 use bb_lines::fault::Fault;
 use bb_lines::watched::Watched;
@@ -12,6 +13,10 @@ use bb_machine::Limits;
 use bb_run::{Summary, ring_bench};
 use bb_tape::{MapTape, Tape};
 use std::process::Abort;
+use std::test::Fail;
+
+/// Limits, and verdict lines of machines.
+pub(crate) type Decided = (Four, &'static [&'static str]);
 
 /// Decides a list, and returns the output too.
 pub(crate) fn decided<T: Tape>(
@@ -33,8 +38,8 @@ pub(crate) fn decided<T: Tape>(
     (end, writer.into_inner())
 }
 
-/// Decides a list on maps.
-pub(crate) fn decided_on_maps(
+/// Decides a list on maps, with its output.
+fn decided_on_maps(
     rt: &(impl Abort + AllocGlobal),
     limits: &Limits,
     plan: Plan,
@@ -47,40 +52,83 @@ pub(crate) fn decided_on_maps(
     decided(rt, Engine::InTurn, &mut bench, limits, plan, input)
 }
 
-/// The same on rings.
-pub(crate) fn decided_on_rings(
+/// Decides a list on rings, with its output.
+fn decided_on_rings(
     rt: &(impl Abort + AllocGlobal),
+    engine: Engine,
     limits: &Limits,
     plan: Plan,
     input: &[u8],
 ) -> (Result<Summary, Fault>, Vec<u8>) {
     let mut bench = ring_bench(rt.alloc(), limits).expect(rt, "a bench");
-    decided(rt, Engine::InTurn, &mut bench, limits, plan, input)
+    decided(rt, engine, &mut bench, limits, plan, input)
 }
 
-/// Decides a list on rings, each machine in one run.
-pub(crate) fn decided_in_one_run(
+/// Decides a list on maps, on rings and in one run, with the same output. Returns it with the summary, which
+/// the two tapes share.
+pub(crate) fn decided_each_way(
     rt: &(impl Abort + AllocGlobal),
     limits: &Limits,
     plan: Plan,
     input: &[u8],
-) -> (Result<Summary, Fault>, Vec<u8>) {
-    let mut bench = ring_bench(rt.alloc(), limits).expect(rt, "a bench");
-    decided(rt, Engine::InOneRun, &mut bench, limits, plan, input)
+) -> (Summary, Vec<u8>) {
+    let (end, output) = decided_on_maps(rt, limits, plan, input);
+    let (ring_end, ring_output) = decided_on_rings(rt, Engine::InTurn, limits, plan, input);
+    assert_eq!(rt; ring_output.as_slice(), output.as_slice());
+    assert_eq!(rt; ring_end, end);
+    let (one_end, one_output) = decided_on_rings(rt, Engine::InOneRun, limits, plan, input);
+    assert_eq!(rt; one_output.as_slice(), output.as_slice());
+    let summary = end.expect(rt, "no fault");
+    assert_eq!(rt; one_end.expect(rt, "no fault").clean, summary.clean);
+    (summary, output)
 }
 
-/// Each input is decided to its output, on maps and on rings, and in one run.
-pub(crate) fn assert_decided(rt: &(impl Abort + AllocGlobal), plan: Plan, rows: &[Row]) {
-    for (four, input, output, clean) in rows {
-        let limits = Limits::new(four[0], four[1], four[2], four[3]).expect(rt, "limits");
-        let (end, written) = decided_on_maps(rt, &limits, plan, input);
-        assert_eq!(rt; written.as_slice(), *output);
-        let (ring_end, ring_written) = decided_on_rings(rt, &limits, plan, input);
-        assert_eq!(rt; ring_written.as_slice(), *output);
-        assert_eq!(rt; ring_end, end);
-        assert_eq!(rt; end.expect(rt, "no fault").clean, *clean);
-        let (one_end, one_written) = decided_in_one_run(rt, &limits, plan, input);
-        assert_eq!(rt; one_written.as_slice(), *output);
-        assert_eq!(rt; one_end.expect(rt, "no fault").clean, *clean);
+/// Appends a line to a list.
+fn add_line(list: &mut Vec<u8>, line: &str) -> Result<(), Fail> {
+    list.extend_from_slice(line.as_bytes())?;
+    list.push(b'\n')?;
+    Ok(())
+}
+
+/// Decides the machines of verdict lines, as a list, each to its line. The checker confirms each decided line
+/// under the same limits, on both tapes.
+fn assert_list_decided(
+    rt: &(impl Abort + AllocGlobal),
+    limits: &Limits,
+    plan: Plan,
+    lines: &[&str],
+) -> Result<(), Fail> {
+    let mut machines: Vec<u8> = Vec::new(rt.alloc());
+    let mut verdicts: Vec<u8> = Vec::new(rt.alloc());
+    let mut answers: Vec<u8> = Vec::new(rt.alloc());
+    for line in lines {
+        let machine = line.split(' ').next().ok_or("a machine")?;
+        add_line(&mut machines, machine)?;
+        add_line(&mut verdicts, line)?;
+        let answer = if line.contains(" undecided ") {
+            "open"
+        } else {
+            "ok"
+        };
+        add_line(&mut answers, answer)?;
     }
+    let (summary, output) = decided_each_way(rt, limits, plan, machines.as_slice());
+    assert_eq!(rt; output.as_slice(), verdicts.as_slice());
+    assert!(rt; summary.clean);
+    let (summary, output) = checked_on_both(rt, limits, verdicts.as_slice());
+    assert_eq!(rt; output.as_slice(), answers.as_slice());
+    assert!(rt; summary.clean);
+    Ok(())
+}
+
+/// The same for each of these lists.
+pub(crate) fn assert_decided(
+    rt: &(impl Abort + AllocGlobal),
+    plan: Plan,
+    lists: &[Decided],
+) -> Result<(), Fail> {
+    for (four, lines) in lists {
+        assert_list_decided(rt, &limits_of(rt, four), plan, lines)?;
+    }
+    Ok(())
 }

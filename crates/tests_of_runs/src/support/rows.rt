@@ -1,14 +1,19 @@
-//! The rows of the tests, and their plans.
+//! The limits and the plans of the tests.
 
 use bb_decide::Plan;
+use bb_machine::Limits;
+use std::process::Abort;
 
 /// Limits of steps, cells, levels and nodes.
 pub(crate) type Four = [u64; 4];
 
-/// The limits, the input, the output, and whether each line is a machine's.
-pub(crate) type Row = (Four, &'static [u8], &'static [u8], bool);
-
 pub(crate) const DEFAULTS: Four = [1_000_000, 65_536, 300, 1_000_000];
+
+pub(crate) const SMALL: Four = [200, 40, 20, 300];
+
+pub(crate) fn limits_of(rt: &impl Abort, four: &Four) -> Limits {
+    Limits::new(four[0], four[1], four[2], four[3]).expect(rt, "limits")
+}
 
 pub(crate) const SIMULATION: Plan = Plan {
     cyclers: false,

@@ -23,22 +23,17 @@ pub(crate) fn traced<T: Tape>(
     (end, writer.into_inner())
 }
 
-/// Traces a line on a ring.
-pub(crate) fn traced_on_a_ring(
+/// Traces a line on a ring and on a map, with the same output and end.
+pub(crate) fn traced_on_both(
     rt: &(impl Abort + AllocGlobal),
     line: &[u8],
     limits: &Limits,
 ) -> (Result<Summary, Fault>, Vec<u8>) {
-    let mut tape = RingTape::new(rt.alloc(), limits.cells()).expect(rt, "memory");
-    traced(rt, &mut tape, limits, line)
-}
-
-/// The same on an ordered map.
-pub(crate) fn traced_on_a_map(
-    rt: &(impl Abort + AllocGlobal),
-    line: &[u8],
-    limits: &Limits,
-) -> (Result<Summary, Fault>, Vec<u8>) {
-    let mut tape = MapTape::new(rt.alloc(), limits.cells());
-    traced(rt, &mut tape, limits, line)
+    let mut ring = RingTape::new(rt.alloc(), limits.cells()).expect(rt, "memory");
+    let (end, output) = traced(rt, &mut ring, limits, line);
+    let mut map = MapTape::new(rt.alloc(), limits.cells());
+    let (map_end, map_output) = traced(rt, &mut map, limits, line);
+    assert_eq!(rt; map_output.as_slice(), output.as_slice());
+    assert_eq!(rt; map_end, end);
+    (end, output)
 }

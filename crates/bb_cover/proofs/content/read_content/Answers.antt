@@ -1,7 +1,6 @@
-use Rattle.std.proofs.Common.{◌≡◌}
 use Rattle.bb_cover.specs.declared.content.Content.{Content}
 use Rattle.bb_cover.specs.declared.content.Content.TheVariants.{Claim, Shard}
-use Rattle.bb_cover.specs.Content.{IsItemLine, Item}
+use Rattle.bb_cover.specs.Content.{IsItemLine}
 use Rattle.bb_cover.proofs.content.read_content.Goals as goal
 
 pub returns-in-None-clause-none : goal.returns-in-None-clause-none

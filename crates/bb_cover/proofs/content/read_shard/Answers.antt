@@ -1,7 +1,6 @@
-use Rattle.std.proofs.Common.{◌≡◌, Option, Some, None, sym, ◌∙◌}
+use Rattle.std.proofs.Common.{Option, Some, None}
 use Rattle.std.specs.Option.{IfNone, MatchOption}
 use Rattle.bb_cover.specs.declared.content.ShardCounts.{ShardCounts}
-use Rattle.bb_cover.specs.Content.{IsShardLine}
 use Rattle.bb_cover.proofs.ShardLines.{line_split}
 use Rattle.bb_cover.proofs.content.read_shard.Goals as goal
 

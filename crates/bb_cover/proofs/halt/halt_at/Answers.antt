@@ -1,65 +1,19 @@
-use Rattle.std.proofs.Common.{◌∙◌, ap, arith, sym, subst}
-use Rattle.bb_sim.specs.declared.meter.Meter.{Meter}
-use Rattle.bb_machine.specs.Limits.{Bounds}
-use Rattle.bb_sim.specs.Run.{HaltsAt}
-use Rattle.bb_sim.specs.Runner.{steps_of}
-use Rattle.bb_cover.proofs.Halting.{ends_so, halts_elsewhere, needs_more_cells}
+use Rattle.bb_cover.proofs.Halting.{cut_ends, cut_inside, halts_elsewhere}
 use Rattle.bb_cover.proofs.halt.halt_at.Goals as goal
 
-pub loop-runner-init : goal.loop-runner-init
-loop-runner-init g c = record {
-  stands = c.start-runner.ensures.stands;
-  steps = let none = c.start-runner.ensures.steps in omega (arith, none);
-  spent = let none = ap (λ (m : Meter). m.steps) c.new-meter.ensures in omega (arith, none);
-  limit = c.start-runner.ensures.limit ∙ c.requires.limit
-      ∙ sym (ap (λ (b : Bounds). b.cells) c.with_steps-limits.ensures);
-}
+pub returns-in_default-clause-ends : goal.returns-in_default-clause-ends
+returns-in_default-clause-ends g c halts inside =
+    let none = rw c.in_default.is at c.in_ok-halted.ensures.ends in
+    none c.args.steps halts (cut_inside c.args.machine.now c.args.limits.now c.with_steps.result c.args.steps
+    c.with_steps.ensures inside)
 
-pub loop-runner-preserved : goal.loop-runner-preserved
-loop-runner-preserved g c =
-    let here = c.loop-runner.invariant in
-    let call = c.in_ok-advance.ensures in
-    let moved = rw c.in-Stepped.is at call.moves in
-    let reached = rw c.in-Stepped.is at call.reaches in
-    record {
-      stands = call.stands;
-      steps = reached.0.within_steps;
-      spent = let more = ap (λ (m : Meter). m.steps) moved.1 in let one = moved.0 in
-          let was = here.spent in omega (arith, more, one, was);
-      limit = call.limit ∙ here.limit;
-    }
+pub returns-then-halted-steps-clause-ends : goal.returns-then-halted-steps-clause-ends
+returns-then-halted-steps-clause-ends g c halts inside =
+    let ends = rw c.in-Some.is at c.in_ok-halted.ensures.ends in
+    halts_elsewhere c.args.machine.now c.in-Some.halted.steps c.args.steps ends.halts c.if-halted-steps.true halts
 
-pub returns-then-steps-clause-ends : goal.returns-then-steps-clause-ends
-returns-then-steps-clause-ends g c halts inside =
-    let call = c.in_ok-advance.ensures in
-    let stays = rw c.in-Halted.is at call.moves in
-    let here = rw c.in-Halted.is at call.answers in
-    halts_elsewhere c.args.machine.now (steps_of c.loop-runner.runner) c.args.steps here
-    (λ e. c.if-steps.true (c.steps.ensures ∙ ap steps_of stays.runner ∙ e)) halts
-
-pub returns-in-Halted-clause-ends : goal.returns-in-Halted-clause-ends
-returns-in-Halted-clause-ends g c =
-    let call = c.in_ok-advance.ensures in
-    let stays = rw c.in-Halted.is at call.moves in
-    let here = rw c.in-Halted.is at call.answers in
-    let last = rw c.in-Halted.is at call.reaches in
-    let now = subst (HaltsAt c.args.machine.now) (sym (ap steps_of stays.runner)) here in
-    ends_so c.args.machine.now c.args.limits.now c.with_steps-limits.result c.args.steps
-    c.with_steps-limits.ensures c.requires.steps c.advance.new.self (g.T.Tape.view c.advance.new.tape)
-    call.stands now last.inside (record { score = c.score.result; undefined = c.undefined_here.result }) c.score.ensures
-    c.undefined_here.ensures (sym c.steps.ensures ∙ c.if-steps.false)
-
-pub returns-in-NoSteps-clause-ends : goal.returns-in-NoSteps-clause-ends
-returns-in-NoSteps-clause-ends g c halts inside =
-    let on = rw c.in-NoSteps.is at c.in_ok-advance.ensures.answers in
-    on.0 (subst (HaltsAt c.args.machine.now)
-    (sym (on.1 ∙ ap (λ (b : Bounds). b.steps) c.with_steps-limits.ensures))
-    halts)
-
-pub returns-in-NoCells-clause-ends : goal.returns-in-NoCells-clause-ends
-returns-in-NoCells-clause-ends g c halts inside =
-    let on = rw c.in-NoCells.is at c.in_ok-advance.ensures.answers in
-    let few = ap (λ (b : Bounds). b.steps) c.with_steps-limits.ensures in
-    let cells = ap (λ (b : Bounds). b.cells) c.with_steps-limits.ensures in
-    needs_more_cells c.args.machine.now c.args.limits.now (steps_of c.loop-runner.runner) c.args.steps on.0
-    (omega (arith, c.loop-runner.invariant.steps, few)) (omega (arith, on.2, cells)) halts inside
+pub returns-clause-ends : goal.returns-clause-ends
+returns-clause-ends g c =
+    let ends = rw c.in-Some.is at c.in_ok-halted.ensures.ends in
+    cut_ends c.args.machine.now c.args.limits.now c.with_steps.result c.args.steps c.with_steps.ensures
+    c.requires.steps c.in-Some.halted ends c.if-halted-steps.false

@@ -36,5 +36,6 @@ returns-clause-asked c =
       form = c.form_of-form.ensures ∙ ap (λ found. form_by (is_given (codes "skeleton") found)) rows;
       unread = c.new.ensures.items;
       assume = rw rows at c.in_ok-assume.ensures;
+      lines = c.has_option-lines.ensures ∙ ap (λ found. is_given (codes "lines") found) rows;
       file = rw rows at c.in_ok-file.ensures;
     }

@@ -11,5 +11,6 @@ returns c =
     let five = with_arg c.in_ok-arg-5.ensures four c.below.ensures.rule c.below.ensures.local in
     let six = with_arg c.in_ok-arg-6.ensures five c.switch.ensures.rule c.switch.ensures.local in
     let seven = with_arg c.in_ok-arg-7.ensures six c.assume.ensures.rule c.assume.ensures.local in
-    IfOk-weaker c.arg-8.result _ _
-    (λ command adds. with_arg adds seven c.positional.ensures.rule c.positional.ensures.local) c.arg-8.ensures
+    let eight = with_arg c.in_ok-arg-8.ensures seven c.switch-2.ensures.rule c.switch-2.ensures.local in
+    IfOk-weaker c.arg-9.result _ _
+    (λ command adds. with_arg adds eight c.positional.ensures.rule c.positional.ensures.local) c.arg-9.ensures

@@ -1,5 +1,0 @@
-use Rattle.std.proofs.Common.{arith}
-use Rattle.bb_run.proofs.rings.ring_pair.Goals as goal
-
-pub returns-clause-path : goal.returns-clause-path
-returns-clause-path c = omega (arith, c.in_ok-path.ensures)
