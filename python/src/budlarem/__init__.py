@@ -16,6 +16,7 @@ The calls, documented by `help(budlarem.decide)` and so on:
     parse, is_machine                       the verdict of a line; whether a text is a machine
     read                                    the machines of a list
     judge, compare                          the claims of others, or two lists
+    settle, lines_of, confirm_list          verdicts from a complete list
     normal, distinct                        the normal form of machines
     trace, picture, at                      the run of a machine, its picture, its later steps
     report                                  a page on a list of verdicts

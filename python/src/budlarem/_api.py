@@ -17,18 +17,20 @@ from .reading import EncodingError, EndlessLineError, Form, Skipped, Reading, Re
 from .reading import read
 from .recurrence_claims import Exactness
 from .reports import Report, ReportError, report
+from .settling import Line, LineHalt, ListError, Settled, confirm_list, lines_of, settle
 from .verdicts import Answer, Backward, Cycler, Extent, Halt, LastUse, Recurrence, Refused, Translated
 from .verdicts import Undecided, UseKind, Verdict, is_machine, parse, parse_recurrence
 
 # fmt: off
 __all__ = [
-    "Agreement", "Answer", "Backward", "DecidedLine", "Claim", "Columns", "Comparison", "Configuration", "Cycler",
-    "EncodingError", "EndlessLineError", "Exactness", "Extent", "Form", "Halt", "Judged", "Judgement",
-    "Judging", "LastUse", "LibraryError", "Limits", "LimitsError", "MachineError", "Normal", "Picture",
-    "PictureError", "Place", "Plan", "PublishError", "Published", "Reading", "Readings", "Reason",
-    "Recurrence", "Refused", "Report", "ReportError", "Rewriting", "Skipped", "Trace", "Translated",
-    "UnconfirmedError", "Undecided", "UseKind", "Verdict", "WORDS", "Word", "at", "check", "check_bytes",
-    "compare", "decide", "decide_bytes", "decide_lines", "distinct", "is_machine", "judge", "normal",
-    "parse", "parse_recurrence", "picture", "publish", "read", "recurrences", "report", "trace",
+    "Agreement", "Answer", "Backward", "DecidedLine", "Claim", "Columns", "Comparison", "Configuration",
+    "Cycler", "EncodingError", "EndlessLineError", "Exactness", "Extent", "Form", "Halt", "Judged",
+    "Judgement", "Judging", "LastUse", "LibraryError", "Limits", "LimitsError", "Line", "LineHalt",
+    "ListError", "MachineError", "Normal", "Picture", "PictureError", "Place", "Plan", "PublishError",
+    "Published", "Reading", "Readings", "Reason", "Recurrence", "Refused", "Report", "ReportError",
+    "Rewriting", "Settled", "Skipped", "Trace", "Translated", "UnconfirmedError", "Undecided", "UseKind",
+    "Verdict", "WORDS", "Word", "at", "check", "check_bytes", "compare", "confirm_list", "decide",
+    "decide_bytes", "decide_lines", "distinct", "is_machine", "judge", "lines_of", "normal", "parse",
+    "parse_recurrence", "picture", "publish", "read", "recurrences", "report", "settle", "trace",
 ]
 # fmt: on

@@ -4,18 +4,19 @@ caller's thread can be interrupted."""
 from __future__ import annotations
 
 import collections
+import functools
 import queue
 import threading
 import time
 from concurrent.futures import Future
-from typing import Any, Callable, Generic, Iterable, Iterator, NamedTuple, Protocol, TypeVar, Union
+from typing import Any, Callable, Iterable, Iterator, NamedTuple, Protocol, TypeVar, Union
 from typing import runtime_checkable
 
 from ._fork import forbid_fork
-from ._library import Reply, ReplyBuffer
 from ._text import LONGEST_GIVEN, LONGEST_VALUE
 
 Given = TypeVar("Given")
+Found = TypeVar("Found")
 
 
 class BatchPace:
@@ -37,53 +38,47 @@ class BatchPace:
             self.now = max(self.now // 2, 1)
 
 
-class WorkerPool(Generic[Given]):
-    """Daemon threads that make calls. After `close` a thread ends with its call, or with the process."""
+class DaemonThreads:
+    """Threads that make calls, so that the process can end in the middle of one. After `close` each ends with its
+    call."""
 
-    def __init__(self, work: Callable[[ReplyBuffer, Given], None], threads: int, pace: BatchPace) -> None:
-        self._work, self._most, self._pace = work, threads, pace
-        self._tasks: queue.SimpleQueue[tuple[Given, Future[Reply]] | None] = queue.SimpleQueue()
+    def __init__(self, most: int) -> None:
+        self._most, self._is_closed = most, False
+        self._tasks: queue.SimpleQueue[tuple[Callable[[], Any], Future[Any]] | None] = queue.SimpleQueue()
         self._threads: list[threading.Thread] = []
-        self._is_closed = threading.Event()
 
-    def submit(self, given: Given) -> Future[Reply]:
-        """Submits a call; the future gets its reply or error."""
+    def submit(self, function: Callable[..., Found], *given: Any) -> Future[Found]:
+        """Has a thread make a call; the future gets its result or error. Raises RuntimeError for a thread that
+        can't be started, or in the forked child of a process with threads."""
         forbid_fork()
-        future: Future[Reply] = Future()
+        future: Future[Found] = Future()
         if len(self._threads) < self._most:
-            thread = threading.Thread(target=self._run_worker, name="budlarem", daemon=True)
+            thread = threading.Thread(target=self._work, name="budlarem", daemon=True)
             thread.start()
             self._threads.append(thread)
-        self._tasks.put((given, future))
+        self._tasks.put((functools.partial(function, *given), future))
         return future
 
-    def close(self, wait: bool) -> None:
-        """Ends the threads after their calls; `wait` waits for them."""
-        self._is_closed.set()
+    def close(self, waits: bool = False) -> None:
+        """Ends the threads after their calls; `waits` for them."""
+        self._is_closed = True
         for _ in self._threads:
             self._tasks.put(None)
-        for thread in self._threads if wait else ():
+        for thread in self._threads if waits else ():
             thread.join()
 
-    def _run_worker(self) -> None:
-        buffer: ReplyBuffer | None = None
-        while True:
-            task = self._tasks.get()
-            if task is None or self._is_closed.is_set():
-                return
-            given, future = task
-            started = time.monotonic()
+    def _work(self) -> None:
+        while (task := self._tasks.get()) is not None and not self._is_closed:
+            call, future = task
             try:
-                buffer = buffer or ReplyBuffer()
-                self._work(buffer, given)
-                self._pace.update(time.monotonic() - started)
-                future.set_result(buffer.reply())
+                future.set_result(call())
             except BaseException as error:
                 future.set_exception(error)
-            del task, given, future
+            # What is kept here is kept until the next task comes.
+            del task, call, future
 
 
-def _catch_error(items: Iterable[Given], errors: list[Exception]) -> Iterator[Given]:
+def catch_error(items: Iterable[Given], errors: list[Exception]) -> Iterator[Given]:
     """The items up to an error, which is added to `errors`."""
     try:
         yield from items
@@ -92,24 +87,29 @@ def _catch_error(items: Iterable[Given], errors: list[Exception]) -> Iterator[Gi
 
 
 def map_in_order(
-    work: Callable[[ReplyBuffer, Given], None], batches: Iterable[Given], threads: int, pace: BatchPace
-) -> Iterator[tuple[Given, Reply]]:
-    """Each batch and the reply to the call that `work` makes for it, in order. At most one more batch than
-    threads is in flight. An error of the batches is raised after those before it."""
-    pool = WorkerPool(work, threads, pace)
-    waiting: collections.deque[tuple[Given, Future[Reply]]] = collections.deque()
-    errors: list[Exception] = []
-    is_whole = False
+    work: Callable[[Given], Found], batches: Iterable[Given], threads: int, pace: BatchPace
+) -> Iterator[tuple[Given, Found]]:
+    """Each batch and what `work` returns for it, in order. At most one more batch than threads is in flight. An
+    error of the batches is raised after those before it."""
+
+    def call(batch: Given) -> Found:
+        started = time.monotonic()
+        found = work(batch)
+        pace.update(time.monotonic() - started)
+        return found
+
+    pool, errors, is_whole = DaemonThreads(threads), list[Exception](), False
+    waiting: collections.deque[tuple[Given, Future[Found]]] = collections.deque()
     try:
-        for batch in _catch_error(batches, errors):
-            waiting.append((batch, pool.submit(batch)))
+        for batch in catch_error(batches, errors):
+            waiting.append((batch, pool.submit(call, batch)))
             while len(waiting) > threads or (waiting and waiting[0][1].done()):
                 given, future = waiting.popleft()
                 yield given, future.result()
         yield from ((given, future.result()) for given, future in waiting)
         is_whole = True
     finally:
-        pool.close(wait=is_whole)
+        pool.close(is_whole)
     if errors:
         raise errors[0]
 
@@ -199,7 +199,7 @@ def whole_lines(blocks: Iterable[bytes]) -> Iterator[bytes]:
     rest = b""
     for block in blocks:
         if whole := block.rfind(b"\n") + 1:
-            yield rest + block[:whole]
+            yield rest + memoryview(block)[:whole]
             rest = block[whole:][:LONGEST_GIVEN]
         else:
             rest = (rest + block)[:LONGEST_GIVEN]

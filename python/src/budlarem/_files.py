@@ -17,7 +17,7 @@ import stat
 import zlib
 from typing import Any, Callable, Iterable, Iterator, Mapping
 
-from .runner.errors import MovedError
+from .runner.errors import MovedError, TakenError
 
 
 PART = ".part"
@@ -58,17 +58,6 @@ def name_errors(path: str | os.PathLike[str], replaces: bool = False) -> Iterato
 _name_path = functools.partial(name_errors, replaces=True)
 
 
-class Pin:
-    """An open file, whose numbers no other file gets meanwhile. It takes over the file's number."""
-
-    def __init__(self, number: int) -> None:
-        self._number = number
-        self.id = id_of(os.fstat(number))
-
-    def close(self) -> None:
-        os.close(self._number)
-
-
 def write_blocks(number: int, blocks: Iterable[bytes]) -> None:
     """Writes all bytes to an open file. Raises OSError."""
     with open(number, "wb", closefd=False) as file:
@@ -106,19 +95,14 @@ class Directory:
         with _name_path(self.path):
             return sorted(os.listdir(self.handle))
 
-    def has_name(self) -> bool:
-        """Whether its path still leads to it."""
-        try:
-            return id_of(os.stat(self.path)) == id_of(os.fstat(self.handle))
-        except (FileNotFoundError, NotADirectoryError):
-            return False
-
     def require_name(self) -> None:
         """Raises MovedError unless its path still leads to it."""
-        if not self.has_name():
-            why = "that one was moved, removed or replaced, and nothing is written elsewhere"
-            how = "put it back and run the same command to resume"
-            raise MovedError(f"{self.path} isn't the folder that was opened any more: {why}; {how}")
+        with contextlib.suppress(FileNotFoundError, NotADirectoryError):
+            if id_of(os.stat(self.path)) == id_of(os.fstat(self.handle)):
+                return
+        why = "that one was moved, removed or replaced, and nothing is written elsewhere"
+        how = "put it back and run the same command to resume"
+        raise MovedError(f"{self.path} isn't the folder that was opened any more: {why}; {how}")
 
     def status(self, name: str) -> os.stat_result | None:
         """The status of a name itself; None if it is missing."""
@@ -132,10 +116,10 @@ class Directory:
         status = self.status(name)
         return None if status is None else id_of(status)
 
-    def pin(self, name: str) -> Pin | None:
-        """The file with a name; None if it is missing."""
+    def pin(self, name: str) -> int | None:
+        """The file with a name, opened so that no other file gets its numbers meanwhile; None if it is missing."""
         with _name_path(self.at(name)), contextlib.suppress(FileNotFoundError):
-            return Pin(os.open(name, os.O_PATH | os.O_NOFOLLOW | os.O_CLOEXEC, dir_fd=self.handle))
+            return os.open(name, os.O_PATH | os.O_NOFOLLOW | os.O_CLOEXEC, dir_fd=self.handle)
         return None
 
     def open_file(self, name: str, flags: int) -> int:
@@ -202,8 +186,7 @@ class Directory:
             os.unlink(name, dir_fd=self.handle)
 
     def install(self, part: str, name: str, over: FileId | None) -> None:
-        """Names the file `part` `name`; `sync` makes that durable. Replaces only the file `over`. Raises
-        FileExistsError."""
+        """Names the file `part` `name`; `sync` makes that durable. Replaces only the file `over`. Raises TakenError."""
         found, handles = self.id_at(name), {"src_dir_fd": self.handle, "dst_dir_fd": self.handle}
         with _name_path(self.at(name)):
             if found is not None and found == over:
@@ -212,14 +195,16 @@ class Directory:
                 self._install_new(part, name, handles)
 
     def _install_new(self, part: str, name: str, handles: dict[str, int]) -> None:
-        """Gives a file a name that no file has. Raises FileExistsError."""
+        """Gives a file a name that no file has. Raises TakenError."""
         try:
             os.link(part, name, **handles, follow_symlinks=False)
         except OSError as error:
+            if isinstance(error, FileExistsError) or (
+                error.errno in _NO_LINKS and self.status(name) is not None
+            ):
+                raise TakenError(self.at(name)) from None
             if error.errno not in _NO_LINKS:
                 raise
-            if self.status(name) is not None:
-                raise FileExistsError(errno.EEXIST, "File exists", name) from None
             os.rename(part, name, **handles)
         else:
             self.remove(part)
@@ -230,54 +215,67 @@ class Directory:
             os.fsync(self.handle)
 
 
-def write_atomically(directory: Directory, name: str, fill: Callable[[int], None], over: Pin | None) -> Pin:
-    """Writes a file whole or not at all, by `fill`; replaces only the file `over`. Returns the new file."""
+def write_atomically(
+    directory: Directory, name: str, fill: Callable[[int], None], over: FileId | None, syncs: bool = True
+) -> int:
+    """Writes a file whole or not at all, by `fill`; replaces only the file `over`. Returns the new file, open. `syncs`:
+    its name is on the disk then. Raises TakenError, OSError, what `fill` does."""
     number, part = directory.create_part(name)
-    written = Pin(number)
     try:
         with name_errors(directory.at(name)):
             fill(number)
             os.fsync(number)
-        directory.install(part, name, None if over is None else over.id)
-        directory.sync()
+        directory.install(part, name, over)
+        if syncs:
+            directory.sync()
     except BaseException:
-        written.close()
+        os.close(number)
         with contextlib.suppress(OSError):
             directory.remove(part)
         raise
-    return written
+    return number
 
 
 class FileTarget:
-    """The path of a file to be written. Only the regular file that is there now may be replaced."""
+    """A file that is written or replaced. Only the regular file that is there now, and what is written by this, may
+    be replaced. Raises KindError for anything else, OSError."""
 
-    def __init__(self, path: str) -> None:
-        self._path = path
-        folder, self._name = os.path.split(path)
-        with contextlib.ExitStack() as stack:
-            with _name_path(path):
-                self._directory = stack.enter_context(contextlib.closing(Directory.open(folder or os.curdir)))
-            self.over = self._directory.pin(self._name)
-            if self.over is not None:
-                stack.callback(self.over.close)
-            self._directory.require_kind(self._directory.status(self._name), self._name, stat.S_IFREG)
-            self.close = stack.pop_all().close
+    def __init__(self, directory: Directory, name: str) -> None:
+        self._directory, self._name = directory, name
+        directory.require_kind(directory.status(name), name, stat.S_IFREG)
+        self.over = directory.pin(name)
 
     def write(self, fill: Callable[[int], None]) -> None:
-        """Writes the file whole or not at all, by `fill`. Raises OSError, also if its folder was moved."""
+        """Writes the file whole or not at all, by `fill`. Raises TakenError, MovedError, OSError."""
 
         def fill_here(number: int) -> None:
             fill(number)
-            if not self._directory.has_name():
-                moved = "its folder was moved, removed or replaced meanwhile"
-                raise OSError(errno.ENOENT, moved, self._path)
+            self._directory.require_name()
 
-        write_atomically(self._directory, self._name, fill_here, self.over).close()
+        over = None if self.over is None else id_of(os.fstat(self.over))
+        written = write_atomically(self._directory, self._name, fill_here, over)
+        self.close()
+        self.over = written
+
+    def close(self) -> None:
+        if self.over is not None:
+            os.close(self.over)
+        self.over = None
+
+
+@contextlib.contextmanager
+def open_target(path: str) -> Iterator[FileTarget]:
+    """The target of a path. Raises what FileTarget does."""
+    folder, name = os.path.split(path)
+    with contextlib.ExitStack() as stack:
+        with _name_path(path):
+            directory = stack.enter_context(contextlib.closing(Directory.open(folder or os.curdir)))
+        yield stack.enter_context(contextlib.closing(FileTarget(directory, name)))
 
 
 def write_whole(path: str, blocks: Iterable[bytes]) -> None:
     """Writes or replaces a file whole or not at all. Raises OSError; nothing is left then."""
-    with contextlib.closing(FileTarget(path)) as target:
+    with open_target(path) as target:
         target.write(lambda number: write_blocks(number, blocks))
 
 

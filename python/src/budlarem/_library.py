@@ -1,4 +1,4 @@
-"""The library `libbb.so`: its location, its calls, and reusable buffers for their replies."""
+"""The library `libbb.so`: its location, its calls, and a buffer of each thread for their replies."""
 
 from __future__ import annotations
 
@@ -9,6 +9,7 @@ import mmap
 import os
 import pathlib
 import struct
+import threading
 from typing import Any, BinaryIO, Callable, NamedTuple, Sequence
 
 from ._version import LIBRARY_BYTES, VERSION
@@ -32,6 +33,7 @@ _CALLS = {
     "bb_decide": (_NUMBER,) * 4 + (_SWITCH,) * 3 + _BUFFERS,
     "bb_check": (_NUMBER,) * 4 + _BUFFERS,
     "bb_check_cost": (_NUMBER,) * 4 + (ctypes.c_char_p, _SIZE, ctypes.POINTER(_NUMBER * 4)),
+    "bb_line_of": (_NUMBER,) * 2 + _BUFFERS,
     "bb_recurrence": (_NUMBER,) * 2 + (_SWITCH,) + _BUFFERS,
     "bb_trace": (_NUMBER,) * 4 + _BUFFERS,
     "bb_look": (*(ctypes.c_char_p, _SIZE) * 2, ctypes.POINTER(_NUMBER * _KINDS), ctypes.POINTER(_NUMBER)),
@@ -155,38 +157,40 @@ class Reply(NamedTuple):
     text: bytes
 
 
-class ReplyBuffer:
-    """A buffer for replies; `status` is that of the last call. Untouched pages take no memory."""
+class _Buffer(threading.local):
+    """The buffer for the replies of a thread. Untouched pages take no memory."""
 
-    def __init__(self) -> None:
-        self._make(mmap.PAGESIZE)
-        self.status, self._length = CLEAN, 0
+    pages: Any = b""
+    address: Any = None
 
-    def _make(self, size: int) -> None:
-        self._bytes = mmap.mmap(-1, size, mmap.MAP_PRIVATE | mmap.MAP_ANONYMOUS)
-        self._address: Any = (ctypes.c_char * size).from_buffer(self._bytes)
+    def grow(self, size: int) -> None:
+        if self.address is None or size > len(self.pages):
+            size = 1 << (max(size, mmap.PAGESIZE) - 1).bit_length()
+            self.pages = mmap.mmap(-1, size, mmap.MAP_PRIVATE | mmap.MAP_ANONYMOUS)
+            self.address = (ctypes.c_char * size).from_buffer(self.pages)
 
-    def reply(self) -> Reply:
-        return Reply(self.status, self._length, self._bytes[: 0 if self.status == SHORT else self._length])
 
-    def call(self, name: str, asked: Sequence[int], given: bytes, room: int) -> None:
-        """Makes a call, twice if the reply exceeds `room` bytes. Raises LibraryError, MemoryError."""
-        self.call_once(name, asked, given, room)
-        if self.status == SHORT:
-            self.call_once(name, asked, given, self._length)
-        if self.status == SHORT:
-            raise AssertionError("%s with %r asks for %d bytes, and then for more" % (name, asked, room))
+_buffer = _Buffer()
 
-    def call_once(self, name: str, asked: Sequence[int], given: bytes, room: int) -> None:
-        """Makes a call; its status is SHORT if the reply exceeds `room` bytes. Raises LibraryError, MemoryError."""
-        call = bind_call(name)
-        if room > len(self._bytes):
-            self._make(1 << (room - 1).bit_length())
-        count = _SIZE()
-        status = call(*asked, given, len(given), self._address, room, ctypes.byref(count))
-        if status == MEMORY:
-            why = "the library had no memory for its tapes or its reply"
-            raise MemoryError(why + "; lower the limit of cells")
-        if status == LIMITS:
-            raise AssertionError("%s refused the limits %r" % (name, asked))
-        self.status, self._length = status, count.value
+
+def call_library(name: str, asked: Sequence[int], given: bytes, room: int) -> Reply:
+    """Makes a call, twice if the reply exceeds `room` bytes. Raises LibraryError, MemoryError."""
+    reply = call_once(name, asked, given, room)
+    if reply.status == SHORT:
+        reply = call_once(name, asked, given, reply.length)
+    if reply.status == SHORT:
+        raise AssertionError("%s with %r asks for %d bytes, and then for more" % (name, asked, room))
+    return reply
+
+
+def call_once(name: str, asked: Sequence[int], given: bytes, room: int) -> Reply:
+    """Makes a call; its status is SHORT if the reply exceeds `room` bytes. Raises LibraryError, MemoryError."""
+    call, count = bind_call(name), _SIZE()
+    _buffer.grow(room)
+    status = call(*asked, given, len(given), _buffer.address, room, ctypes.byref(count))
+    if status == MEMORY:
+        why = "the library had no memory for its tapes or its reply"
+        raise MemoryError(why + "; lower the limit of cells")
+    if status == LIMITS:
+        raise AssertionError("%s refused the limits %r" % (name, asked))
+    return Reply(status, count.value, _buffer.pages[: 0 if status == SHORT else count.value])

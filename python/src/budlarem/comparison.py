@@ -10,9 +10,9 @@ import tempfile
 from typing import Callable, Iterable, Iterator, NamedTuple
 
 from ._text import Words
-from .normal_forms import CanonicalForm, canonical_form, mirror_verdict
+from .normal_forms import CanonicalForm, forms_of
 from .verdicts import Backward, Cycler, Halt, MachineVerdict, Refused, Translated, Undecided, Verdict
-from .verdicts import verdicts_of
+from .verdicts import mirror_verdict, verdicts_of
 
 
 class Agreement(Words):
@@ -133,21 +133,25 @@ class _ComparedPairs(Iterable[tuple[str, str]]):
         self._file.seek(0)
         return ((line.partition(" ")[0], line) for line in self._file)
 
+    def _read_forms(self) -> Iterator[tuple[str | None, str]]:
+        """The lines of the pairs, each with the form of its machine."""
+        pairs, again = itertools.tee(self)
+        forms = forms_of(machine for machine, _ in pairs)
+        return ((form.text, line) for form, (_, line) in zip(forms, again))
+
     def find(self, forms: dict[str, str]) -> dict[str, list[_Formed]]:
         """The verdicts of the first pair of each form of some machines, if any."""
         found: dict[str, list[_Formed]] = {}
         # Most machines have the same text there.
-        ways: tuple[Callable[[str], str | None], ...] = (
-            forms.get,
-            lambda machine: canonical_form(machine).text,
+        ways: tuple[Callable[[], Iterator[tuple[str | None, str]]], ...] = (
+            lambda: ((forms.get(machine), line) for machine, line in self),
+            self._read_forms,
         )
-        for form_of in ways:
+        for items in ways:
             needed = {*forms.values()} - {*found}
-            for machine, line in self if needed else ():
-                if (form := form_of(machine)) in needed:
-                    found[form] = [
-                        _Formed.of(verdict) for verdict in verdicts_of(line[:-1].split("\t"), "pair")
-                    ]
+            for form, line in items() if needed else ():
+                if form in needed and form is not None:
+                    found[form] = [*_with_forms(verdicts_of(line[:-1].split("\t"), "pair"))]
                     needed.remove(form)
         return found
 
@@ -158,22 +162,23 @@ class _Formed(NamedTuple):
     verdict: MachineVerdict
     form: CanonicalForm
 
-    @classmethod
-    def of(cls, verdict: Verdict) -> _Formed:
-        assert not isinstance(verdict, Refused)
-        return cls(verdict, canonical_form(verdict.machine))
-
     def compare(self, other: _Formed, undefined_steps: bool) -> Comparison:
         is_mirrored = self.form.mirrored != other.form.mirrored
         kind = agreement(self.verdict, mirror_verdict(other.verdict, is_mirrored), undefined_steps)
         return Comparison(kind, self.verdict.machine, self.verdict, other.verdict)
 
 
+def _with_forms(verdicts: Iterable[Verdict]) -> Iterator[_Formed]:
+    """Verdicts on machines, with the forms of these."""
+    held = [verdict for verdict in verdicts if not isinstance(verdict, Refused)]
+    return map(_Formed, held, forms_of(verdict.machine for verdict in held))
+
+
 def _compare_by_form(
     first: list[MachineVerdict], second: list[MachineVerdict], compared: _ComparedPairs, undefined_steps: bool
 ) -> Iterator[Comparison]:
     """Compares verdicts on machines that the other list has in another form, in a pair or not at all."""
-    sides = [[_Formed.of(verdict) for verdict in one] for one in (first, second)]
+    sides = [[*_with_forms(first)], [*_with_forms(second)]]
     waiting: dict[str, list[_Formed]] = collections.defaultdict(list)
     for formed in sides[1]:
         waiting[formed.form.text].append(formed)

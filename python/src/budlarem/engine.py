@@ -3,12 +3,13 @@
 from __future__ import annotations
 
 import dataclasses
-from typing import Callable, Iterable, Iterator, Sequence
+import functools
+from typing import Callable, Iterable, Iterator
 
 from ._calls import MOST_BYTES, MOST_LINES, Batch, BatchPace, BinaryReader, Blocks, batch_bytes, batch_texts
 from ._calls import map_in_order
 from ._fork import forbid_fork
-from ._library import NOT_CLEAN, SHORT, Reply, ReplyBuffer, load_library
+from ._library import NOT_CLEAN, SHORT, Reply, call_library, call_once, load_library
 from ._text import LONGEST_GIVEN, LONGEST_SHOWN, LONGEST_VALUE
 from .limits import Limits, Plan, in_range, whole
 from .verdicts import VERDICTS, Answer, RecurrenceReply, Refused, Verdict, parse_recurrence
@@ -17,8 +18,8 @@ from .verdicts import require_field_types, verdict_of
 # The most bytes of a block that is checked with large tapes; and the cells from which on a call costs the
 # tapes, so that batches of claims are always large.
 _LARGE, _LARGE_TAPES = 1 << 22, 1 << 20
-# It makes a call over lines, and leaves the reply in the buffer.
-Call = Callable[[ReplyBuffer, bytes], None]
+# It makes a call over lines.
+Call = Callable[[bytes], Reply]
 _ANSWERS = {str(answer): answer for answer in Answer}
 # The most bytes of a reply beyond its line, and of an answer.
 _BEYOND, _ANSWER = 98, 7
@@ -50,21 +51,21 @@ class MachineError(ValueError):
 
 def decide_call(limits: Limits, plan: Plan) -> Call:
     arguments = (*limits.numbers(), *plan.switches())
-    return lambda buffer, lines: buffer.call("bb_decide", arguments, lines, _FOLD * len(lines) + _BEYOND)
+    return lambda lines: call_library("bb_decide", arguments, lines, _FOLD * len(lines) + _BEYOND)
 
 
 def check_call(limits: Limits) -> Call:
     arguments = limits.numbers()
-    return lambda buffer, lines: buffer.call("bb_check", arguments, lines, len(lines) // _FOR_EACH + _ANSWER)
+    return lambda lines: call_library("bb_check", arguments, lines, len(lines) // _FOR_EACH + _ANSWER)
 
 
 def recurrence_call(limits: Limits, entries: bool = False) -> Call:
     """The call that finds the recurrences behind verdict lines; `entries` adds the last use of each entry."""
     arguments = (limits.steps, limits.cells, entries)
 
-    def call(buffer: ReplyBuffer, lines: bytes) -> None:
+    def call(lines: bytes) -> Reply:
         room = _RECURRENCE_FOLD * len(lines) + _RECURRENCE_BEYOND * (lines.count(b"\n") + 1)
-        buffer.call("bb_recurrence", arguments, lines, room)
+        return call_library("bb_recurrence", arguments, lines, room)
 
     return call
 
@@ -92,7 +93,7 @@ def _require_list(name: str, texts: Iterable[object]) -> None:
 def _reply_lines(
     batches: Iterator[Batch], call: Call, threads: int, pace: BatchPace
 ) -> Iterator[tuple[str, str]]:
-    for batch, reply in map_in_order(lambda buffer, one: call(buffer, one.lines), batches, threads, pace):
+    for batch, reply in map_in_order(lambda one: call(one.lines), batches, threads, pace):
         yield from zip(batch.texts, reply.text.decode().split("\n"))
 
 
@@ -130,10 +131,8 @@ def decide(
 def column_of(text: str) -> int | None:
     """The column at which the library refuses a text; None for a machine. Nothing is run."""
     forbid_fork()
-    buffer = ReplyBuffer()
     line = text.encode("utf-8", "surrogateescape")[:LONGEST_GIVEN]
-    decide_call(Limits(0, 1, 0, 0), Plan(False, False, False))(buffer, line)
-    reply = buffer.reply().text
+    reply = decide_call(Limits(0, 1, 0, 0), Plan(False, False, False))(line).text
     return int(reply.split()[1]) if reply.startswith(b"refused ") else None
 
 
@@ -302,17 +301,12 @@ class Trace(Iterator[Configuration]):
     def _call(self, count: int, rest: int, room: int) -> Reply:
         """The reply for the next `count` lines; if they are all the `rest`, with the last step too."""
         last = self._upto if count == rest else self._next + self._every * (count - 1)
-        arguments: Sequence[int] = (last, self._cells, self._next, self._every)
-
-        def work(buffer: ReplyBuffer, line: bytes) -> None:
-            buffer.call_once("bb_trace", arguments, line, room)
-
+        arguments = (last, self._cells, self._next, self._every)
         line = self._machine.encode("utf-8", "surrogatepass")[:LONGEST_GIVEN]
         if last <= _SHORT_RUN:
-            buffer = ReplyBuffer()
-            work(buffer, line)
-            return buffer.reply()
-        ((_, reply),) = map_in_order(work, [line], 1, BatchPace(1))
+            return call_once("bb_trace", arguments, line, room)
+        call = functools.partial(call_once, "bb_trace", arguments, room=room)
+        ((_, reply),) = map_in_order(call, [line], 1, BatchPace(1))
         return reply
 
 

@@ -15,7 +15,7 @@ from .claims import WORDS, Claim, Claims, Translation, Word, translation_of
 from .comparison import Agreement, agreement
 from .engine import decide
 from .limits import GREATEST, Limits, Plan
-from .normal_forms import canonical_form
+from .normal_forms import forms_of
 from .reading import Form, Reading, Readings, read
 from .list_files import Source
 from .recurrence_claims import Exactness, Finding, NumbersJudge, find_start_offset
@@ -109,9 +109,9 @@ class ListOverlap:
         """The machines that aren't among those, in any form."""
         rest = [machine for machine in machines if machine not in those]
         compared = count_progress(those if rest else (), "compared by form", self._progress)
-        forms = {canonical_form(machine).text for machine in compared}
-        found = count_progress(rest, "compared by form", self._progress)
-        return (machine for machine in found if canonical_form(machine).text not in forms)
+        forms = {form.text for form in forms_of(compared)}
+        found = count_progress(forms_of(rest), "compared by form", self._progress)
+        return (machine for machine, form in zip(rest, found) if form.text not in forms)
 
 
 def judge(

@@ -90,10 +90,15 @@ class BlockReader(io.RawIOBase):
             self.held += block
         return self.held[:size]
 
+    def block(self, size: int) -> bytes:
+        """The next bytes, about as many as asked for; none at the end."""
+        block, self.held = self.held or self._more(size), b""
+        return block
+
     def readinto(self, buffer: Any) -> int:
-        self.held = self.held or self._more(len(buffer))
-        count = min(len(buffer), len(self.held))
-        buffer[:count], self.held = self.held[:count], self.held[count:]
+        block = self.block(len(buffer))
+        count = min(len(buffer), len(block))
+        buffer[:count], self.held = block[:count], block[count:]
         return count
 
 

@@ -130,23 +130,23 @@ def _sums(values: bytes, across: int) -> tuple[int, ...]:
     return struct.unpack("<%dI" % count, total.to_bytes(4 * count, "little"))
 
 
-def mean_colours(row: bytes, across: int, is_rounded: bool = True) -> bytes:
-    """The mean colours of each `across` places, rounded or cut off; three bytes a pixel: red, green, blue. The last
-    pixel has the places that are left."""
+def mean_colours(row: bytes, across: int) -> bytes:
+    """The mean colours of each `across` places; three bytes a pixel: red, green, blue. The last pixel has the places
+    that are left."""
     rest = row[len(row) - len(row) % across :]
-    row, half = row[: len(row) - len(rest)], across // 2 if is_rounded else 0
+    row, half = row[: len(row) - len(rest)], across // 2
     pixels = bytearray(3 * (len(row) // across))
     for colour, values in enumerate(_CHANNELS if row else ()):
         sums = _sums(row.translate(values), across)
         pixels[colour::3] = bytes([(total + half) // across for total in sums])
-    return bytes(pixels) + (_mean(rest, len(rest), is_rounded) if rest else b"")
+    return bytes(pixels) + (_mean(rest, len(rest)) if rest else b"")
 
 
-def _mean(part: bytes, size: int, is_rounded: bool = True) -> bytes:
-    """The mean colour of `size` places, unvisited ones behind `part`; rounded or cut off."""
-    half, others = size // 2 if is_rounded else 0, size - len(part)
+def _mean(part: bytes, size: int) -> bytes:
+    """The mean colour of `size` places, unvisited ones behind `part`."""
+    others = size - len(part)
     sums = (sum(part.translate(values)) + others * values[UNVISITED] for values in _CHANNELS)
-    return bytes((total + half) // size for total in sums)
+    return bytes((total + size // 2) // size for total in sums)
 
 
 def _scaled_row(row: Configuration, first: int, wide: int, across: int) -> bytes:
@@ -200,6 +200,16 @@ def png(rows: Sequence[bytes], scale: int) -> bytes:
     return _png(len(rows[0]) * scale, len(rows) * scale, 3, palette, b"".join(lines))
 
 
+def draw_rows(rows: Sequence[Configuration], first: int, last: int, across: int, scale: int) -> bytes:
+    """A PNG file of some positions of rows. A pixel has the mean colour of `across` positions."""
+    if across == 1:
+        return png([row_colours(row, first, last) for row in rows], scale)
+    wide = -(-(last - first + 1) // across)
+    means = (_scaled_row(row, first, wide, across) for row in rows)
+    scaled = (wider for row in means for wider in [_enlarge(row, 3, scale)] * scale)
+    return png_of_colours(wide * scale, len(rows) * scale, scaled)
+
+
 def _draw(
     chosen: list[Configuration], every: int, is_cut: bool, scale: int, columns: int | None, *sides: int | None
 ) -> Picture:
@@ -215,12 +225,7 @@ def _draw(
         size = f"{high:,} rows and {wide:,} columns at scale {scale:,} are {pixels:,} pixels"
         advice = f"lower scale to {largest} or less, or rows" if largest else "lower rows"
         raise PictureError(f"{size}, more than {MOST_PIXELS:,}; {advice} or columns")
-    if across == 1:
-        data = png([row_colours(row, first, last) for row in chosen], scale)
-    else:
-        means = (_scaled_row(row, first, wide, across) for row in chosen)
-        scaled = (wider for row in means for wider in [_enlarge(row, 3, scale)] * scale)
-        data = png_of_colours(wide * scale, high * scale, scaled)
+    data = draw_rows(chosen, first, last, across, scale)
     return Picture(data, every, chosen[-1].step, first, last, is_cut, is_part, across)
 
 

@@ -9,7 +9,6 @@ import dataclasses
 import errno
 import hashlib
 import io
-import itertools
 import json
 import os
 import pathlib
@@ -19,17 +18,18 @@ import textwrap
 from typing import Any, BinaryIO, Callable, Iterable, Iterator, NoReturn, Sequence, Union
 
 from ._calls import BatchPace, map_in_order
-from ._files import Checksum, Directory, FileTarget
-from ._library import is_plain
+from ._files import Checksum, Directory, open_target
+from ._library import is_plain, validate_replies
 from ._text import LONGEST_SHOWN
 from .counts import UNDECIDED, VerdictCounts
-from .engine import check_call, decide_bytes
+from .engine import check_call
 from .limits import GREATEST, Limits, in_range, words_of
 from .list_files import BlockReader
 from .runner.chunks import Identity, identity
 from .runner.errors import CheckError, FolderError
-from .runner.folder import FinishedRun, PassTotals
+from .runner.folder import FinishedRun
 from .runner.input import ListFile, StreamLines
+from .runner.pass_folder import Outcome
 from .runner.store import SealError, read_sealed
 from .shards import PLAN, SUMMARY, Plan, cover_skeleton, read_plan
 from .verification import find_unconfirmed
@@ -51,7 +51,7 @@ KINDS = ("halt", "cycler", "translated", "backward", "undecided", "refused")
 # The time of each file in an archive.
 _TIME = 315_532_800  # 1 January 1980
 # The lines and bytes of a batch.
-LINES, _BYTES = 100_000, 1 << 22
+LINES, _BYTES, _ANY_BYTES = 100_000, 1 << 22, 1 << 62
 # The width of the page, and the digits of its sha256 in the name of the archive's folder.
 _WIDE, _DIGITS = 79, 16
 _CHANGED = "%s changed while it was read; publish it when it no longer does"
@@ -79,7 +79,7 @@ class ArchivedFile:
         with contextlib.closing(ListFile(self.path)) as source:
             if not source.is_regular:
                 raise PublishError("%s is read more than once, so it has to be a file" % source.name)
-            for block in source.blocks:
+            for block in source.blocks():
                 checksum = checksum.add_bytes(block)
                 digest.update(block)
                 yield block
@@ -89,7 +89,7 @@ class ArchivedFile:
 
     def batches(self) -> Iterator[bytes]:
         """Its lines in batches, with their newlines."""
-        lines = StreamLines(self.blocks())
+        lines = StreamLines.of_blocks(self.blocks())
         return iter(lambda: lines.take(LINES, _BYTES), b"")
 
     def lines(self) -> Iterator[bytes]:
@@ -220,7 +220,7 @@ def _write_new(path: str, archive: Archive) -> Published:
             for block in iter(lambda: file.read(_BYTES), b""):
                 digest.update(block)
 
-    with contextlib.closing(FileTarget(path)) as target:
+    with open_target(path) as target:
         if target.over is not None:
             raise FileExistsError(errno.EEXIST, "is there", path)
         target.write(fill)
@@ -263,41 +263,27 @@ def _confirm_all(
 
 def _count_beside(machines: ArchivedFile, verdicts: ArchivedFile) -> VerdictCounts:
     """The counts of verdicts. Raises PublishError unless each belongs to the line of the list at its place."""
-    counts = VerdictCounts()
-    refused: list[tuple[int, bytes, bytes]] = []
-    pairs = itertools.zip_longest(machines.lines(), verdicts.lines())
-    for number, (line, verdict) in enumerate(pairs, 1):
-        if line is None or verdict is None:
-            short, other = (machines, verdicts) if line is None else (verdicts, machines)
-            raise PublishError("%s has %d lines, and %s has more" % (short.path, number - 1, other.path))
-        if not (machine := counts.add(verdict.decode())):
-            refused.append((number, line, verdict))
-        elif machine.encode() != line:
-            _raise_mismatch(machines, verdicts, number, line)
-        if len(refused) == LINES:
-            _require_refused(machines, verdicts, refused)
-            refused.clear()
-    _require_refused(machines, verdicts, refused)
+    counts, before, replies = VerdictCounts(), 0, StreamLines.of_blocks(verdicts.blocks())
+    for lines in machines.batches():
+        found = replies.take(lines.count(b"\n"), _ANY_BYTES)
+        if found.count(b"\n") < lines.count(b"\n"):
+            _raise_shorter(verdicts, before + found.count(b"\n"), machines)
+        if not (check := validate_replies(lines, found)).fits:
+            line = lines.split(b"\n")[check.lines][:LONGEST_SHOWN].decode("utf-8", "backslashreplace")
+            advice = "the list has one machine a line, as `budlarem read` writes them, in the order of the verdicts"
+            number = before + check.lines + 1
+            what = f"line {number} of {verdicts.path} isn't the verdict on {line!r}"
+            raise PublishError(f"{machines.path}:{number}: {what}; {advice}")
+        for verdict in found.decode().splitlines():
+            counts.add(verdict)
+        before += lines.count(b"\n")
+    if replies.peek():
+        _raise_shorter(machines, before, verdicts)
     return counts
 
 
-def _raise_mismatch(machines: ArchivedFile, verdicts: ArchivedFile, number: int, line: bytes) -> NoReturn:
-    """Raises the error for a line of the list that has another verdict."""
-    shown = repr(line[:LONGEST_SHOWN].decode("utf-8", "backslashreplace"))
-    advice = "the list has one machine a line, as `budlarem read` writes them, in the order of the verdicts"
-    what = f"line {number} of {verdicts.path} isn't the verdict on {shown}"
-    raise PublishError(f"{machines.path}:{number}: {what}; {advice}")
-
-
-def _require_refused(
-    machines: ArchivedFile, verdicts: ArchivedFile, refused: Sequence[tuple[int, bytes, bytes]]
-) -> None:
-    """Raises PublishError for a line of the list that isn't refused as its verdict says."""
-    given = b"".join(line + b"\n" for _, line, _ in refused)
-    replies = b"".join(decide_bytes(given, Limits(0, 1, 0, 0))).split(b"\n")
-    for (number, line, verdict), reply in zip(refused, replies):
-        if reply != verdict:
-            _raise_mismatch(machines, verdicts, number, line)
+def _raise_shorter(short: ArchivedFile, lines: int, other: ArchivedFile) -> NoReturn:
+    raise PublishError("%s has %d lines, and %s has more" % (short.path, lines, other.path))
 
 
 def publish(
@@ -372,12 +358,13 @@ def _archive_of_holdouts(run: FinishedRun, lines: ArchivedFile, listed: Archived
     if listed is None:
         advice = "give the list by --list, so that the rest can be made again"
         raise PublishError(f"{folder} has only the verdicts that --keep {run.keep} kept; {advice}")
-    if not all(one.is_checked for one in run.totals):
+    if not all(one.is_checked for one in run.results):
         advice = "decide the list with --check, in another folder"
         raise PublishError(f"{folder} dropped verdicts that no checker confirmed; {advice}")
     if (count := _count_around(listed, lines)) != run.lines:
         raise PublishError(f"{listed.path} has {count} lines, and the run in {folder} had {run.lines}")
-    counts = _counts_of(run.totals)
+    counts = VerdictCounts()
+    counts.kinds.update(Outcome.of(run.results).counts)
     run.require_verdicts(lines.checksum, counts.kinds)
     _require_kept(lines, counts)
     passes = tuple(run.passes)
@@ -395,16 +382,6 @@ def _archive_of_holdouts(run: FinishedRun, lines: ArchivedFile, listed: Archived
     confirmed = run.lines - counts.count_undecided() - counts.kinds["refused"]
     about, page = {"kept": str(run.keep), "list": listed.sha256}, _holdout_parts(counts, checked, again)
     return Archive(counts, confirmed, passes, run.identity, [lines], about, *page)
-
-
-def _counts_of(totals: Sequence[PassTotals]) -> VerdictCounts:
-    """The counts of a whole run: undecided lines are those of the last pass."""
-    counts = VerdictCounts()
-    for one in totals:
-        for kind in UNDECIDED:
-            counts.kinds[kind] = 0
-        counts.kinds.update(one.counts)
-    return counts
 
 
 def _require_kept(lines: ArchivedFile, counts: VerdictCounts) -> None:

@@ -16,7 +16,7 @@ from ._text import Words
 from .claims import Claim
 from .engine import Configuration, decide, trace
 from .limits import Limits, Plan
-from .normal_forms import canonical_form
+from .normal_forms import forms_of
 from .verdicts import Answer, Cycler, Recurrence, RecurrenceReply, Translated, Verdict
 from .verification import FEW_CELLS, recurrences_of
 
@@ -183,5 +183,5 @@ def find_start_offset(claims: Iterable[Claim], limits: Limits, plan: Plan, threa
             if len(offsets) > 1 or min(offsets) <= 0:
                 return 0
             if len(forms) < 2:
-                forms.add(canonical_form(exact.machine).text)
+                forms.update(form.text for form in forms_of([exact.machine]))
     return offsets.pop() if len(forms) > 1 else 0

@@ -6,7 +6,6 @@ import base64
 import bisect
 import collections
 import concurrent.futures
-import contextlib
 import dataclasses
 import html
 import io
@@ -17,12 +16,12 @@ import re
 import string
 from typing import Any, Iterable, Iterator, Sequence
 
-from ._files import FileTarget, write_blocks
+from ._files import open_target, write_blocks
 from ._text import Words
 from .counts import KINDS, VerdictCounts
 from .engine import Configuration, trace
 from .limits import Limits, in_range
-from .pictures import mean_colours, png, png_of_colours, row_colours, sample_rows
+from .pictures import draw_rows, sample_rows, visible_range
 from .verdicts import Verdict, size_of, verdicts_of
 
 # The plots, and the numbers of each.
@@ -138,14 +137,8 @@ def plot(counts: collections.Counter[int], name: str) -> str:
 
 def diagram(rows: Sequence[Configuration]) -> bytes:
     """A diagram of at most SIZE by SIZE pixels, a PNG file; a wide one has mean colours of positions."""
-    low = min(row.low for row in rows)
-    high = max(row.low + len(row.cells) for row in rows)
-    across = -(-(high - low) // SIZE)
-    wide = -(-(high - low) // across)
-    lines = [row_colours(row, low, low + wide * across - 1, across == 1) for row in rows]
-    if across == 1:
-        return png(lines, 1)
-    return png_of_colours(wide, len(rows), (mean_colours(line, across, False) for line in lines))
+    first, last, _ = visible_range(rows, None, None, None)
+    return draw_rows(rows, first, last, -(-(last - first + 1) // SIZE), 1)
 
 
 # The powers of the steps between which a growth is called a root.
@@ -332,7 +325,7 @@ def report(
     in_range("steps", steps, 100, Limits.RANGES["steps"][1])
     in_range("cells", cells, *Limits.RANGES["cells"])
     _import_matplotlib()
-    with contextlib.closing(FileTarget(os.fspath(path))) as target:
+    with open_target(os.fspath(path)) as target:
         found = Statistics(verdicts, diagrams)
         machines = [machine for _, machine in found.smallest]
         page = _page(found, trace_all(machines, steps, cells, threads or os.cpu_count() or 1), title)

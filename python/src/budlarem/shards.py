@@ -29,17 +29,17 @@ import threading
 import time
 from typing import IO, Any, Callable, Iterable, Iterator, NamedTuple, Sequence
 
-from ._files import Directory, read_json, write_atomically, write_blocks
+from ._files import Directory, FileTarget, read_json, write_blocks
 from ._fork import forbid_fork
-from ._library import ReplyBuffer
 from .counts import RecurrenceCounts, VerdictCounts
 from .engine import recurrence_call
 from .limits import Limits
 from .runner.backends import Backend
 from .runner.chunks import ChunkReply, identity, open_reply, reply_of
-from .runner.dispatch import Assignment, Dispatcher, Reporter, Request
+from .runner.dispatch import Assignment, Dispatcher, Request
 from .runner.errors import CheckError, FolderError, ReplyError, RunError
 from .runner.folder import LOCK, remove_leftovers
+from .runner.progress import TerminalLine
 from .runner.store import OriginError, Result, SealError, Store, hash_of, locked_folder, read_sealed, seal
 from .walk_order import WalkOrder
 
@@ -100,13 +100,12 @@ class RecurrenceReader:
 
     def __init__(self, limits: Limits) -> None:
         self.counts = RecurrenceCounts()
-        self._call, self._buffer = recurrence_call(limits), ReplyBuffer()
+        self._call = recurrence_call(limits)
 
     def read(self, lines: bytes) -> None:
         """Reads whole lines. Raises CheckError for a pair that isn't confirmed, LibraryError, MemoryError."""
         forbid_fork()
-        self._call(self._buffer, lines)
-        self.counts.add_block(self._buffer.reply().text)
+        self.counts.add_block(self._call(lines).text)
         require_confirmed(self.counts)
 
 
@@ -118,11 +117,13 @@ def require_confirmed(counts: RecurrenceCounts) -> None:
 
 
 class VerdictReader:
-    """Reads verdict lines in blocks: their `sha256`, `size` in bytes, `counts`, and undecided lines, `holdouts`; for
-    a plan with recurrences, the counts of these."""
+    """Reads verdict lines in blocks, or shards: their `sha256`, `size` in bytes, `counts`, and undecided lines,
+    `holdouts`; for a plan with recurrences, the counts of these; the number of shards and the sum of their seconds.
+    """
 
     def __init__(self, plan: Plan) -> None:
         self.sha256, self.size, self.counts = hashlib.sha256(), 0, VerdictCounts()
+        self.shards, self.seconds = 0, 0.0
         self.recurrences = RecurrenceReader(plan.limits) if plan.recurrence else None
         self.holdouts: list[bytes] = []
         self._rest = b""
@@ -135,6 +136,13 @@ class VerdictReader:
         self.holdouts.append(self.counts.add_block(lines + newline))
         if self.recurrences is not None:
             self.recurrences.read(lines + newline)
+
+    def add(self, shard: Shard) -> None:
+        """Counts the lines of a shard."""
+        self.shards, self.seconds = self.shards + 1, self.seconds + shard.seconds
+        self.counts.merge(shard.counts)
+        if self.recurrences is not None:
+            self.recurrences.counts.merge(shard.recurrences)
 
     def fields(self) -> dict[str, Any]:
         """The counts of verdicts, and of recurrences if found."""
@@ -193,19 +201,29 @@ def _check_holdouts(machine: str, plan: Plan, lines: bytes) -> tuple[int, int]:
     return wide, count
 
 
-def decide_shard(line: bytes, plan: Plan) -> ChunkReply:
-    """Lists, decides and checks the shard of a machine. The output is a line of fields and the undecided lines.
-    Raises CheckError, RunError."""
-    machine, origin = line.decode("ascii").rstrip("\n"), plan.origin()
-    began, reader = time.monotonic(), VerdictReader(plan)
+def walk_shard(machine: str, plan: Plan, reader: VerdictReader, see: Callable[[bytes], object]) -> str:
+    """Lists, decides and checks the shard of a machine; the reader reads its lines, and `see` gets them in blocks.
+    Returns the shard's line in the skeleton. Raises CheckError, RunError."""
+
+    def read(block: bytes) -> None:
+        reader.read(block)
+        see(block)
+
     lister = [LISTER, "--below", machine, "--steps", str(plan.list_steps)]
     blocks = pipe_blocks([lister, [DECIDER, "decide", *plan.options()]])
-    found = _cover(["--below", machine, *plan.options()], blocks, reader.read)
-    counts = _COVERS.match(found)
-    if counts is None:
+    found = run_cover(["--below", machine, *plan.options()], blocks, read)
+    if (counts := _COVERS.match(found)) is None:
         raise CheckError("cover refuses the shard of %s: %s" % (machine, found.rstrip("\n")))
-    text, seconds = " ".join(counts.groups()), time.monotonic() - began
-    stated = "%s below %s %s\n" % (machine, text, reader.sha256.hexdigest())
+    return "%s below %s %s\n" % (machine, " ".join(counts.groups()), reader.sha256.hexdigest())
+
+
+def decide_shard(line: bytes, plan: Plan) -> ChunkReply:
+    """Does the shard of a machine. The output is a line of fields and the undecided lines. Raises CheckError,
+    RunError."""
+    machine, origin = line.decode("ascii").rstrip("\n"), plan.origin()
+    began, reader = time.monotonic(), VerdictReader(plan)
+    stated = walk_shard(machine, plan, reader, lambda block: None)
+    seconds = time.monotonic() - began
     fields = {"line": stated, **reader.fields(), "verdict_bytes": reader.size, "seconds": round(seconds, 3)}
     header = json.dumps({"of": origin, **fields}).encode("ascii") + b"\n"
     return reply_of(_TASK, line, b"".join([header, *reader.holdouts]), seconds)
@@ -304,7 +322,7 @@ class ShardFolder:
         self,
         machines: Iterable[str],
         backend: Backend,
-        progress: Reporter,
+        progress: TerminalLine,
         finish: Callable[[ShardTask], None],
     ) -> None:
         """Does shards. Raises CheckError, FolderError, RunError, OSError."""
@@ -342,7 +360,7 @@ class ShardFolder:
             task.accept(request.task(request.lines, request.options))
         return self.line(machine) or ""
 
-    def verify(self, machines: Sequence[str], backend: Backend, progress: Reporter) -> None:
+    def verify(self, machines: Sequence[str], backend: Backend, progress: TerminalLine) -> None:
         """Does shards again, and compares them with their results. Raises CheckError for another one."""
         tasks = (VerifyTask(self, machine, None) for machine in machines)
         Dispatcher(backend, progress, lambda: None, lambda task: None).run(tasks)
@@ -358,7 +376,7 @@ class ShardFolder:
             raise FolderError("%d shards aren't finished; the first is %s" % (len(left), left[0]))
         remove_leftovers(self._top, FILES)
         self.store.remove_leftovers()
-        total, sha256 = Total(self.plan), {}
+        total, sha256 = VerdictReader(self.plan), {}
         sha256[SKELETON] = write_file(self._top, SKELETON, self._skeleton())
         with open(self._top.open_file(SKELETON, os.O_RDONLY), "rb") as file:
             blocks = iter(functools.partial(file.read, _BLOCK), b"")
@@ -394,7 +412,7 @@ class ShardFolder:
         for machine, is_shard in self.machines():
             yield (self.line(machine) or "").encode("ascii") if is_shard else next(verdicts)
 
-    def _holdouts(self, total: Total) -> Iterator[bytes]:
+    def _holdouts(self, total: VerdictReader) -> Iterator[bytes]:
         """The undecided lines in walk order; adds up the counts of all lines."""
         with open(self._top.open_file(SKELETON, os.O_RDONLY), "rb") as file:
             for line in file:
@@ -496,15 +514,8 @@ def write_file(top: Directory, name: str, blocks: Iterable[bytes]) -> str:
             sha256.update(block)
             yield block
 
-    over = top.pin(name)
-    try:
-        write_atomically(top, name, lambda number: write_blocks(number, hashed()), over).close()
-    except FileExistsError:
-        why = "was made or replaced by another process meanwhile, and stays as it is"
-        raise RunError(f"{top.at(name)} {why}; take it away") from None
-    finally:
-        if over is not None:
-            over.close()
+    with contextlib.closing(FileTarget(top, name)) as target:
+        target.write(lambda number: write_blocks(number, hashed()))
     return sha256.hexdigest()
 
 
@@ -562,7 +573,7 @@ def _sha256_at(path: str, state: tuple[int, int, int]) -> str:
 
 def cover_skeleton(blocks: Iterator[bytes], path: str, plan: Plan) -> str:
     """The line that `cover` prints of the skeleton of a path. Raises CheckError if it refuses it, RunError."""
-    found = _cover(["--skeleton", *plan.options()], blocks, lambda _: None)
+    found = run_cover(["--skeleton", *plan.options()], blocks, lambda _: None)
     if not found.startswith("covers "):
         raise CheckError("cover refuses %s: %s" % (path, found.rstrip("\n")))
     return found
@@ -586,20 +597,6 @@ def sha256_of(path: str) -> str:
         for block in iter(lambda: file.read(_BLOCK), b""):
             sha256.update(block)
     return sha256.hexdigest()
-
-
-class Total(VerdictReader):
-    """The number of shards, the sum of their seconds, and the counts of all lines."""
-
-    def __init__(self, plan: Plan) -> None:
-        super().__init__(plan)
-        self.shards, self.seconds = 0, 0.0
-
-    def add(self, shard: Shard) -> None:
-        self.shards, self.seconds = self.shards + 1, self.seconds + shard.seconds
-        self.counts.merge(shard.counts)
-        if self.recurrences is not None:
-            self.recurrences.counts.merge(shard.recurrences)
 
 
 def _find(program: str) -> str:
@@ -641,7 +638,7 @@ def pipe_blocks(commands: Sequence[Sequence[str]]) -> Iterator[bytes]:
             process.wait()
 
 
-def _cover(options: Sequence[str], blocks: Iterator[bytes], see: Callable[[bytes], object]) -> str:
+def run_cover(options: Sequence[str], blocks: Iterator[bytes], see: Callable[[bytes], object]) -> str:
     """Gives blocks to `cover`, and each to `see`; returns what it prints. Raises RunError."""
     command = [_find(CHECKER), *options]
     with subprocess.Popen(command, stdin=subprocess.PIPE, stdout=subprocess.PIPE) as checker:

@@ -11,6 +11,8 @@ from ._text import LONGEST_SHOWN, LONGEST_VALUE, Words
 from .limits import whole
 
 STATES = "ABCDEFGHIJKLMNOPQRSTUVWXY"
+# The side for each side, and that of the mirror image.
+SIDES = ({"L": "L", "R": "R"}, {"L": "R", "R": "L"})
 MOST_SYMBOLS = 10
 # The length of the longest machine.
 LONGEST = len(STATES) * (3 * MOST_SYMBOLS + 1) - 1
@@ -128,6 +130,13 @@ Verdict = Union[MachineVerdict, Refused]
 VERDICTS = (Halt, Cycler, Translated, Backward, Undecided, Refused)
 _OfTwoNumbers = Callable[[str, int, int], Verdict]
 _OF_TWO_NUMBERS: dict[str, _OfTwoNumbers] = {"halt": Halt, "cycler": Cycler, "backward": Backward}
+
+
+def mirror_verdict(verdict: Verdict, is_mirrored: bool) -> Verdict:
+    """The verdict on the mirror image of a machine if `is_mirrored`, else the verdict itself."""
+    if not is_mirrored or not isinstance(verdict, Translated):
+        return verdict
+    return dataclasses.replace(verdict, side=SIDES[True][verdict.side])
 
 
 def require_field_types(name: str, verdict: Verdict | Extent) -> None:

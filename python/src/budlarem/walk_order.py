@@ -3,6 +3,7 @@
 from __future__ import annotations
 
 import functools
+from typing import Iterator
 
 
 class WalkOrder:
@@ -24,9 +25,9 @@ class WalkOrder:
             return False
         if any(above[at : at + 3] not in ("---", machine[at : at + 3]) for at in self._places):
             return False
-        return not before or self._is_behind(before, machine)
+        return not before or self.is_behind(before, machine)
 
-    def _is_behind(self, before: str, machine: str) -> bool:
+    def is_behind(self, before: str, machine: str) -> bool:
         """Whether the first entry that two machines meet and don't share puts one behind the other."""
         shared = machine
         for at in self._places:
@@ -44,15 +45,22 @@ def _rank(entry: str) -> tuple[str, bool, str]:
     return entry[0], entry[1] == "L", entry[2]
 
 
-def first_undefined(machine: str, symbols: int, steps: int) -> int | None:
-    """Where the text of a machine has the undefined entry that it meets first; None within so many steps."""
+def entries_of(machine: str, symbols: int, steps: int) -> Iterator[tuple[int, int]]:
+    """Where the text of a machine has each entry that a run uses, up to `steps`, the one that halts and an undefined one
+    too; and the head's position before it."""
     tape: dict[int, int] = {}
     width, state, cell = 3 * symbols + 1, 0, 0
     for _ in range(steps + 1):
         place = width * state + 3 * tape.get(cell, 0)
-        if machine[place] == "-":
-            return place
+        yield place, cell
+        if machine[place] == "-" or machine[place + 2] == "Z":
+            return
         tape[cell] = int(machine[place])
         cell += 1 if machine[place + 1] == "R" else -1
         state = ord(machine[place + 2]) - ord("A")
-    return None
+
+
+def first_undefined(machine: str, symbols: int, steps: int) -> int | None:
+    """Where the text of a machine has the undefined entry that it meets first; None within so many steps."""
+    places = (place for place, _ in entries_of(machine, symbols, steps) if machine[place] == "-")
+    return next(places, None)

@@ -31,11 +31,11 @@ threading.Thread(target=collect, daemon=True).start()
 """
 # Workers that can't decide anything rightly: what the run says of them, and the file of their package that is
 # changed, with the texts; they have none where no file is named.
-ODD = [("_thread_state = ", "class Odd: pass\n_thread_state = "), ("return (written,", "return (Odd(),")]
+ODD = [("Counts = dict", "class Odd: pass\nCounts = dict"), ("return (written,", "return (Odd(),")]
 WRONG_WORKERS: dict[str, tuple[str, str, list[tuple[str, str]]]] = {
     "nothing": ("No module named 'budlarem'", "", []),
     "another version": ("it was decided by version 9.", "_version.py", [('VERSION = "', 'VERSION = "9.')]),
-    "garbage": ("came back for", "runner/chunks.py", [("buffer.reply().text", 'b"x\\n"')]),
+    "garbage": ("came back for", "runner/chunks.py", [("return call(lines).text", 'return b"x\\n"')]),
     "a reply that can't be read": ("AttributeError: ", "runner/chunks.py", ODD),
 }
 # A list, and the verdicts of one process for each pass.
@@ -128,7 +128,7 @@ def test_deadly_line(bb: str, tmp_path: pathlib.Path) -> None:
                 while len(found.workers) < 3:
                     found.start_worker(deadly)
                 time.sleep(0.02)
-        assert "line %d: every worker that decided it died" % (quick.count(b"\n") + 1) in case.output()
+        assert "line %d: every worker that did it died" % (quick.count(b"\n") + 1) in case.output()
         assert "all but 1 chunks are stored" in case.output() and process.returncode == 3
         found.kill_workers()
         found.start_worker()

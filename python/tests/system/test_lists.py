@@ -13,7 +13,7 @@ from typing import Iterator, Sequence
 import budlarem
 import pytest
 from budlarem import Form, Halt, Judgement, Limits, Undecided, Verdict
-from budlarem.normal_forms import canonical_form
+from budlarem.normal_forms import forms_of
 from support import TOP
 from support.claims import with_other_number
 from support.machines import CHAMPION, mixed_machines, uniform
@@ -326,7 +326,7 @@ def test_forms_of_machines() -> None:
     """What has another form takes no longer than is asked."""
     machines = [uniform(random.Random(k), 4) for k in range(5_000)]
     began = time.process_time()
-    forms = {canonical_form(machine).text for machine in machines}
+    forms = {form.text for form in forms_of(machines)}
     each = (time.process_time() - began) / len(machines)
     print("a form of a machine, of %d: %.1f us" % (len(machines), 1e6 * each), flush=True)
     assert each < 30 * 50e-6
@@ -368,7 +368,8 @@ def examples() -> Iterator[tuple[str, str]]:
             yield asked, written.rstrip("\n")
 
 
-def test_examples() -> None:
+def test_examples(programs: pathlib.Path, tmp_path: pathlib.Path, monkeypatch: pytest.MonkeyPatch) -> None:
+    monkeypatch.chdir(tmp_path)
     shown = list(examples())
     assert len(shown) >= 4
     script = 'budlarem() { "%s" -m budlarem "$@"; }\n' % sys.executable
@@ -415,22 +416,16 @@ def test_cost_over_blocks(tmp_path: pathlib.Path) -> None:
     assert (result.status, result.output.decode()) == (0, "%s: %s" % (path, expected))
 
 
-def run_budlarem(*words: str) -> tuple[int, str, str]:
-    """The status of a command, its output and its messages."""
-    done = run_command([sys.executable, "-m", "budlarem", *words])
-    return done.status, done.output.decode(), done.error.decode()
-
-
 def test_unreadable_lines_of_a_judged_list(tmp_path: pathlib.Path) -> None:
     """They are on standard error with file and number, and in the status; a refusal is read, and no such line."""
     path, halt = tmp_path / "claims.txt", "1RB1LB_1LA1RZ halt 6 4\n"
     path.write_text(halt + "1RB1LB_1LA1R halt 6 4\nrefused 3\n")
-    status, output, error = run_budlarem("judge", str(path), "--form", "verdicts")
-    assert status == 1 and "unreadable 2" in error and output.count("\n") == 3
-    assert ["%s:2: refused: " % path in line for line in error.splitlines()].count(True) == 1
+    status, output, error = command("judge", str(path), "--form", "verdicts")
+    assert status == 1 and b"unreadable 2" in error and output.count(b"\n") == 3
+    assert ["%s:2: refused: " % path in line for line in error.decode().splitlines()].count(True) == 1
     path.write_text(halt + "refused 3\n")
-    status, _, error = run_budlarem("judge", str(path), "--form", "verdicts")
-    assert status == 0 and "unreadable 1" in error and "refused" not in error
+    status, _, error = command("judge", str(path), "--form", "verdicts")
+    assert status == 0 and b"unreadable 1" in error and b"refused" not in error
 
 
 @pytest.mark.parametrize(
@@ -446,6 +441,6 @@ def test_a_list_without_verdicts_is_one_error(
     path, page = tmp_path / "list.txt", tmp_path / "page.html"
     path.write_text("".join(line + "\n" for line in lines))
     for words in (["report", str(path), "--out", str(page)], ["compare", str(path), str(path)]):
-        status, output, error = run_budlarem(*words)
-        assert (status, output, page.exists()) == (2, "", False)
-        assert len(error.splitlines()) < 5 and sentence in error, error
+        status, output, error = command(*words)
+        assert (status, output, page.exists()) == (2, b"", False)
+        assert len(error.splitlines()) < 5 and sentence in error.decode(), error

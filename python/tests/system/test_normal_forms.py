@@ -5,7 +5,7 @@ import sys
 
 import budlarem
 import pytest
-from budlarem.normal_forms import canonical_form
+from budlarem.normal_forms import forms_of
 from support import ListMachines
 from support.machines import LETTERS, Change, machine, random_change, seldom_halting
 from support.program import as_lines, run_command
@@ -27,24 +27,37 @@ def test_machines_in_tree_normal_form_are_their_own(
 
 
 def test_machines_in_other_names_have_one_form(rng: random.Random, count: int = 3_000) -> None:
-    """If the run meets all states and symbols but one of each at most."""
+    """The normal form, and the form of the whole table if the run meets all states and symbols but one of each."""
     alike = 0
     for case in range(count):
         size, cells = (rng.randint(1, 5), rng.randint(2, 5)), rng.choice((4, 1_000, 1_000))
-        drawn = (machine if case % 2 else seldom_halting)(rng, *size)
-        changed = random_change(rng, *size).machine(drawn)
+        drawn, change = (machine if case % 2 else seldom_halting)(rng, *size), random_change(rng, *size)
+        changed = change.machine(drawn)
         first, second = (budlarem.normal(text, steps=STEPS, cells=cells) for text in (drawn, changed))
-        assert canonical_form(first.normal).text == canonical_form(drawn).text
+        assert first.normal == second.normal, (drawn, changed)
         assert budlarem.normal(first.normal, steps=STEPS, cells=cells).normal == first.normal
-        assert change_to(first).machine(drawn) == first.normal
         states, symbols = met_by_run(drawn, cells)
         assert first.states.startswith(states) and first.symbols.startswith(symbols), drawn
-        unmet = size[0] - len(states), size[1] - len(symbols)
-        if max(unmet) <= 1 and not drawn.startswith("---"):
-            assert first.normal == second.normal, drawn
+        here, there = forms_of([drawn, changed])
+        assert change_to(budlarem.normal(drawn, steps=1_000, cells=1_024)).machine(drawn) == here.text
+        states, symbols = met_by_run(drawn, 1_024)
+        if size[0] - len(states) <= 1 and size[1] - len(symbols) <= 1 and not drawn.startswith("---"):
+            assert here.text == there.text and (here.mirrored != there.mirrored) == change.mirrored, drawn
             alike += 1
     print("%d machines, %d with all met" % (count, alike))
     assert alike > count / 4
+
+
+def test_normal_forms_halt_as_their_machines(rng: random.Random) -> None:
+    """Within the steps of the run that names them."""
+    plan = budlarem.Plan(cyclers=False, translated=False, backward=False)
+    machines = [seldom_halting(rng, rng.randint(1, 4), rng.randint(2, 4)) for _ in range(2_000)]
+    forms = [budlarem.normal(one, steps=STEPS).normal for one in machines]
+    fates = [
+        [str(one).partition(" ")[2] for one in budlarem.decide(some, budlarem.Limits(STEPS), plan)]
+        for some in (machines, forms)
+    ]
+    assert fates[0] == fates[1] and any(fate.startswith("halt") for fate in fates[0])
 
 
 def change_to(form: budlarem.Normal) -> Change:
@@ -66,6 +79,6 @@ def test_command_prints_the_first_of_each_form() -> None:
     output = run_command([sys.executable, "-m", "budlarem", "normal", "--distinct"], given).output.decode()
     assert output.splitlines() == [
         "%s\t%s\tAB\tR\t012" % (SAME[0], SAME[0]),
-        "1RA1RA\t1RA1RA\tA\tR\t01",
+        "1RA---\t1RA1RA\tA\tR\t01",
         "1RB---------_------------\t2LB---------_------------\tAB\tL\t0213",
     ]

@@ -168,13 +168,10 @@ def test_a_library_that_is_not_proved_is_named(
         assert version.endswith(" (plain)\n") == (name == "plain")
         place = Place(bb, tmp_path / name, 60, 7)
         place.publish()
-        with tarfile.open(place.out) as archive:
-            files = {os.path.basename(one.name): archive.extractfile(one) for one in archive}
-            about, page = (
-                file.read().decode() if (file := files[one]) else "" for one in ("about.json", "README.txt")
-            )
-        assert json.loads(about)["checked_by"]["version"] == version.split(" ", 1)[1].strip()
-        words = " ".join(page.split())
+        files = read_archive(place.out)
+        about = json.loads(files["about.json"])
+        assert about["checked_by"]["version"] == version.split(" ", 1)[1].strip()
+        words = " ".join(files["README.txt"].decode().split())
         assert ("The checker is proved" in words) == (name != "plain") != ("by cargo, isn't proved" in words)
 
 
@@ -263,10 +260,7 @@ def test_run(bb: str, tmp_path: pathlib.Path) -> None:
     case = Case(tmp_path / "run", place.list.read_bytes())
     case.run()
     assert place.publish("--verdicts", str(case.out), "--list", str(case.list)).returncode == 0
-    with tarfile.open(place.out) as archive:
-        (name,) = [name for name in archive.getnames() if name.endswith("about.json")]
-        file = archive.extractfile(name)
-        about = json.load(file) if file else {}
+    about = json.loads(read_archive(place.out)["about.json"])
     assert about["passes"] == case.words[1::2]
     assert about["decided_by"] == about["checked_by"]
 
@@ -327,8 +321,7 @@ def test_signals(bb: str, tmp_path: pathlib.Path, rng: random.Random, tries: int
         half += status != 0
         assert place.left() in ([], ["out.tar"]), (status, place.left(), error)
         if place.out.exists():
-            with tarfile.open(place.out) as archive:
-                assert len(archive.getnames()) == 6
+            assert len(read_archive(place.out)) == 6
             os.unlink(place.out)
     assert half > 0
 
@@ -350,14 +343,16 @@ def run(*words: str, status: int = 0, sentence: str = "") -> Done:
     return done
 
 
+def read_archive(path: str | os.PathLike[str]) -> dict[str, bytes]:
+    """The files of an archive."""
+    with tarfile.open(path) as archive:
+        opened = {os.path.basename(member.name): archive.extractfile(member) for member in archive}
+        return {name: file.read() for name, file in opened.items() if file is not None}
+
+
 def unpack(path: str) -> dict[str, bytes]:
     """The files of an archive, written into this folder too."""
-    files = {}
-    with tarfile.open(path) as archive:
-        for member in archive:
-            file = archive.extractfile(member)
-            assert file is not None
-            files[os.path.basename(member.name)] = file.read()
+    files = read_archive(path)
     for line in files["SHA256SUMS"].decode().splitlines():
         sha256, name = line.split()
         assert hashlib.sha256(files[name]).hexdigest() == sha256

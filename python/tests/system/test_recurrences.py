@@ -20,6 +20,7 @@ from support.simulation import compare_lines, simulate
 # Under the first limits most machines have a pair, under the others none.
 SMALL, LEAST = Limits(300, 128, 0, 0), Limits(1, 128, 0, 0)
 HEADER = "machine,start,period"
+JUDGE = [sys.executable, *"-m budlarem judge - --machine 1 --start 2 --period 3".split()]
 RIGHT = {
     Exactness.EXACT: Judgement.CONFIRMED,
     Exactness.TRUE: Judgement.CONFIRMED,
@@ -159,8 +160,7 @@ def test_machines_that_are_alike_make_no_offset(machines: list[str]) -> None:
         judging = budlarem.judge([HEADER, *("%s,%d,1" % (one, start) for one in machines)], limits=SMALL)
         assert judging.start_offset == 0
         assert [one.judgement for one in judging] == [judgement] * 2
-    words = [sys.executable, *"-m budlarem judge - --machine 1 --start 2 --period 3".split()]
-    found = run_command(words, as_lines(["%s;2;1" % one for one in machines]))
+    found = run_command(JUDGE, as_lines(["%s;2;1" % one for one in machines]))
     assert found.status == 1 and b"offset" not in found.error + found.output
 
 
@@ -173,7 +173,6 @@ def test_a_negative_offset_is_only_a_given_one() -> None:
 
 
 def test_the_command() -> None:
-    words = [sys.executable, *"-m budlarem judge - --machine 1 --start 2 --period 3".split()]
     given = as_lines([LEFT + ";5;1", CYCLE + ";1;2", "1RA1RA;1;1"])
     cases: list[tuple[list[str], int, list[str]]] = [
         ([], 0, ["an offset of 1 in each start", "starts and periods: exact 3"]),
@@ -181,7 +180,7 @@ def test_the_command() -> None:
         (["--start-offset=2"], 1, ["an offset of 2 in each start", "starts and periods: false 3"]),
     ]
     for more, status, printed in cases:
-        found = run_command([*words, *more], given)
+        found = run_command([*JUDGE, *more], given)
         assert found.status == status
         lines = found.error.decode().splitlines()
         assert [line.partition(": ")[2] for line in lines[1:-1]] == printed, lines

@@ -177,16 +177,12 @@ def test_each_changed_byte_is_noticed(out: pathlib.Path, rng: random.Random, cou
         data = bytearray(path.read_bytes())
         data[rng.randrange(len(data))] ^= 1 << rng.randrange(8)
         path.write_bytes(data)
-        command = [sys.executable, "-m", "budlarem", "shards", str(out)]
-        done = subprocess.run(command, capture_output=True, text=True)
-        if done.returncode == 0:
+        status, _, error = run_command([sys.executable, "-m", "budlarem", "shards", str(out)])
+        if status == 0:
             assert joined(out) == before, path
         else:
-            assert done.returncode in (1, 2) and path.name in ("plan.json", "machines.txt"), (
-                path,
-                done.stderr,
-            )
-            assert done.stderr.startswith("budlarem: ") and done.stderr.count("\n") == 1
+            assert status in (1, 2) and path.name in ("plan.json", "machines.txt"), (path, error)
+            assert error.startswith(b"budlarem: ") and error.count(b"\n") == 1
         shutil.rmtree(out)
         shutil.copytree(whole, out)
 
@@ -342,9 +338,7 @@ print(machine)
 
 def test_interruption(out: pathlib.Path) -> None:
     """SIGINT ends the run; the same command goes on after the finished shards."""
-    words = ["shards", str(out), "--states", "4", "--entries", "4", "--threads", "1"]
-    command, pipe = [sys.executable, "-m", "budlarem", *words], subprocess.PIPE
-    with subprocess.Popen(command, preexec_fn=restore_signals, stdout=pipe, stderr=pipe) as process:
+    with started("shards", out, "--states", "4", "--entries", "4", "--threads", "1") as process:
         while len(list((out / "shards").glob("*[-A-Z]"))) < 3 and process.poll() is None:
             time.sleep(0.01)
         process.send_signal(signal.SIGINT)
@@ -361,9 +355,8 @@ def test_shards_over_dask(whole: Whole, tmp_path: pathlib.Path) -> None:
     require(modules=("distributed",))
     with cluster(0, tmp_path) as made:
         made.start_worker({"PATH": os.environ["PATH"]}, threads=2)
-        command = [sys.executable, "-m", "budlarem", "shards", str(tmp_path / "out"), *PLAN]
-        status, output, _ = run_command([*command, "--scheduler", made.address])
-    assert status == 0 and counts_in(output.decode()) == whole(3)
+        printed = run("shards", tmp_path / "out", *PLAN, "--scheduler", made.address, sentence="page")
+    assert counts_in(printed) == whole(3)
 
 
 LIES: dict[str, Callable[[bytes], bytes]] = {

@@ -14,7 +14,6 @@ from typing import Any
 
 import pytest
 from support import TOP
-from support.program import run_command
 from support.runs import expected_verdicts, words_of
 from tools.build_info import NEWEST_GLIBC, glibc_of, is_plain
 

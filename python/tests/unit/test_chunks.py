@@ -1,7 +1,6 @@
 """The parts of the runner: its input and page, chunks, the journal, the validation of replies, and the pace."""
 
 import contextlib
-import dataclasses
 import gzip
 import itertools
 import os
@@ -22,7 +21,7 @@ from support.runner import expected_verdicts
 
 
 def take_all(blocks: Iterator[bytes], lines: int, size: int) -> list[bytes]:
-    found = input.StreamLines(blocks)
+    found = input.StreamLines.of_blocks(blocks)
     return list(iter(lambda: found.take(lines, size), b""))
 
 
@@ -63,7 +62,7 @@ def test_gzip_and_empty_lists(case: RunCase) -> None:
     for given in (b"", b"\n", b"1RZ---", LIST):
         for written in (given, gzip.compress(given) + gzip.compress(b"")):
             with list_of(case, written) as listed:
-                assert b"".join(listed.blocks) == given
+                assert b"".join(listed.blocks()) == given
 
 
 def test_a_cut_gzip_file(case: RunCase) -> None:
@@ -74,10 +73,10 @@ def test_a_cut_gzip_file(case: RunCase) -> None:
 
 def test_a_list_that_changes(case: RunCase) -> None:
     with list_of(case, LIST) as listed:
-        next(listed.blocks)
+        next(listed.blocks())
         case.list.write_bytes(LIST + KINDS)
         with pytest.raises(RunError, match="changed while it was read"):
-            list(listed.blocks)
+            list(listed.blocks())
 
 
 class StoreCase:
@@ -197,14 +196,13 @@ def require_refusal(given: bytes, verdicts: bytes) -> None:
 
 
 def test_answers() -> None:
-    verdicts = expected_verdicts(KINDS)
-    chunks.validate_answers(verdicts, b"ok\n" * 9 + b"open\n")
+    chunks.validate_answers(10, b"ok\n" * 9 + b"open\n")
     for answers in (b"", b"ok\n" * 9, b"ok\n" * 10 + b"\n", b"fine\n" * 10):
         with pytest.raises(ReplyError) as raised:
-            chunks.validate_answers(verdicts, answers)
+            chunks.validate_answers(10, answers)
         assert raised.value.line is None
     with pytest.raises(ReplyError, match="bad") as raised:
-        chunks.validate_answers(verdicts, b"ok\n" * 4 + b"bad\n" + b"over\n" * 5)
+        chunks.validate_answers(10, b"ok\n" * 4 + b"bad\n" + b"over\n" * 5)
     assert raised.value.line == 4
 
 
@@ -379,14 +377,6 @@ def test_names_that_begin_as_options_do(case: RunCase, monkeypatch: pytest.Monke
     for words in commands_of_page(case):
         assert call_command(*words)[0] == 0, words
     assert (case.top / "--out.tar").exists()
-
-
-def test_a_folder(case: RunCase) -> None:
-    case.list.write_bytes(MACHINE_LINE * 3)
-    case.call(*SMALL_PASS, "--chunk", "1")
-    assert sorted(os.listdir(case.out / "pass-1")) == ["1-1", "2-2", "3-3"]
-    made = publish(case.top / "new.tar", case.out, case.list)
-    assert (made.confirmed, made.open) == (3, 0)
 
 
 def test_folders_that_are_not_published(case: RunCase) -> None:

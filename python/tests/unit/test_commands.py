@@ -88,15 +88,6 @@ def test_each_of_several_verdicts_on_a_machine_is_compared() -> None:
         assert sorted(str(one.agreement) for one in budlarem.compare(second, first)) == sorted(other)
 
 
-def test_a_second_verdict_that_is_false_is_contradicted(tmp_path: pathlib.Path) -> None:
-    names = [str(tmp_path / name) for name in ("a", "b")]
-    for name, lines in zip(names, SEVERAL[0]):
-        pathlib.Path(name).write_text("".join(line + "\n" for line in lines))
-    words = [sys.executable, "-m", "budlarem", "compare", *names]
-    done = subprocess.run(words, capture_output=True, text=True)
-    assert (done.returncode, done.stdout.partition("\t")[0]) == (1, "contradict")
-
-
 def test_machines_that_are_the_same() -> None:
     first = ["1RA1RA translated R 1 2 1 1", "1RB1LB_1LA1RZ halt 6 4", "1RA1LA cycler 1 3"]
     second = ["1LA1LA translated L 2 4", "1LB1RB_1RA1LZ halt 6 5", "1RA---2RA cycler 1 2"]
@@ -109,20 +100,11 @@ def test_machines_that_are_the_same() -> None:
     ]
 
 
-def test_states_are_in_the_order_of_their_use() -> None:
-    form = budlarem.normal("1LC1RZ_1RB---_1RA1LA")
-    assert (form.normal, form.states, form.mirrored) == ("1RB1LZ_1LA1RA_1LC---", "ACB", True)
-
-
 def test_machines_that_stay() -> None:
-    for machine in (CHAMPION, "------", "1RZ---", "---1LA"):
+    for machine in (CHAMPION, "------", "1RZ---"):
         form = budlarem.normal(machine)
         assert (form.normal, form.mirrored) == (machine, False)
-
-
-def test_duplicates() -> None:
-    machines = [CHAMPION, "1LB1RB_1RA1LZ", "1RA1RA", CHAMPION]
-    assert [first for _, first in budlarem.distinct(machines)] == [None, CHAMPION, None, CHAMPION]
+    assert budlarem.normal("---1LA").normal == "------"
 
 
 def test_growths() -> None:
@@ -253,13 +235,6 @@ def test_what_is_missing_is_named() -> None:
 def run_with(*words: str, given: str = "") -> tuple[int, list[str], str]:
     status, output, error = run_command([sys.executable, "-m", "budlarem", *words], given.encode())
     return status, output.decode().splitlines(), error.decode()
-
-
-def test_carried_fields_and_normal_forms() -> None:
-    status, lines, _ = run_with("decide", given="1RZ---, a b\r\n%s\n# c\nx;y\n" % CHAMPION)
-    assert (status, lines) == (1, ["1RZ--- halt 1 1\ta b", CHAMPION + " halt 6 4", "refused 1"])
-    given = "%s\n1LB1RB_1RA1LZ\n" % CHAMPION
-    assert run_with("normal", "--distinct", given=given)[1] == ["%s\t%s\tAB\tR\t01" % (CHAMPION, CHAMPION)]
 
 
 def test_a_refused_line_is_named_and_passed_over(tmp_path: pathlib.Path) -> None:

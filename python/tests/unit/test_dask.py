@@ -11,7 +11,7 @@ from typing import Any
 import pytest
 from budlarem.commands import build_parser, run as command
 from budlarem.runner import chunks, dask, progress
-from budlarem.runner.errors import FatalLineError, RunError
+from budlarem.runner.errors import DeadWorkersError, RunError
 from support.runner import call_command
 
 LIMITS = (30, 16, 3, 5)
@@ -68,9 +68,6 @@ class DoubleClient:
             given.future.cancel()
             given.future.set_running_or_notify_cancel()
         self.given = []
-
-    def kill(self, place: int = 0) -> None:
-        self.given.pop(place).future.set_exception(KilledWorker("it was tried on 4 workers"))
 
 
 class DoubleFuture:
@@ -134,18 +131,6 @@ class ClusterCase:
         for future in futures:
             self.require_reply(future)
 
-    def kill_at(self, line: bytes, future: Future[Any]) -> int:
-        """Each task with a line ends its workers, all others are answered; how many did."""
-        count = 0
-        while not future.done():
-            if line in self.client.given[0].lines:
-                self.client.kill()
-                count += 1
-            else:
-                self.client.answer()
-            self.maintain()
-        return count
-
 
 @pytest.fixture
 def double(monkeypatch: pytest.MonkeyPatch) -> ClusterCase:
@@ -158,10 +143,12 @@ def test_replies_and_errors_come_back(double: ClusterCase) -> None:
     future = double.submit()
     double.answer_all(future)
     assert double.sentences[1:] == ["dask's page is at http://page"]
-    assert double.place._submissions == {}
-    future = double.submit()
-    double.client.given.pop().future.set_exception(ModuleNotFoundError("No module named 'budlarem'"))
-    assert isinstance(future.exception(0), ModuleNotFoundError)
+    assert double.place._submitted == set()
+    errors = (ModuleNotFoundError("No module named 'budlarem'"), KilledWorker("it was tried on 4 workers"))
+    for error, kind in zip(errors, (ModuleNotFoundError, DeadWorkersError)):
+        future = double.submit()
+        double.client.given.pop().future.set_exception(error)
+        assert isinstance(future.exception(0), kind)
     double.dask.refuses = OSError("nobody there")
     with pytest.raises(RunError, match="no scheduler answers at tcp://there:1: nobody there"):
         dask.DaskBackend("tcp://there:1", {}, double.sentences.append)
@@ -225,45 +212,6 @@ def test_workers_that_go_and_come(double: ClusterCase) -> None:
     assert (double.place.width(), double.place.status()) == (14, "2 workers")
 
 
-def test_a_line_that_ends_its_workers_is_named(double: ClusterCase) -> None:
-    for place, line in enumerate(LINES.splitlines(keepends=True)):
-        future = double.submit()
-        assert double.kill_at(line, future) <= 4
-        with pytest.raises(FatalLineError) as raised:
-            future.result(0)
-        assert raised.value.line == place
-        double.client.given = []
-
-
-def test_lines_that_stood_beside_it_are_not_named(double: ClusterCase) -> None:
-    """All tasks are on one worker, and dask says of all of them that they ended it."""
-    texts = [b"1LZ---\n" * 4, LINES, b"0RZ---\n1RZ---\n"]
-    futures = [double.submit(lines) for lines in texts]
-    while not all(future.done() for future in futures):
-        is_deadly = any(b"1RA1RA" in given.lines for given in double.client.given)
-        while double.client.given:
-            (double.client.kill if is_deadly else double.client.answer)()
-        double.maintain()
-    with pytest.raises(FatalLineError) as raised:
-        futures[1].result(0)
-    assert raised.value.line == 1
-    double.require_reply(futures[0], texts[0])
-    double.require_reply(futures[2], texts[2])
-
-
-def test_workers_that_were_killed_by_chance(double: ClusterCase) -> None:
-    future = double.submit()
-    double.client.kill()
-    double.maintain()
-    for count in (2, 3):
-        assert [given.lines.count(b"\n") for given in double.client.given] == [count]
-        assert not future.done()
-        double.client.answer()
-        double.maintain()
-    double.require_reply(future)
-    assert "5 lines killed their workers" in double.sentences[-1]
-
-
 def test_a_reply_that_cannot_be_read(double: ClusterCase, monkeypatch: pytest.MonkeyPatch) -> None:
     """dask's executor never ends such a future, nor those whose replies came with it."""
     lost, innocent, busy = double.submit(), double.submit(), double.submit()
@@ -285,7 +233,7 @@ def test_a_reply_that_dask_forgot(double: ClusterCase, monkeypatch: pytest.Monke
     """It is decided again; dask's own future is held meanwhile, so that it seldom forgets one."""
     future = double.submit()
     before = double.client.given.pop()
-    (handed,) = double.place._submissions.values()
+    (handed,) = double.place._submitted
     assert handed.own.key == before.key
     del double.client.futures[before.key]
     double.maintain()
@@ -307,30 +255,6 @@ def test_a_reply_that_comes_late(double: ClusterCase, monkeypatch: pytest.Monkey
         assert not future.done()
     double.client.answer(1)
     double.require_reply(future)
-
-
-def test_merged_replies_and_errors() -> None:
-    good = reply_to(LINES, LIMITS)
-    other = (*good[:4], "another library", *good[5:])
-    odd = reply_to(LINES[:-7], LIMITS)
-    cases: list[tuple[list[Any], Any]] = [
-        ([good, good], (good[0] * 2, *reply_to(LINES * 2, LIMITS)[1:])),
-        ([good, None], None),
-        ([b"x", good], b"x"),
-        ([good, good[:5]], good[:5]),
-        ([good, other], other),
-        ([good, odd], odd),
-        ([good, (b"x", *good[1:])], (b"x", *good[1:])),
-        ([good, ("x", *good[1:])], ("x", *good[1:])),
-    ]
-    for replies, joined in cases:
-        assert chunks.merge_replies([LINES, LINES], replies) == joined
-    for place in (0, 1):
-        job = chunks.Job(reply_to, LINES, LIMITS)
-        both = chunks.bisect_job(job)
-        both[place].future.set_exception(ValueError("wrong"))
-        both[1 - place].future.set_result(reply_to(LINES, LIMITS))
-        assert isinstance(job.future.exception(0), ValueError)
 
 
 def place(*words: str) -> Any:

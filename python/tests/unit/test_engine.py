@@ -12,7 +12,7 @@ import budlarem
 import pytest
 from budlarem import Answer, Cycler, Extent, Limits, LimitsError, MachineError, Place, Plan, Translated, at
 from budlarem import parse
-from budlarem._library import CLEAN, ReplyBuffer
+from budlarem._library import CLEAN, call_library
 from support.machines import LETTERS
 from support.program import as_lines, run_command
 from support.simulation import simulate
@@ -33,23 +33,11 @@ def test_lists_of_any_kind() -> None:
     assert decide_lines([]) == []
 
 
-def test_what_was_refused_is_kept() -> None:
-    (verdict,) = budlarem.decide(["x y"])
-    assert verdict == budlarem.Refused(1)
-    assert verdict.machine == "x y"
-
-
 def test_limits_and_plans() -> None:
     assert decide_lines(["1RA1RA"], Limits(steps=10), Plan(translated=False)) == ["1RA1RA backward 0 0"]
     simulation = Plan(cyclers=False, translated=False, backward=False)
     assert decide_lines(["1RA1RA"], Limits(steps=10), simulation) == ["1RA1RA undecided steps"]
     assert decide_lines([CHAMPION], Limits(steps=5), simulation) == [CHAMPION + " undecided steps"]
-
-
-def test_order_by_threads() -> None:
-    machines = ["1RA1RA", CHAMPION] * 20_000
-    for threads in (1, 4):
-        assert decide_lines(machines, Limits(steps=10), threads=threads) == [LINES[2], LINES[0]] * 20_000
 
 
 def test_endless_lists() -> None:
@@ -77,12 +65,6 @@ def test_wrong_limits_and_threads_at_once() -> None:
         budlarem.decide([], Limits(), wrong)
     with pytest.raises(ValueError, match="threads is 0"):
         budlarem.decide([], threads=0)
-
-
-def test_texts_of_all_kinds() -> None:
-    texts = ["\u00e9", "\ud800", "\0", "1RA1RA\0", "1RA1RA\r", " ", "1RA1RA ", "9" * 3_000_000]
-    columns = [1, 1, 1, 7, 7, 1, 7, 2]
-    assert decide_lines(texts) == ["refused %d" % column for column in columns]
 
 
 def test_an_error_of_the_list_itself() -> None:
@@ -134,10 +116,6 @@ def test_blocks_of_any_kind() -> None:
     assert b"".join(budlarem.decide_bytes(b"")) == b""
 
 
-def test_a_last_line_without_its_newline() -> None:
-    assert b"".join(budlarem.decide_bytes(b"\n1RZ---")) == b"refused 1\n1RZ--- halt 1 1\n"
-
-
 def test_lines_without_an_end() -> None:
     noise = (b"1RZ------" * 100_000 for _ in range(20))
     assert b"".join(budlarem.decide_bytes(noise)) == b"refused 31\n"
@@ -149,10 +127,9 @@ def test_lines_without_an_end() -> None:
 def test_replies_longer_than_their_room() -> None:
     assert b"".join(budlarem.check_bytes(b"\n" * 1_000)) == b"unread\n" * 1_000
     asked = (*Limits().numbers(), *Plan().switches())
-    room = ReplyBuffer()
-    for given in (1, 22, 23, 1_000_000):
-        room.call("bb_decide", asked, b"1RB1LB_1LA1RZ\n", given)
-        assert room.reply() == (CLEAN, 23, b"1RB1LB_1LA1RZ halt 6 4\n")
+    for room in (1, 22, 23, 1_000_000):
+        reply = call_library("bb_decide", asked, b"1RB1LB_1LA1RZ\n", room)
+        assert reply == (CLEAN, 23, b"1RB1LB_1LA1RZ halt 6 4\n")
 
 
 def test_lists_of_many_batches() -> None:
@@ -165,14 +142,6 @@ def test_lists_of_many_batches() -> None:
     for blocks in (lines, bytearray(lines), view, io.BytesIO(lines), cut):
         found = b"".join(budlarem.decide_bytes(blocks, Limits(steps=0)))  # type: ignore[arg-type]
         assert found == expected
-
-
-def test_every_step_and_some() -> None:
-    whole = [str(now) for now in budlarem.trace(CHAMPION, 100)]
-    assert len(whole) == 7
-    assert whole[6] == "6 Z 0 1111"
-    assert [str(now) for now in budlarem.trace(CHAMPION, 100, start=1, every=3)] == whole[1::3]
-    assert list(budlarem.trace(CHAMPION, 100, start=7)) == []
 
 
 def test_whether_it_was_cut() -> None:

@@ -33,12 +33,8 @@ class DirectoryCase(contextlib.ExitStack):
         self.callback(self.directory.close)
 
     def write(self, name: str, text: bytes) -> None:
-        over = self.directory.pin(name)
         fill = lambda number: _files.write_blocks(number, [text])  # noqa: E731
-        written = _files.write_atomically(self.directory, name, fill, over)
-        for pin in (over, written):
-            if pin is not None:
-                pin.close()
+        os.close(_files.write_atomically(self.directory, name, fill, self.directory.id_at(name)))
 
 
 @pytest.fixture
@@ -75,14 +71,11 @@ def test_links_and_pipes_are_no_files(place: DirectoryCase) -> None:
 
 def test_a_file_of_another_is_not_replaced(place: DirectoryCase) -> None:
     place.write("a", b"1")
-    known = place.directory.pin("a")
-    assert known is not None
-    place.callback(known.close)
+    target = place.enter_context(contextlib.closing(_files.FileTarget(place.directory, "a")))
     (place.inside / "a").unlink()
     (place.inside / "a").write_bytes(b"mine")
-    with pytest.raises(FileExistsError) as raised:
-        _files.write_atomically(place.directory, "a", lambda number: None, known)
-    assert raised.value.filename == str(place.inside / "a")
+    with pytest.raises(FileExistsError, match="^%s was made or replaced" % (place.inside / "a")):
+        target.write(lambda number: None)
     assert contents(place.top) == {str(place.inside / "a"): b"mine"}
 
 
@@ -115,8 +108,7 @@ def test_nothing_is_left_after_an_error(place: DirectoryCase) -> None:
 
 
 def test_a_target_whose_folder_is_moved(place: DirectoryCase) -> None:
-    target = _files.FileTarget(str(place.inside / "page"))
-    place.callback(target.close)
+    target = place.enter_context(_files.open_target(str(place.inside / "page")))
     os.rename(place.inside, place.top / "moved")
     with pytest.raises(OSError, match="moved, removed or replaced"):
         target.write(lambda number: _files.write_blocks(number, [b"page"]))
@@ -295,7 +287,7 @@ def test_a_summary_has_the_checksum_of_the_verdicts(case: RunCase) -> None:
         with contextlib.closing(folder.FinishedRun(str(case.out))) as found:
             assert found.checksum == _files.Checksum().add_bytes(case.verdicts())
             assert (found.identity, found.lines) == (chunks.identity(), 370)
-            assert [one.lines for one in found.totals][0] == 370
+            assert found.results[0].lines == 370
 
 
 def test_all_names_are_there() -> None:

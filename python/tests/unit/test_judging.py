@@ -12,7 +12,6 @@ import budlarem
 import pytest
 from budlarem import WORDS, Claim, Columns, Form, Halt, Judgement, Limits, Word, claims
 from budlarem.claims import read_words
-from budlarem.normal_forms import canonical_form
 from budlarem.numbers import number_of, numbers_in
 from budlarem import claim_lists
 from budlarem.claim_lists import ListForm
@@ -226,27 +225,3 @@ def test_each_reading_has_the_same_lines(tmp_path: pathlib.Path) -> None:
                 assert (list(twice.once()), twice.counted.empty) == (right, 80)
     once = claim_lists.RereadableList(path)
     assert (list(once.once()), once.counted.empty) == (right, 80)
-
-
-def test_changes_keep_the_form() -> None:
-    source = random.Random(3)
-    for _ in range(2_000):
-        machine, changed, mirrored = draw_machine(source)
-        forms = canonical_form(machine), canonical_form(changed)
-        assert forms[0].text == forms[1].text, (machine, changed)
-        if not machine.startswith("---"):
-            assert (forms[0].mirrored != forms[1].mirrored) == mirrored, (machine, changed)
-
-
-def test_the_form_is_the_machine_with_other_names() -> None:
-    for machine in ("1LC1RZ_1RB---_1RA1LA", "2LA1RB0RZ_0LB---1RA", "1RA1RA"):
-        verdicts = list(budlarem.decide([machine, canonical_form(machine).text]))
-        assert str(verdicts[0]).split(" ")[1] == str(verdicts[1]).split(" ")[1]
-    assert canonical_form("1RB1LB_1LA1RZ") != canonical_form("1RB1LA_1LA1RZ")
-
-
-def draw_machine(source: random.Random) -> tuple[str, str, bool]:
-    """A machine, the same with other names, and whether its left and right were exchanged."""
-    size = source.randint(1, 5), source.randint(2, 4)
-    drawn, change = machine(source, *size), random_change(source, *size)
-    return drawn, change.machine(drawn), change.mirrored

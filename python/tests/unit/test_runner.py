@@ -10,6 +10,7 @@ import os
 import random
 import re
 import shutil
+import threading
 import unittest.mock
 from concurrent.futures import Future
 from typing import Any, Callable, Sequence
@@ -17,15 +18,15 @@ from typing import Any, Callable, Sequence
 import budlarem
 import pytest
 from budlarem import Limits, _files
-from budlarem.runner import chunks, folder, input, pass_folder, passes
-from budlarem.runner.errors import CheckError, FolderError, MovedError, RunError, UsageError
+from budlarem.runner import chunks, folder, input, pass_folder, passes, store
+from budlarem.runner.errors import CheckError, DeadWorkersError, FolderError, MovedError, RunError, UsageError
 from support.runner import KINDS, LIST, MIDDLE, PASSES, SMALL, Answering, KeptProgress, Late, RunCase
 from support.runner import PoolBackend, act, answer_with, counts_of, expected_verdicts, reseal
 
 
 def require_verdicts(
     case: RunCase, executor: Any = None, limits: Sequence[Limits] = PASSES, **how: Any
-) -> passes.Outcome:
+) -> pass_folder.Outcome:
     outcome = case.run_over(executor, limits, **how)
     assert case.verdicts() == expected_verdicts(case.list.read_bytes(), limits)
     return outcome
@@ -114,13 +115,17 @@ def test_another_list(case: RunCase) -> None:
     require_verdicts(case)
 
 
+def config_of(text: str) -> Any:
+    return folder.RunConfig.of_fields(store.unseal(text))
+
+
 def test_changed_passes_and_libraries(case: RunCase) -> None:
     case.run_over()
     for limits in ([SMALL], [MIDDLE, SMALL], [MIDDLE], [SMALL, SMALL, MIDDLE]):
         require_error(case, FolderError, "started with other passes", limits=limits)
     path = case.out / "run.json"
     written = path.read_text()
-    config = folder.RunConfig.read(written)
+    config = config_of(written)
     assert config is not None
     other = dataclasses.replace(config.identity, library="0" * 64)
     path.write_text(dataclasses.replace(config, identity=other).text())
@@ -134,17 +139,17 @@ def test_what_a_folder_was_begun_with() -> None:
     keep = chunks.Retention(True, 7)
     config = folder.RunConfig(list(PASSES), keep, chunks.identity(), "\udcff list \u1234", 5, None, "--check")
     text = config.text()
-    assert folder.RunConfig.read(text) == config
+    assert config_of(text) == config
     assert json.loads(text)["list"]["bytes"] == 5
     for size in range(len(text)):
-        assert folder.RunConfig.read(text[:size]) is None
+        assert config_of(text[:size]) is None
     for place, bit in itertools.product(range(len(text)), range(8)):
         changed = text[:place] + chr(ord(text[place]) ^ 1 << bit) + text[place + 1 :]
-        with pytest.raises(FolderError):
-            folder.RunConfig.read(changed)
+        with pytest.raises(store.SealError):
+            config_of(changed)
     for other in (text + " ", "hello", "[" * 10_000, "5\n", "{}\n"):
-        with pytest.raises(FolderError):
-            folder.RunConfig.read(other)
+        with pytest.raises(store.SealError):
+            config_of(other)
 
 
 def test_two_runs_in_a_folder(case: RunCase) -> None:
@@ -391,6 +396,44 @@ def test_keep_passes_are_added(case: RunCase) -> None:
     require_error(case, FolderError, "isn't the list that", keep=keep, check=True)
 
 
+class Deadly(Answering):
+    """Workers that die of a line, and with them all tasks that wait by then, of which dask says the same."""
+
+    def __init__(self, line: bytes) -> None:
+        super().__init__()
+        self.line, self.deaths = line, 0
+        self.waiting: list[tuple[Future[Any], tuple[Any, ...]]] = []
+
+    def submit(self, function: Any, /, *given: Any, **named: Any) -> Any:
+        future: Future[Any] = Future()
+        self.waiting.append((future, (function, *given)))
+        threading.Timer(0.005, self.work).start()
+        return future
+
+    def work(self) -> None:
+        waiting, self.waiting = self.waiting, []
+        is_deadly = any(self.line in given[1] for _, given in waiting)
+        self.deaths += is_deadly
+        for future, given in waiting:
+            if is_deadly:
+                future.set_exception(DeadWorkersError(repr(given[1][:-1])))
+            else:
+                future.set_result(super().submit(*given).result())
+
+
+@pytest.mark.parametrize("most", [1, 2, 30])
+def test_a_line_that_ends_its_workers_is_named(case: RunCase, most: int) -> None:
+    """Chunks with it are bisected, and all other lines are stored; without such workers the run goes on."""
+    case.list.write_bytes(LIST.replace(b"1RA1RA\n", b"1RZ1RZ\n", 5).replace(b"1RZ1RZ\n", b"1RA1RA\n", 4))
+    deadly = Deadly(b"1RZ1RZ")
+    sentence = "all but 1 chunks are stored; pass 1, line 44: every worker that did it died: b'1RZ1RZ'"
+    require_error(case, RunError, sentence, deadly, limits=[SMALL], most=most)
+    assert not (case.out / "verdicts.txt").exists() and 2 <= deadly.deaths <= 7
+    executor = Answering()
+    require_verdicts(case, executor, limits=[SMALL], most=most)
+    assert executor.count == 1
+
+
 def test_a_line_of_a_later_pass_is_named(case: RunCase) -> None:
     keep = chunks.Retention(True)
     case.run_over(limits=[SMALL], keep=keep)
@@ -558,10 +601,9 @@ def test_refusals_and_statuses(case: RunCase) -> None:
 
 def test_progress_of_a_pass() -> None:
     shown = KeptProgress()
-    shown._is_terminal = True
+    shown.is_shown, shown._next = True, 0.0
     shown.start(1, 2, lambda: 88_664_064)
     shown.add_decided(20_000)
-    shown._next = 0.0
     shown.tick("3 workers")
     text = shown.kept.getvalue()
     figures = r"20k lines, 0%, \d+[kM]? lines/s, [0-9.]+ \w+ left, 3 work"
@@ -573,7 +615,7 @@ def test_progress_of_a_pass() -> None:
     shown._started -= 10
     shown.add_decided(5)
     for _ in range(2):
-        shown._next = 0.0
+        shown._due = 0.0
         shown.tick()
     assert shown.kept.getvalue().count("budlarem: pass 2 takes about ") == 1
     assert shown.kept.getvalue().count("\n") == 3

@@ -24,6 +24,7 @@ from ..runner.errors import CheckError, RunError
 from .lists import add_check, add_claims, add_judge, add_publish
 from .machines import add_machines, add_runs
 from .run import add_command as add_run
+from .settle import add_settle
 from .shards import add_shards
 
 # Errors without a file name that standard output has.
@@ -57,7 +58,17 @@ def build_parser() -> argparse.ArgumentParser:
         "--version", action=_VersionAction, nargs=0, help="print the version; (plain) if not proved"
     )
     commands = parser.add_subparsers(required=True, metavar="COMMAND")
-    for add in (add_machines, add_check, add_claims, add_judge, add_runs, add_publish, add_run, add_shards):
+    for add in (
+        add_machines,
+        add_check,
+        add_claims,
+        add_judge,
+        add_runs,
+        add_publish,
+        add_run,
+        add_settle,
+        add_shards,
+    ):
         add(commands)
     asked = commands.add_parser("help", help="print the help of a command, as its --help")
     asked.add_argument("command", nargs="?", metavar="COMMAND", choices=list(commands.choices))

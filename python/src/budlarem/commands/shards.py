@@ -13,7 +13,7 @@ import random
 import re
 import sys
 
-from .._text import escape_hidden, escape_message
+from .._text import escape_hidden
 from ..limits import Limits
 from ..runner.backends import Backend
 from ..runner.errors import FolderError, UsageError
@@ -42,11 +42,8 @@ _SHARD = """Lists, decides and checks one shard of a FOLDER planned by `budlarem
 MACHINE below N U G SHA256. A finished shard isn't run again, and the command waits for one under way elsewhere."""
 
 
-class _Progress:
+class _Progress(TerminalLine):
     """The number of finished shards, on a terminal."""
-
-    def __init__(self) -> None:
-        self._line, self._done, self._all, self._verb = TerminalLine(), 0, 0, ""
 
     def start(self, count: int, verb: str = "done") -> None:
         self._done, self._all, self._verb = 0, count, verb
@@ -56,14 +53,7 @@ class _Progress:
 
     def tick(self, status: str = "") -> None:
         parts = ["%d of %d shards %s" % (self._done, self._all, self._verb), *filter(None, [status])]
-        self._line.show(lambda: ", ".join(parts))
-
-    def print_line(self, text: str) -> None:
-        self._line.clear()
-        print("budlarem: %s" % escape_message(text), file=sys.stderr)
-
-    def clear(self) -> None:
-        self._line.clear()
+        self.show(lambda: ", ".join(parts))
 
 
 def do_shards(asked: argparse.Namespace) -> int:

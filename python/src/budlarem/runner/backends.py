@@ -2,13 +2,11 @@
 
 from __future__ import annotations
 
-import queue
-import threading
 from concurrent.futures import Executor, Future
-from typing import Any, Callable, NamedTuple
+from typing import Any, NamedTuple
 
+from .._calls import DaemonThreads
 from .chunks import Task
-from .errors import RunError
 
 
 class ChunkSize(NamedTuple):
@@ -49,7 +47,7 @@ class Backend:
 class PoolBackend(Backend):
     """Any executor, with so many workers. Each has a task, and as many tasks wait."""
 
-    def __init__(self, executor: Executor, workers: int) -> None:
+    def __init__(self, executor: Executor | DaemonThreads, workers: int) -> None:
         self._executor, self._workers = executor, workers
 
     def width(self) -> int:
@@ -59,43 +57,18 @@ class PoolBackend(Backend):
         return self._executor.submit(task, lines, options)
 
 
-class ThreadBackend(Backend):
-    """Daemon threads of this process, so that it can end in the middle of a machine. The library's calls release
-    Python's lock, and nothing runs in Python for a single line."""
+class ThreadBackend(PoolBackend):
+    """Threads of this process. The library's calls release Python's lock, and nothing runs in Python for a single
+    line. One task waits."""
 
     tries, is_here, chunk_size = 1, True, HERE
 
     def __init__(self, count: int) -> None:
-        self.count, self._threads = count, 0
-        self._calls: queue.SimpleQueue[tuple[Future[Any], Callable[[], Any]] | None] = queue.SimpleQueue()
+        self._threads = DaemonThreads(count)
+        super().__init__(self._threads, count)
 
     def width(self) -> int:
-        return self.count + 1
-
-    def submit(self, task: Task, lines: bytes, options: Any) -> Future[Any]:
-        while self._threads < self.count:
-            try:
-                threading.Thread(target=self._work, args=(self._calls,), name="budlarem", daemon=True).start()
-            except RuntimeError as error:
-                raise RunError("%d threads can't be started: %s" % (self.count, error)) from error
-            self._threads += 1
-        future: Future[Any] = Future()
-        self._calls.put((future, lambda: task(lines, options)))
-        return future
-
-    @staticmethod
-    def _work(calls: queue.SimpleQueue[tuple[Future[Any], Callable[[], Any]] | None]) -> None:
-        while (one := calls.get()) is not None:
-            future, call = one
-            try:
-                future.set_result(call())
-            except BaseException as error:
-                future.set_exception(error)
+        return self._workers + 1
 
     def close(self) -> None:
-        calls, self._calls = self._calls, queue.SimpleQueue()
-        while not calls.empty():
-            calls.get()
-        for _ in range(self._threads):
-            calls.put(None)
-        self._threads = 0
+        self._threads.close()

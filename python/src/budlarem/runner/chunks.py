@@ -12,20 +12,17 @@ import functools
 import hashlib
 import math
 import re
-import threading
 import time
 import zlib
-from concurrent.futures import Future
 from typing import Any, Callable, Sequence
 
-from .._library import ReplyBuffer, load_library, validate_replies, version
+from .._library import load_library, validate_replies, version
 from .._text import LONGEST_OF_REPLY
 from .._version import COMMIT
 from ..counts import KINDS, find_all
 from ..engine import Call, check_call, decide_call
-from ..limits import Limits, Plan
-from .errors import FatalLineError, ReplyError, UsageError
-from .store import hash_of
+from ..limits import Limits, Plan, words_of
+from .errors import ReplyError, UsageError
 
 Numbers = tuple[int, int, int, int]
 # Output, seconds, version, commit and sha256 of the library; then the digest of the input, the description of
@@ -38,7 +35,6 @@ Counts = dict[str, int]
 DECIDE, CHECK = "decide", "check"
 _LEFT, _HALTS = "left", "halts="
 _KEPT_WORDS = (b" undecided ", b"refused ")
-_thread_state = threading.local()
 
 
 @dataclasses.dataclass(frozen=True)
@@ -70,7 +66,7 @@ def digest_of(data: bytes) -> str:
 
 
 def describe_task(what: str, limits: Numbers) -> str:
-    return "%s steps=%d,cells=%d,depth=%d,nodes=%d" % (what, *limits)
+    return "%s %s" % (what, words_of(Limits(*limits)))
 
 
 def reply_of(task: str, lines: bytes, written: bytes, seconds: float) -> ChunkReply:
@@ -79,21 +75,22 @@ def reply_of(task: str, lines: bytes, written: bytes, seconds: float) -> ChunkRe
 
 
 def _call_here(call: Call, lines: bytes) -> tuple[bytes, float]:
-    """The output and seconds of a call, into the buffer of this thread, which all its chunks share."""
-    started, buffer = time.monotonic(), getattr(_thread_state, "buffer", None)
-    if not isinstance(buffer, ReplyBuffer):
-        buffer = _thread_state.buffer = ReplyBuffer()
-    call(buffer, lines)
-    return buffer.reply().text, time.monotonic() - started
+    """The output and seconds of a call."""
+    started = time.monotonic()
+    return call(lines).text, time.monotonic() - started
 
 
 def _make_reply(task: str, call: Call, lines: bytes) -> ChunkReply:
     return reply_of(task, lines, *_call_here(call, lines))
 
 
-def decide_here(lines: bytes, limits: Numbers) -> tuple[bytes, float]:
-    """As `decide_chunk`, in this process, where a reply needs no digests."""
-    return _call_here(decide_call(Limits(*limits), Plan()), lines)
+def decide_here(lines: bytes, options: tuple[Numbers, bool]) -> tuple[bytes, float, Counts, bytes]:
+    """As `decide_chunk`, in this process, where a reply needs no digests; with the count of each kind, and if asked for
+    with the checker's answers: all while the verdicts are in the processor's cache."""
+    limits, is_checked = options
+    written, seconds = _call_here(decide_call(Limits(*limits), Plan()), lines)
+    answers, more = check_here(written, limits) if is_checked else (b"", 0.0)
+    return written, seconds + more, validate_verdicts(lines, written), answers
 
 
 def check_here(lines: bytes, limits: Numbers) -> tuple[bytes, float]:
@@ -138,12 +135,11 @@ def validate_verdicts(given: bytes, verdicts: bytes) -> Counts:
     return dict(zip(KINDS, found.counts))
 
 
-def validate_answers(verdicts: bytes, answers: bytes) -> None:
-    """Raises ReplyError for invalid answers, with `line` set for an unconfirmed verdict."""
-    confirmed, free = answers.count(b"ok\n"), answers.count(b"open\n")
-    if confirmed + free == verdicts.count(b"\n") and 3 * confirmed + 5 * free == len(answers):
+def validate_answers(count: int, answers: bytes) -> None:
+    """Raises ReplyError for invalid answers to so many lines, with `line` set for an unconfirmed verdict."""
+    if answers.replace(b"open\n", b"ok\n") == b"ok\n" * count:
         return
-    lines = _split(answers, verdicts.count(b"\n"), "answers")
+    lines = _split(answers, count, "answers")
     place = next(place for place, line in enumerate(lines) if line not in (b"ok", b"open"))
     if lines[place] not in (b"bad", b"over", b"unread"):
         raise ReplyError("%s is no answer of the checker" % quote_line(lines[place]))
@@ -202,60 +198,3 @@ def parse_retention(words: Sequence[str] | None) -> Retention:
         elif part not in (_LEFT, "all") or (part == "all" and len(parts) > 1):
             raise UsageError("--keep %s: give left, halts=N, left,halts=N or all" % ",".join(parts))
     return Retention(bool(parts) and parts != ["all"], halts)
-
-
-@dataclasses.dataclass(eq=False)
-class Job:
-    """A task. `first` lines of the whole come before its own; `turn` counts its submissions and losses."""
-
-    task: Task
-    lines: bytes
-    options: Any
-    first: int = 0
-    future: Future[Any] = dataclasses.field(default_factory=Future)
-    turn: int = 0
-
-
-def bisect_job(job: Job) -> list[Job]:
-    """Jobs for the halves of a job; the last of both ends it. A single line is a FatalLineError."""
-    lines = [line + b"\n" for line in job.lines.split(b"\n")[:-1]]
-    if len(lines) < 2:
-        job.future.set_exception(FatalLineError(job.first, quote_line(job.lines.rstrip(b"\n"))))
-        return []
-    middle = len(lines) // 2
-    parts = ((lines[:middle], job.first), (lines[middle:], job.first + middle))
-    halves = [Job(job.task, b"".join(part), job.options, first) for part, first in parts]
-    pending = list(halves)
-
-    def end_one(half: Job, _: Future[Any]) -> None:
-        pending.remove(half)
-        if pending:
-            return
-        error = next(filter(None, (half.future.exception() for half in halves)), None)
-        if error is not None:
-            job.future.set_exception(error)
-        else:
-            replies = [half.future.result() for half in halves]
-            job.future.set_result(merge_replies([half.lines for half in halves], replies))
-
-    for half in halves:
-        half.future.add_done_callback(functools.partial(end_one, half))
-    return halves
-
-
-def merge_replies(parts: list[bytes], replies: list[Any]) -> Any:
-    """The reply to lines whose parts had these replies; an invalid one is returned as it is."""
-
-    def origin_of(reply: Any) -> tuple[Any, ...]:
-        return (*reply[2:5], reply[6])
-
-    for lines, reply in zip(parts, replies):
-        has_form = isinstance(reply, tuple) and len(reply) == 8 and isinstance(reply[0], bytes)
-        if not has_form or not isinstance(reply[1], float) or origin_of(reply) != origin_of(replies[0]):
-            return reply
-        if (reply[5], reply[7]) != (digest_of(lines), digest_of(reply[0])):
-            return reply
-    written: bytes = b"".join(reply[0] for reply in replies)
-    seconds: float = sum(reply[1] for reply in replies)
-    *ours, task = origin_of(replies[0])
-    return (written, seconds, *ours, digest_of(b"".join(parts)), task, digest_of(written))

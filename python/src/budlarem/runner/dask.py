@@ -2,8 +2,7 @@
 
 The workers need this package, and the same Python and dask as the runner; the scheduler needs nothing. Tasks
 that dask's executor loses are submitted again or their replies fetched: futures that were cancelled since the
-scheduler left, futures that never finish since the connection broke or a reply can't be read, and a task that
-killed its workers, whose lines are bisected.
+scheduler left, and futures that never finish since the connection broke or a reply can't be read.
 """
 
 from __future__ import annotations
@@ -22,8 +21,8 @@ from concurrent.futures import CancelledError, Future
 from typing import Any, Callable, Mapping
 
 from .backends import Backend
-from .chunks import Job, Task, bisect_job
-from .errors import RunError
+from .chunks import Task, quote_line
+from .errors import DeadWorkersError, RunError
 
 # Seconds between two inquiries, and the timeout of one.
 _OFTEN, _PATIENCE = 1.0, 10.0
@@ -46,13 +45,19 @@ def import_distributed() -> Any:
         raise RunError(f"dask isn't installed ({error}): {how}") from None
 
 
-@dataclasses.dataclass
-class Submission:
-    """The connection and key of a submitted job; dask's own future, without which dask may forget a reply that
-    its executor can't read; and since when the job isn't pending there."""
+@dataclasses.dataclass(eq=False)
+class Job:
+    """A task. `turn` counts its submissions and losses. Of the last submission it has the connection and key, dask's
+    own future, without which dask may forget a reply that its executor can't read, and since when it isn't pending
+    there."""
 
-    connection: Any
-    key: str
+    task: Task
+    lines: bytes
+    options: Any
+    future: Future[Any] = dataclasses.field(default_factory=Future)
+    turn: int = 0
+    connection: Any = None
+    key: str = ""
     own: Any = None
     since: float | None = None
 
@@ -71,13 +76,8 @@ class DaskBackend(Backend):
         # It guards the jobs, which dask's thread ends.
         self._lock = threading.RLock()
         # Jobs that dask has, and jobs to submit again.
-        self._submissions: dict[Job, Submission] = {}
+        self._submitted: set[Job] = set()
         self._lost: collections.deque[Job] = collections.deque()
-        # Jobs whose workers died, and their halves. One half at a time is submitted: dask blames all tasks of
-        # a dead worker, and only one killed it.
-        self._killed: collections.deque[Job] = collections.deque()
-        self._halves: collections.deque[Job] = collections.deque()
-        self._suspect: Job | None = None
         self._workers, self._threads, self._next = 0, 0, 0.0
         self._missing = ""
         self._client: Any = None
@@ -117,15 +117,15 @@ class DaskBackend(Backend):
         return self._client.scheduler_comm if self._client.status == "running" else None
 
     def _submit(self, job: Job) -> None:
-        submission = Submission(self._connection(), "budlarem-" + uuid.uuid4().hex)
         with self._lock:
-            job.turn += 1
-            self._submissions[job] = submission
+            job.turn, job.since = job.turn + 1, None
+            job.connection, job.key = self._connection(), "budlarem-" + uuid.uuid4().hex
+            self._submitted.add(job)
         try:
-            if submission.connection is None:
+            if job.connection is None:
                 raise RunError("there is no scheduler")
-            inner = self._executor.submit(job.task, job.lines, job.options, key=submission.key)
-            submission.own = self._dask.Future(submission.key, self._client)
+            inner = self._executor.submit(job.task, job.lines, job.options, key=job.key)
+            job.own = self._dask.Future(job.key, self._client)
         except Exception:
             # A closed client raises a bare Exception.
             self._requeue(job)
@@ -135,8 +135,8 @@ class DaskBackend(Backend):
     def _requeue(self, job: Job) -> None:
         """Has a job submitted again; later news of this turn are ignored."""
         with self._lock:
-            job.turn += 1
-            self._submissions.pop(job, None)
+            job.turn, job.own = job.turn + 1, None
+            self._submitted.discard(job)
             self._lost.append(job)
 
     def _on_done(self, job: Job, turn: int, inner: Future[Any]) -> None:
@@ -155,20 +155,17 @@ class DaskBackend(Backend):
             if isinstance(error, (CancelledError, asyncio.CancelledError)):
                 self._requeue(job)
                 return
-            job.turn += 1
-            self._submissions.pop(job, None)
-            if job is self._suspect:
-                self._suspect = None
+            job.turn, job.own = job.turn + 1, None
+            self._submitted.discard(job)
             if isinstance(error, self._dask.KilledWorker):
-                self._killed.append(job)
-            elif error is not None:
+                error = DeadWorkersError(quote_line(job.lines.rstrip(b"\n")))
+            if error is not None:
                 job.future.set_exception(error)
             else:
                 job.future.set_result(reply)
 
     def maintain(self) -> None:
         """Inquires now and then about scheduler and workers, and submits lost jobs again."""
-        self._submit_halves()
         if time.monotonic() < self._next:
             return
         if self._client.status == "closed":
@@ -179,8 +176,8 @@ class DaskBackend(Backend):
             # dask never ends jobs of another connection whose replies were in transit.
             connection = self._connection()
             with self._lock:
-                for job, one in list(self._submissions.items()):
-                    if one.connection is not connection:
+                for job in list(self._submitted):
+                    if job.connection is not connection:
                         self._requeue(job)
             self._fetch_stuck()
             for _ in range(len(self._lost)):
@@ -216,42 +213,30 @@ class DaskBackend(Backend):
         can't read, nor those that came with it. Requeues jobs that dask has forgotten."""
         now = time.monotonic()
         with self._lock:
-            pending = [(job, job.turn, submission) for job, submission in self._submissions.items()]
-        for job, turn, submission in pending:
-            state = self._client.futures.get(submission.key)
+            pending = [(job, job.turn) for job in self._submitted]
+        for job, turn in pending:
+            state = self._client.futures.get(job.key)
             status = "lost" if state is None else state.status
             if status == "pending":
-                submission.since = None
-            elif submission.since is None:
-                submission.since = now
-            elif now - submission.since > _SILENT:
+                job.since = None
+            elif job.since is None:
+                job.since = now
+            elif now - job.since > _SILENT:
                 if status in ("finished", "error"):
-                    self._fetch(job, turn, submission)
+                    self._fetch(job, turn)
                     continue
                 with self._lock:
                     if turn == job.turn:
                         self._requeue(job)
 
-    def _fetch(self, job: Job, turn: int, submission: Submission) -> None:
+    def _fetch(self, job: Job, turn: int) -> None:
         """Fetches the reply to a job; after a timeout it is tried again later."""
-        submission.since = None
+        job.since = None
         try:
-            reply = self._dask.Future(submission.key, self._client).result(_PATIENCE)
+            reply = self._dask.Future(job.key, self._client).result(_PATIENCE)
         except (TimeoutError, asyncio.TimeoutError, OSError):
             return
         except (Exception, asyncio.CancelledError) as error:
             self._finish(job, turn, None, error)
         else:
             self._finish(job, turn, reply, None)
-
-    def _submit_halves(self) -> None:
-        while self._killed:
-            job = self._killed.popleft()
-            with self._lock:
-                halves = bisect_job(job)
-            self._halves.extend(halves)
-            if halves:
-                self._report("%d lines killed their workers; bisecting them" % job.lines.count(b"\n"))
-        if self._halves and self._suspect is None:
-            self._suspect = self._halves.popleft()
-            self._submit(self._suspect)

@@ -2,27 +2,22 @@
 
 from __future__ import annotations
 
+import collections
+import itertools
 import queue
 import time
-from concurrent.futures import CancelledError, Future, ThreadPoolExecutor
-from typing import Any, Callable, Iterator, NamedTuple, Protocol
+from concurrent.futures import CancelledError, Future, ThreadPoolExecutor, wait
+from typing import Any, Callable, Iterator, NamedTuple, Sequence
 
 from .backends import Backend
 from .chunks import Task
-from .errors import CheckError, FatalLineError, ReplyError, RunError, describe_error
+from .errors import CheckError, DeadWorkersError, ReplyError, RunError, describe_error
+from .progress import TerminalLine
 
 # The threads for validating and storing replies, and the most tasks of theirs.
 _VALIDATORS, _MOST_VALIDATING = 4, 6
-
-
-class Reporter(Protocol):
-    """Reports on standard error."""
-
-    def tick(self, status: str = "") -> None:
-        """Shows the progress, if that is due."""
-
-    def print_line(self, text: str) -> None:
-        """Prints a message."""
+# The seconds for which the thread that reads is waited for after an error.
+_PATIENCE = 1.0
 
 
 class Request(NamedTuple):
@@ -38,8 +33,9 @@ class Assignment:
 
     # The word for several of them.
     plural = "tasks"
-    # The number of failures, and when it was submitted last, by the monotonic clock.
-    failures, submitted = 0, 0.0
+    # The number of failures, and when it was submitted last, by the monotonic clock. A half of a task whose workers
+    # died is suspect.
+    failures, submitted, is_suspect = 0, 0.0, False
 
     def request(self) -> Request | None:
         """The next work for a worker; None if `accept` needs no reply."""
@@ -50,6 +46,10 @@ class Assignment:
         in a thread. Raises ReplyError, CheckError, FolderError, RunError, OSError."""
         raise NotImplementedError
 
+    def halves(self) -> Sequence[Assignment]:
+        """Two tasks in place of one that can be halved."""
+        return ()
+
     def describe(self, error: BaseException) -> str:
         """Names the task of an error, or its line."""
         raise NotImplementedError
@@ -59,7 +59,11 @@ class Dispatcher:
     """Tasks by a backend. `sync` is called often; `finish` with each finished task."""
 
     def __init__(
-        self, backend: Backend, progress: Reporter, sync: Callable[[], None], finish: Callable[[Any], None]
+        self,
+        backend: Backend,
+        progress: TerminalLine,
+        sync: Callable[[], None],
+        finish: Callable[[Any], None],
     ) -> None:
         self._backend, self._progress, self._sync, self._finish = backend, progress, sync, finish
         self._pending: dict[Future[Any], Assignment] = {}
@@ -69,6 +73,9 @@ class Dispatcher:
         # The list may be slow: a thread of its own reads the next task.
         self._reader = ThreadPoolExecutor(1, "budlarem read")
         self._read: Future[Assignment | None] | None = None
+        # Halves of tasks whose workers died. One is submitted at a time: dask blames all tasks of a dead worker, and
+        # only one killed it.
+        self._suspects: collections.deque[Assignment] = collections.deque()
         self._skipped: list[str] = []
 
     def run(self, tasks: Iterator[Assignment]) -> None:
@@ -77,6 +84,8 @@ class Dispatcher:
             plural = self._run(tasks)
         finally:
             self._validators.shutdown()
+            # Of a slow list it ends with the process.
+            wait([self._read] if self._read is not None else [], _PATIENCE)
             self._reader.shutdown(wait=False)
         if self._skipped:
             reasons = "; ".join(self._skipped[:3])
@@ -85,7 +94,10 @@ class Dispatcher:
     def _run(self, tasks: Iterator[Assignment]) -> str:
         """Does all tasks; returns the word for several."""
         is_ended, plural = False, ""
-        while self._pending or self._validating or not is_ended:
+        while self._pending or self._validating or self._suspects or not is_ended:
+            under_way = itertools.chain(self._pending.values(), self._validating.values())
+            if self._suspects and not any(task.is_suspect for task in under_way):
+                self._submit(self._suspects.popleft())
             has_room = len(self._pending) < self._backend.width() and len(self._validating) < _MOST_VALIDATING
             if self._read is None and not is_ended and has_room:
                 self._read = self._reader.submit(lambda: next(tasks, None))
@@ -141,14 +153,25 @@ class Dispatcher:
             error = future.exception()
         except CancelledError:
             error = ReplyError("it was cancelled")
-        if isinstance(error, FatalLineError):
-            # The run fails once all other tasks are stored.
-            self._skipped.append("%s: %s" % (task.describe(error), error))
-            self._progress.print_line(self._skipped[-1])
+        if isinstance(error, DeadWorkersError):
+            self._bisect(task, error)
         elif error is not None:
             self._retry(task, error)
         else:
             self._validate(task, future.result())
+
+    def _bisect(self, task: Assignment, error: DeadWorkersError) -> None:
+        """Has the halves of a task done, or one without any once more. That is skipped then, and the run fails once all
+        others are stored."""
+        where, halves = task.describe(error), task.halves() or [task] * (not task.is_suspect)
+        for half in halves:
+            half.is_suspect = True
+        self._suspects.extend(halves)
+        if not halves:
+            self._skipped.append("%s: every worker that did it died: %s" % (where, error))
+        self._progress.print_line(
+            "%s killed its workers; bisecting it" % where if halves else self._skipped[-1]
+        )
 
     def _validate(self, task: Assignment, reply: object) -> None:
         """Has a thread validate a reply; None without one."""

@@ -21,8 +21,16 @@ class RunError(Exception):
     """A fault. Finished chunks are kept, and the same command resumes the run. Status 3."""
 
 
-class MovedError(RunError):
+class MovedError(RunError, OSError):
     """The folder was moved or replaced; nothing more is written. Status 3."""
+
+
+class TakenError(RunError, FileExistsError):
+    """Another process has a file where this one was to write. Status 3."""
+
+    def __init__(self, path: str) -> None:
+        how = "was made or replaced by another process meanwhile, and stays as it is; take it away"
+        super().__init__("%s %s" % (path, how))
 
 
 class CheckError(Exception):
@@ -37,12 +45,8 @@ class ReplyError(Exception):
         self.line = line
 
 
-class FatalLineError(Exception):
-    """Every worker that decided a line died. `line` is its index in the chunk."""
-
-    def __init__(self, line: int, text: str) -> None:
-        super().__init__("every worker that decided it died: %s" % text)
-        self.line = line
+class DeadWorkersError(Exception):
+    """Every worker that did a task died, and maybe by it."""
 
 
 def describe_error(error: BaseException) -> str:

@@ -11,18 +11,16 @@ import re
 import shlex
 import stat
 import string
-from typing import Any, Callable, Iterable, Iterator, Mapping, NamedTuple, Sequence
+from typing import Any, Iterable, Iterator, Mapping, Sequence
 
-from .._files import Checksum, Directory, FileId, KindError, Pin, id_of, kind_of
-from .._files import write_atomically, write_blocks
+from .._files import Checksum, Directory, FileId, FileTarget, KindError, id_of, kind_of, write_blocks
 from .._text import escape_hidden
-from ..counts import UNDECIDED
 from ..limits import Limits, limits_of, words_of
 from .chunks import Counts, Identity, Retention, parse_retention
 from .errors import FolderError, RunError
 from .input import STANDARD_INPUT
-from .pass_folder import CHUNK, PASS_PREFIX, PassFolder, merge_passes, pass_name
-from .store import SealError, begins_sealed, hash_of, lock_folder, part_of, read_sealed, seal, unseal
+from .pass_folder import CHUNK, PASS_PREFIX, PassFolder, PassResult, merge_passes, pass_name
+from .store import SealError, begins_sealed, hash_of, lock_folder, part_of, read_sealed, seal
 
 LOCK, RUN, README, VERDICTS, SUMMARY = "lock", "run.json", "README.txt", "verdicts.txt", "summary.json"
 FILES = (RUN, README, VERDICTS, SUMMARY)
@@ -233,15 +231,8 @@ class RunConfig:
         return "To check %s:\n\n    %s\n    %s" % (what, check, publish)
 
     @classmethod
-    def read(cls, text: str) -> RunConfig | None:
-        """The configuration of a text; None if it is truncated. Raises FolderError for any other change."""
-        try:
-            return cls._of_fields(unseal(text))
-        except SealError as error:
-            raise FolderError(str(error)) from None
-
-    @classmethod
-    def _of_fields(cls, fields: dict[str, Any] | None) -> RunConfig | None:
+    def of_fields(cls, fields: dict[str, Any] | None) -> RunConfig | None:
+        """The configuration with these sealed fields, if there are any."""
         if fields is None:
             return None
         passes, keep = list(map(limits_of, fields["passes"])), parse_retention([fields["keep"]])
@@ -253,7 +244,7 @@ class RunConfig:
         """The configuration in a folder; None if missing or truncated. Raises FolderError if it was changed."""
         require_regular(top, (RUN,))
         try:
-            return cls._of_fields(read_sealed(top, RUN))
+            return cls.of_fields(read_sealed(top, RUN))
         except SealError as error:
             raise FolderError("%s: %s" % (top.at(RUN), error)) from None
 
@@ -275,15 +266,13 @@ class Folder:
         os.makedirs(path, exist_ok=True)
         self._top = Directory.open(path)
         self._locked: int | None = None
-        # The files that may be replaced.
-        self._pins: dict[str, Pin] = {}
+        self._targets: dict[str, FileTarget] = {}
         try:
             self._lock()
             require_other_list(self._top, list_id)
             config = self.read_config()
             require_own(self._top, None if config is None else len(config.passes))
-            found = {name: self._top.pin(name) for name in FILES}
-            self._pins = {name: pin for name, pin in found.items() if pin is not None}
+            self._targets = {name: FileTarget(self._top, name) for name in FILES}
         except BaseException:
             self.close()
             raise
@@ -314,30 +303,13 @@ class Folder:
     def write(self, name: str, text: str) -> None:
         remove_leftovers(self._top, FILES)
         data = text.encode("utf-8", "surrogateescape")
-        self._write_file(name, lambda number: write_blocks(number, [data]))
-
-    def _write_file(self, name: str, fill: Callable[[int], None]) -> None:
-        """Writes a file atomically. Raises RunError for a foreign file, what `fill` does, OSError."""
-        with self._error_for_others(name):
-            written = write_atomically(self._top, name, fill, self._pins.get(name))
-        if name in self._pins:
-            self._pins[name].close()
-        self._pins[name] = written
-
-    @contextlib.contextmanager
-    def _error_for_others(self, name: str) -> Iterator[None]:
-        """Raises RunError in place of FileExistsError."""
-        try:
-            yield
-        except FileExistsError:
-            why = "was made or replaced by another process while the run worked, and stays as it is"
-            raise RunError(f"{self._top.at(name)} {why}; take it away") from None
+        self._targets[name].write(lambda number: write_blocks(number, [data]))
 
     def write_verdicts(self, passes: Sequence[PassFolder]) -> Checksum:
         """Writes the verdicts of all passes, and returns their checksum. Raises RunError, OSError."""
         path = self._top.at(VERDICTS)
         if len(passes) == 1:
-            self._write_file(VERDICTS, lambda number: passes[0].copy_all(number, path))
+            self._targets[VERDICTS].write(lambda number: passes[0].copy_all(number, path))
             return passes[0].checksum()
         total = Checksum()
 
@@ -347,7 +319,7 @@ class Folder:
                 write_blocks(number, [block])
                 total = total.add_bytes(block)
 
-        self._write_file(VERDICTS, fill)
+        self._targets[VERDICTS].write(fill)
         return total
 
     def open_pass(self, config: RunConfig, number: int) -> PassFolder:
@@ -357,28 +329,16 @@ class Folder:
         return found
 
     def close(self) -> None:
-        for pin in self._pins.values():
-            pin.close()
+        for target in self._targets.values():
+            target.close()
         if self._locked is not None:
             os.close(self._locked)
         self._top.close()
 
 
-class PassTotals(NamedTuple):
-    """The sum of a pass's chunks. `is_checked`: the checker confirmed each one."""
-
-    lines: int
-    counts: Counts
-    is_checked: bool
-
-    @property
-    def undecided(self) -> int:
-        return sum(self.counts[kind] for kind in UNDECIDED)
-
-
 class FinishedRun:
     """The folder of a finished run. `verdicts` is the path of its verdicts; `passes`, `keep`, `identity` and `lines`
-    come from `run.json`, `totals` of each pass from `summary.json`, which are sealed. Raises FolderError, OSError.
+    come from `run.json`, `results` of each pass from `summary.json`, which are sealed. Raises FolderError, OSError.
     """
 
     def __init__(self, path: str) -> None:
@@ -388,9 +348,7 @@ class FinishedRun:
             config, fields = self._read()
             self.passes, self.keep, self.identity = config.passes, config.keep, config.identity
             self.lines: int = config.list_lines or 0
-            self.totals = [
-                PassTotals(one["lines"], one["counts"], one["checked"]) for one in fields["passes"]
-            ]
+            self.results = list(map(PassResult.of_fields, fields["passes"]))
             self._counts: Counts = fields["counts"]
             self.checksum = Checksum.of_fields(fields["verdicts"])
             self.close = stack.pop_all().close

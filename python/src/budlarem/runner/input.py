@@ -2,18 +2,17 @@
 
 from __future__ import annotations
 
+import collections
 import errno
 import functools
 import gzip
 import io
-import itertools
 import os
 import select
 import stat
 import zlib
-from typing import Iterator
+from typing import Callable, Iterable, Iterator
 
-from .._calls import whole_lines
 from .._text import LONGEST_GIVEN, LONGEST_SHOWN, LONGEST_UNENDED, LONGEST_VALUE
 from ..engine import column_of
 from ..list_files import BLOCK, GZIP, BlockReader
@@ -25,65 +24,82 @@ from .errors import FolderError, RunError
 STANDARD_INPUT = "standard input"
 # Seconds without a byte that count as a pause.
 _PAUSE = 1.0
-# So few lines are found one by one.
-_FEW = 16
+# The most bytes that are read at once; those of a usual line; and so few that their lines are found one by one.
+_MOST_READ, _USUAL, _FEW = 1 << 21, 32, 1_024
 
 
 class StreamLines:
     """The lines of a stream, to be taken some at a time. A line of more than LONGEST_GIVEN bytes is cut to so
-    many, which changes no reply; a last line without a newline gets one."""
+    many, which changes no reply; a last line without a newline gets one. `read` returns about as many bytes as asked
+    for, and none at the end."""
 
-    def __init__(self, blocks: Iterator[bytes]) -> None:
-        self._batches = map(_truncate_lines, whole_lines(blocks))
-        self._held, self._start = b"", 0
+    def __init__(self, read: Callable[[int], bytes]) -> None:
+        self._read, self._is_ended = read, False
+        # Whole lines, from `_start` on, and the start of the next one.
+        self._held, self._start, self._rest = b"", 0, b""
         self.bytes_taken, self.lines_taken = 0, 0
+
+    @classmethod
+    def of_blocks(cls, blocks: Iterable[bytes]) -> StreamLines:
+        """The lines of blocks, which may end within lines."""
+        rest = filter(None, blocks)
+        return cls(lambda size: next(rest, b""))
 
     def take(self, lines: int, size: int) -> bytes:
         """The next lines: at most so many, of at most so many bytes, but one at least; none at the end."""
-        end, missing = _end_of(self._held, self._start, lines)
-        while end is None and (known := len(self._held) - self._start) < size:
-            if (batch := next(self._batches, None)) is None:
+        # The lines in `known` bytes: at first in so many as lines usually have.
+        count, known, window = 0, 0, lines * _USUAL
+        while count < lines and known < size:
+            end = min(len(self._held), self._start + min(size, window))
+            count, known = count + self._held.count(b"\n", self._start + known, end), end - self._start
+            if end < len(self._held):
+                window *= 2
+            elif self._is_ended or (known and known + len(self._rest) >= size):
                 break
-            self._held, self._start = self._held[self._start :] + batch, 0
-            end, missing = _end_of(self._held, known, missing)
-        start = self._start
-        is_whole = end is not None and end - start <= size
-        end = len(self._held) if end is None else end
-        if end - start > size:
-            last = self._held.rfind(b"\n", start, start + size) + 1
-            end = last if last > start else self._held.find(b"\n", start) + 1
+            elif count < lines:
+                self._fill(size)
+        held, start = self._held, self._start
+        end = start + known
+        if count > lines:
+            end, count = _end_of(held, start, end, lines), lines
+        elif start < len(held) and not count:
+            end, count = held.index(b"\n", start) + 1, 1
+        else:
+            end = held.rfind(b"\n", start, end) + 1 or start
         self._start = end
-        cut = self._held[start:end]
-        self.bytes_taken += len(cut)
-        self.lines_taken += lines if is_whole else cut.count(b"\n")
-        return cut
+        self.bytes_taken, self.lines_taken = self.bytes_taken + end - start, self.lines_taken + count
+        return held[start:end]
+
+    def _fill(self, size: int) -> None:
+        """Reads on, if need be to the end of a line, so that about `size` bytes are held."""
+        missing = size - (len(self._held) - self._start + len(self._rest))
+        block = self._read(min(max(missing, LONGEST_GIVEN), _MOST_READ))
+        if not block:
+            self._is_ended, block = True, b"\n" if self._rest else b""
+        if whole := block.rfind(b"\n") + 1:
+            lines = _truncate_lines(self._rest + memoryview(block)[:whole])
+            self._held, self._start = self._held[self._start :] + lines, 0
+            self._rest = b""
+        self._rest = (self._rest + block[whole:])[:LONGEST_GIVEN]
 
     def peek(self) -> bytes:
         """The next line, which isn't taken; no bytes at the end."""
-        if self._start >= len(self._held):
-            self._held, self._start = next(self._batches, b""), 0
+        while self._start >= len(self._held) and not self._is_ended:
+            self._fill(BLOCK)
         return self._held[self._start : self._held.find(b"\n", self._start) + 1]
 
 
-def _end_of(held: bytes, start: int, lines: int) -> tuple[int | None, int]:
-    """The end of so many lines; None, and the number of missing lines, if there are fewer. It jumps by the
-    length of the lines before; as many bytes as lines are missing can't pass the end."""
-    jump = lines
-    while lines > _FEW:
-        if start >= len(held):
-            return None, lines
-        found = held.count(b"\n", start, start + jump)
-        if found >= lines and jump > lines:
-            jump = max(jump // 2, lines)
-            continue
-        start, lines = start + jump, lines - found
-        jump = max(jump * lines // (found + 1) * 15 // 16, lines)
-    while lines > 0:
-        end = held.find(b"\n", start) + 1
-        if end == 0:
-            return None, lines
-        start, lines = end, lines - 1
-    return (start, 0) if start <= len(held) else (None, 0)
+def _end_of(held: bytes, start: int, end: int, lines: int) -> int:
+    """The end of so many lines, of which there are more before `end`."""
+    while end - start > _FEW:
+        middle = (start + end) // 2
+        if (count := held.count(b"\n", start, middle)) < lines:
+            start, lines = middle, lines - count
+        else:
+            end = middle
+    for _ in range(lines):
+        start = held.index(b"\n", start) + 1
+    return start
 
 
 def _truncate_lines(lines: bytes) -> bytes:
@@ -125,10 +141,12 @@ class ListFile:
         self.is_regular = stat.S_ISREG(self._status.st_mode)
         self._raw = BlockReader(functools.partial(_read_blocking, self._number))
         self.is_compressed = self._raw.first(len(GZIP)) == GZIP
-        self._file = io.BufferedReader(self._raw, BLOCK)
-        # Its bytes in blocks. Reading them raises RunError if it can't be read or has changed.
-        self.blocks: Iterator[bytes] = self._read_blocks()
-        self._may_be_endless = True
+        self._read: Callable[[int], bytes] = self._raw.block
+        if self.is_compressed:
+            self._read = gzip.GzipFile(fileobj=io.BufferedReader(self._raw, BLOCK)).read1
+        # Blocks that are read again, and the bytes since the last newline, which may never come.
+        self._again: collections.deque[bytes] = collections.deque()
+        self._unended, self._may_be_endless = 0, True
 
     @property
     def size(self) -> int | None:
@@ -147,41 +165,45 @@ class ListFile:
         return min(read / self.size, 1.0)
 
     def first_lines(self, most: int) -> list[bytes]:
-        """Its first lines; `lines` and `blocks` return them again. None if it pauses before so many came."""
+        """Its first lines, which are read again. None if it pauses before so many came."""
         held: list[bytes] = []
         count, size, is_paused = 0, 0, False
         while count < most and size < most * LONGEST_GIVEN and not is_paused:
-            if not (block := next(self.blocks, b"")):
+            if not (block := self.read(BLOCK)):
                 break
             held.append(block)
             count, size = count + block.count(b"\n"), size + len(block)
             is_paused = count < most and not self._raw.held and not _poll(self._number, 1_000 * _PAUSE)
-        self.blocks = itertools.chain(held, self.blocks)
+        self._again.extend(held)
         lines = [] if is_paused else b"".join(held).split(b"\n")
         return [line[:LONGEST_GIVEN] for line in (lines if lines and lines[-1] else lines[:-1])[:most]]
 
     def lines(self) -> StreamLines:
         """Its lines, of any length in a plain file. Taking them raises RunError."""
         self._may_be_endless = self.is_compressed or not self.is_regular
-        return StreamLines(self.blocks)
+        return StreamLines(self.read)
 
-    def _read_blocks(self) -> Iterator[bytes]:
-        """The bytes, uncompressed. Raises RunError, also for a line that never ends."""
-        opened: gzip.GzipFile | io.BufferedReader = self._file
-        if self.is_compressed:
-            opened = gzip.GzipFile(fileobj=self._file)
-        size = 0
+    def blocks(self) -> Iterator[bytes]:
+        """Its bytes, uncompressed. Raises RunError."""
+        return iter(lambda: self.read(BLOCK), b"")
+
+    def read(self, size: int) -> bytes:
+        """The next bytes, uncompressed, about as many as asked for; none at the end. Raises RunError if it can't be
+        read or has changed, also for a line that never ends."""
+        if self._again:
+            return self._again.popleft()
         try:
-            for block in iter(lambda: opened.read1(BLOCK), b""):
-                size = size + len(block) if block.rfind(b"\n") < 0 else 0
-                if self._may_be_endless and size > LONGEST_UNENDED:
-                    text = f"has a line of more than {LONGEST_UNENDED:,} bytes and no newline"
-                    raise RunError(f"{self.name} {text}; a list has a machine a line")
-                yield block
+            block = self._read(size)
         except (OSError, EOFError, zlib.error) as error:
             kind = "as gzip" if self.is_compressed else "to its end"
             raise RunError("%s can't be read %s: %s" % (self.name, kind, error)) from error
-        self.require_unchanged()
+        self._unended = self._unended + len(block) if block.rfind(b"\n") < 0 else 0
+        if self._may_be_endless and self._unended > LONGEST_UNENDED:
+            text = f"has a line of more than {LONGEST_UNENDED:,} bytes and no newline"
+            raise RunError(f"{self.name} {text}; a list has a machine a line")
+        if not block:
+            self.require_unchanged()
+        return block
 
     def require_unchanged(self) -> None:
         """Raises RunError if the file has changed since it was opened."""
@@ -192,7 +214,6 @@ class ListFile:
             raise RunError(f"{self.name} changed while it was read ({sizes}); {how}")
 
     def close(self) -> None:
-        self._file.close()
         if self._number:
             os.close(self._number)
 

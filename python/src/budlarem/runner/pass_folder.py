@@ -8,11 +8,13 @@ import contextlib
 import dataclasses
 import os
 import re
-from concurrent.futures import Future, ThreadPoolExecutor
-from typing import Any, Callable, Iterable, Iterator, Mapping, Sequence, TypeVar
+from typing import Any, Iterator, Mapping, Sequence
 
+from .._calls import BatchPace, map_in_order
 from .._files import Checksum, Directory, name_errors, write_at
-from ..counts import KINDS, undecided_spans
+from .._library import validate_replies
+from ..counts import KINDS, UNDECIDED, undecided_spans
+from ..limits import Limits
 from .chunks import Counts
 from .errors import RunError
 from .input import StreamLines
@@ -22,8 +24,6 @@ PASS_PREFIX = "pass-"
 CHUNK = re.compile("([1-9][0-9]{0,14})-([1-9][0-9]{0,14})")
 # Threads for reading and verifying chunks ahead.
 _READERS = 4
-Item = TypeVar("Item")
-Found = TypeVar("Found")
 
 
 def pass_name(number: int) -> str:
@@ -37,8 +37,8 @@ def chunk_name(first: int, lines: int) -> str:
 
 @dataclasses.dataclass(frozen=True)
 class Record:
-    """The fields of a chunk's result: `lines` behind `first` others of the pass, the hash of these lines, the
-    milliseconds of deciding them, whether the checker confirmed them, and the count of each kind.
+    """The fields of a chunk's result: `lines` behind `first` others of the pass, the hash of these lines if verdicts
+    were dropped, the milliseconds of deciding them, whether the checker confirmed them, and the count of each kind.
     `content` is the checksum of the kept verdict lines."""
 
     first: int
@@ -68,23 +68,72 @@ class Record:
         counts, took = self.counts_by_kind(), self.milliseconds
         return {"given": self.given, "counts": counts, "milliseconds": took, "checked": self.is_checked}
 
-    def fits(self, given: bytes) -> bool:
-        return self.given == hash_of(given)
+    def fits(self, given: bytes, content: bytes) -> bool:
+        """Whether the chunk is of these lines, by their hash or their verdicts."""
+        return self.given == hash_of(given) if self.given else validate_replies(given, content).fits
 
     def counts_by_kind(self) -> Counts:
         return dict(zip(KINDS, self.counts))
 
 
-def _map_ahead(function: Callable[[Item], Found], items: Iterable[Item]) -> Iterator[Found]:
-    """The values of a function in order, some made ahead in threads."""
-    ahead: collections.deque[Future[Found]] = collections.deque()
-    with ThreadPoolExecutor(_READERS, "budlarem read") as readers:
-        for item in items:
-            ahead.append(readers.submit(function, item))
-            if len(ahead) > _READERS:
-                yield ahead.popleft().result()
-        while ahead:
-            yield ahead.popleft().result()
+@dataclasses.dataclass
+class PassResult:
+    """The result of a pass. `checksum` covers the output of its chunks in the list's order."""
+
+    limits: Limits
+    lines: int = 0
+    chunks: int = 0
+    milliseconds: int = 0
+    is_checked: bool = True
+    checksum: Checksum = Checksum()
+    counts: collections.Counter[str] = dataclasses.field(default_factory=collections.Counter)
+
+    @classmethod
+    def of_fields(cls, fields: Mapping[str, Any]) -> PassResult:
+        """The result with these `fields`, but for its times."""
+        found = cls(Limits(**fields["limits"]), int(fields["lines"]), is_checked=bool(fields["checked"]))
+        found.counts.update(fields["counts"])
+        return found
+
+    def add(self, record: Record) -> None:
+        self.lines += record.lines
+        self.chunks += 1
+        self.milliseconds += record.milliseconds
+        self.is_checked = self.is_checked and record.is_checked
+        self.counts.update(record.counts_by_kind())
+
+    def fields(self) -> dict[str, Any]:
+        return {
+            "limits": dataclasses.asdict(self.limits),
+            "lines": self.lines,
+            "counts": {kind: self.counts[kind] for kind in KINDS},
+            "chunks": self.chunks,
+            "verdicts": self.checksum.fields(),
+            "checked": self.is_checked,
+            "work_seconds": self.milliseconds / 1_000,
+        }
+
+
+@dataclasses.dataclass(frozen=True)
+class Outcome:
+    """The lines of a list, and the count of each kind."""
+
+    lines: int
+    counts: collections.Counter[str]
+
+    @classmethod
+    def of(cls, results: Sequence[PassResult]) -> Outcome:
+        counts: collections.Counter[str] = collections.Counter()
+        for result in results:
+            for kind in UNDECIDED:
+                counts[kind] = 0
+            counts.update(result.counts)
+        return cls(results[0].lines, counts)
+
+    def __str__(self) -> str:
+        undecided, refused = sum(self.counts[kind] for kind in UNDECIDED), self.counts["refused"]
+        decided = self.lines - undecided - refused
+        return f"{self.lines:,} lines: {decided:,} decided, {undecided:,} undecided, {refused:,} refused"
 
 
 class PassFolder:
@@ -94,9 +143,10 @@ class PassFolder:
         self.number = number
         self._top, self._inside = top, top.subdirectory(pass_name(number))
         self.path, self.store = self._inside.path, Store(self._inside, origin)
+        self._names = set(self._inside.names())
         # The last line of each stored chunk, by the number of lines before it; these in order.
         self._lasts: dict[int, int] = {}
-        for found in filter(None, map(CHUNK.fullmatch, self._inside.names())):
+        for found in filter(None, map(CHUNK.fullmatch, self._names)):
             first, last = int(found[1]) - 1, int(found[2])
             if first < last:
                 self._lasts[first] = max(last, self._lasts.get(first, 0))
@@ -112,7 +162,7 @@ class PassFolder:
         self._top.require_name()
         self._inside.require_name()
 
-    def lines_known(self, first: int) -> int:
+    def count_lines(self, first: int) -> int:
         """The lines of the stored chunk behind so many lines, also of an invalid one; 0 without one."""
         return self._lasts.get(first, first) - first
 
@@ -131,7 +181,7 @@ class PassFolder:
 
     def name_of(self, first: int) -> str:
         """The name of the stored chunk behind so many lines."""
-        return chunk_name(first, self.lines_known(first))
+        return chunk_name(first, self.count_lines(first))
 
     def remove_stale(self) -> None:
         """Removes chunks of another list or run, once those of the pass are stored. Raises OSError."""
@@ -153,9 +203,9 @@ class PassFolder:
         return None if result is None else (Record.of_fields(name, result.fields), result.content)
 
     def write(self, record: Record, kept: bytes) -> Record:
-        """Stores a chunk, in place of one with the same lines; returns its record. Raises RunError, OSError."""
-        is_known = record.lines == self.lines_known(record.first)
-        content = self.store.write(record.name, record.fields(), kept, is_known)
+        """Stores a chunk, in place of one with the same lines that was there; returns its record. Raises TakenError,
+        OSError."""
+        content = self.store.write(record.name, record.fields(), kept, record.name in self._names)
         return dataclasses.replace(record, content=content)
 
     def add(self, record: Record) -> None:
@@ -171,8 +221,7 @@ class PassFolder:
 
     def read_chunks(self) -> Iterator[tuple[int, bytes]]:
         """The output of each chunk, with the number of lines before it. Raises RunError for a changed one."""
-        firsts = sorted(self._whole)
-        return zip(firsts, _map_ahead(self._read_whole, firsts))
+        return map_in_order(self._read_whole, sorted(self._whole), _READERS, BatchPace(1))
 
     def _read_whole(self, first: int) -> bytes:
         lines, checksum = self._whole[first]
@@ -196,7 +245,7 @@ class PassFolder:
             with name_errors(path):
                 write_at(target, self._read_whole(first), places[first])
 
-        collections.deque(_map_ahead(copy, places), maxlen=0)
+        collections.deque(map_in_order(copy, places, _READERS, BatchPace(1)), maxlen=0)
 
 
 def holdouts_of(folder: PassFolder) -> Iterator[bytes]:
@@ -211,7 +260,7 @@ def merge_passes(passes: Sequence[PassFolder]) -> Iterator[bytes]:
     """The verdict lines of all passes: the line of the next pass on the same machine replaces each undecided
     line, which is dropped if that one isn't kept. A machine has one verdict wherever it stands in a list. Raises
     RunError, OSError."""
-    lines = StreamLines(merge_passes(passes[1:]) if len(passes) > 1 else iter(()))
+    lines = StreamLines.of_blocks(merge_passes(passes[1:]) if len(passes) > 1 else ())
     for _, verdicts in passes[0].read_chunks():
         parts, done = [b""], 0
         for start, place, end in undecided_spans(verdicts) if len(passes) > 1 else ():

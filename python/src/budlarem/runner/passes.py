@@ -2,7 +2,6 @@
 
 from __future__ import annotations
 
-import collections
 import contextlib
 import dataclasses
 import datetime
@@ -17,10 +16,10 @@ from .backends import Backend
 from .chunks import CHECK, DECIDE, Counts, Identity, Retention, check_chunk, check_here, decide_chunk
 from .chunks import decide_here, describe_task, open_reply, validate_answers, validate_verdicts
 from .dispatch import Assignment, Dispatcher, Request
-from .errors import CheckError, FatalLineError, FolderError, ReplyError
+from .errors import CheckError, FolderError, ReplyError
 from .folder import CHECKS, README, RUN, SUMMARY, Folder, RunConfig
 from .input import ListFile, StreamLines
-from .pass_folder import PassFolder, Record, holdouts_of, list_line_number
+from .pass_folder import Outcome, PassFolder, PassResult, Record, holdouts_of, list_line_number
 from .progress import Progress
 from .store import OriginError, SealError, hash_of, seal
 
@@ -69,37 +68,6 @@ class RunOptions:
         return CHECKS[2 if self.is_checked_here else 1 if self.is_checked else 0]
 
 
-@dataclasses.dataclass
-class PassResult:
-    """The result of a pass. `checksum` covers the output of its chunks in the list's order."""
-
-    limits: Limits
-    lines: int = 0
-    chunks: int = 0
-    milliseconds: int = 0
-    is_checked: bool = True
-    checksum: Checksum = Checksum()
-    counts: collections.Counter[str] = dataclasses.field(default_factory=collections.Counter)
-
-    def add(self, record: Record) -> None:
-        self.lines += record.lines
-        self.chunks += 1
-        self.milliseconds += record.milliseconds
-        self.is_checked = self.is_checked and record.is_checked
-        self.counts.update(record.counts_by_kind())
-
-    def fields(self) -> dict[str, Any]:
-        return {
-            "limits": dataclasses.asdict(self.limits),
-            "lines": self.lines,
-            "counts": {kind: self.counts[kind] for kind in KINDS},
-            "chunks": self.chunks,
-            "verdicts": self.checksum.fields(),
-            "checked": self.is_checked,
-            "work_seconds": self.milliseconds / 1_000,
-        }
-
-
 # The seconds between two syncs.
 _SYNC = 1.0
 
@@ -139,7 +107,7 @@ class PassRun:
         """The chunks, cut as the stored ones are, else by the pace. Raises FolderError, RunError, OSError."""
         while True:
             first = lines.lines_taken
-            if stored := self.folder.lines_known(first):
+            if stored := self.folder.count_lines(first):
                 given = lines.take(stored, _ANY_SIZE)
             else:
                 free = self.folder.lines_free(first)
@@ -218,12 +186,14 @@ class ChunkTask(Assignment):
         self._counts: Counts = {}
 
     def request(self) -> Request | None:
-        limits, is_here = self._run.limits.numbers(), self._run.options.backend.is_here
+        limits, options = self._run.limits.numbers(), self._run.options
         if self._is_stored or (self.written is not None and self._checks_here()):
             return None
-        if self.written is None:
-            return Request(decide_here if is_here else decide_chunk, self.given, limits)
-        return Request(check_here if is_here else check_chunk, self.written, limits)
+        if self.written is not None:
+            return Request(check_here if options.backend.is_here else check_chunk, self.written, limits)
+        if options.backend.is_here:
+            return Request(decide_here, self.given, (limits, options.is_checked))
+        return Request(decide_chunk, self.given, limits)
 
     def accept(self, reply: object) -> bool:
         """Validates the stored output, a reply or a check; stores a finished chunk."""
@@ -254,13 +224,11 @@ class ChunkTask(Assignment):
             if (found := folder.read(self.first)) is None:
                 return False
             record, kept = found
-            if not record.fits(self.given):
+            if not record.fits(self.given, kept):
                 self._run.raise_mismatch(self.first, self.lines, self.lines)
-            if not options.keep.only_holdouts:
-                validate_verdicts(self.given, kept)
         except OriginError:
             return False
-        except (SealError, ReplyError) as error:
+        except SealError as error:
             where = "chunk %s of pass %d" % (folder.name_of(self.first), folder.number)
             options.progress.print_line("%s is decided again: %s" % (where, error))
             return False
@@ -272,6 +240,11 @@ class ChunkTask(Assignment):
 
     def _open_verdicts(self, reply: object) -> None:
         """Validates the reply of a decision. Raises ReplyError."""
+        if self._run.options.backend.is_here and isinstance(reply, tuple):
+            self.written, self.seconds, self._counts, answers = reply
+            if self._run.options.is_checked:
+                self._validate_answers(reply[0], answers)
+            return
         written, seconds = self._open(DECIDE, self.given, reply)
         self._counts, self.written = validate_verdicts(self.given, written), written
         self.seconds = min(seconds, time.monotonic() - self.submitted)
@@ -286,7 +259,7 @@ class ChunkTask(Assignment):
     def _validate_answers(self, verdicts: bytes, answers: bytes) -> None:
         """Validates the checker's answers. Raises ReplyError, CheckError."""
         try:
-            validate_answers(verdicts, answers)
+            validate_answers(self.lines, answers)
         except ReplyError as error:
             if error.line is None:
                 raise
@@ -300,39 +273,29 @@ class ChunkTask(Assignment):
         if self.written is not None:
             kept = self._run.options.keep.select(self.written)
             counts, took = tuple(self._counts[kind] for kind in KINDS), min(self.seconds, 1e9)
-            given, milliseconds = hash_of(self.given), int(took * 1_000)
+            given = hash_of(self.given) if self._run.options.keep.only_holdouts else ""
+            milliseconds = int(took * 1_000)
             record = Record(self.first, self.lines, given, milliseconds, self._is_confirmed, counts)
             self._run.options.require_list()
             self.record = self._run.folder.write(record, kept)
         self.given, self.written = b"", None
 
+    def halves(self) -> Sequence[ChunkTask]:
+        """They are decided, and stored as two chunks."""
+        if self.lines < 2:
+            return ()
+        lines, middle = StreamLines.of_blocks([self.given]), self.lines // 2
+        counts = {0: middle, middle: self.lines - middle}
+        return [
+            ChunkTask(self._run, self.first + start, lines.take(count, _ANY_SIZE), count, False)
+            for start, count in counts.items()
+        ]
+
     def describe(self, error: BaseException) -> str:
         first, last = self.first, self.first + self.lines - 1
-        if isinstance(error, (ReplyError, FatalLineError)) and error.line is not None:
+        if isinstance(error, ReplyError) and error.line is not None:
             first = last = self.first + error.line
         return "pass %d, %s" % (self._run.folder.number, self._run.describe_lines(first, last))
-
-
-@dataclasses.dataclass(frozen=True)
-class Outcome:
-    """The lines of a list, and the count of each kind."""
-
-    lines: int
-    counts: collections.Counter[str]
-
-    @classmethod
-    def of(cls, results: Sequence[PassResult]) -> Outcome:
-        counts: collections.Counter[str] = collections.Counter()
-        for result in results:
-            for kind in UNDECIDED:
-                counts[kind] = 0
-            counts.update(result.counts)
-        return cls(results[0].lines, counts)
-
-    def __str__(self) -> str:
-        undecided, refused = sum(self.counts[kind] for kind in UNDECIDED), self.counts["refused"]
-        decided = self.lines - undecided - refused
-        return f"{self.lines:,} lines: {decided:,} decided, {undecided:,} undecided, {refused:,} refused"
 
 
 def run(folder: Folder, source: ListFile, passes: Sequence[Limits], options: RunOptions) -> Outcome:
@@ -358,7 +321,7 @@ def _run_passes(folder: Folder, source: ListFile, passes: Sequence[Limits], opti
             folder.require_name()
             found = folder.open_pass(config, number)
             stack.callback(found.close)
-            lines = StreamLines(holdouts_of(folders[-1])) if results else source.lines()
+            lines = StreamLines.of_blocks(holdouts_of(folders[-1])) if results else source.lines()
             known = sum(results[-1].counts[kind] for kind in UNDECIDED) if results else config.list_lines
             total = functools.partial(_estimate_total, source, lines, known)
             options.progress.start(number, len(passes), total)

@@ -40,25 +40,72 @@ def short_count(number: float) -> str:
     return "%dk" % (number // 1_000) if number < 10_000_000 else "%dM" % (number // 1_000_000)
 
 
-class Progress:
-    """The progress of a run, on standard error or another stream."""
+class TerminalLine:
+    """A line of text on standard error, or another stream, that is written over, if that is a terminal. `is_beside`:
+    the command writes its output meanwhile, so nothing is shown if that goes to a terminal too."""
+
+    def __init__(self, is_beside: bool = True, stream: TextIO | None = None) -> None:
+        self._stream = sys.stderr if stream is None else stream
+        self.is_shown = self._stream.isatty() and not (is_beside and sys.stdout.isatty())
+        self._width, self._next = 0, time.monotonic() + _OFTEN
+
+    def show(self, text: Callable[[], str]) -> None:
+        """Shows the first characters of a text, if the last one was shown long enough ago."""
+        if self.is_shown and time.monotonic() >= self._next:
+            line = text()[: shutil.get_terminal_size().columns - 1]
+            self.write("\r" + line.ljust(self._width))
+            self._width, self._next = len(line), time.monotonic() + _OFTEN
+
+    def tick(self, status: str = "") -> None:
+        """Shows the progress, with a status of its work, if that is due."""
+
+    def print_line(self, text: str) -> None:
+        """Prints a message on a line of its own, its invisible characters escaped."""
+        self.write(self.erase_sequence() + "budlarem: %s\n" % escape_message(text))
+        self._width = 0
+
+    def erase_sequence(self) -> str:
+        """The characters that erase the line."""
+        return "\r%s\r" % (" " * self._width) if self._width else ""
+
+    def clear(self) -> None:
+        """Erases the line."""
+        self.write(self.erase_sequence())
+        self._width = 0
+
+    def write(self, text: str) -> None:
+        """Writes text; after an error nothing more is written."""
+        try:
+            self._stream.write(text)
+            self._stream.flush()
+        except OSError:
+            self._stream, self.is_shown, self._width = open(os.devnull, "w"), False, 0
+
+    def __enter__(self) -> TerminalLine:
+        return self
+
+    def __exit__(self, *error: object) -> None:
+        self.clear()
+
+
+class Progress(TerminalLine):
+    """The progress of a run: a line on a terminal, elsewhere one a minute."""
 
     def __init__(self, stream: TextIO | None = None) -> None:
-        self._stream = sys.stderr if stream is None else stream
-        self._is_terminal, self._is_open = self._stream.isatty(), False
-        self._next, self._pass, self._passes = 0.0, 0, 0
+        super().__init__(False, stream)
+        self._pass, self._passes = 0, 0
         self._total: Callable[[], float | None] = lambda: None
         self._reset()
 
     def _reset(self) -> None:
         self._started, self._is_announced = time.monotonic(), False
         self._resumed, self._decided, self._chunks = 0, 0, 0
+        self._due = self._started + _SELDOM
 
     def start(self, number: int, passes: int, total: Callable[[], float | None]) -> None:
         """Starts a pass. `total` estimates the total number of lines, or returns None."""
         self._reset()
         self._pass, self._passes, self._total = number, passes, total
-        self._next = self._started + (_OFTEN if self._is_terminal else _SELDOM)
 
     def add_resumed(self, lines: int) -> None:
         self._resumed += lines
@@ -79,6 +126,7 @@ class Progress:
         return left * (time.monotonic() - self._started) / self._decided
 
     def text(self) -> str:
+        self._announce_long()
         seconds = max(time.monotonic() - self._started, 1e-3)
         done = self._resumed + self._decided
         parts = ["pass %d of %d" % (self._pass, self._passes), "%d chunks" % self._chunks]
@@ -92,77 +140,21 @@ class Progress:
         return ", ".join(parts)
 
     def tick(self, status: str = "") -> None:
-        """Prints the line when due, and once that a pass takes long."""
-        now = time.monotonic()
-        if now < self._next:
-            return
-        self._next = now + (_OFTEN if self._is_terminal else _SELDOM)
-        self._announce_long(now)
-        line = self.text() + (", " + status if status else "")
-        if self._is_terminal:
-            width = shutil.get_terminal_size().columns - 1
-            self._write("\r" + line[:width].ljust(width if self._is_open else 0))
-            self._is_open = True
-        else:
-            self._write("budlarem: %s\n" % line)
+        """Shows the line when due, and announces once that a pass takes long."""
 
-    def _announce_long(self, now: float) -> None:
+        def line() -> str:
+            return ", ".join(filter(None, [self.text(), status]))
+
+        self.show(line)
+        if not self.is_shown and time.monotonic() >= self._due:
+            self._due = time.monotonic() + _SELDOM
+            self.print_line(line())
+
+    def _announce_long(self) -> None:
         remaining = self.remaining_seconds()
-        is_known = self._chunks >= _CHUNKS or (self._chunks and now - self._started > _ENOUGH)
+        is_old = time.monotonic() - self._started > _ENOUGH
+        is_known = self._chunks >= _CHUNKS or (self._chunks and is_old)
         if remaining is not None and remaining >= _LONG and is_known and not self._is_announced:
             self._is_announced = True
             parts = (self._pass, duration(remaining), short_count(self._decided))
             self.print_line("pass %d takes about %s, by the pace of its first %s lines" % parts)
-
-    def print_line(self, text: str) -> None:
-        """Prints a message on a line of its own, its invisible characters escaped."""
-        self._write(self.erase_sequence() + "budlarem: %s\n" % escape_message(text))
-        self._is_open = False
-
-    def erase_sequence(self) -> str:
-        """The characters that erase the line on the terminal."""
-        return "\r%s\r" % (" " * (shutil.get_terminal_size().columns - 1)) if self._is_open else ""
-
-    def clear(self) -> None:
-        """Erases the line on the terminal."""
-        self._write(self.erase_sequence())
-        self._is_open = False
-
-    def _write(self, text: str) -> None:
-        """Writes text; after an error nothing more is written."""
-        try:
-            self._stream.write(text)
-            self._stream.flush()
-        except OSError:
-            self._stream = open(os.devnull, "w")
-            self._is_terminal = self._is_open = False
-
-
-class TerminalLine:
-    """A line of text on standard error that is written over, if that is a terminal. `is_beside`: the command
-    writes its output meanwhile, so nothing is shown if that goes to a terminal too."""
-
-    def __init__(self, is_beside: bool = True) -> None:
-        self._is_shown = sys.stderr.isatty() and not (is_beside and sys.stdout.isatty())
-        self._width, self._next = 0, time.monotonic() + _OFTEN
-
-    def show(self, text: Callable[[], str]) -> None:
-        """Shows the first 79 characters of a text, if the last one was shown long enough ago."""
-        if self._is_shown and time.monotonic() >= self._next:
-            self._write(text()[:79])
-            self._next = time.monotonic() + _OFTEN
-
-    def __enter__(self) -> TerminalLine:
-        return self
-
-    def __exit__(self, *error: object) -> None:
-        self.clear()
-
-    def clear(self) -> None:
-        if self._width:
-            self._write("")
-
-    def _write(self, text: str) -> None:
-        sys.stderr.write("\r%s\r%s" % (text.ljust(self._width), text))
-        sys.stderr.flush()
-        self._width = len(text)

@@ -12,14 +12,14 @@ import contextlib
 import dataclasses
 import errno
 import fcntl
+import functools
 import hashlib
 import json
 import os
 import re
 from typing import Any, Iterator, Mapping
 
-from .._files import PART, Checksum, Directory, id_of, name_errors, write_blocks
-from .errors import RunError
+from .._files import PART, Checksum, Directory, id_of, name_errors, write_atomically, write_blocks
 
 FORMAT = 4
 # How a sealed text begins in each version, and in this one, up to its length.
@@ -199,23 +199,13 @@ class Store:
         return fields
 
     def write(self, task: str, fields: Mapping[str, Any], content: bytes, replaces: bool = False) -> Checksum:
-        """Writes a result, and returns the content's checksum; `sync` makes its name durable. Raises RunError if
-        there is one and it isn't to be replaced, OSError."""
+        """Writes a result, and returns the content's checksum; `sync` makes its name durable. Raises TakenError
+        if there is one and it isn't to be replaced, OSError."""
         checksum = Checksum().add_bytes(content)
         header = seal({"task": task, "of": self.origin, **fields, "content": checksum.fields()})
-        number, part = self.folder.create_part(task)
-        try:
-            with name_errors(self.folder.at(task)):
-                write_blocks(number, [header.encode(), content])
-                os.fsync(number)
-            self.folder.install(part, task, self.folder.id_at(task) if replaces else None)
-        except FileExistsError:
-            why = "was made or replaced by another process while the run worked, and stays as it is"
-            raise RunError(f"{self.folder.at(task)} {why}; take it away") from None
-        finally:
-            os.close(number)
-            with contextlib.suppress(OSError):
-                self.folder.remove(part)
+        over = self.folder.id_at(task) if replaces else None
+        fill = functools.partial(write_blocks, blocks=[header.encode(), content])
+        os.close(write_atomically(self.folder, task, fill, over, syncs=False))
         self._is_synced = False
         return checksum
 
