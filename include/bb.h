@@ -1,12 +1,12 @@
-/* Verdicts on small Turing machines, answers to verdicts, exact repetitions, traces, and looks at replies,
- * as calls.
+/* Verdicts on small Turing machines, answers to verdicts, exact repetitions, lines of machines, traces, and looks
+ * at replies, as calls.
  *
  * The lines are those of the program `bb`, which README.md describes. docs/library.md says how to build and
  * link this, and what is proved of it.
  *
  * Limits. `steps`: of one simulation, 0 to 1,000,000,000,000. `cells`: of one tape, 1 to 67,108,864; a call
- * that decides or finds repetitions makes three tapes of as many bytes, one that checks two, one that traces
- * one. `depth`: levels of the backward tree, 0 to 10,000. `nodes`: of that tree, 0 to 1,000,000,000,000. 2 * depth - 1 must be at
+ * that decides or finds repetitions makes three tapes of as many bytes, one that checks two, one that traces or
+ * finds lines one. `depth`: levels of the backward tree, 0 to 10,000. `nodes`: of that tree, 0 to 1,000,000,000,000. 2 * depth - 1 must be at
  * most `cells`.
  *
  * Deciders. Each of `cyclers`, `translated` and `backward` is on or off; they are asked in that order.
@@ -125,6 +125,13 @@ uint32_t bb_check_cost(uint64_t steps, uint64_t cells, uint64_t depth, uint64_t 
  * The status is BB_CLEAN if each reply is a repetition or `open`. */
 uint32_t bb_recurrence(uint64_t steps, uint64_t cells, bool entries, const uint8_t *list, size_t list_len,
                        uint8_t *out, size_t out_len, size_t *count);
+
+/* The line of each machine of a list, each with a newline: the machine of a complete list of its size whose verdict
+ * settles it, as `cover --lines` prints it; `unread` for a line that is no machine. `steps` and `cells` are the
+ * limits of that list. No room is told that is surely enough: BB_SHORT tells how much is. The status is never
+ * BB_NOT_CLEAN. */
+uint32_t bb_line_of(uint64_t steps, uint64_t cells, const uint8_t *list, size_t list_len, uint8_t *out,
+                    size_t out_len, size_t *count);
 
 /* Looks at the replies to the lines of a list: whether each line has one of its form, in order, each with a
  * newline, and whether there are no more. A reply has its form where it is the line's bytes, a space and a

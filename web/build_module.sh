@@ -10,7 +10,7 @@ set -eu
 web=$(cd "$(dirname "$0")" && pwd)
 module=$web/out/bb.wasm
 code=$web/../crates/bb_c/out/module.bc
-calls='bb_decide bb_decide_line bb_check bb_check_line bb_trace bb_recurrence'
+calls='bb_decide bb_decide_line bb_check bb_check_line bb_trace bb_recurrence bb_line_of'
 room=$(mktemp -d)
 trap 'rm -rf "$room"' EXIT
 trap 'exit 130' INT

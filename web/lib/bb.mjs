@@ -5,6 +5,7 @@
  *     engine.decide(["1RB1LB_1LA1RZ"]);           // ["1RB1LB_1LA1RZ halt 6 4"]
  *     engine.check(["1RB1LB_1LA1RZ halt 6 4"]);   // ["ok"]
  *     engine.recurrence(["0RB---_0LA--- cycler 4 16"]);   // ["0RB---_0LA--- recurs 0 2 0 * *"]
+ *     engine.lineOf(["1LB---_1RA1LA"]);   // ["1LB---_1RA1LA line 1RB---_1LA--- mirror AB 01 halt 2 2 ---"]
  *     engine.trace("1RB1LB_1LA1RZ", { steps: 2 }).lines;   // ["0 A 0 0 0", "1 B 1 0 10", "2 A 0 0 11"]
  *
  * The engine is compiled from proved code; this module is not proved. Lines are those of the program `bb`,
@@ -16,6 +17,7 @@
  * @typedef {{steps?: Integer, cells?: Integer, depth?: Integer, nodes?: Integer}} Limits
  * @typedef {Limits & {cyclers?: boolean, translated?: boolean, backward?: boolean}} Plan
  * @typedef {{steps?: Integer, cells?: Integer, entries?: boolean}} RecurrenceOptions
+ * @typedef {{steps?: Integer, cells?: Integer}} LineOptions
  * @typedef {{steps: Integer, cells?: Integer, from?: Integer, every?: Integer}} TraceOptions
  * @typedef {{bytes: Uint8Array, clean: boolean}} Reply output, and whether the program's status is 0
  * @typedef {(...words: (bigint | boolean | number)[]) => number} Call addresses are numbers, other integers
@@ -38,7 +40,10 @@ const STEP_BYTES = 64;
 const RECURRENCE_FOLD = 7;
 const RECURRENCE_BYTES = 90;
 const FIRST_TRACE_BYTES = 4_194_304;
-const RECURRENCE_LIMITS = /** @type {Limit[]} */ (["steps", "cells"]);
+// The bytes of a line of a machine, for each byte of the list and for each line: with these most calls are made once.
+const LINE_FOLD = 2;
+const LINE_BYTES = 110;
+const PAIR_LIMITS = /** @type {Limit[]} */ (["steps", "cells"]);
 const TRACE_LIMITS = /** @type {Limit[]} */ (["steps", "cells", "from", "every"]);
 
 /** The engine; its calls are those of `include/bb.h`. */
@@ -82,6 +87,15 @@ export class Engine {
   }
 
   /**
+   * The line of each machine in complete lists made with these limits, as `cover --lines` prints it; `unread` for
+   * another text. Throws as `decide` does.
+   * @param {readonly string[]} machines @param {LineOptions} [options]
+   */
+  lineOf(machines, options = {}) {
+    return decodeLines(this.lineOfBytes(encodeLines(machines), options).bytes);
+  }
+
+  /**
    * One line for each step `from`, `from + every`, .. up to `steps`: step, state, head, lowest visited
    * position, and the cells from there. `clean` is false if the limit of cells cut the trace or the text is
    * not a machine. Throws as `decide` does.
@@ -116,9 +130,18 @@ export class Engine {
    * @param {Uint8Array} list @param {RecurrenceOptions} [options] @param {number} [lines] as in `decideBytes`
    */
   recurrenceBytes(list, options = {}, lines = undefined) {
-    const words = parseOptions(options, RECURRENCE_LIMITS, { entries: false });
+    const words = parseOptions(options, PAIR_LIMITS, { entries: false });
     const space = replySpace(list, lines, RECURRENCE_FOLD, RECURRENCE_BYTES);
     return copyReply(this.invoke("bb_recurrence", words, list, space));
+  }
+
+  /**
+   * `lineOf` from bytes to bytes.
+   * @param {Uint8Array} list @param {LineOptions} [options] @param {number} [lines] as in `decideBytes`
+   */
+  lineOfBytes(list, options = {}, lines = undefined) {
+    const words = parseOptions(options, PAIR_LIMITS);
+    return copyReply(this.invoke("bb_line_of", words, list, replySpace(list, lines, LINE_FOLD, LINE_BYTES)));
   }
 
   /**

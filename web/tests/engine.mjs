@@ -12,7 +12,8 @@ import { RowCache } from "../worker/row-cache.mjs";
 
 const bytes = readFileSync(process.argv[2]);
 const CALLS = {
-  decide: "decideBytes", check: "checkBytes", recurrence: "recurrenceBytes", trace: "traceBytes",
+  decide: "decideBytes", check: "checkBytes", recurrence: "recurrenceBytes", lineOf: "lineOfBytes",
+  trace: "traceBytes",
 };
 
 /** @param {import("../lib/bb.mjs").Engine} engine @param {Job} job */

@@ -1,18 +1,16 @@
 /**
- * Reads for `test_page_lists.py`, by the page's reader: `[line, form]`, a list of `lines`, `bytes` in hexadecimal
- * digits, or a `machine`, whose normal form and mirror image are the reply. The reader's sentences come first.
+ * Reads for `test_page_lists.py`, by the page's reader: `[line, form]`, a list of `lines`, or `bytes` in
+ * hexadecimal digits. The reader's sentences come first.
  */
 import { createInterface } from "node:readline";
 import { encodingOf } from "../page/input/files.mjs";
 import { detectForm } from "../reader/list-reader.mjs";
 import { ADVICE } from "../page/input/input-notes.mjs";
-import { mirrorImage, normalForm } from "../page/machine/normal-form.mjs";
 import { readLine } from "../reader/line-reader.mjs";
 import { REWRITINGS } from "../reader/machine-parser.mjs";
 
 function answerTo(asked) {
   if (Array.isArray(asked)) return readLine(...asked);
-  if ("machine" in asked) return [normalForm(asked.machine), mirrorImage(asked.machine)];
   return "lines" in asked ? detectForm(asked.lines) : encodingOf(Buffer.from(asked.bytes, "hex"));
 }
 

@@ -44,7 +44,7 @@ CALLS = ("decide", "check", "recurrence", "trace")
 
 
 # Exact repetition is a fifth of the module.
-@pytest.mark.parametrize("built, most_bytes", [("module", 108_544), ("page", 294_912)])
+@pytest.mark.parametrize("built, most_bytes", [("module", 120_832), ("page", 311_296)])
 def test_size(request: pytest.FixtureRequest, built: str, most_bytes: int) -> None:
     assert request.getfixturevalue(built).stat().st_size <= most_bytes
 
@@ -124,6 +124,17 @@ def test_noise(same: Same, rng: random.Random, name: str) -> None:
     for line in (b"1RB1LB_" * 1_500_000, b"\xff" * 10_000_000, b"1RZ--- halt 1 1" + b" " * 10_000_000):
         same(name, {}, line)
     same(name, {}, b"\xff<b>\n" * 1_000_000 + b"1RB1LB_" * 14_000_000 + b"\n1RZ---\n")
+
+
+def test_lines_of_machines(engine: Engine, cover: str, rng: random.Random) -> None:
+    """Those of the program, also of many machines at once."""
+    given = as_lines(["1RB", *random_machines(2_000, rng)])
+    for limits in ({"steps": 200, "cells": 256}, {"steps": 0}):
+        words = [word for name, number in limits.items() for word in ("--" + name, str(number))]
+        wanted = run_command([cover, "--lines", "--depth", "0", *words], given)
+        found = engine.call("lineOf", limits, given)
+        assert (found.status, found.reply) == (0, wanted.output) and wanted.output.startswith(b"unread\n")
+    assert engine.call("lineOf", {"cells": 0}, b"").answer["limit"] == "cells"
 
 
 def test_recurrences(engine: Engine, bb: str, list_machines: ListMachines) -> None:

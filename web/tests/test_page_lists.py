@@ -2,7 +2,6 @@
 
 import gzip
 import json
-import os
 import pathlib
 import random
 import re
@@ -16,7 +15,7 @@ from budlarem.reading import Form, Skipped
 from budlarem.reading.lines import read_line
 from support import TOP
 from support.browser import Page
-from support.machines import CHAMPION, LETTERS, Change, mixed_machines, random_machines, table_of
+from support.machines import CHAMPION, mixed_machines
 from support.program import as_lines, run_command
 
 Forms = dict[str, Any]
@@ -29,8 +28,6 @@ MORE = (
     *" \t_-.,;:|#*~`'\"[](){}<>!?\\/&01LRABZHabqr=\u200b\xa0\x1b\u00e9\u2013\u2192\U0001d4b3", "---", "...", "1RB",
     "1R_", "  ", "{{TM|", "}}", "q_A: ", "https://x.org/", "tm,", "| machine |", "[[\"1RB\"", "1RB1LB_1LA1RZ",
 )  # fmt: skip
-# Each state and symbol out of order, and two machines of one normal form.
-NAMED = ["2LC1RZ0RA_0LB------_1RA1LB2RC", "1RB2LB1RZ_2LA2RB1LB", "2RB2RZ1LB_1LA2LB1RB"]
 SKIPPED = "3 skipped (empty lines, comments, code fences, rules and headers of tables)"
 
 
@@ -137,21 +134,6 @@ def test_disguised_machines_are_found(rng: random.Random, count: int) -> None:
     assert not [pair for pair in zip(machines, taken) if pair[1] not in (None, pair[0])]
     assert taken.count(None) <= count / 10
     print("%d machines" % count)
-
-
-@pytest.mark.needs("node")
-def test_normal_forms_and_mirror_images(
-    library: pathlib.Path, rng: random.Random, monkeypatch: pytest.MonkeyPatch, count: int = 500
-) -> None:
-    monkeypatch.setitem(os.environ, "BB_LIBRARY", str(library))
-    machines = [*NAMED, *random_machines(count, rng)]
-    _, *found = read_by_page([{"machine": machine} for machine in machines])
-    assert [form for form, _ in found] == [budlarem.normal(machine).normal for machine in machines]
-    tables = list(map(table_of, machines))
-    changes = [Change(True, range(len(table)), range(len(table[0]))) for table in tables]
-    mirrored = [change.machine(machine) for change, machine in zip(changes, machines)]
-    assert [mirror for _, mirror in found] == mirrored
-    assert any(len(table) > LETTERS.index("R") for table in tables)
 
 
 @pytest.mark.needs("node")

@@ -34,8 +34,8 @@ navigator.clipboard.write = async ([item]) => {
 def test_facts_are_those_of_the_package(tab: Page, library: pathlib.Path, machine: str) -> None:
     verdict = budlarem.parse(tab.program_output("decide", {}, machine.encode()).decode().rstrip())
     tab.open_facts(machine)
-    normal = tab.text("fact-normal")
-    assert (machine if "is in normal form" in normal else normal) == budlarem.normal(machine).normal
+    (line,) = budlarem.lines_of([machine], steps=10_000)
+    assert tab.text("fact-line").startswith(line.line if line.line != machine else "It is its own line.")
     assert tab.text("fact-mirror") == machine.translate(SWAPPED)
     try:
         place = budlarem.at(verdict, 10**15)

@@ -19,6 +19,8 @@ const FAST_GROWTH = 8;
 const SHORT_MILLISECONDS = 4;
 // Batches also grow while a line of a larger batch takes less than this share of its time before.
 const SHARED = 0.75;
+// The limits of the list in which the line of the open machine stands.
+const LINE_LIMITS = { steps: 10_000, cells: 65_536 };
 const WARM_UP_MILLISECONDS = 60;
 const WARM_UP_PLAN = { steps: 200, cells: 256, depth: 20, nodes: 1_000 };
 // A long run.
@@ -186,6 +188,7 @@ const HANDLERS = {
   },
   growth: (message, host) => [{ growth: measureGrowth(host, message) }],
   recurrence: (message, host) => [findRecurrence(host, message)],
+  "line-of": ({ machine }, host) => [{ found: host.lineOf([machine], LINE_LIMITS)[0] }],
   "decide-one": (message) => [decideOne(message)],
   trace: (message, host) => [traceRows(host, message)],
   claim: (message, host) => [traceClaim(host, message)],

@@ -7,7 +7,6 @@
 import { formatCount, formatNumber } from "../../common/machine.mjs";
 import { byId, create, createFacts } from "../dom.mjs";
 import { WorkerClient } from "../worker-client.mjs";
-import { mirrorImage, normalForm } from "./normal-form.mjs";
 
 const MOST_GROWTH_STEPS = 1_000_000;
 const FEWEST_GROWTH_STEPS = 100;
@@ -31,9 +30,14 @@ const GROWTHS = /** @type {Record<string, string>} */ ({
   line: "Linear growth",
 });
 const client = new WorkerClient();
+const lineClient = new WorkerClient();
 const growthClient = new WorkerClient();
 // Replies for another machine are dropped.
 let current = /** @type {About | null} */ (null);
+
+/** The machine with left and right swapped; its states may be named L and R too. */
+export const mirrorImage = (/** @type {string} */ text) =>
+  text.replace(/(\d)([LR])/g, (_, symbol, move) => symbol + (move === "L" ? "R" : "L"));
 
 /** @param {About} about @param {string} lastState the state of the run's last row */
 function completionsText({ machine, verdict: { kind } }, lastState) {
@@ -62,17 +66,17 @@ function laterStep(/** @type {Verdict} */ { kind, numbers: [first, second, shift
 export function showMachineInfo(/** @type {About} */ about) {
   const { machine, verdict, isConfirmed } = about;
   current = about;
-  const normal = normalForm(machine);
   const mirror = mirrorImage(machine);
   const code = (/** @type {string} */ text) => create("code", {}, text);
   byId("facts").replaceChildren(...createFacts("fact-", [
-    ["normal", "Normal form", normal === machine ? "It is in normal form." : code(normal)],
+    ["line", "Line in complete lists", "…"],
     ["mirror", "Mirror image", code(mirror)],
     ["growth", "Cells visited", "…"],
     ["completions", "Undefined entries", isConfirmed ? "…" : "The verdict isn’t confirmed by the checker."],
     ["starts", "Every start", isConfirmed ? startsText(verdict) : "–"],
     ["later", "Step 10¹⁵", isConfirmed ? "…" : "–"],
   ]));
+  requestLine(about);
   requestGrowth(about);
   isConfirmed && requestLaterRow(about);
 }
@@ -100,6 +104,27 @@ function requestLaterRow(/** @type {About} */ about) {
     const place = `state ${state}, head at ${formatNumber(BigInt(head) + farther)}.`;
     showFact("later", kind === "halt" ? "It has halted." : isWithout ? "The line has no shift." : place);
   });
+}
+
+function requestLine(/** @type {About} */ about) {
+  lineClient.request({ type: "line-of", machine: about.machine }, ({ found, message }) => {
+    if (current === about) {
+      byId("fact-line").replaceChildren(...(found === undefined ? [`Unknown: ${message}.`] : lineParts(found)));
+    }
+  });
+}
+
+/** The line of a machine, by the engine's reply, and the change. */
+function lineParts(/** @type {string} */ reply) {
+  const [machine, , line, side, states, symbols] = reply.split(" ");
+  if (line === machine) return ["It is its own line."];
+  const isOwn = (/** @type {string} */ names) => names === [...names].sort().join("");
+  const changes = [
+    side === "mirror" ? "left and right swapped" : "",
+    isOwn(states) ? "" : `states ${states}`,
+    isOwn(symbols) ? "" : `symbols ${symbols}`,
+  ].filter((change) => change !== "");
+  return [create("code", {}, line), changes.length === 0 ? "" : `, with ${changes.join(", ")}`];
 }
 
 function requestGrowth(/** @type {About} */ about) {
