@@ -18,6 +18,7 @@ Lists all machines of so many states and symbols in tree normal form, one a line
     tools/tree_normal_form --states N [--symbols N] [--steps T] [--part K/N] [--every N]
     tools/tree_normal_form --states N [--symbols N] [--steps T] --shards K
     tools/tree_normal_form --below MACHINE [--steps T] [--shards K]
+    tools/tree_normal_form --line MACHINE [--steps T]
 
 From the table with no entry on, each machine is run on the blank tape. One that meets an undefined entry
 is listed as it stands, halting there; and while more than one entry is undefined, each entry that could
@@ -33,10 +34,11 @@ to the right. A machine that meets no undefined entry within T steps is listed a
   --below M    the machine M of the list, and those that it leads to: a shard
   --shards K   the machines with at most K entries, K from 1 on; one with K entries that leads to others stands
                for its shard, as `M below`
+  --line M     where the machine M stands in the list, in place of the list: `line N of T`
 
 Of two symbols there are 3, 61, 5,417 and 858,909 machines of one to four states, and 181,385,789 of five
 states with 1,000 steps, of which the list takes half a minute. The status is 0; 1 where whoever reads
-went away; 2 where the command line is refused; 3 where writing failed. Nothing of this is proved.
+went away, or the list lacks M; 2 where the command line is refused; 3 where writing failed. Nothing of this is proved.
 ";
 
 const LETTERS: &[u8] = b"ABCDEFGHIJKLMNOPQRSTUVWXY";
@@ -66,6 +68,8 @@ struct Asked {
     below: Option<Vec<u8>>,
     /// A machine with so many entries that leads to others stands for its shard.
     shards: usize,
+    /// The machine whose place in the list is asked for.
+    line: Option<Vec<u8>>,
 }
 
 impl Asked {
@@ -93,6 +97,7 @@ impl Asked {
                     asked.every = number(name, value()?, 1, MOST_EVERY)?
                 }
                 "--below" => asked.below = Some(value()?.as_bytes().to_vec()),
+                "--line" => asked.line = Some(value()?.as_bytes().to_vec()),
                 "--shards" => asked.shards = number(name, value()?, 1, ENTRIES as u64)? as usize,
                 _ => return Err(format!("{} is no option; --help tells them", word)),
             }
@@ -100,10 +105,14 @@ impl Asked {
         if let (Some(cut), true) = (cuts, asked.below.is_some() || asked.shards < ENTRIES) {
             return Err(format!("{} doesn't go with --below or --shards", cut));
         }
-        if let Some(text) = &asked.below {
-            let (states_of, symbols) = size_of(text)?;
+        if asked.line.is_some() && (cuts.is_some() || asked.below.is_some() || asked.shards < ENTRIES) {
+            return Err("--line goes with --steps alone".to_string());
+        }
+        let given = asked.below.as_ref().map(|text| ("--below", text));
+        if let Some((name, text)) = given.or(asked.line.as_ref().map(|text| ("--line", text))) {
+            let (states_of, symbols) = size_of(name, text)?;
             if states.map_or(false, |states| states != states_of) {
-                return Err("--states isn't the size of --below's machine".to_string());
+                return Err(format!("--states isn't the size of {}'s machine", name));
             }
             states = Some(states_of);
             asked.symbols = symbols;
@@ -132,12 +141,13 @@ impl Default for Asked {
             every: 1,
             below: None,
             shards: ENTRIES,
+            line: None,
         }
     }
 }
 
 /// How many states and symbols the machine with this text has. The error is a sentence.
-fn size_of(text: &[u8]) -> Result<(usize, usize), String> {
+fn size_of(name: &str, text: &[u8]) -> Result<(usize, usize), String> {
     let groups: Vec<&[u8]> = text.split(|byte| *byte == b'_').collect();
     let symbols = groups[0].len() / 3;
     let fits = 2 <= symbols && symbols as u64 <= MOST_SYMBOLS && groups.len() <= LETTERS.len();
@@ -150,7 +160,7 @@ fn size_of(text: &[u8]) -> Result<(usize, usize), String> {
     let is_group = |group: &&[u8]| group.len() == 3 * symbols && group.chunks(3).all(is_entry);
     if !fits || !groups.iter().all(is_group) {
         let text = String::from_utf8_lossy(text);
-        return Err(format!("--below is {}, but must be a machine without Z", text));
+        return Err(format!("{} is {}, but must be a machine without Z", name, text));
     }
     Ok((groups.len(), symbols))
 }
@@ -534,6 +544,48 @@ impl<W: Write> Tree<W> {
     }
 }
 
+/// Counts the lines of a list, which are written one at a time, and looks for one.
+struct Finder {
+    /// The line, with its newline.
+    line: Vec<u8>,
+    lines: u64,
+    /// The number of the line, from 1; 0 where it isn't found.
+    place: u64,
+}
+
+impl Write for Finder {
+    fn write(&mut self, bytes: &[u8]) -> io::Result<usize> {
+        self.lines += 1;
+        if bytes == self.line {
+            self.place = self.lines;
+        }
+        Ok(bytes.len())
+    }
+
+    fn flush(&mut self) -> io::Result<()> {
+        Ok(())
+    }
+}
+
+/// Prints where a machine stands in the list.
+fn print_place(asked: Asked, mut line: Vec<u8>) -> ExitCode {
+    line.push(b'\n');
+    let mut finder = Finder {
+        line,
+        lines: 0,
+        place: 0,
+    };
+    if let Err(error) = Tree::new(asked, &mut finder).list() {
+        return ended(Err(error));
+    }
+    if finder.place == 0 {
+        let machine = String::from_utf8_lossy(&finder.line);
+        eprintln!("tree_normal_form: {} isn't among the {} machines", machine.trim_end(), finder.lines);
+        return ExitCode::from(1);
+    }
+    ended(writeln!(io::stdout(), "line {} of {}", finder.place, finder.lines))
+}
+
 fn main() -> ExitCode {
     let words: Vec<String> = env::args_os()
         .skip(1)
@@ -543,7 +595,10 @@ fn main() -> ExitCode {
         return ended(io::stdout().write_all(HELP.as_bytes()));
     }
     match Asked::read(&words) {
-        Ok(asked) => ended(Tree::new(asked, BufWriter::with_capacity(1 << 16, io::stdout())).list()),
+        Ok(mut asked) => match asked.line.take() {
+            Some(line) => print_place(asked, line),
+            None => ended(Tree::new(asked, BufWriter::with_capacity(1 << 16, io::stdout())).list()),
+        },
         Err(sentence) => {
             eprintln!("tree_normal_form: {}", sentence);
             ExitCode::from(2)

@@ -21,7 +21,6 @@ RECURRENCES = {
 # The greatest known number of steps after which a machine of a size quasihalts.
 QUASIHALTS = {"2x2": 6, "3x2": 55, "2x3": 59, "4x2": 32_779_478}
 NO_RECURRENCES = "This run has no recurrences: it was made before `tools/whole_lists` counted them."
-TREES = {"backward levels": "Levels of a tree", "backward nodes": "Nodes of a tree"}
 Fields = dict[str, Any]
 # The head of a table and its rows.
 Rows = Iterator[Sequence[object]]
@@ -61,16 +60,16 @@ def counts_of(found: Fields) -> Rows:
 
 
 def passes_of(found: Fields) -> Rows:
-    yield "Size", "Limits", "Machines", "Decided", "Left"
+    yield "Size", "Limits", "Machines", "Left"
     for name, one in found["sizes"].items():
         for each in one["passes"]:
             left = each["counts"]["undecided steps"] + each["counts"]["undecided cells"]
-            yield name, "`%s`" % each["limits"], each["lines"], each["lines"] - left, left
+            yield name, "`%s`" % each["limits"], each["lines"], left
 
 
 def holdouts_of(found: Fields) -> Rows:
-    yield "Size", "Holdouts", "With several `---`", "Of these, halting in a later pass"
-    yield from ((name, one["holdouts"], one["wide"], one["late"]) for name, one in found["sizes"].items())
+    yield "Size", "Holdouts with several `---`"
+    yield from ((name, one["wide"]) for name, one in found["sizes"].items())
 
 
 def greatest_in(lists: Fields, titles: dict[str, str]) -> Rows:
@@ -185,7 +184,7 @@ def power(value: float) -> str:
 WORDS = (run_of, covers_of, digests_of)
 TABLES: dict[str, Callable[[Fields], Iterator[Any]]] = {
     **{of.__name__[:-3]: of for of in (*WORDS, counts_of, passes_of, holdouts_of, recurrences_of, times_of)},
-    "greatest": lambda found: greatest_in(found["sizes"], {**GREATEST, **TREES}),
+    "greatest": lambda found: greatest_in(found["sizes"], GREATEST),
     "recurrence lines": lambda found: greatest_in(recurrences_in(found), RECURRENCES),
     "quasihalts": quasihalts_of,
     "larger": larger_of,
